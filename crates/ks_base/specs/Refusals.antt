@@ -1,0 +1,222 @@
+-- What each refusal prints: its number, its text, and its line.
+use Rattle.std.specs.Prelude.{ℕ, List, [], ◌∷◌, ◌++◌, Option, Some, None, codes, ◌==◌, if◌then◌else◌}
+use Rattle.std.specs.List.{slice_index_or}
+use Rattle.ks_base.specs.Text.{hex_text, offset_text, number_text, shown_name}
+use Rattle.ks_base.specs.declared.places.Spot.{Spot}
+use Rattle.ks_base.specs.declared.refusals.Large.{Large}
+use Rattle.ks_base.specs.declared.refusals.Large.TheVariants.{Bytes, Sections, Symbols, Relocations as LargeRelocations, Name as LargeName, Content as LargeContent}
+use Rattle.ks_base.specs.declared.refusals.DifferenceKind.{DifferenceKind}
+use Rattle.ks_base.specs.declared.refusals.DifferenceKind.TheVariants.{End, Undecoded, Opcode, Operand, Target, Value, Content}
+use Rattle.ks_base.specs.declared.refusals.Difference.{Difference}
+use Rattle.ks_base.specs.declared.refusals.Place.{Place}
+use Rattle.ks_base.specs.declared.refusals.Place.TheVariants.{Pc, Register, Stack}
+use Rattle.ks_base.specs.declared.refusals.Standing.{Standing}
+use Rattle.ks_base.specs.declared.refusals.ImageFault.{ImageFault}
+use Rattle.ks_base.specs.declared.refusals.ImageFault.TheVariants.{Short, Magic, Limit, Kind, Range, Order, Name, Trailing}
+use Rattle.ks_base.specs.declared.refusals.ConflictName.{ConflictName}
+use Rattle.ks_base.specs.declared.refusals.Refusal.{Refusal}
+use Rattle.ks_base.specs.declared.refusals.Refusal.TheVariants.{NotElf, NotRel386, BadHeader, BadSection, BadSymbol, BadReloc, UnknownReloc, NotOneFunction, DoubleName, TooLarge, DataChanged, NoChange, Interior, NoCandidate, Mismatch, Ambiguous, Conflict, Unresolved, TwoNames, PreUndecoded, TooSmall, Overlap, NoRoom, TooMany, Busy, StackOut, NothingApplied, BadImage, BadLine, NoThread, NoSymbol, NoStack, BadString, BadTarget, TooManyThreads, NameTaken, Relocations, UnreadObject, Memory}
+
+-- the word for a limit of an object
+abbrev pub large_word : Large → List ℕ
+large_word Bytes = codes "bytes"
+large_word Sections = codes "sections"
+large_word Symbols = codes "symbols"
+large_word LargeRelocations = codes "relocations"
+large_word LargeName = codes "name"
+large_word LargeContent = codes "content"
+
+-- the word for a kind of difference
+abbrev pub difference_word : DifferenceKind → List ℕ
+difference_word End = codes "end"
+difference_word Undecoded = codes "undecoded"
+difference_word Opcode = codes "opcode"
+difference_word Operand = codes "operand"
+difference_word Target = codes "target"
+difference_word Value = codes "value"
+difference_word Content = codes "content"
+
+-- the word for a rule of the image format
+abbrev pub image_word : ImageFault → List ℕ
+image_word Short = codes "short"
+image_word Magic = codes "magic"
+image_word Limit = codes "limit"
+image_word Kind = codes "kind"
+image_word Range = codes "range"
+image_word Order = codes "order"
+image_word Name = codes "name"
+image_word Trailing = codes "trailing"
+
+-- the general registers' names by number
+abbrev pub register_names : List (List ℕ)
+register_names = codes "eax" ∷ codes "ecx" ∷ codes "edx" ∷ codes "ebx"
+    ∷ codes "esp" ∷ codes "ebp" ∷ codes "esi" ∷ codes "edi" ∷ []
+
+-- the name of a general register, and none above 7
+abbrev pub register_name : ℕ → List ℕ
+register_name number = slice_index_or register_names number []
+
+-- the place where a thread stands, and before a stack's value its address
+abbrev pub place_text : Place → List ℕ
+place_text Pc = codes "pc"
+place_text (Register number) = codes "register " ++ register_name number
+place_text (Stack address) = codes "stack " ++ hex_text address
+
+-- an offset after a name, where there is one
+abbrev pub offset_after : Option ℕ → List ℕ
+offset_after None = []
+offset_after (Some offset) = codes "+" ++ offset_text offset
+
+-- a place in a section
+abbrev pub spot_text : Spot → List ℕ
+spot_text spot = shown_name spot.section ++ codes "+" ++ offset_text spot.offset
+
+-- what two candidates give two values
+abbrev pub conflict_name_text : ConflictName → List ℕ
+conflict_name_text unknown = shown_name unknown.name ++ offset_after unknown.offset
+
+-- words, and then a number or a name
+abbrev pub words_number : List ℕ → ℕ → List ℕ
+words_number words n = words ++ number_text n
+
+abbrev pub words_name : List ℕ → List ℕ → List ℕ
+words_name words name = words ++ shown_name name
+
+-- words, and then two numbers, a name and one or two numbers, a name and an offset
+abbrev pub words_numbers : List ℕ → ℕ → ℕ → List ℕ
+words_numbers words a b = words ++ number_text a ++ codes " " ++ number_text b
+
+abbrev pub words_name_number : List ℕ → List ℕ → ℕ → List ℕ
+words_name_number words name n = words ++ shown_name name ++ codes " " ++ number_text n
+
+abbrev pub words_name_numbers : List ℕ → List ℕ → ℕ → ℕ → List ℕ
+words_name_numbers words name a b = words ++ shown_name name ++ codes " " ++ number_text a ++ codes " " ++ number_text b
+
+abbrev pub words_name_offset : List ℕ → List ℕ → ℕ → List ℕ
+words_name_offset words name offset = words ++ shown_name name ++ codes " " ++ offset_text offset
+
+-- words, and then two addresses, with a name before them or without
+abbrev pub words_addresses : List ℕ → ℕ → ℕ → List ℕ
+words_addresses words a b = words ++ hex_text a ++ codes " " ++ hex_text b
+
+abbrev pub words_name_addresses : List ℕ → List ℕ → ℕ → ℕ → List ℕ
+words_name_addresses words name a b = words ++ shown_name name ++ codes " " ++ hex_text a ++ codes " " ++ hex_text b
+
+-- the texts that have a form of their own
+abbrev pub mismatch_text : List ℕ → Difference → List ℕ
+mismatch_text section difference =
+    codes "mismatch " ++ shown_name section ++ codes " index " ++ number_text difference.index
+    ++ codes " pre " ++ offset_text difference.pre_offset ++ codes " run " ++ hex_text difference.run_address
+    ++ codes " " ++ difference_word difference.kind
+
+abbrev pub value_at_text : ℕ → Spot → List ℕ
+value_at_text value spot = codes " " ++ hex_text value ++ codes " at " ++ spot_text spot
+
+abbrev pub conflict_text : ConflictName → ℕ → ℕ → Spot → Spot → List ℕ
+conflict_text unknown a b at_a at_b =
+    codes "conflict " ++ conflict_name_text unknown ++ value_at_text a at_a ++ value_at_text b at_b
+
+abbrev pub too_small_text : List ℕ → ℕ → List ℕ
+too_small_text section room = codes "too small " ++ shown_name section ++ codes " room " ++ number_text room
+
+abbrev pub place_value_text : Place → ℕ → List ℕ
+place_value_text place value = codes " " ++ place_text place ++ codes " " ++ hex_text value
+
+abbrev pub busy_text : Standing → List ℕ
+busy_text standing = codes "busy thread " ++ number_text standing.thread ++ place_value_text standing.place standing.value
+
+abbrev pub stack_out_text : ℕ → ℕ → List ℕ
+stack_out_text thread esp = codes "stack out thread " ++ number_text thread ++ codes " " ++ hex_text esp
+
+abbrev pub bad_image_text : ℕ → ImageFault → List ℕ
+bad_image_text offset fault = codes "bad image at " ++ number_text offset ++ codes " " ++ image_word fault
+
+-- the number of a refusal; 0 stands for want of memory, which has no reply
+unfoldable pub refusal_number : Refusal → ℕ
+refusal_number NotElf = 1
+refusal_number NotRel386 = 2
+refusal_number (BadHeader offset) = 3
+refusal_number (BadSection index) = 4
+refusal_number (BadSymbol index) = 5
+refusal_number (BadReloc from index) = 6
+refusal_number (UnknownReloc section index type) = 7
+refusal_number (NotOneFunction section) = 8
+refusal_number (DoubleName section) = 9
+refusal_number (TooLarge what) = 10
+refusal_number (DataChanged section) = 11
+refusal_number NoChange = 12
+refusal_number (Interior section offset) = 13
+refusal_number (NoCandidate name) = 14
+refusal_number (Mismatch section difference) = 15
+refusal_number (Ambiguous section a b) = 16
+refusal_number (Conflict unknown a b at_a at_b) = 17
+refusal_number (Unresolved name) = 18
+refusal_number (TwoNames name a b) = 19
+refusal_number (PreUndecoded section offset) = 20
+refusal_number (TooSmall section room) = 21
+refusal_number (Overlap a b) = 22
+refusal_number (NoRoom bytes) = 23
+refusal_number TooMany = 24
+refusal_number (Busy standing) = 25
+refusal_number (StackOut thread esp) = 26
+refusal_number NothingApplied = 27
+refusal_number (BadImage offset fault) = 28
+refusal_number (BadLine number) = 29
+refusal_number (NoThread thread) = 30
+refusal_number (NoSymbol name) = 31
+refusal_number NoStack = 32
+refusal_number (BadString section index) = 35
+refusal_number (BadTarget section index) = 36
+refusal_number TooManyThreads = 37
+refusal_number (NameTaken name) = 38
+refusal_number Relocations = 51
+refusal_number UnreadObject = 52
+refusal_number Memory = 0
+
+-- the text of a refusal
+unfoldable pub refusal_text : Refusal → List ℕ
+refusal_text NotElf = codes "not elf"
+refusal_text NotRel386 = codes "not i386 relocatable"
+refusal_text (BadHeader offset) = words_number (codes "bad header ") offset
+refusal_text (BadSection index) = words_number (codes "bad section ") index
+refusal_text (BadSymbol index) = words_number (codes "bad symbol ") index
+refusal_text (BadReloc from index) = words_numbers (codes "bad relocation ") from index
+refusal_text (UnknownReloc section index type) = words_name_numbers (codes "unknown relocation ") section index type
+refusal_text (NotOneFunction section) = words_name (codes "not one function ") section
+refusal_text (DoubleName section) = words_name (codes "double name ") section
+refusal_text (TooLarge what) = codes "too large " ++ large_word what
+refusal_text (DataChanged section) = words_name (codes "data changed ") section
+refusal_text NoChange = codes "no change"
+refusal_text (Interior section offset) = words_name_offset (codes "interior ") section offset
+refusal_text (NoCandidate name) = words_name (codes "no candidate ") name
+refusal_text (Mismatch section difference) = mismatch_text section difference
+refusal_text (Ambiguous section a b) = words_name_addresses (codes "ambiguous ") section a b
+refusal_text (Conflict unknown a b at_a at_b) = conflict_text unknown a b at_a at_b
+refusal_text (Unresolved name) = words_name (codes "unresolved ") name
+refusal_text (TwoNames name a b) = words_name_addresses (codes "two names ") name a b
+refusal_text (PreUndecoded section offset) = words_name_offset (codes "pre undecoded ") section offset
+refusal_text (TooSmall section room) = too_small_text section room
+refusal_text (Overlap a b) = words_addresses (codes "overlap ") a b
+refusal_text (NoRoom bytes) = words_number (codes "no room ") bytes
+refusal_text TooMany = codes "too many updates"
+refusal_text (Busy standing) = busy_text standing
+refusal_text (StackOut thread esp) = stack_out_text thread esp
+refusal_text NothingApplied = codes "nothing applied"
+refusal_text (BadImage offset fault) = bad_image_text offset fault
+refusal_text (BadLine number) = words_number (codes "bad line ") number
+refusal_text (NoThread thread) = words_number (codes "no thread ") thread
+refusal_text (NoSymbol name) = words_name (codes "no symbol ") name
+refusal_text NoStack = codes "no stack"
+refusal_text (BadString section index) = words_name_number (codes "bad string ") section index
+refusal_text (BadTarget section index) = words_name_number (codes "bad target ") section index
+refusal_text TooManyThreads = codes "too many threads"
+refusal_text (NameTaken name) = words_name (codes "name taken ") name
+refusal_text Relocations = codes "relocations"
+refusal_text UnreadObject = codes "unread object"
+refusal_text Memory = []
+
+-- the line that is printed for a refusal, with its line feed; nothing for want of memory
+unfoldable pub refusal_line : Refusal → List ℕ
+refusal_line refusal =
+    if refusal_number refusal == 0 then [] else codes "refused " ++ number_text (refusal_number refusal)
+    ++ codes " " ++ refusal_text refusal ++ 10 ∷ []

@@ -1,0 +1,19 @@
+//! What every crate of ksplice stands on: lists that contracts see as lists, names and places in an
+//! object, the refusals, and the bytes of one reply.
+#![tactic(auto)]
+
+pub mod list;
+pub mod places;
+mod refusal_texts;
+pub mod refusals;
+pub mod reply;
+
+pub use list::ListOf;
+pub use places::{Bytes, Name, Names, Range, Ranges, Spot};
+pub use refusals::{
+    ConflictName, Difference, DifferenceKind, ImageFault, Large, Place, Refusal, StackOut, Standing,
+};
+pub use reply::Line;
+
+#[cfg(test)]
+mod tests;

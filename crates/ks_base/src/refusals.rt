@@ -1,0 +1,195 @@
+//! Why a request is refused.
+use crate::places::{Name, Spot};
+
+/// Which limit of an object is passed.
+#[derive(Clone, Copy, PartialEq, Eq, Debug)]
+pub enum Large {
+    /// The file has more bytes than an object may have.
+    Bytes,
+    /// It has too many sections.
+    Sections,
+    /// It has too many symbols.
+    Symbols,
+    /// It has too many relocations.
+    Relocations,
+    /// A name is too long.
+    Name,
+    /// The loaded sections' sizes sum to too much.
+    Content,
+}
+
+/// In what the pre code and the running code differ first.
+#[derive(Clone, Copy, PartialEq, Eq, Debug)]
+pub enum DifferenceKind {
+    /// The running code ends: no window, or a spliced home.
+    End,
+    /// The running bytes don't decode.
+    Undecoded,
+    /// Prefixes, opcodes, or kinds of branch.
+    Opcode,
+    /// Another byte of the instruction, or its length.
+    Operand,
+    /// Where a branch goes.
+    Target,
+    /// The value that a referenced field gives.
+    Value,
+    /// What stands at the value.
+    Content,
+}
+
+/// The first difference between a pre section and the running code.
+#[derive(Clone, Copy, PartialEq, Eq, Debug)]
+pub struct Difference {
+    /// The number of the instruction, counted from 0 without padding.
+    pub index: u32,
+    /// The offset of the pre instruction in its section, in bytes.
+    pub pre_offset: u32,
+    /// The address of the running instruction.
+    pub run_address: u32,
+    /// In what they differ.
+    pub kind: DifferenceKind,
+}
+
+/// Where a thread has an address of a range.
+#[derive(Clone, Copy, PartialEq, Eq, Debug)]
+pub enum Place {
+    /// The program counter.
+    Pc,
+    /// The general register of this number, 0 to 7 for EAX, ECX, EDX, EBX, ESP, EBP, ESI and EDI.
+    Register(u8),
+    /// The dword of the stack at this address.
+    Stack(u32),
+}
+
+/// That a thread stands in a range.
+#[derive(Clone, Copy, PartialEq, Eq, Debug)]
+pub struct Standing {
+    /// The thread's number.
+    pub thread: u32,
+    /// Where it has the address.
+    pub place: Place,
+    /// The address of the range that it has there.
+    pub value: u32,
+}
+
+/// That a thread's ESP is outside its stack.
+#[derive(Clone, Copy, PartialEq, Eq, Debug)]
+pub struct StackOut {
+    /// The thread's number.
+    pub thread: u32,
+    /// Its ESP.
+    pub esp: u32,
+}
+
+/// Which rule an image breaks.
+#[derive(Clone, Copy, PartialEq, Eq, Debug)]
+pub enum ImageFault {
+    /// The file ends inside a field or its bytes.
+    Short,
+    /// The first four bytes aren't the format's.
+    Magic,
+    /// A count, a length or a sum is above its limit.
+    Limit,
+    /// A kind or a binding that isn't listed.
+    Kind,
+    /// Bounds, an alignment, or an address outside its region.
+    Range,
+    /// Regions or stacks don't ascend, or two of them meet.
+    Order,
+    /// An empty name, or a zero byte in one.
+    Name,
+    /// A byte after the last stack.
+    Trailing,
+}
+
+/// What two candidates give two values: a section or an outside name, or an offset of a section.
+#[derive(PartialEq, Eq, Debug, Drop)]
+pub struct ConflictName {
+    /// The section's or the outside name.
+    pub name: Name,
+    /// The offset in the section, in bytes, where the conflict is about an interior reference.
+    pub offset: Option<u32>,
+}
+
+/// Why a request is refused. Each has a number and a text; for [`Refusal::Memory`] no reply is written.
+#[derive(PartialEq, Eq, Debug, Drop)]
+pub enum Refusal {
+    /// 1: the object doesn't begin with the ELF magic.
+    NotElf,
+    /// 2: the object isn't a relocatable one for i386.
+    NotRel386,
+    /// 3: the header field at this offset is wrong.
+    BadHeader(u32),
+    /// 4: the section of this index is wrong.
+    BadSection(u32),
+    /// 5: the symbol of this index is wrong.
+    BadSymbol(u32),
+    /// 6: in the relocation section of this index, the entry of this index is wrong.
+    BadReloc(u32, u32),
+    /// 7: a section's relocation of this index has a type (last) that isn't accepted there.
+    UnknownReloc(Name, u32, u8),
+    /// 8: a code section has no function symbol at 0, or one above 0.
+    NotOneFunction(Name),
+    /// 9: a loaded section has the name of an earlier one.
+    DoubleName(Name),
+    /// 10: a limit of the object is passed.
+    TooLarge(Large),
+    /// 11: a data section that is in both objects changed.
+    DataChanged(Name),
+    /// 12: the two objects' code is the same.
+    NoChange,
+    /// 13: the interior reference at this offset of a section can't be carried over.
+    Interior(Name, u32),
+    /// 14: no running function has the name.
+    NoCandidate(Name),
+    /// 15: no candidate of a section matches; the first difference of the lowest.
+    Mismatch(Name, Difference),
+    /// 16: two candidates of a section are left; their addresses.
+    Ambiguous(Name, u32, u32),
+    /// 17: two candidates give one thing two values, at two places.
+    Conflict(ConflictName, u32, u32, Spot, Spot),
+    /// 18: no address is known for the name.
+    Unresolved(Name),
+    /// 19: two addresses are known for the name.
+    TwoNames(Name, u32, u32),
+    /// 20: pre code of a section can't be decoded or matched at this offset.
+    PreUndecoded(Name, u32),
+    /// 21: a first version of a section has too little room for the jump; its room in bytes.
+    TooSmall(Name, u32),
+    /// 22: a new retired range meets another body or range; the lows of both.
+    Overlap(u32, u32),
+    /// 23: the arena has no place for so many bytes.
+    NoRoom(u32),
+    /// 24: as many updates are live as may be.
+    TooMany,
+    /// 25: a thread stands in a range.
+    Busy(Standing),
+    /// 26: the thread of this number has this ESP, which is outside its stack.
+    StackOut(u32, u32),
+    /// 27: no update is live.
+    NothingApplied,
+    /// 28: the image breaks a rule at the field at this offset.
+    BadImage(u32, ImageFault),
+    /// 29: the script's line of this number, counted from 1, isn't in the grammar.
+    BadLine(u32),
+    /// 30: no running thread has this number.
+    NoThread(u32),
+    /// 31: no function symbol has the name.
+    NoSymbol(Name),
+    /// 32: every stack has a running thread.
+    NoStack,
+    /// 35: a section's relocation of this index has a text that isn't in its section, or doesn't end.
+    BadString(Name, u32),
+    /// 36: a section's relocation of this index has a symbol that can't be a target.
+    BadTarget(Name, u32),
+    /// 37: as many threads were spawned as may be.
+    TooManyThreads,
+    /// 38: a live update has the name.
+    NameTaken(Name),
+    /// 51: a loaded section has relocations, where they aren't read.
+    Relocations,
+    /// 52: the object isn't read.
+    UnreadObject,
+    /// Memory was wanting. It has no number, and no reply is written for it.
+    Memory,
+}
