@@ -1,0 +1,31 @@
+-- Laws of what a sink has taken: pieces add up, and so do fronts of them.
+use Rattle.std.specs.Prelude.{◌≡◌, ℕ, Option, Some, None, List, [], ◌++◌, refl}
+use Rattle.std.proofs.Common.{sym, ◌∙◌, ap, append_assoc, append-nil}
+use Rattle.ks_io.specs.Outside.{grown, TookFront}
+
+-- taking two pieces is taking both as one
+pub grown-append : (old : Option (List ℕ)) (first second : List ℕ) → grown (grown old first) second ≡ grown old (first ++ second)
+grown-append None first second = refl
+grown-append (Some taken) first second = ap (λ bytes. Some bytes) (append_assoc taken first second)
+
+-- the whole piece is a front of it
+pub TookFront-whole : {old new : Option (List ℕ)} (piece : List ℕ) → new ≡ grown old piece → TookFront old piece new
+TookFront-whole piece h = record { front = piece; rest = []; splits = append-nil piece; taken = h }
+
+-- a front of the second piece, after the first was taken, is a front of both
+pub TookFront-after : {old middle new : Option (List ℕ)} (first second : List ℕ) → middle ≡ grown old first → TookFront middle second new → TookFront old (first ++ second) new
+TookFront-after {old} first second was h = record {
+  front = first ++ h.front;
+  rest = h.rest;
+  splits = append_assoc first h.front h.rest ∙ ap (λ bytes. first ++ bytes) h.splits;
+  taken = h.taken ∙ ap (λ taken. grown taken h.front) was ∙ grown-append old first h.front;
+}
+
+-- a front of the first piece is a front of both
+pub TookFront-before : {old new : Option (List ℕ)} (first second : List ℕ) → TookFront old first new → TookFront old (first ++ second) new
+TookFront-before first second h = record {
+  front = h.front;
+  rest = h.rest ++ second;
+  splits = sym (append_assoc h.front h.rest second) ∙ ap (λ bytes. bytes ++ second) h.splits;
+  taken = h.taken;
+}

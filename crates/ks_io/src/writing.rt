@@ -1,0 +1,29 @@
+//! Writing a whole piece to a sink.
+ghost use Rattle.std.specs.Prelude.{◌≡◌, ◌≢◌, ◌≤◌, OnOk, OnErr, IsErrOf};
+ghost use Rattle.ks_io.specs.Outside.{Rose, TookFront, grown};
+
+use crate::outside::Sink;
+use crate::types::SinkFault;
+
+/// Writes the whole piece, in as many writes as the sink wants. SinkFailed: the sink failed, or took nothing
+/// of bytes that were left. Memory: the sink could not grow. After either, a front of the piece was taken.
+pub fn write_all<O: Sink>(out: &mut O, piece: &[u8]) -> Result<(), SinkFault>
+    ensures ok { OnOk result (O.taken out.new ≡ grown (O.taken out.old) piece.now) }
+    ensures front { OnErr result (TookFront (O.taken out.old) piece.now (O.taken out.new)) }
+    ensures failed { IsErrOf result SinkFault.SinkFailed
+        → Rose (O.faults out.old) (O.faults out.new) }
+    ensures never_falls { O.faults out.old ≤ O.faults out.new }
+    ensures quiet_kept { O.quiet out.old → O.quiet out.new }
+    ensures quiet_faults { O.quiet out.old → O.faults out.new ≡ O.faults out.old }
+    ensures quiet_answer { O.quiet out.old → result ≢ Err SinkFault.SinkFailed }
+{
+    let mut rest = piece;
+    while !rest.is_empty() {
+        let count = out.write(rest)?;
+        if count == 0 {
+            return Err(SinkFault::SinkFailed);
+        }
+        rest = &rest[count..];
+    }
+    Ok(())
+}
