@@ -1,0 +1,11 @@
+mod Totals
+mod Whole
+mod Zeros
+mod Firsts
+mod Loads
+mod Apart
+mod Entries
+mod Offered
+mod Rules
+mod Spots
+mod Tables

@@ -1,0 +1,21 @@
+//! Reads ELF32 relocatable object files for the i386.
+#![tactic(auto)]
+
+mod header;
+mod layout;
+mod object;
+mod reader;
+mod reading;
+mod relocations;
+mod rows;
+mod sections;
+mod strings;
+mod symbols;
+mod table;
+pub mod types;
+
+pub use crate::object::Object;
+pub use crate::reader::read_object;
+
+#[cfg(test)]
+mod tests;
