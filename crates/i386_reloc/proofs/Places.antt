@@ -1,0 +1,73 @@
+-- The places of names in a list of sections.
+use Rattle.std.proofs.Common.{◌≡◌, ℕ, suc, ◌+◌, Bool, true, false, cond, List, [], ◌∷◌, ◌++◌, length, Option, Some, None, is_some, option_map, sym, ◌∙◌, ap, refl, arith, length-append}
+use Rattle.std.specs.Ordering.{nat_cmp, is_eq}
+use Rattle.std.specs.Cmp.Lexicographic.{slice_cmp, bytes_decides, texts_ties}
+use Rattle.std.specs.BTreeMap.{BTreeMap, get, btree_map_len}
+use Rattle.ks_base.specs.declared.refusals.Refusal.{Refusal}
+use Rattle.elf32_object.specs.Below.{first_of}
+use Rattle.i386_reloc.specs.declared.types.NormalSection.{NormalSection}
+use Rattle.i386_reloc.specs.Normal.{same_bytes, section_named}
+use Rattle.i386_reloc.specs.Places.{place_named, at_place, HasPlaces}
+use Rattle.i386_reloc.specs.Refused.{refused_where}
+
+at_place-suc : (section : NormalSection) (sections : List NormalSection) (place : Option ℕ) → at_place (section ∷ sections) (option_map suc place) ≡ at_place sections place
+at_place-suc section sections None = refl
+at_place-suc section sections (Some place) = refl
+
+-- the section of a name is the one at the name's place
+pub section_named_at : (sections : List NormalSection) (name : List ℕ) → section_named sections name ≡ at_place sections (place_named sections name)
+section_named_at [] name = refl
+section_named_at (section ∷ sections) name =
+    elim (same_bytes section.name name) as (λ b. cond b (Some section) (section_named sections name) ≡ at_place (section ∷ sections) (cond b (Some 0) (option_map suc (place_named sections name)))) [
+      | true ↦ refl
+      | false ↦ section_named_at sections name ∙ sym (at_place-suc section sections (place_named sections name))
+    ]
+
+suc_of_first : (place : Option ℕ) (b : Bool) (n : ℕ) → option_map suc (first_of place (cond b (Some n) None)) ≡ first_of (option_map suc place) (cond b (Some (suc n)) None)
+suc_of_first None true n = refl
+suc_of_first None false n = refl
+suc_of_first (Some place) b n = refl
+
+-- one more section
+pub place_named_push : (sections : List NormalSection) (section : NormalSection) (name : List ℕ) → place_named (sections ++ section ∷ []) name ≡ first_of (place_named sections name) (cond (same_bytes section.name name) (Some (length sections)) None)
+place_named_push [] section name = refl
+place_named_push (s ∷ sections) section name =
+    elim (same_bytes s.name name) as (λ b. cond b (Some 0) (option_map suc (place_named (sections ++ section ∷ []) name)) ≡ first_of (cond b (Some 0) (option_map suc (place_named sections name))) (cond (same_bytes section.name name) (Some (suc (length sections))) None)) [
+      | true ↦ refl
+      | false ↦ ap (option_map suc) (place_named_push sections section name) ∙ suc_of_first (place_named sections name) (same_bytes section.name name) (length sections)
+    ]
+
+-- a map from names to places, with one more name
+first_of_none : (o : Option ℕ) → first_of o None ≡ o
+first_of_none None = refl
+first_of_none (Some x) = refl
+
+pub no_place : (o : Option ℕ) → is_some o ≡ false → o ≡ None
+no_place None none = refl
+no_place (Some x) none = absurd cc
+
+pub not_refused : (broken : Bool) (why : Refusal) → refused_where broken why ≡ None → broken ≡ false
+not_refused true why none = absurd cc
+not_refused false why none = refl
+
+one_more_place : (sections : List NormalSection) (section : NormalSection) (q : List ℕ) (b : Bool) → (b ≡ true → place_named sections q ≡ None) → cond b (Some (length sections)) (place_named sections q) ≡ first_of (place_named sections q) (cond b (Some (length sections)) None)
+one_more_place sections section q true none = rw (none refl) refl
+one_more_place sections section q false none = sym (first_of_none (place_named sections q))
+
+pub has_places_push : (sections : List NormalSection) (section : NormalSection) (before after : BTreeMap (List ℕ) ℕ) → HasPlaces sections before → get (slice_cmp nat_cmp) before section.name ≡ None → btree_map_len after ≡ btree_map_len before + 1 →
+    ((q : List ℕ) → get (slice_cmp nat_cmp) after q ≡ cond (same_bytes section.name q) (Some (btree_map_len before)) (get (slice_cmp nat_cmp) before q)) →
+    HasPlaces (sections ++ section ∷ []) after
+has_places_push sections section before after has none len each =
+    record {
+      len = omega (arith, len, has.len, length-append sections (section ∷ []));
+      each = λ q.
+          each q
+          ∙ rw (has.len, has.each q)
+          (one_more_place sections section q (same_bytes section.name q)
+          (λ same. let e : q ≡ section.name = sym ((bytes_decides section.name q).0 same) in rw e (sym (has.each section.name) ∙ none)))
+          ∙ sym (place_named_push sections section q);
+    }
+
+-- keys of a map are equal as names are
+pub equal_keys : (xs ys : List ℕ) → is_eq (slice_cmp nat_cmp xs ys) ≡ same_bytes xs ys
+equal_keys xs ys = sym (texts_ties xs ys)

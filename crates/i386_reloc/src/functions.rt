@@ -1,0 +1,80 @@
+//! The function symbols of each section.
+ghost use Rattle.std.specs.Prelude.{◌≡◌, ◌<◌, ℕ, ◌+◌, ◌%◌, ◌&&◌, ◌==◌, if◌then◌else◌, IfOk, length, slice_index_or};
+ghost use Rattle.elf32_object.specs.Fields.{symbol_count};
+ghost use Rattle.i386_reloc.specs.Functions.{AreFunctions, functions_with};
+
+use elf32_object::Object;
+use elf32_object::types::Symbol;
+use std::alloc::{AllocError, Global};
+
+const FUNC: u8 = 2;
+
+/// The function symbols of a section, as far as symbols were looked at.
+#[derive(Clone, Copy, Debug)]
+pub struct Functions {
+    /// The index of the first symbol at the section's start.
+    pub first: Option<u32>,
+    /// Whether a symbol stands behind the start.
+    pub inner: bool,
+}
+
+impl Functions {
+    const NONE: Functions = Functions {
+        first: None,
+        inner: false,
+    };
+
+    /// These, and function symbol `k` with its value.
+    fn with(self, k: u32, value: u32) -> Functions
+        ensures { result ≡ functions_with self k value }
+    {
+        if value == 0 {
+            Functions {
+                first: self.first.or(Some(k)),
+                inner: self.inner,
+            }
+        } else {
+            Functions {
+                first: self.first,
+                inner: true,
+            }
+        }
+    }
+}
+
+/// The function symbols of each section, by its index, from one pass over the symbols.
+#[tactic(auto, using(crate::proofs::FunctionSymbols::are_no_functions))]
+pub(crate) fn gather(alloc: Global, object: &Object<'_>) -> Result<Vec<Functions>, AllocError>
+    ensures { IfOk result (λ table. AreFunctions object.now (symbol_count object.now) table.items) }
+{
+    let mut table = vec![in alloc; Functions::NONE; object.section_count() as usize]?;
+    for k in 0..object.symbol_count() {
+        gather_symbol(table.as_mut_slice(), object, k);
+    }
+    Ok(table)
+}
+
+/// Takes symbol `k` into the table. Symbol 0 is none.
+#[tactic(auto, using(crate::proofs::FunctionSymbols::are_functions_null, crate::proofs::FunctionSymbols::are_functions_more))]
+fn gather_symbol(table: &mut [Functions], object: &Object<'_>, k: u32)
+    requires within { k < symbol_count object.now }
+    requires before { AreFunctions object.now k table.old }
+    ensures { AreFunctions object.now (k + 1) table.new }
+{
+    if k > 0 {
+        note(table, k, &object.symbol(k));
+    }
+}
+
+/// Notes symbol `k` at its section, where it is a function.
+fn note(table: &mut [Functions], k: u32, symbol: &Symbol<'_>)
+    ensures { (i : ℕ) (d : Functions) → i < length table.old
+        → slice_index_or table.new i d ≡ (if symbol.now.info % 16 == 2 && symbol.now.section == i
+        then functions_with (slice_index_or table.old i d) k symbol.now.value
+        else slice_index_or table.old i d) }
+{
+    let section = usize::from(symbol.section);
+    if symbol.info % 16 == FUNC && section < table.len() {
+        table[section] = table[section].with(k, symbol.value);
+    }
+}
