@@ -1,0 +1,3 @@
+pub mod Untaken
+pub mod Loads
+pub mod Diffs

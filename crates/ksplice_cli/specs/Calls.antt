@@ -1,0 +1,106 @@
+-- What a call of the program does: a function of its words and of what the files are.
+use Rattle.std.specs.Prelude.{◌≡◌, ◌≢◌, ◌⊎◌, ℕ, ◌<◌, ◌≤◌, Bool, true, false, ◌==◌, nat_eq, nat_le, if◌then◌else◌, List, [], ◌∷◌, length, Option, Some, None}
+use Rattle.std.specs.List.{list_any}
+use Rattle.ks_io.specs.Outside.{Counts, Rose, IsLonger, grown}
+use Rattle.ks_io.specs.Answered.{ShowsIn}
+use Rattle.ks_io.specs.declared.types.FileFault.{FileFault}
+use Rattle.ks_io.specs.declared.types.FileFault.TheVariants.{Missing, TooLong, Failed, Memory}
+use Rattle.ksplice_cli.specs.Answer.{Answer, usage_answer, file_answer, file_line, fault_text, ComesOut}
+use Rattle.ksplice_cli.specs.Reply.{difference_reply, reply_answer}
+use Rattle.ksplice_cli.specs.Words.{Asked, Diff}
+
+-- what a load finds where the files are told: the file's bytes, or why there are none
+pub data Found : Type 0 where
+  Held : (bytes : List ℕ) → Found
+  NotHeld : (fault : FileFault) → Found
+
+abbrev pub found_file : ℕ → Option (List ℕ) → Found
+found_file limit None = NotHeld Missing
+found_file limit (Some bytes) = if nat_le (length bytes) limit then Held bytes else NotHeld TooLong
+
+-- the most bytes that an object file may have
+abbrev pub object_limit : ℕ
+object_limit = 8388608
+
+-- a load, and what comes after it; a load that the outside fails ends the call whatever the file is
+abbrev pub after_load : Bool → Found → List ℕ → (List ℕ → Answer) → Answer
+after_load true found name rest = file_answer name Failed
+after_load false (Held bytes) name rest = rest bytes
+after_load false (NotHeld fault) name rest = file_answer name fault
+
+-- Where the files are told, what comes out of a load that ends the call, or of what comes after it: the load is failed
+-- by the outside only where the count of faults rose.
+pub record LoadEnds (found : Found) (name : List ℕ) (rest : List ℕ → Answer) (before now : Counts) (old new : Option (List ℕ)) (status : ℕ) : Type 0 where
+  pub failed : Bool
+  pub caused : failed ≡ true → Rose before.faults now.faults
+  pub answer : ComesOut (after_load failed found name rest) old new status
+
+-- What came out is the line of the file of this name, and what was wrong with the file shows in its count.
+pub record EndsWithFile (name : List ℕ) (before now : Counts) (old new : Option (List ℕ)) : Type 0 where
+  pub fault : FileFault
+  pub shown : ShowsIn fault before now
+  pub fault_of_file : fault ≢ Memory
+  pub line : new ≡ grown old (file_line name (fault_text fault))
+
+-- The answer to `diff` over told files, `failing` being the number of the load that the outside fails, 0 where none
+-- does. Both objects are loaded before the first is read.
+abbrev pub diff_answer : (List ℕ → Option (List ℕ)) → ℕ → List ℕ → List ℕ → Answer
+diff_answer files failing pre post =
+    after_load (failing == 1) (found_file object_limit (files pre)) pre
+    (λ old. after_load (failing == 2) (found_file object_limit (files post)) post
+    (λ new. reply_answer (difference_reply old new)))
+
+-- the answer to what the words ask for
+abbrev pub answer_to : (List ℕ → Option (List ℕ)) → ℕ → Option Asked → Answer
+answer_to files failing None = usage_answer
+answer_to files failing (Some (Diff pre post)) = diff_answer files failing pre post
+
+-- Where the files are told, what comes out is the answer for some failing load; one fails only where the count of
+-- faults rose.
+pub record Answers (asked : Option Asked) (files : List ℕ → Option (List ℕ)) (before now : Counts) (old new : Option (List ℕ)) (status : ℕ) : Type 0 where
+  pub failing : ℕ
+  pub caused : failing ≢ 0 → Rose before.faults now.faults
+  pub answer : ComesOut (answer_to files failing asked) old new status
+
+-- a name that the call was given for a file
+abbrev pub NamesFile : Option Asked → List ℕ → Type 0
+NamesFile None name = ⊥
+NamesFile (Some (Diff pre post)) name = (name ≡ pre) ⊎ (name ≡ post)
+
+-- Where the files are told, the counts rise only for a file that the call was given: absences for one that isn't there,
+-- excesses for one that is longer than its limit.
+abbrev pub NamesOne : Option Asked → (List ℕ → Type 0) → Type 0
+NamesOne None P = ⊥
+NamesOne (Some (Diff pre post)) P = P pre ⊎ P post
+
+unfoldable pub CountsTellOf : Option Asked → (List ℕ → Option (List ℕ)) → Counts → Counts → Type 0
+CountsTellOf asked files before now =
+    (before.absences < now.absences → NamesOne asked (λ name. files name ≡ None))
+    × (before.excesses < now.excesses → NamesOne asked (λ name. IsLonger object_limit (files name)))
+
+-- What came out is the line of a file that the call was given.
+pub record EndsWithSomeFile (asked : Option Asked) (before now : Counts) (old new : Option (List ℕ)) : Type 0 where
+  pub name : List ℕ
+  pub named : NamesFile asked name
+  pub ends : EndsWithFile name before now old new
+
+-- What came out is the reply for some two files within the limit.
+pub record ComparesSome (old new : Option (List ℕ)) (status : ℕ) : Type 0 where
+  pub pre : List ℕ
+  pub post : List ℕ
+  pub pre_fits : length pre ≤ object_limit
+  pub post_fits : length post ≤ object_limit
+  pub answer : ComesOut (reply_answer (difference_reply pre post)) old new status
+
+-- the statuses with which a call ends whose file isn't loaded, that has its reply, whose words have a reading; and all
+abbrev pub ends_load : ℕ → Bool
+ends_load status = list_any (nat_eq status) (4 ∷ 5 ∷ 6 ∷ [])
+
+abbrev pub ends_reply : ℕ → Bool
+ends_reply status = list_any (nat_eq status) (0 ∷ 3 ∷ 5 ∷ 6 ∷ [])
+
+abbrev pub is_carried_out : ℕ → Bool
+is_carried_out status = list_any (nat_eq status) (0 ∷ 3 ∷ 4 ∷ 5 ∷ 6 ∷ [])
+
+abbrev pub is_status : ℕ → Bool
+is_status status = list_any (nat_eq status) (0 ∷ 2 ∷ 3 ∷ 4 ∷ 5 ∷ 6 ∷ [])

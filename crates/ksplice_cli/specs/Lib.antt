@@ -1,0 +1,6 @@
+pub mod Words
+pub mod Asks
+pub mod Difference
+pub mod Answer
+pub mod Reply
+pub mod Calls

@@ -1,0 +1,51 @@
+//! `ksplice`: the program. It reads its words, carries out the call, and ends with the call's status.
+#![tactic(auto)]
+
+pub mod answering;
+mod changes;
+mod command;
+mod comparing;
+mod loading;
+pub mod real;
+mod saying;
+pub mod status;
+mod words;
+
+use crate::answering::ksplice;
+use crate::real::{RealFiles, RealSink};
+use crate::status::Status;
+use std::env;
+use std::io::{self, ErrorKind};
+use std::process::ExitCode;
+
+// The words after the program's name.
+fn words_of(rt: &HostRuntime) -> io::Result<Vec<String>> {
+    let mut words = Vec::new(rt.alloc());
+    for word in env::args(rt)?.skip(1) {
+        words.push(word)?;
+    }
+    Ok(words)
+}
+
+fn run(rt: &HostRuntime) -> Status {
+    let mut files = RealFiles::new(rt);
+    let mut output = RealSink::new(rt);
+    match words_of(rt) {
+        Ok(words) => ksplice(rt.alloc(), words.as_slice(), &mut files, &mut output),
+        // A word that is no text has no reading, as none have no reading.
+        Err(error) if error.kind() == ErrorKind::InvalidData => ksplice(
+            rt.alloc(),
+            &[],
+            &mut files,
+            &mut output,
+        ),
+        Err(_) => Status::NO_MEMORY,
+    }
+}
+
+fn main(rt: HostRuntime) -> ExitCode {
+    ExitCode::from(run(&rt).code)
+}
+
+#[cfg(test)]
+mod tests;

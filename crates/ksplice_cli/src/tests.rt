@@ -1,0 +1,123 @@
+//! Whole calls over files and a sink in memory.
+mod objects;
+
+use crate::answering::ksplice;
+use ks_io::{MemoryFiles, MemorySink};
+use objects::{A_CALL, ONE_FUNCTION, TWO_FUNCTIONS};
+use std::alloc::Global;
+use std::test::Fail;
+
+/// Where the one function's constant stands, and its name.
+const CONSTANT: usize = 53;
+
+const NAME: usize = 109;
+
+/// Where the second function's name stands, and the last letter of its section's.
+const SECOND_NAME: usize = 147;
+
+const SECOND_SECTION: usize = 167;
+
+/// The sink's bytes and the status of a call, over files of which the numbered loads fail and a sink whose numbered
+/// writes fail and that takes at most so many bytes a write.
+fn answer(
+    alloc: Global,
+    words: &[&str],
+    failing: (Vec<u64>, Vec<u64>),
+    most: usize,
+) -> Result<(Vec<u8>, u8), Fail> {
+    let (loads, writes) = failing;
+    let mut files = MemoryFiles::new(alloc, loads);
+    let mut changed = ONE_FUNCTION;
+    changed[CONSTANT] = 2;
+    let mut renamed = ONE_FUNCTION;
+    renamed[NAME] = 7;
+    let mut other = TWO_FUNCTIONS;
+    other[SECOND_NAME] = b'h';
+    other[SECOND_SECTION] = b'h';
+    files.put("one", &ONE_FUNCTION)?;
+    files.put("two", &changed)?;
+    files.put("renamed", &renamed)?;
+    files.put("f and g", &TWO_FUNCTIONS)?;
+    files.put("f and h", &other)?;
+    files.put("call", &A_CALL)?;
+    files.put("empty", &[])?;
+    if words.iter().any(|word| *word == "long name") {
+        let long = vec![in alloc; 0u8; 8_388_609]?;
+        files.put("long name", long.as_slice())?;
+    }
+    let mut all = Vec::new(alloc);
+    for word in words {
+        all.push(String::from_str(alloc, word)?)?;
+    }
+    let mut out = MemorySink::new(alloc, writes, most);
+    let status = ksplice(alloc, all.as_slice(), &mut files, &mut out);
+    Ok((Vec::from_slice(alloc, out.taken())?, status.code))
+}
+
+#[test]
+fn answers(rt: HostRuntime) -> Result<(), Fail> {
+    let usage = "usage: ksplice diff PRE POST\n";
+    let calls: [(&[&str], &str, u8); 22] = [
+        (&["diff", "one", "two"], "changed f\n", 0),
+        (&["diff", "renamed", "two"], "changed \\x07\n", 0),
+        (&["diff", "two", "renamed"], "changed f\n", 0),
+        (&["diff", "f and g", "f and h"], "added h\n", 0),
+        (&["diff", "two", "f and g"], "changed f\nadded g\n", 0),
+        (&["diff", "f and g", "one"], "refused 12 no change\n", 3),
+        (&["diff", "call", "call"], "refused 51 relocations\n", 3),
+        (&["diff", "one", "one"], "refused 12 no change\n", 3),
+        (&["diff", "empty", "one"], "refused 52 unread object\n", 3),
+        (&["diff", "one", "empty"], "refused 52 unread object\n", 3),
+        (&["diff", "call", "one"], "refused 51 relocations\n", 3),
+        (&["diff", "call", "empty"], "refused 51 relocations\n", 3),
+        (&["diff", "one", "call"], "refused 51 relocations\n", 3),
+        (&["diff", "none", "two"], "file none missing\n", 4),
+        (&["diff", "empty", "none"], "file none missing\n", 4),
+        (
+            &["diff", "long name", "none"],
+            "file long\\x20name too long\n",
+            4,
+        ),
+        (&["diff", "one"], usage, 2),
+        (&["diff", "one", "two", "one"], usage, 2),
+        (&["diff", "-one", "two"], usage, 2),
+        (&["Diff", "one", "two"], usage, 2),
+        (&["run", "one", "two"], usage, 2),
+        (&[], usage, 2),
+    ];
+    let alloc = rt.alloc();
+    for (words, output, status) in calls {
+        let (taken, code) = answer(alloc, words, (Vec::new(alloc), Vec::new(alloc)), 7)?;
+        assert_eq!(rt; taken.as_slice(), output.as_bytes(), "output of {words:?}");
+        assert_eq!(rt; code, status, "status of {words:?}");
+    }
+    Ok(())
+}
+
+#[test]
+fn faults_of_the_outside(rt: HostRuntime) -> Result<(), Fail> {
+    let alloc = rt.alloc();
+    let words = ["diff", "one", "two"];
+    let calls: [(&[u64], &[u64], usize, &str, u8); 6] = [
+        (&[1], &[], 100, "file one failed\n", 4),
+        (&[2], &[], 100, "file two failed\n", 4),
+        (&[3], &[], 100, "changed f\n", 0),
+        (&[], &[2], 4, "chan", 5),
+        (&[], &[], 0, "", 5),
+        (&[1], &[1], 4, "", 5),
+    ];
+    for (loads, writes, most, output, status) in calls {
+        let failing = (
+            Vec::from_slice(alloc, loads)?,
+            Vec::from_slice(alloc, writes)?,
+        );
+        let (taken, code) = answer(alloc, &words, failing, most)?;
+        assert_eq!(rt;
+            taken.as_slice(),
+            output.as_bytes(),
+            "output with {loads:?} and {writes:?}"
+        );
+        assert_eq!(rt; code, status, "status with {loads:?} and {writes:?}");
+    }
+    Ok(())
+}
