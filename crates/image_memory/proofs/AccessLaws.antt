@@ -1,0 +1,243 @@
+-- What the first bad byte, the bytes of a read and the bytes after a write are, one address at a time.
+use Rattle.std.proofs.Common.{◌≡◌, ℕ, zero, suc, ◌+◌, ◌-◌, ◌≤◌, ◌<◌, List, [], ◌∷◌, length, get_or, min, max, ◌++◌, ◌∙◌, refl, sym, ap, arith, ◌⊎◌, inl, inr, Option, Some, None, Vec, take, drop}
+use Rattle.std.specs.Option.{option_or}
+use Rattle.std.specs.Vec.{with_items}
+use Rattle.std.specs.List.{All}
+use Rattle.std.proofs.lemmas.List.{same_lists, ext_get_or, get_or-drop, get_or-take, get_or_append_left, get_or-append_right, length-take-le, length-take, length-drop, length-append, length-map, get_or-map, with_items_is}
+use Rattle.std.proofs.lemmas.Bool.Decides.{nat_tests}
+use Rattle.image_memory.specs.Ranges.{Ascends}
+use Rattle.image_memory.specs.Contents.{piece_range, holding}
+use Rattle.image_memory.specs.Access.{first_fault, bytes_at, byte_at, overlaid, overlaid_piece, written, new_byte, access_fault}
+use Rattle.image_memory.specs.declared.types.Access.{Access}
+use Rattle.image_memory.specs.declared.types.Access.TheVariants.{Read, Write}
+use Rattle.image_memory.specs.declared.types.Fault.TheVariants.{Unmapped}
+use Rattle.image_memory.specs.declared.types.Piece.{Piece}
+use Rattle.image_memory.specs.declared.types.Fault.{Fault}
+use Rattle.image_memory.proofs.RangeLaws.{found_along}
+
+-- no byte is bad below n
+each_good : (f : ℕ → Option Fault) (a n : ℕ) → first_fault f a n ≡ None → (k : ℕ) → k < n → f (a + k) ≡ None
+unfolding first_fault
+each_good f a zero h k l = absurd (omega arith)
+each_good f a (suc n) h k l =
+    elim (cases k n l) [
+      | inl e ↦ rw e (second (first_fault f a n) (f (a + n)) h)
+      | inr m ↦ each_good f a n (first (first_fault f a n) (f (a + n)) h) k m
+    ]
+  where
+    cases : (k n : ℕ) → k < suc n → (k ≡ n) ⊎ (k < n)
+    cases k n l = grind arith
+
+    first : (x y : Option Fault) → option_or x y ≡ None → x ≡ None
+    first None y h = refl
+    first (Some x) y h = cc
+
+    second : (x y : Option Fault) → option_or x y ≡ None → y ≡ None
+    second None y h = h
+    second (Some x) y h = cc
+
+pub good_at : (f : ℕ → Option Fault) (a n k : ℕ) → first_fault f a n ≡ None → k < n → f (a + k) ≡ None
+good_at f a n k h l = each_good f a n h k l
+
+pub all_good : (f : ℕ → Option Fault) (a n : ℕ) → ((k : ℕ) → k < n → f (a + k) ≡ None) → first_fault f a n ≡ None
+unfolding first_fault
+all_good f a zero h = refl
+all_good f a (suc n) h =
+    let before = all_good f a n (λ k l. h k (omega arith)) in
+    rw before (h n (omega arith))
+
+-- the bytes before are good and this one is bad
+pub fault_stops : (f : ℕ → Option Fault) (a m n : ℕ) (x : Fault) → first_fault f a m ≡ None → f (a + m) ≡ Some x → m < n
+    → first_fault f a n ≡ Some x
+unfolding first_fault
+fault_stops f a m zero x good bad l = absurd (omega arith)
+fault_stops f a m (suc n) x good bad l =
+    elim (cases m n l) [
+      | inl e ↦ rw (← e) (rw good bad)
+      | inr k ↦ rw (fault_stops f a m n x good bad k) refl
+    ]
+  where
+    cases : (k n : ℕ) → k < suc n → (k ≡ n) ⊎ (k < n)
+    cases k n l = grind arith
+
+pub length-bytes_at : (pieces : List Piece) (a n : ℕ) → length (bytes_at pieces a n) ≡ n
+unfolding bytes_at
+length-bytes_at pieces a zero = refl
+length-bytes_at pieces a (suc n) = ap suc (length-bytes_at pieces (a + 1) n)
+
+pub get_or-bytes_at : (pieces : List Piece) (a n k : ℕ) → k < n → get_or (bytes_at pieces a n) k 0 ≡ byte_at pieces (a + k)
+unfolding bytes_at
+get_or-bytes_at pieces a zero k l = absurd (omega arith)
+get_or-bytes_at pieces a (suc n) zero l = ap (byte_at pieces) (omega arith)
+get_or-bytes_at pieces a (suc n) (suc k) l =
+    let e : (a + 1) + k ≡ a + suc k = omega arith in
+    rw e at (get_or-bytes_at pieces (a + 1) n k (omega arith))
+
+pub length-overlaid : (start : ℕ) (bytes : List ℕ) (a : ℕ) (xs : List ℕ) → length (overlaid start bytes a xs) ≡ length xs
+unfolding overlaid
+length-overlaid start bytes a [] = refl
+length-overlaid start bytes a (x ∷ xs) = ap suc (length-overlaid start bytes (a + 1) xs)
+
+pub get_or-overlaid : (start : ℕ) (bytes : List ℕ) (a : ℕ) (xs : List ℕ) (k : ℕ) → k < length xs
+    → get_or (overlaid start bytes a xs) k 0 ≡ new_byte start bytes (a + k) (get_or xs k 0)
+unfolding overlaid
+get_or-overlaid start bytes a [] k l = absurd (omega arith)
+get_or-overlaid start bytes a (x ∷ xs) zero l = ap (λ b. new_byte start bytes b x) (omega arith)
+get_or-overlaid start bytes a (x ∷ xs) (suc k) l =
+    let e : (a + 1) + k ≡ a + suc k = omega arith in
+    rw e at (get_or-overlaid start bytes (a + 1) xs k (omega arith))
+
+-- a byte that is one of those written, and one that isn't
+pub new_inside : (start : ℕ) (bytes : List ℕ) (a b : ℕ) → start ≤ a → a < start + length bytes → new_byte start bytes a b ≡ get_or bytes (a - start) 0
+new_inside start bytes a b l m = grind (arith, nat_tests)
+
+pub new_outside : (start : ℕ) (bytes : List ℕ) (a b : ℕ) → (a < start) ⊎ (start + length bytes ≤ a) → new_byte start bytes a b ≡ b
+new_outside start bytes a b h = grind (arith, nat_tests)
+
+pub overlaid_outside : (start : ℕ) (bytes : List ℕ) (a : ℕ) (xs : List ℕ)
+    → ((k : ℕ) → k < length xs → (a + k < start) ⊎ (start + length bytes ≤ a + k)) → overlaid start bytes a xs ≡ xs
+overlaid_outside start bytes a xs h =
+    ext_get_or 0 _ _ (length-overlaid start bytes a xs) (λ k l.
+    let m : k < length xs = rw (length-overlaid start bytes a xs) at l in
+    let e = new_outside start bytes (a + k) (get_or xs k 0) (h k m) in
+    rw e at (get_or-overlaid start bytes a xs k m))
+
+pub overlaid_apart : (start : ℕ) (bytes : List ℕ) (a : ℕ) (xs : List ℕ) → (a + length xs ≤ start) ⊎ (start + length bytes ≤ a)
+    → overlaid start bytes a xs ≡ xs
+overlaid_apart start bytes a xs h = overlaid_outside start bytes a xs (λ k m. grind arith)
+
+pub piece_apart : (start : ℕ) (bytes : List ℕ) (p : Piece) → ((piece_range p).high ≤ start) ⊎ (start + length bytes ≤ p.base)
+    → overlaid_piece start bytes p ≡ p
+piece_apart start bytes p h = ap (λ (xs : List ℕ). record p { bytes = xs }) (overlaid_apart start bytes p.base p.bytes h)
+
+pub Ascends-written : (start : ℕ) (bytes : List ℕ) (floor : ℕ) (ps : List Piece) → Ascends piece_range floor ps
+    → Ascends piece_range floor (written start bytes ps)
+Ascends-written start bytes floor [] h = tt
+Ascends-written start bytes floor (p ∷ ps) h =
+    rw (length-overlaid start bytes p.base p.bytes) (h.0, h.1, Ascends-written start bytes (piece_range p).high ps h.2)
+
+-- the byte at an address of a piece, by the bytes from an earlier address of it on
+pub byte_along : (floor : ℕ) (ps : List Piece) (at b : ℕ) (p : Piece) → Ascends piece_range floor ps → holding ps at ≡ Some p
+    → p.base ≤ at → at ≤ b → b < (piece_range p).high → byte_at ps b ≡ get_or (drop (at - p.base) p.bytes) (b - at) 0
+byte_along floor ps at b p up h low l m =
+    let here = found_along piece_range floor ps at b p up h l m in
+    let e : (at - p.base) + (b - at) ≡ b - p.base = omega arith in
+    rw (here, get_or-drop (at - p.base) p.bytes (b - at) 0, e) refl
+
+pub fault_more : (f : ℕ → Option Fault) (a m n : ℕ) → first_fault f a m ≡ None
+    → ((k : ℕ) → m ≤ k → k < n → f (a + k) ≡ None) → first_fault f a n ≡ None
+fault_more f a m n good more = all_good f a n (λ k l. elim (cases k m) [
+  | inl below ↦ good_at f a m k good below
+  | inr from ↦ more k from l
+])
+  where
+    cases : (k m : ℕ) → (k < m) ⊎ (m ≤ k)
+    cases k m = grind arith
+
+pub access_none : (access : Access) → access_fault access None ≡ Some Unmapped
+access_none Read = refl
+access_none Write = refl
+
+-- a list with a part replaced: what stands before the part, in it and after it
+pub copied_below : (xs ys zs : List ℕ) (a k : ℕ) → a ≤ length xs → k < a → get_or (take a xs ++ (ys ++ zs)) k 0 ≡ get_or xs k 0
+copied_below xs ys zs a k h l =
+    let m : k < length (take a xs) = rw (length-take-le a xs h) l in
+    get_or_append_left (take a xs) (ys ++ zs) 0 k m ∙ get_or-take a xs k 0 l
+
+pub copied_from : (xs ys zs : List ℕ) (a k : ℕ) → a ≤ length xs → a ≤ k → k < a + length ys
+    → get_or (take a xs ++ (ys ++ zs)) k 0 ≡ get_or ys (k - a) 0
+copied_from xs ys zs a k h l m =
+    get_or-append_right (take a xs) (ys ++ zs) a k 0 (length-take-le a xs h) l
+    ∙ get_or_append_left ys zs 0 (k - a) (omega arith)
+
+pub copied_past : (xs ys zs : List ℕ) (a k : ℕ) → a ≤ length xs → a + length ys ≤ k
+    → get_or (take a xs ++ (ys ++ zs)) k 0 ≡ get_or zs (k - a - length ys) 0
+copied_past xs ys zs a k h l =
+    get_or-append_right (take a xs) (ys ++ zs) a k 0 (length-take-le a xs h) (omega arith)
+    ∙ get_or-append_right ys zs (length ys) (k - a) 0 refl (omega arith)
+
+pub earlier_or_later : (k m : ℕ) → (k < m) ⊎ (m ≤ k)
+earlier_or_later k m = grind arith
+
+-- what is replaced where two runs of bytes overlap
+module _ (at start low high : ℕ) (target from : List ℕ) (low_is : low ≡ max at start)
+    (high_is : high ≡ min (at + length target) (start + length from)) (meet : low < high) where
+  part : List ℕ
+  part = take (high - start - (low - start)) (drop (low - start) from)
+
+  replaced : List ℕ
+  replaced = take (low - at) target ++ (part ++ drop (high - at - (low - at)) (drop (low - at) target))
+
+  length-part : length part ≡ high - low
+  unfolding part
+  length-part = simp (length-take, length-drop) (omega arith)
+
+  length-replaced : length replaced ≡ length target
+  unfolding replaced
+  length-replaced = simp (length-append, length-take, length-drop, length-part) (omega arith)
+
+  byte_in_part : (k : ℕ) → k < high - low → get_or part k 0 ≡ get_or from (low - start + k) 0
+  unfolding part
+  byte_in_part k l = get_or-take _ _ k 0 (omega arith) ∙ get_or-drop (low - start) from k 0
+
+  byte_replaced : (k : ℕ) → k < length target → get_or replaced k 0 ≡ new_byte start from (at + k) (get_or target k 0)
+  unfolding replaced
+  byte_replaced k l =
+      elim (earlier_or_later (at + k) low) [
+        | inl before ↦
+            copied_below target part _ (low - at) k (omega arith) (omega arith)
+            ∙ sym (new_outside start from (at + k) (get_or target k 0) (inl (omega arith)))
+        | inr from_low ↦ elim (earlier_or_later (at + k) high) [
+          | inl within ↦
+              let e : low - start + (k - (low - at)) ≡ at + k - start = omega arith in
+              copied_from target part _ (low - at) k (omega arith) (omega arith) (omega (arith, length-part))
+              ∙ (byte_in_part (k - (low - at)) (omega arith)
+              ∙ (ap (λ i. get_or from i 0) e
+              ∙ sym (new_inside start from (at + k) (get_or target k 0) (omega arith) (omega arith))))
+          | inr past ↦
+              let e : low - at + (high - at - (low - at) + (k - (low - at) - length part)) ≡ k = omega (arith, length-part) in
+              copied_past target part _ (low - at) k (omega arith) (omega (arith, length-part))
+              ∙ (get_or-drop (high - at - (low - at)) (drop (low - at) target) _ 0
+              ∙ (get_or-drop (low - at) target _ 0
+              ∙ (ap (λ i. get_or target i 0) e
+              ∙ sym (new_outside start from (at + k) (get_or target k 0) (inr (omega arith))))))
+        ]
+      ]
+
+  pub overlaid_where_met : take (low - at) target ++ (take (high - start - (low - start)) (drop (low - start) from)
+      ++ drop (high - at - (low - at)) (drop (low - at) target)) ≡ overlaid start from at target
+  unfolding replaced part
+  overlaid_where_met = ext_get_or 0 replaced _ (length-replaced ∙ sym (length-overlaid start from at target)) (λ k l.
+      let m : k < length target = rw length-replaced at l in
+      byte_replaced k m ∙ sym (get_or-overlaid start from at target k m))
+
+pub written_is : (ps qs : List Piece) (start : ℕ) (bytes : List ℕ) (i : ℕ) → length qs ≡ length ps
+    → ((k : ℕ) (d : Piece) → k < i → get_or qs k d ≡ overlaid_piece start bytes (get_or ps k d))
+    → ((k : ℕ) (d : Piece) → i ≤ k → get_or qs k d ≡ get_or ps k d)
+    → ((k : ℕ) (d : Piece) → i ≤ k → k < length ps → start + length bytes ≤ (get_or ps k d).base)
+    → qs ≡ written start bytes ps
+written_is ps qs start bytes i same done rest later =
+    same_lists qs (written start bytes ps) (same ∙ sym (length-map ps (overlaid_piece start bytes))) (λ k d l.
+    let m : k < length ps = omega (arith, same) in
+    elim (earlier_or_later k i) [
+      | inl b ↦ done k d b ∙ sym (get_or-map (overlaid_piece start bytes) ps k d d m)
+      | inr f ↦ rest k d f ∙ (sym (piece_apart start bytes (get_or ps k d) (inr (later k d f m)))
+          ∙ sym (get_or-map (overlaid_piece start bytes) ps k d d m))
+    ])
+
+pub ends-written : (start : ℕ) (bytes : List ℕ) (limit : ℕ) (ps : List Piece) → All (λ p. (piece_range p).high ≤ limit) ps
+    → All (λ p. (piece_range p).high ≤ limit) (written start bytes ps)
+ends-written start bytes limit ps h k d l =
+    let m : k < length ps = rw (length-map ps (overlaid_piece start bytes)) at l in
+    rw (get_or-map (overlaid_piece start bytes) ps k d d m)
+    (rw (length-overlaid start bytes (get_or ps k d).base (get_or ps k d).bytes) (h k d m))
+
+pub length_copied : (xs ys : List ℕ) (a n : ℕ) → a ≤ length xs → n ≡ length xs - a → length ys ≡ n
+    → length (take a xs ++ (ys ++ drop n (drop a xs))) ≡ length xs
+length_copied xs ys a n h e l = simp (length-append, length-take, length-drop) (omega (arith, l))
+
+-- the pieces that a vector keeps after they were written through a slice of it
+pub kept_as : {Z : Type 0} (v : Vec Piece Z) (new seen : List Piece) (start : ℕ) (bytes : List ℕ) → length new ≡ length seen
+    → new ≡ written start bytes seen → seen ≡ v.items → (with_items v new).items ≡ written start bytes v.items
+kept_as v new seen start bytes same wrote is =
+    with_items_is v new (same ∙ (ap length is ∙ sym v.ok.0)) ∙ (wrote ∙ ap (written start bytes) is)

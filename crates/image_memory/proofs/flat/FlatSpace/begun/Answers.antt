@@ -1,0 +1,24 @@
+-- What halving finds, where the bases rise.
+use Rattle.std.proofs.Common.{rules, arith, leb, leb-true, leb-false}
+use Rattle.std.specs.List.Sorted.{IsPartitionedBy}
+use Rattle.std.proofs.lemmas.List.Sorted.{IsPartitionPoint-from_clause, IsPartitionedBy-leb}
+use Rattle.image_memory.specs.Contents.{piece_range}
+use Rattle.image_memory.specs.declared.types.Piece.{Piece}
+use Rattle.image_memory.proofs.RangeLaws.{lows_rise}
+use Rattle.image_memory.proofs.flat.FlatSpace.begun.Goals as goal
+
+pub returns : goal.returns
+returns c =
+    let space = c.args.self.now in
+    let rise = IsPartitionedBy-leb (λ (piece : Piece). piece.base) space.pieces.items c.args.address
+    (lows_rise piece_range 0 space.pieces.items space.ascend) in
+    let e = c.as_slice.ensures.value in
+    let parted : IsPartitionedBy (λ piece. leb piece.base c.args.address) c.as_slice.result.now = rw e rise in
+    let found = IsPartitionPoint-from_clause (λ piece. leb piece.base c.args.address) c.as_slice.result.now
+    c.partition_point.result c.partition_point.ensures.partitioned parted (λ a r f' k. search rules) in
+    let at = rw e at found in
+    record {
+      bound = search rules;
+      below = λ k d l m. leb-true _ _ (at.0 k d l m);
+      above = λ k d l m. leb-false _ _ (at.1 k d l (omega (arith, space.pieces.ok.0)));
+    }

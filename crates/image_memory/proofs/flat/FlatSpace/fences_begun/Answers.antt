@@ -1,0 +1,24 @@
+-- What halving finds, where the bases rise.
+use Rattle.std.proofs.Common.{rules, arith, leb, leb-true, leb-false}
+use Rattle.std.specs.List.Sorted.{IsPartitionedBy}
+use Rattle.std.proofs.lemmas.List.Sorted.{IsPartitionPoint-from_clause, IsPartitionedBy-leb}
+use Rattle.image_memory.specs.Contents.{fence_range}
+use Rattle.image_memory.specs.declared.types.Fence.{Fence}
+use Rattle.image_memory.proofs.RangeLaws.{lows_rise}
+use Rattle.image_memory.proofs.flat.FlatSpace.fences_begun.Goals as goal
+
+pub returns : goal.returns
+returns c =
+    let space = c.args.self.now in
+    let rise = IsPartitionedBy-leb (λ (fence : Fence). fence.range.low) space.fences.items c.args.address
+    (lows_rise fence_range 0 space.fences.items space.fenced) in
+    let e = c.as_slice.ensures.value in
+    let parted : IsPartitionedBy (λ fence. leb fence.range.low c.args.address) c.as_slice.result.now = rw e rise in
+    let found = IsPartitionPoint-from_clause (λ fence. leb fence.range.low c.args.address) c.as_slice.result.now
+    c.partition_point.result c.partition_point.ensures.partitioned parted (λ a r f' k. search rules) in
+    let at = rw e at found in
+    record {
+      bound = search rules;
+      below = λ k d l m. leb-true _ _ (at.0 k d l m);
+      above = λ k d l m. leb-false _ _ (at.1 k d l (omega (arith, space.fences.ok.0)));
+    }

@@ -1,0 +1,4 @@
+pub mod Ranges
+pub mod Contents
+pub mod Access
+pub mod Fetch

@@ -1,0 +1,18 @@
+//! The memory of the running program: pieces of code and data, retired ranges of code, and what is
+//! read, written and fetched there.
+#![tactic(auto)]
+
+mod bytes;
+pub mod flat;
+mod parts;
+pub mod placement;
+pub mod space;
+pub mod types;
+
+pub use flat::FlatSpace;
+pub use placement::are_placed;
+pub use space::Space;
+pub use types::{Access, Fault, Fence, Kind, Piece, Pieces, Window};
+
+#[cfg(test)]
+mod tests;

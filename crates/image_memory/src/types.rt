@@ -1,0 +1,77 @@
+//! What memory consists of, why an access to it fails, and the bytes of a fetch.
+use ks_base::{Bytes, ListOf, Range};
+
+/// Why a thread stops.
+#[derive(Clone, Copy, PartialEq, Eq, Debug)]
+pub enum Fault {
+    /// The code there was retired.
+    Stray,
+    /// No piece holds the address; of a fetch, no code piece.
+    Unmapped,
+    /// Code was read or written as data.
+    CodeAccess,
+    /// A read-only piece was written.
+    ReadOnlyWrite,
+    /// The bytes are no instruction.
+    Undecoded,
+    /// The instruction is known and isn't carried out.
+    Unsupported,
+    /// A division by zero, or one whose quotient doesn't fit.
+    Divide,
+    /// A breakpoint or another instruction that traps.
+    Trap,
+    /// A LOCK prefix where none may stand.
+    BadLock,
+}
+
+/// What a piece of memory may be used for.
+#[derive(Clone, Copy, PartialEq, Eq, Debug)]
+pub enum Kind {
+    /// Fetched alone: no data access reaches it.
+    Code,
+    /// Read as data, and not written.
+    ReadOnly,
+    /// Read and written as data.
+    Writable,
+}
+
+/// What data are used for.
+#[derive(Clone, Copy, PartialEq, Eq, Debug)]
+pub enum Access {
+    /// They are read.
+    Read,
+    /// They are written.
+    Write,
+}
+
+/// Bytes that stand at consecutive addresses.
+#[derive(Clone, PartialEq, Eq, Debug, Drop)]
+pub struct Piece {
+    /// What the piece may be used for.
+    pub kind: Kind,
+    /// The address of the first byte.
+    pub base: u32,
+    /// The bytes, from the base upwards.
+    pub bytes: Bytes,
+}
+
+/// Pieces in order.
+pub type Pieces = ListOf<Piece>;
+
+/// A retired range of code.
+#[derive(Clone, Copy, PartialEq, Eq, Debug)]
+pub struct Fence {
+    /// The addresses that are retired.
+    pub range: Range,
+    /// Whether the range's low is a spliced home, where a jump stands.
+    pub jump: bool,
+}
+
+/// What is fetched at an address.
+#[derive(Clone, Copy, PartialEq, Eq, Debug)]
+pub struct Window {
+    /// The bytes from the address on, zeros behind `length`.
+    pub bytes: [u8; 15],
+    /// How many bytes were fetched, at most 15.
+    pub length: u32,
+}

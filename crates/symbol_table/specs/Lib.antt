@@ -1,0 +1,4 @@
+pub mod Kinds
+pub mod Starts
+pub mod Symbols
+pub mod Table

@@ -1,0 +1,73 @@
+-- What the symbols of a running program's table say: which addresses a name has, and which function an
+-- address lies in.
+use Rattle.std.specs.Prelude.{ℕ, ◌-◌, Bool, ◌&&◌, not, List, [], ◌∷◌, map, Option, Some, None, nat_lt, nat_le, if◌then◌else◌, nat_eq}
+use Rattle.std.specs.List.{filter}
+use Rattle.std.specs.Cmp.Lexicographic.{pointwise}
+use Rattle.symbol_table.specs.declared.symbols.Symbol.{Symbol}
+
+-- a number put among ascending numbers, where it isn't there yet
+abbrev pub with_number : ℕ → List ℕ → List ℕ
+with_number n [] = n ∷ []
+with_number n (m ∷ ms) = if nat_lt n m then n ∷ m ∷ ms else if nat_lt m n then m ∷ with_number n ms else m ∷ ms
+
+-- the numbers of a list, each once, ascending
+abbrev pub ascending : List ℕ → List ℕ
+ascending [] = []
+ascending (n ∷ ns) = with_number n (ascending ns)
+
+-- whether a symbol has a name
+abbrev pub is_named : List ℕ → Symbol → Bool
+is_named name symbol = pointwise nat_eq symbol.name name
+
+-- the tests of the three lookups: the function symbols, the global symbols, the data symbols of a name
+abbrev pub is_function_named : List ℕ → Symbol → Bool
+is_function_named name symbol = symbol.function && is_named name symbol
+
+abbrev pub is_global_named : List ℕ → Symbol → Bool
+is_global_named name symbol = symbol.global && is_named name symbol
+
+abbrev pub is_data_named : List ℕ → Symbol → Bool
+is_data_named name symbol = not symbol.function && is_named name symbol
+
+abbrev pub address_of : Symbol → ℕ
+address_of symbol = symbol.address
+
+-- the distinct addresses of the symbols that pass a test, ascending
+abbrev pub addresses_of : (Symbol → Bool) → List Symbol → List ℕ
+addresses_of wanted symbols = ascending (map address_of (filter wanted symbols))
+
+-- the addresses of a name's function symbols, of its global symbols, and of its data symbols
+abbrev pub function_addresses : List Symbol → List ℕ → List ℕ
+function_addresses symbols name = addresses_of (is_function_named name) symbols
+
+abbrev pub global_addresses : List Symbol → List ℕ → List ℕ
+global_addresses symbols name = addresses_of (is_global_named name) symbols
+
+abbrev pub data_addresses : List Symbol → List ℕ → List ℕ
+data_addresses symbols name = addresses_of (is_data_named name) symbols
+
+-- whether a function begins at or below an address
+abbrev pub begins_by : ℕ → Symbol → Bool
+begins_by address symbol = symbol.function && nat_le symbol.address address
+
+-- of two symbols the one with the greater address, and the earlier one where they are equal
+abbrev pub nearer : Symbol → Option Symbol → Option Symbol
+nearer earlier None = Some earlier
+nearer earlier (Some later) = if nat_lt earlier.address later.address then Some later else Some earlier
+
+-- of the function symbols at or below an address the one with the greatest address, and of several there
+-- the first
+unfoldable pub function_below : List Symbol → ℕ → Option Symbol
+function_below [] address = None
+function_below (symbol ∷ rest) address =
+    if begins_by address symbol then nearer symbol (function_below rest address) else function_below rest address
+
+-- a symbol's name and how far an address lies above it, where that is below 65,536
+abbrev pub name_and_offset : ℕ → Option Symbol → Option (List ℕ × ℕ)
+name_and_offset address None = None
+name_and_offset address (Some symbol) =
+    if nat_lt (address - symbol.address) 65536 then Some (symbol.name, address - symbol.address) else None
+
+-- the name that an address is shown with, and the offset from it
+abbrev pub name_below : List Symbol → ℕ → Option (List ℕ × ℕ)
+name_below symbols address = name_and_offset address (function_below symbols address)

@@ -1,0 +1,147 @@
+//! The table of symbols.
+ghost use Rattle.std.specs.Prelude.{◌≡◌, ◌+◌, ◌<◌, ◌≤◌, ◌++◌, [], ◌∷◌, length, OnOk, IfOk};
+ghost use Rattle.std.specs.Option.{option_copied, option_map};
+ghost use Rattle.std.specs.List.{slice_get};
+ghost use Rattle.symbol_table.specs.Symbols.{function_addresses, global_addresses, data_addresses, name_below};
+
+use crate::addresses::{Addresses, put_in_order};
+use crate::kinds::{Kind, addresses_found};
+use crate::starts::{Start, last_start, note_symbol};
+use crate::symbols::Symbol;
+use ks_base::Name;
+use std::alloc::{AllocError, Global};
+use std::marker::Model;
+
+// The offsets below which an address is shown with a function's name.
+const NAMED_REACH: u32 = 65_536;
+
+/// The symbols of a running program in order. A clause sees it as the list of its symbols and the number
+/// of its spare places, which [`reserve`](SymbolTable::reserve) makes and [`add`](SymbolTable::add) takes.
+#[derive(Drop)]
+pub struct SymbolTable {
+    symbols: Vec<Symbol>,
+    // where functions begin, by address
+    starts: Vec<Start>,
+    spare: usize,
+}
+
+impl Model for SymbolTable {
+    ghost use Rattle.std.specs.Prelude.{◌≡◌};
+    ghost use Rattle.symbol_table.specs.Table.{Table};
+
+    ghost Value = { Table };
+
+    ghost view = { λ t. record { symbols = t.symbols.items; spare = t.spare } };
+
+    ghost use Rattle.symbol_table.specs.Starts.{HasRoom, HasAllStarts};
+
+    ghost invariant = { λ t. HasRoom t.symbols t.starts t.spare × HasAllStarts t.symbols.items t.starts.items };
+}
+
+impl SymbolTable {
+    /// The table without symbols and without spare places. It takes no memory; `alloc` is kept for what
+    /// is reserved and answered later.
+    pub fn new(alloc: Global) -> Self
+        ensures { result ≡ record { symbols = []; spare = 0 } }
+    {
+        SymbolTable {
+            symbols: Vec::new(alloc),
+            starts: Vec::new(alloc),
+            spare: 0,
+        }
+    }
+
+    /// How many symbols the table has.
+    pub fn len(&self) -> usize
+        ensures { result ≡ length self.now.symbols }
+    {
+        self.symbols.len()
+    }
+
+    /// The symbol at index `i`, counted from 0, `None` exactly where there is none.
+    pub fn get(&self, i: usize) -> Option<&Symbol>
+        ensures { option_copied result ≡ slice_get self.now.symbols i }
+    {
+        self.symbols.as_slice().get(i)
+    }
+
+    /// The distinct addresses of the function symbols of a name, ascending.
+    pub fn functions_of(&self, name: &Name) -> Result<Addresses, AllocError>
+        ensures { IfOk result (λ found. found ≡ function_addresses self.now.symbols name.now) }
+    {
+        put_in_order(addresses_found(
+            *self.symbols.allocator(),
+            self.symbols.as_slice(),
+            Kind::Function,
+            name,
+        )?)
+    }
+
+    /// The distinct addresses of the global symbols of a name, ascending.
+    pub fn globals_of(&self, name: &Name) -> Result<Addresses, AllocError>
+        ensures { IfOk result (λ found. found ≡ global_addresses self.now.symbols name.now) }
+    {
+        put_in_order(addresses_found(
+            *self.symbols.allocator(),
+            self.symbols.as_slice(),
+            Kind::Global,
+            name,
+        )?)
+    }
+
+    /// The distinct addresses of the data symbols of a name, those that aren't functions, ascending.
+    pub fn data_of(&self, name: &Name) -> Result<Addresses, AllocError>
+        ensures { IfOk result (λ found. found ≡ data_addresses self.now.symbols name.now) }
+    {
+        put_in_order(addresses_found(
+            *self.symbols.allocator(),
+            self.symbols.as_slice(),
+            Kind::Data,
+            name,
+        )?)
+    }
+
+    /// The name that an address is shown with, and the offset from it in bytes: of the function symbols
+    /// at or below the address the one with the greatest address, of several there the first, where the
+    /// offset is below 65,536; `None` exactly where there is none such. It takes no memory.
+    pub fn name_at(&self, address: u32) -> Option<(&Name, u32)>
+        ensures { option_map (λ shown. (shown.0.now, shown.1)) result ≡ name_below self.now.symbols address }
+    {
+        let start = last_start(self.starts.as_slice(), address)?;
+        let symbol = self.symbols.as_slice().get(start.place)?;
+        let offset = address - start.address;
+        if offset < NAMED_REACH {
+            Some((&symbol.name, offset))
+        } else {
+            None
+        }
+    }
+
+    /// Makes at least `n` spare places. The symbols stay, whatever the answer is; after `Err` nothing is
+    /// said of the spare places.
+    pub fn reserve(&mut self, n: u32) -> Result<(), AllocError>
+        ensures symbols { self.new.symbols ≡ self.old.symbols }
+        ensures spare { OnOk result (n ≤ self.new.spare) }
+    {
+        let wanted = n as usize;
+        if wanted <= self.spare {
+            return Ok(());
+        }
+        self.symbols.reserve(wanted)?;
+        self.starts
+            .reserve(self.symbols.len() - self.starts.len() + wanted)?;
+        self.spare = wanted;
+        Ok(())
+    }
+
+    /// Puts a symbol at the end, and takes one spare place. It takes no memory.
+    pub fn add(&mut self, symbol: Symbol)
+        requires { 0 < self.old.spare }
+        ensures symbols { self.new.symbols ≡ self.old.symbols ++ symbol ∷ [] }
+        ensures spare { self.new.spare + 1 ≡ self.old.spare }
+    {
+        note_symbol(&mut self.starts, &symbol, self.symbols.len());
+        self.spare -= 1;
+        let _ = self.symbols.push(symbol);
+    }
+}
