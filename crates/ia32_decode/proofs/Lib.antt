@@ -1,0 +1,3 @@
+pub mod Locality
+pub mod Lookup
+pub mod Readings

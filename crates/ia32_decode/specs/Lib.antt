@@ -1,0 +1,5 @@
+pub mod Decode
+pub mod Encoding
+pub mod Instructions
+pub mod Padding
+pub mod Table

@@ -1,0 +1,66 @@
+-- Which instructions are padding, by the forms in which an assembler writes it.
+use Rattle.std.specs.Prelude.{Bool, true, false, ◌&&◌, ◌||◌, not, Option, Some, None, is_some, nat_le, ◌==◌}
+use Rattle.ia32_decode.specs.declared.types.Prefixes.{Prefixes}
+use Rattle.ia32_decode.specs.declared.types.Register.{Register}
+use Rattle.ia32_decode.specs.Encoding.{register_number}
+use Rattle.ia32_decode.specs.declared.types.Width.{Width}
+use Rattle.ia32_decode.specs.declared.types.Width.TheVariants.{Byte, Word, Dword}
+use Rattle.ia32_decode.specs.declared.types.Index.{Index}
+use Rattle.ia32_decode.specs.declared.types.Memory.{Memory}
+use Rattle.ia32_decode.specs.declared.types.Operand.{Operand}
+use Rattle.ia32_decode.specs.declared.types.Operand.TheVariants.{Register as InRegister, Memory as InMemory}
+use Rattle.ia32_decode.specs.declared.types.Instr.{Instr}
+use Rattle.ia32_decode.specs.declared.types.Instr.TheVariants.{Nop, NopOperand, Move, LoadAddress}
+use Rattle.ia32_decode.specs.declared.types.Decoded.{Decoded}
+
+-- no prefix but 66, 2E and 3E
+abbrev pub has_others : Prefixes → Bool
+has_others p = p.lock || p.repeat_not_equal || p.repeat || p.extra_segment || p.stack_segment || p.segment_f || p.segment_g
+
+-- any number of 66
+abbrev pub only_66 : Prefixes → Bool
+only_66 p = not (has_others p) && not p.code_segment && not p.data_segment
+
+-- any number of 66 and 2E
+abbrev pub only_66_2e : Prefixes → Bool
+only_66_2e p = not (has_others p) && not p.data_segment
+
+-- at most one prefix, which is 2E or 3E
+abbrev pub one_2e_3e : Prefixes → Bool
+one_2e_3e p = nat_le p.count 1 && not (has_others p) && not p.operand_size
+
+abbrev pub is_dword : Width → Bool
+is_dword Byte = false
+is_dword Word = false
+is_dword Dword = true
+
+-- both operands are one register
+abbrev pub same_register : Operand → Operand → Bool
+same_register (InRegister a) (InRegister b) = register_number a == register_number b
+same_register (InRegister a) (InMemory m) = false
+same_register (InMemory m) b = false
+
+-- the register is the base
+abbrev pub is_base : Register → Option Register → Bool
+is_base r None = false
+is_base r (Some base) = register_number r == register_number base
+
+abbrev pub has_index : Option Index → Bool
+has_index None = false
+has_index (Some i) = true
+
+-- the address is the register alone
+abbrev pub is_alone : Register → Memory → Bool
+is_alone r m = is_base r m.base && not (has_index m.index) && m.displacement == 0
+
+-- NOP after 66; 0F 1F /0 after 66 and 2E; MOV of a 32-bit register to itself; and LEA of a register to itself, written
+-- with a displacement of 0
+unfoldable pub padding_form : Instr → Decoded → Bool
+padding_form Nop d = only_66 d.prefixes
+padding_form (NopOperand operand) d = only_66_2e d.prefixes
+padding_form (Move width destination source) d = d.prefixes.count == 0 && is_dword width && same_register destination source
+padding_form (LoadAddress width destination memory) d = one_2e_3e d.prefixes && is_some d.fields.disp && is_alone destination memory
+padding_form _ d = false
+
+abbrev pub is_padding_of : Decoded → Bool
+is_padding_of d = padding_form d.instr d

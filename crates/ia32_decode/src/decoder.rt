@@ -1,0 +1,253 @@
+//! Decoding one instruction.
+ghost use Rattle.std.specs.Prelude.{◌≡◌, ◌≤◌, ◌<◌, ◌+◌, length, IfSome, IfNone};
+ghost use Rattle.ia32_decode.specs.declared.types.Decoded.{Decoded};
+ghost use Rattle.ia32_decode.specs.Encoding.{head_of};
+ghost use Rattle.ia32_decode.specs.Table.{shape_of};
+ghost use Rattle.ia32_decode.specs.Decode.{front_of, opcode_end_of, form_addressing, form_accepts, number_in, value_in, fields_of, assembled, completed, accepts, if_complete, read_with, read_line, read_front, decoded_from, Spells};
+
+use crate::addressing::{Addressing, absent_addressing, addressing_at, field, sign_extended};
+use crate::heads::{Head, byte_at, dword_at, read_head, word_at};
+use crate::instructions::{Parts, build};
+use crate::layouts::{allows, shape_at, trailing_width, width};
+use crate::opcode_table::{Follows, Form, Line, line_at};
+use crate::types::{Decoded, Fields, Width};
+
+/// The bytes that count: an instruction has at most 15.
+fn front(window: &[u8]) -> &[u8]
+    ensures value { result.now ≡ front_of window.now }
+    ensures bound { length result.now ≤ 15 }
+{
+    if window.len() <= 15 {
+        window
+    } else {
+        &window[..15]
+    }
+}
+
+/// The offset after the last opcode byte, where the opcode without FB ends at `end`.
+fn opcode_end(form: Form, end: u32) -> u32
+    requires { end ≤ 17 }
+    ensures value { result ≡ opcode_end_of form end }
+    ensures bound { result ≤ 18 }
+{
+    match form {
+        Form::EndBranch => end + 1,
+        Form::Unlisted => end,
+        Form::Plain => end,
+        Form::Branch => end,
+        Form::ModRm => end,
+        Form::Memory => end,
+    }
+}
+
+/// What the ModRM byte says, where the form has one.
+fn addressing(form: Form, window: &[u8], at: u32) -> Addressing
+    requires { at ≤ 18 }
+    ensures value { result ≡ form_addressing form window.now at }
+    ensures bound { result.end ≤ 24 }
+{
+    match form {
+        Form::ModRm => addressing_at(window, at),
+        Form::Memory => addressing_at(window, at),
+        Form::Unlisted => absent_addressing(at),
+        Form::Plain => absent_addressing(at),
+        Form::Branch => absent_addressing(at),
+        Form::EndBranch => absent_addressing(at),
+    }
+}
+
+/// Whether a form takes the prefixes, the operand, and the byte FB.
+fn form_takes(form: Form, window: &[u8], head: Head, addressing: Addressing) -> bool
+    ensures { result ≡ form_accepts form window.now head addressing }
+{
+    match form {
+        Form::Unlisted => false,
+        Form::Plain => true,
+        Form::Branch => !head.prefixes.operand_size,
+        Form::ModRm => true,
+        Form::Memory => !addressing.is_register,
+        Form::EndBranch => head.prefixes.repeat && byte_at(window, head.end) == 0xFB,
+    }
+}
+
+/// Whether a line takes what follows its opcode.
+fn takes(line: Line, window: &[u8], head: Head, addressing: Addressing) -> bool
+    ensures { result ≡ accepts line window.now head addressing }
+{
+    let shape = shape_at(line);
+    form_takes(shape.form, window, head, addressing) && allows(shape.digits, addressing.digit)
+}
+
+/// The number of so many bytes at an offset.
+fn number(window: &[u8], at: u32, width: u32) -> u32
+    requires { at ≤ 24 }
+    ensures { result ≡ number_in window.now at width }
+{
+    if width == 1 {
+        u32::from(byte_at(window, at))
+    } else if width == 2 {
+        word_at(window, at)
+    } else if width == 4 {
+        dword_at(window, at)
+    } else {
+        0
+    }
+}
+
+/// The number at the end.
+fn trailing_value(follows: Follows, window: &[u8], at: u32, width: u32) -> u32
+    requires { at ≤ 24 }
+    ensures { result ≡ value_in follows window.now at width }
+{
+    match follows {
+        Follows::SignedByte => sign_extended(byte_at(window, at)),
+        Follows::Nothing => number(window, at, width),
+        Follows::Byte => number(window, at, width),
+        Follows::Word => number(window, at, width),
+        Follows::Dword => number(window, at, width),
+        Follows::Address => number(window, at, width),
+        Follows::Sized => number(window, at, width),
+        Follows::Tested => number(window, at, width),
+    }
+}
+
+/// The fields of an address that follows the opcode.
+fn address_fields(end: u32, addressing: Addressing, width: u32) -> Fields
+    ensures { result ≡ fields_of Follows.Address end addressing width }
+{
+    Fields {
+        opcode_end: end,
+        disp: field(addressing.end, width),
+        imm: None,
+    }
+}
+
+/// The fields of a displacement and an immediate.
+fn operand_fields(end: u32, addressing: Addressing, width: u32) -> Fields
+    ensures { result ≡ fields_of Follows.Nothing end addressing width }
+{
+    Fields {
+        opcode_end: end,
+        disp: addressing.displacement,
+        imm: field(addressing.end, width),
+    }
+}
+
+/// Where the parts are.
+fn fields(follows: Follows, end: u32, addressing: Addressing, width: u32) -> Fields
+    ensures { result ≡ fields_of follows end addressing width }
+{
+    match follows {
+        Follows::Address => address_fields(end, addressing, width),
+        Follows::Nothing => operand_fields(end, addressing, width),
+        Follows::Byte => operand_fields(end, addressing, width),
+        Follows::SignedByte => operand_fields(end, addressing, width),
+        Follows::Word => operand_fields(end, addressing, width),
+        Follows::Dword => operand_fields(end, addressing, width),
+        Follows::Sized => operand_fields(end, addressing, width),
+        Follows::Tested => operand_fields(end, addressing, width),
+    }
+}
+
+/// The instruction of a line whose number at the end has `count` bytes.
+#[tactic(auto, unfolding(crate::specs::Decode::assembled))]
+fn assemble(
+    line: Line,
+    window: &[u8],
+    head: Head,
+    addressing: Addressing,
+    width: Width,
+    count: u32,
+) -> Decoded
+    requires at { addressing.end ≤ 24 }
+    requires head { head.end ≤ 17 }
+    requires count { count ≤ 4 }
+    ensures { result ≡ assembled line window.now head addressing width count }
+{
+    let shape = shape_at(line);
+    let parts = Parts {
+        opcode: head.opcode,
+        width,
+        digit: addressing.digit,
+        operand: addressing.operand,
+        memory: addressing.memory,
+        value: trailing_value(shape.follows, window, addressing.end, count),
+    };
+    let end = opcode_end(shape.form, head.end);
+    Decoded {
+        length: addressing.end + count,
+        instr: build(line, parts),
+        fields: fields(shape.follows, end, addressing, count),
+        prefixes: head.prefixes,
+    }
+}
+
+/// The instruction of a line, whole or not.
+fn complete(line: Line, window: &[u8], head: Head, addressing: Addressing) -> Decoded
+    requires at { addressing.end ≤ 24 }
+    requires head { head.end ≤ 17 }
+    ensures { result ≡ completed line window.now head addressing }
+{
+    let shape = shape_at(line);
+    let width = width(shape.sizing, head.opcode, head.prefixes.operand_size);
+    let count = trailing_width(shape.follows, width, addressing.digit);
+    assemble(line, window, head, addressing, width, count)
+}
+
+/// An instruction, where all its bytes are in the window.
+fn within(window: &[u8], decoded: Decoded) -> Option<Decoded>
+    ensures { result ≡ if_complete window.now decoded }
+{
+    if decoded.length as usize <= window.len() {
+        Some(decoded)
+    } else {
+        None
+    }
+}
+
+/// The instruction of a line, where the line takes what follows its opcode.
+#[tactic(auto, unfolding(crate::specs::Decode::read_with))]
+fn read(line: Line, window: &[u8], head: Head, addressing: Addressing) -> Option<Decoded>
+    requires at { addressing.end ≤ 24 }
+    requires head { head.end ≤ 17 }
+    ensures { result ≡ read_with line window.now head addressing }
+{
+    if takes(line, window, head, addressing) {
+        within(window, complete(line, window, head, addressing))
+    } else {
+        None
+    }
+}
+
+/// The instruction of the line that stands at the opcode.
+#[tactic(auto, unfolding(crate::specs::Decode::read_line))]
+fn read_from(line: Line, window: &[u8], head: Head) -> Option<Decoded>
+    requires { head.end ≤ 17 }
+    ensures { result ≡ read_line line window.now head }
+{
+    let form = shape_at(line).form;
+    let at = opcode_end(form, head.end);
+    read(line, window, head, addressing(form, window, at))
+}
+
+/// The instruction at the front of at most 15 bytes.
+#[tactic(auto, unfolding(crate::specs::Decode::read_front))]
+fn decode_front(window: &[u8]) -> Option<Decoded>
+    requires { length window.now ≤ 15 }
+    ensures { result ≡ read_front window.now }
+{
+    let head = read_head(window);
+    read_from(line_at(head.escaped, head.opcode), window, head)
+}
+
+/// The instruction that a front of the window spells, `None` exactly where no line of the opcode table spells
+/// one in at most 15 bytes. It takes no memory.
+pub fn decode(window: &[u8]) -> Option<Decoded>
+    ensures exact { result ≡ decoded_from window.now }
+    ensures found { IfSome result (λ decoded. Spells window.now decoded) }
+    ensures none { IfNone result ((decoded : Decoded) → Spells window.now decoded → ⊥) }
+    ensures short { IfSome result (λ decoded. decoded.length ≤ 15) }
+    ensures within { IfSome result (λ decoded. decoded.length ≤ length window.now) }
+{
+    decode_front(front(window))
+}

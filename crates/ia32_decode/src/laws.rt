@@ -1,0 +1,19 @@
+//! What holds of decoding at every window.
+ghost use Rattle.std.specs.Prelude.{◌≡◌, ◌<◌, ℕ, List, Some, take};
+ghost use Rattle.ia32_decode.specs.declared.types.Decoded.{Decoded};
+ghost use Rattle.ia32_decode.specs.Encoding.{byte_in};
+ghost use Rattle.ia32_decode.specs.Decode.{decoded_from, Spells};
+
+/// What is decoded rests on the instruction's own bytes: whatever follows them, it is decoded the same.
+pub fn decoding_rests_on_its_bytes()
+    ensures { (window other : List ℕ) (decoded : Decoded) → decoded_from window ≡ Some decoded →
+        take decoded.length other ≡ take decoded.length window → decoded_from other ≡ Some decoded }
+{}
+
+/// At most one line of the opcode table spells a front of a window, and so one instruction stands there.
+pub fn one_line_spells()
+    ensures line { (window : List ℕ) (one other : Decoded) (s : Spells window one) (t : Spells window other) →
+        ((i : ℕ) → byte_in window i < 256) → s.line ≡ t.line }
+    ensures instruction { (window : List ℕ) (one other : Decoded) (s : Spells window one) (t : Spells window other) →
+        ((i : ℕ) → byte_in window i < 256) → one ≡ other }
+{}

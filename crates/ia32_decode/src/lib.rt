@@ -1,0 +1,27 @@
+//! Decodes one instruction of 32-bit x86 code, and tells which instructions are padding.
+//!
+//! The encodings are those of the Intel SDM, volume 2: prefixes (2.1.1), ModRM and SIB bytes (2.1.5), and the
+//! opcode maps (appendix A), for a chosen list of rows. Nothing here takes memory.
+#![tactic(auto)]
+
+mod addressing;
+mod decoder;
+mod heads;
+mod instructions;
+mod laws;
+mod layouts;
+mod opcode_table;
+mod padding_forms;
+mod registers;
+mod types;
+
+pub use decoder::decode;
+pub use laws::{decoding_rests_on_its_bytes, one_line_spells};
+pub use padding_forms::is_padding;
+pub use types::{
+    Arithmetic, Condition, Counting, Decoded, Field, Fields, Index, Instr, Memory, Operand,
+    Prefixes, Register, Shift, Source, Unary, Width,
+};
+
+#[cfg(test)]
+mod tests;

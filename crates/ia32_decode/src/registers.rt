@@ -1,0 +1,44 @@
+//! Registers by number.
+ghost use Rattle.std.specs.Prelude.{◌≡◌, ◌<◌};
+ghost use Rattle.ia32_decode.specs.Encoding.{register_of, register_number};
+
+use crate::types::Register;
+
+/// The registers by number.
+static REGISTERS: [Register; 8] = [
+    Register::Eax,
+    Register::Ecx,
+    Register::Edx,
+    Register::Ebx,
+    Register::Esp,
+    Register::Ebp,
+    Register::Esi,
+    Register::Edi,
+];
+
+impl Register {
+    /// The register that the lowest three bits of a number name.
+    #[tactic(auto, unfolding(crate::specs::Encoding::register_of))]
+    pub fn from_number(number: u8) -> Register
+        ensures { result ≡ register_of number }
+    {
+        REGISTERS[(number % 8) as usize]
+    }
+
+    /// The register's number, 0 to 7.
+    pub fn number(self) -> u8
+        ensures value { result ≡ register_number self }
+        ensures bound { result < 8 }
+    {
+        match self {
+            Register::Eax => 0,
+            Register::Ecx => 1,
+            Register::Edx => 2,
+            Register::Ebx => 3,
+            Register::Esp => 4,
+            Register::Ebp => 5,
+            Register::Esi => 6,
+            Register::Edi => 7,
+        }
+    }
+}
