@@ -1,5 +1,5 @@
 -- What is decoded rests on the instruction's own bytes: windows that agree on them give the same.
-use Rattle.std.proofs.Common.{◌≡◌, ℕ, suc, take, ◌+◌, ◌<◌, ◌≤◌, List, length, get_or, cond, Option, Some, None, nat_le, nat_lt, refl, ap, sym, subst, ◌∙◌, ◌&&◌, ◌||◌, arith, true, false, Bool, not, length-take}
+use Rattle.std.proofs.Common.{IfSome, ◌≡◌, ℕ, suc, take, ◌+◌, ◌<◌, ◌≤◌, List, length, get_or, cond, Option, Some, None, nat_le, nat_lt, refl, ap, sym, subst, ◌∙◌, ◌&&◌, ◌||◌, arith, true, false, Bool, not, length-take}
 use Rattle.std.specs.Prelude.{◌==◌, unwrap_or}
 use Rattle.std.specs.List.{position, position_or_len}
 use Rattle.std.proofs.lemmas.Bool.{le-leb, eqb-true}
@@ -340,3 +340,22 @@ agree_of window other n short within same = record {
 pub rests : (window other : List ℕ) (d : Decoded) → decoded_from window ≡ Some d → take d.length other ≡ take d.length window → decoded_from other ≡ Some d
 rests window other d is same =
     front_same (front_of window) (front_of other) d (agree_of window other d.length (short_of window (Some d) (sym is)) (within_of window (Some d) (sym is)) same) is
+
+-- an instruction has at least one byte
+head_starts : (w : List ℕ) (prefixes : Prefixes) (p : ℕ) → 0 < (head_after w prefixes p).end
+head_starts w prefixes p = subst (λ (h : Head). 0 < h.end) (sym (head_is w prefixes p)) (later (byte_in w p == 0x0F) (byte_in w p) (byte_in w (p + 1)))
+  where
+    later : (t : Bool) (b c : ℕ) → 0 < (cond {A = Head} t (record { prefixes = prefixes; escaped = true; opcode = c; end = p + 2 }) (record { prefixes = prefixes; escaped = false; opcode = b; end = p + 1 })).end
+    later true b c = omega arith
+    later false b c = omega arith
+
+pub some_bytes_of : (window : List ℕ) (o : Option Decoded) → o ≡ decoded_from window → IfSome o (λ d. 0 < d.length)
+some_bytes_of window None is = tt
+some_bytes_of window (Some d) is =
+    let v : List ℕ = front_of window in
+    let line : Line = line_of (head_of v).escaped (head_of v).opcode in
+    let within : (head_of v).end ≤ d.length = end_within line v (head_of v) d (sym (read_front_by_line v) ∙ sym is) in
+    after _ _ (head_starts v _ _) within
+  where
+    after : (e n : ℕ) → 0 < e → e ≤ n → 0 < n
+    after e n p q = omega arith

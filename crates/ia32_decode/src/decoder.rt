@@ -246,6 +246,7 @@ pub fn decode(window: &[u8]) -> Option<Decoded>
     ensures exact { result ≡ decoded_from window.now }
     ensures found { IfSome result (λ decoded. Spells window.now decoded) }
     ensures none { IfNone result ((decoded : Decoded) → Spells window.now decoded → ⊥) }
+    ensures some_bytes { IfSome result (λ decoded. 0 < decoded.length) }
     ensures short { IfSome result (λ decoded. decoded.length ≤ 15) }
     ensures within { IfSome result (λ decoded. decoded.length ≤ length window.now) }
 {

@@ -1,5 +1,6 @@
 use Rattle.std.proofs.Common.{ℕ, ◌<◌, arith, get_or, ◌∙◌, ap}
 use Rattle.ia32_decode.specs.Decode.{read_front}
+use Rattle.ia32_decode.proofs.Locality.{some_bytes_of}
 use Rattle.ia32_decode.proofs.Readings.{front_bytes, found_of, refused_of, short_of, within_of}
 use Rattle.ia32_decode.proofs.decoder.decode.Goals as goal
 
@@ -16,3 +17,6 @@ returns-clause-short c = short_of c.args.window.now c.decode_front.result (c.dec
 
 pub returns-clause-within : goal.returns-clause-within
 returns-clause-within c = within_of c.args.window.now c.decode_front.result (c.decode_front.ensures ∙ ap read_front c.front.ensures.value)
+
+pub returns-clause-some_bytes : goal.returns-clause-some_bytes
+returns-clause-some_bytes c = some_bytes_of c.args.window.now c.decode_front.result (c.decode_front.ensures ∙ ap read_front c.front.ensures.value)
