@@ -1,2 +1,3 @@
 pub mod AscendingLaws
+pub mod NameLaws
 pub mod StartLaws

@@ -245,12 +245,12 @@ start_below-with_start address new (start ∷ rest) up =
     ] refl
 
 -- ---- the starts stay those of the symbols
-slice_get-push : (symbols : List Symbol) (new symbol : Symbol) (k : ℕ) → slice_get symbols k ≡ Some symbol → slice_get (symbols ++ new ∷ []) k ≡ Some symbol
+pub slice_get-push : (symbols : List Symbol) (new symbol : Symbol) (k : ℕ) → slice_get symbols k ≡ Some symbol → slice_get (symbols ++ new ∷ []) k ≡ Some symbol
 slice_get-push [] new symbol k is = absurd (cc)
 slice_get-push (x ∷ rest) new symbol zero is = is
 slice_get-push (x ∷ rest) new symbol (suc k) is = slice_get-push rest new symbol k is
 
-slice_get-last : (symbols : List Symbol) (new : Symbol) → slice_get (symbols ++ new ∷ []) (length symbols) ≡ Some new
+pub slice_get-last : (symbols : List Symbol) (new : Symbol) → slice_get (symbols ++ new ∷ []) (length symbols) ≡ Some new
 slice_get-last [] new = refl
 slice_get-last (x ∷ rest) new = slice_get-last rest new
 

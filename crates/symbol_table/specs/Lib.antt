@@ -1,4 +1,5 @@
 pub mod Kinds
+pub mod Names
 pub mod Starts
 pub mod Symbols
 pub mod Table

@@ -50,8 +50,10 @@ abbrev pub is_start_at : ℕ → Option Start → Bool
 is_start_at address None = false
 is_start_at address (Some start) = start.address == address
 
--- the symbols and the starts have room for the spare places
-pub record HasRoom (symbols : Vec Symbol) (starts : Vec Start) (spare : ℕ) : Type 0 where
+-- the symbols, the starts and the places by name have room for the spare places
+pub record HasRoom (symbols : Vec Symbol) (starts : Vec Start) (places : Vec ℕ) (spare : ℕ) : Type 0 where
   pub symbols_fit : vec_len symbols + spare ≤ vec_capacity symbols
   pub starts_fit : vec_len symbols + spare ≤ vec_capacity starts
+  pub places_fit : vec_len symbols + spare ≤ vec_capacity places
   pub no_more : vec_len starts ≤ vec_len symbols
+  pub each_place : vec_len places ≡ vec_len symbols

@@ -1,9 +1,12 @@
 //! The three kinds of symbol that are looked up by name.
-ghost use Rattle.std.specs.Prelude.{◌≡◌, IfOk, map};
-ghost use Rattle.std.specs.List.{filter};
-ghost use Rattle.symbol_table.specs.Symbols.{address_of};
+ghost use Rattle.std.specs.Prelude.{◌≡◌, IfOk};
+ghost use Rattle.std.specs.List.{filter, filter_map, slice_get};
+ghost use Rattle.symbol_table.specs.Symbols.{addresses_of};
 ghost use Rattle.symbol_table.specs.Kinds.{is_of_kind, is_listed};
+ghost use Rattle.symbol_table.specs.Names.{reached, is_named_at, kind_address, NamesAscend, HasAllNames};
 
+use crate::addresses::{Addresses, put_in_order};
+use crate::names::places_of;
 use crate::symbols::Symbol;
 use ks_base::Name;
 use std::alloc::{AllocError, Global};
@@ -27,25 +30,45 @@ fn is_of_kind(symbol: &Symbol, kind: Kind) -> bool
     }
 }
 
-// Whether a symbol is of a kind and has a name.
-fn is_listed(symbol: &Symbol, kind: Kind, name: &Name) -> bool
-    ensures { result ≡ is_listed kind name.now symbol.now }
+// The address of the symbol at a place, where it is of a kind.
+fn kind_address(symbols: &[Symbol], place: usize, kind: Kind) -> Option<u32>
+    ensures { result ≡ kind_address kind (slice_get symbols.now place) }
 {
-    is_of_kind(symbol, kind) && symbol.name == *name
+    let symbol = symbols.get(place)?;
+    if is_of_kind(symbol, kind) {
+        Some(symbol.address)
+    } else {
+        None
+    }
 }
 
-// The addresses of the symbols of a kind and a name, in the symbols' order.
-pub(crate) fn addresses_found(
+// The addresses of the symbols of a kind and a name.
+fn addresses_found(
     alloc: Global,
     symbols: &[Symbol],
+    places: &[usize],
     kind: Kind,
     name: &Name,
 ) -> Result<Vec<u32>, AllocError>
-    ensures { IfOk result (λ found. found.items ≡ map address_of (filter (is_listed kind name.now) symbols.now)) }
+    requires { NamesAscend (reached symbols.now places.now) }
+    ensures { IfOk result (λ found. found.items ≡ filter_map (λ place. kind_address kind (slice_get symbols.now place)) (filter (is_named_at symbols.now name.now) places.now)) }
 {
-    symbols
+    places_of(symbols, places, name.as_slice())
         .iter()
-        .filter(|symbol| is_listed(symbol, kind, name))
-        .map(|symbol| symbol.address)
+        .filter_map(|place| kind_address(symbols, *place, kind))
         .collect(alloc)
+}
+
+// The distinct addresses of the symbols of a kind and a name, ascending.
+pub(crate) fn addresses_of(
+    alloc: Global,
+    symbols: &[Symbol],
+    places: &[usize],
+    kind: Kind,
+    name: &Name,
+) -> Result<Addresses, AllocError>
+    requires { HasAllNames symbols.now places.now }
+    ensures { IfOk result (λ found. found ≡ addresses_of (is_listed kind name.now) symbols.now) }
+{
+    put_in_order(addresses_found(alloc, symbols, places, kind, name)?)
 }

@@ -4,6 +4,7 @@
 
 pub mod addresses;
 mod kinds;
+mod names;
 mod starts;
 pub mod symbols;
 pub mod table;

@@ -4,8 +4,9 @@ ghost use Rattle.std.specs.Option.{option_copied, option_map};
 ghost use Rattle.std.specs.List.{slice_get};
 ghost use Rattle.symbol_table.specs.Symbols.{function_addresses, global_addresses, data_addresses, name_below};
 
-use crate::addresses::{Addresses, put_in_order};
-use crate::kinds::{Kind, addresses_found};
+use crate::addresses::Addresses;
+use crate::kinds::{Kind, addresses_of};
+use crate::names::note_name;
 use crate::starts::{Start, last_start, note_symbol};
 use crate::symbols::Symbol;
 use ks_base::Name;
@@ -22,6 +23,8 @@ pub struct SymbolTable {
     symbols: Vec<Symbol>,
     // where functions begin, by address
     starts: Vec<Start>,
+    // the symbols' places, in order of their names
+    places: Vec<usize>,
     spare: usize,
 }
 
@@ -34,8 +37,9 @@ impl Model for SymbolTable {
     ghost view = { λ t. record { symbols = t.symbols.items; spare = t.spare } };
 
     ghost use Rattle.symbol_table.specs.Starts.{HasRoom, HasAllStarts};
+    ghost use Rattle.symbol_table.specs.Names.{HasAllNames};
 
-    ghost invariant = { λ t. HasRoom t.symbols t.starts t.spare × HasAllStarts t.symbols.items t.starts.items };
+    ghost invariant = { λ t. HasRoom t.symbols t.starts t.places t.spare × (HasAllStarts t.symbols.items t.starts.items × HasAllNames t.symbols.items t.places.items) };
 }
 
 impl SymbolTable {
@@ -47,6 +51,7 @@ impl SymbolTable {
         SymbolTable {
             symbols: Vec::new(alloc),
             starts: Vec::new(alloc),
+            places: Vec::new(alloc),
             spare: 0,
         }
     }
@@ -69,36 +74,39 @@ impl SymbolTable {
     pub fn functions_of(&self, name: &Name) -> Result<Addresses, AllocError>
         ensures { IfOk result (λ found. found ≡ function_addresses self.now.symbols name.now) }
     {
-        put_in_order(addresses_found(
+        addresses_of(
             *self.symbols.allocator(),
             self.symbols.as_slice(),
+            self.places.as_slice(),
             Kind::Function,
             name,
-        )?)
+        )
     }
 
     /// The distinct addresses of the global symbols of a name, ascending.
     pub fn globals_of(&self, name: &Name) -> Result<Addresses, AllocError>
         ensures { IfOk result (λ found. found ≡ global_addresses self.now.symbols name.now) }
     {
-        put_in_order(addresses_found(
+        addresses_of(
             *self.symbols.allocator(),
             self.symbols.as_slice(),
+            self.places.as_slice(),
             Kind::Global,
             name,
-        )?)
+        )
     }
 
     /// The distinct addresses of the data symbols of a name, those that aren't functions, ascending.
     pub fn data_of(&self, name: &Name) -> Result<Addresses, AllocError>
         ensures { IfOk result (λ found. found ≡ data_addresses self.now.symbols name.now) }
     {
-        put_in_order(addresses_found(
+        addresses_of(
             *self.symbols.allocator(),
             self.symbols.as_slice(),
+            self.places.as_slice(),
             Kind::Data,
             name,
-        )?)
+        )
     }
 
     /// The name that an address is shown with, and the offset from it in bytes: of the function symbols
@@ -130,6 +138,7 @@ impl SymbolTable {
         self.symbols.reserve(wanted)?;
         self.starts
             .reserve(self.symbols.len() - self.starts.len() + wanted)?;
+        self.places.reserve(wanted)?;
         self.spare = wanted;
         Ok(())
     }
@@ -141,6 +150,7 @@ impl SymbolTable {
         ensures spare { self.new.spare + 1 ≡ self.old.spare }
     {
         note_symbol(&mut self.starts, &symbol, self.symbols.len());
+        note_name(&mut self.places, self.symbols.as_slice(), &symbol);
         self.spare -= 1;
         let _ = self.symbols.push(symbol);
     }
