@@ -103,7 +103,7 @@ name_rules name = (not (list_any is_zero name) orElse faults.Name) ∷ []
 abbrev pub stack_low_rules : ℕ → List Rule
 stack_low_rules low = (is_aligned low orElse faults.Range) ∷ (nat_le 0x1000 low orElse faults.Range) ∷ []
 
--- whether a range meets none of the pieces
+-- whether a range meets one of the pieces
 abbrev pub meets_a_piece : List Piece → Range → Bool
 meets_a_piece pieces range = list_any (λ piece. meets range (piece_range piece)) pieces
 
