@@ -1,5 +1,5 @@
 //! Files that live in memory.
-ghost use Rattle.std.specs.Prelude.{◌≡◌, ◌≤◌, ◌↔◌, Option, Some, None, [], length, IsTrue, OnOk, OnErr, IsErrOf};
+ghost use Rattle.std.specs.Prelude.{◌≡◌, ◌≤◌, ◌↔◌, ℕ, List, Option, Some, None, [], length, string_bytes, IsTrue, OnOk, OnErr, IsErrOf};
 ghost use Rattle.ks_io.specs.Outside.{no_counts, raised, NeverFall};
 ghost use Rattle.ks_io.specs.Answered.{LoadGives};
 ghost use Rattle.ks_io.specs.InMemory.{fails_at, with_file, counts_after};
@@ -51,8 +51,29 @@ impl MemoryFiles {
     {
         let key = String::from_str(self.alloc, name)?;
         let held = Vec::from_slice(self.alloc, bytes)?;
+        self.insert(key, held)?;
+        Ok(())
+    }
+
+    /// Adds a file under its name, or replaces the one of this name.
+    #[tactic(auto, using(std::proofs::lemmas::Map::Text::text_keys))]
+    fn insert(&mut self, key: String, held: Vec<u8>) -> Result<(), AllocError>
+        ensures ok { OnOk result ((name : List ℕ) → files_held self.new name
+            ≡ with_file (files_held self.old) (string_bytes key) held.items name) }
+        ensures err { OnErr result (files_held self.new ≡ files_held self.old) }
+        ensures counts { counts_of self.new ≡ counts_of self.old }
+        ensures failing { failing_loads self.new ≡ failing_loads self.old }
+        ensures loads { loads_made self.new ≡ loads_made self.old }
+    {
         self.files.insert(key, held)?;
         Ok(())
+    }
+
+    /// Whether the load of this number was chosen to fail.
+    fn is_chosen(&self) -> bool
+        ensures { result ≡ fails_at (failing_loads self.now) (loads_made self.now) }
+    {
+        self.failing.contains(&self.loads)
     }
 
     /// What the load of this number answers, `into` being empty.
@@ -64,7 +85,7 @@ impl MemoryFiles {
             ↔ IsTrue (fails_at (failing_loads self.now) (loads_made self.now)) }
         ensures emptied { OnErr result (into.new.items ≡ []) }
     {
-        if self.failing.contains(&self.loads) {
+        if self.is_chosen() {
             return Err(FileFault::Failed);
         }
         match self.files.get(name) {
