@@ -25,14 +25,20 @@ pub fn text(table: &[u8], place: u32) -> &[u8]
     &rest[..first_zero(rest)]
 }
 
+/// Whether a text ends, or a zero ends it, behind no more bytes than a name may have.
+fn ends_as_name(text: &[u8]) -> bool
+    ensures { result ≡ nat_le (position_or_len is_zero text.now) 4096 }
+{
+    first_zero(text) <= 4096
+}
+
 /// Whether the text at a place has no more bytes than a name may have. It looks at no more bytes than that.
 pub fn is_name(table: &[u8], place: u32) -> bool
     requires { place ≤ length table.now }
     ensures { result ≡ nat_le (length (text_at table.now place)) 4096 }
 {
     let rest = &table[place as usize..];
-    let front = &rest[..rest.len().min(4097)];
-    first_zero(front) <= 4096
+    ends_as_name(&rest[..rest.len().min(4097)])
 }
 
 /// The place behind the last zero, or 0 where there is none.

@@ -93,6 +93,14 @@ pub fn count_of(layout: &Layout<'_>, rows: &[Vec<Spot>], section: u32) -> u32
     rows[section as usize].len() as u32
 }
 
+/// The place of this number in a row.
+fn spot_at(row: &[Spot], k: u32) -> Spot
+    requires { k < length row.now }
+    ensures { result ≡ get_or row.now k result }
+{
+    row[k as usize]
+}
+
 /// A relocation of a section, by its number.
 pub fn relocation_of(layout: &Layout<'_>, rows: &[Vec<Spot>], section: u32, k: u32) -> Reloc
     requires within { section < section_count layout.now.bytes.now }
@@ -101,7 +109,6 @@ pub fn relocation_of(layout: &Layout<'_>, rows: &[Vec<Spot>], section: u32, k: u
     requires rows { AreRows layout.now.bytes.now (section_count layout.now.bytes.now) (rows_of rows.now) }
     ensures { IsRelocation layout.now.bytes.now section k result }
 {
-    let row = &rows[section as usize];
-    let spot = row[k as usize];
+    let spot = spot_at(rows[section as usize].as_slice(), k);
     layout.entry(spot.from, spot.index)
 }
