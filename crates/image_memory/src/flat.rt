@@ -230,6 +230,7 @@ impl Space for FlatSpace {
         Ok(())
     }
 
+    #[tactic(auto, unfolding(crate::specs::Fetch::window_at))]
     fn window(&self, pc: u32) -> Result<Window, Fault> {
         let Some(bytes) = self.code_from(pc) else {
             return Err(Fault::Unmapped);

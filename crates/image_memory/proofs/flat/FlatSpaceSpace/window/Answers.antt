@@ -7,12 +7,6 @@ use Rattle.image_memory.specs.Fetch.{window_at, code_from, shown, cut_before, ne
 use Rattle.image_memory.proofs.FenceLaws.{spliced_found, any_found, any_nowhere}
 use Rattle.image_memory.proofs.flat.FlatSpaceSpace.window.Goals as goal
 
-pub returns-in_default : goal.returns-in_default
-unfolding window_at
-returns-in_default c =
-    let gone : code_from c.args.self.now.pieces.items c.args.pc ≡ None = sym (rw c.in_default.is at c.code_from.ensures) in
-    rw gone refl
-
 pub returns-in-Some-fence_at : goal.returns-in-Some-fence_at
 unfolding window_at
 returns-in-Some-fence_at c =
