@@ -121,3 +121,27 @@ fn faults_of_the_outside(rt: HostRuntime) -> Result<(), Fail> {
     }
     Ok(())
 }
+
+/// A call that memory is wanting for ends with 6 and a front of its output. `rt try --test --fail-alloc N` makes the
+/// allocation of this number fail; where that is one for the files, no call is made, and the test ends with that.
+#[test]
+fn want_of_memory(rt: HostRuntime) -> Result<(), Fail> {
+    let alloc = rt.alloc();
+    let calls: [(&[&str], &str, u8); 4] = [
+        (&["diff", "one", "two"], "changed f\n", 0),
+        (&["diff", "two", "f and g"], "changed f\nadded g\n", 0),
+        (&["diff", "one", "call"], "refused 51 relocations\n", 3),
+        (&["diff", "one", "none"], "file none missing\n", 4),
+    ];
+    for (words, output, status) in calls {
+        let (taken, code) = answer(alloc, words, (Vec::new(alloc), Vec::new(alloc)), 7)?;
+        if code == 6 {
+            let front = output.as_bytes().get(..taken.len());
+            assert_eq!(rt; Some(taken.as_slice()), front, "output of {words:?}");
+        } else {
+            assert_eq!(rt; taken.as_slice(), output.as_bytes(), "output of {words:?}");
+            assert_eq!(rt; code, status, "status of {words:?}");
+        }
+    }
+    Ok(())
+}
