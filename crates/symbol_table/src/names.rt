@@ -24,13 +24,27 @@ fn order_at(symbols: &[Symbol], place: usize, name: &[u8]) -> Ordering
     name_at(symbols, place).cmp(name)
 }
 
+// Whether the symbol at a place comes before a name.
+fn is_before(symbols: &[Symbol], place: usize, name: &[u8]) -> bool
+    ensures { result ≡ is_before symbols.now name.now place }
+{
+    order_at(symbols, place, name).is_lt()
+}
+
+// Whether the symbol at a place comes no later than a name.
+fn is_not_after(symbols: &[Symbol], place: usize, name: &[u8]) -> bool
+    ensures { result ≡ is_not_after symbols.now name.now place }
+{
+    order_at(symbols, place, name).is_le()
+}
+
 // How many of the places come before a name.
 fn begin_of(symbols: &[Symbol], places: &[usize], name: &[u8]) -> usize
     requires { NamesAscend (reached symbols.now places.now) }
     ensures bound { result ≤ length places.now }
     ensures point { IsPartitionPoint (λ place. is_before symbols.now name.now place ≡ true) (λ place. is_before symbols.now name.now place ≡ false) places.now result }
 {
-    places.partition_point(|place| order_at(symbols, *place, name).is_lt())
+    places.partition_point(|place| is_before(symbols, *place, name))
 }
 
 // How many of the places come no later than a name.
@@ -39,7 +53,7 @@ fn end_of(symbols: &[Symbol], places: &[usize], name: &[u8]) -> usize
     ensures bound { result ≤ length places.now }
     ensures point { IsPartitionPoint (λ place. is_not_after symbols.now name.now place ≡ true) (λ place. is_not_after symbols.now name.now place ≡ false) places.now result }
 {
-    places.partition_point(|place| order_at(symbols, *place, name).is_le())
+    places.partition_point(|place| is_not_after(symbols, *place, name))
 }
 
 // The places of the symbols of a name.
