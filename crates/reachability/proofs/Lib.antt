@@ -1,0 +1,3 @@
+pub mod TellsLaws
+pub mod WalkLaws
+pub mod AlongLaws
