@@ -1,16 +1,17 @@
 -- What is wrong with a section, from what was read of it.
-use Rattle.std.proofs.Common.{◌≡◌, ℕ, zero, suc, nat_lt, Bool, true, false, not, ◌&&◌, ◌||◌, cond, List, [], ◌∷◌, ◌++◌, length, Option, Some, None, is_some, is_none, refl, sym, ap, ◌∙◌}
+use Rattle.std.proofs.Common.{◌≡◌, ℕ, zero, suc, Bool, true, false, ◌&&◌, ◌||◌, cond, List, [], ◌∷◌, ◌++◌, length, Option, Some, None, is_some, is_none, refl, sym, ap, ◌∙◌}
 use Rattle.elf32_object.specs.declared.types.Section.{Section}
 use Rattle.elf32_object.specs.Below.{first_of, any_below, least_below}
-use Rattle.elf32_object.specs.Fields.{section_count, section_header, section_name, is_loaded, symbol_count, relocations_below}
+use Rattle.elf32_object.specs.Fields.{section_header, section_name, is_loaded, symbol_count}
 use Rattle.ks_base.specs.declared.refusals.Refusal.TheVariants as refusal
 use Rattle.i386_reloc.specs.declared.types.Class.{Class}
 use Rattle.i386_reloc.specs.declared.functions.Functions.{Functions}
 use Rattle.i386_reloc.specs.Functions.{functions_below}
 use Rattle.i386_reloc.specs.Loaded.{IsLoadedSection}
-use Rattle.i386_reloc.specs.Normal.{class_by, is_code_class, is_code, function_symbol, starts, has_inner_function, same_bytes, loaded_below, normal_section, is_name_twice, is_not_one_function, is_other_class, is_relocated}
+use Rattle.i386_reloc.specs.Classes.{class_by, is_code_class, is_code}
+use Rattle.i386_reloc.specs.Normal.{function_symbol, starts, has_inner_function, same_bytes, loaded_below, normal_section, is_name_twice, is_not_one_function}
 use Rattle.i386_reloc.specs.Places.{place_named}
-use Rattle.i386_reloc.specs.Refused.{refused_where, name_fault_at, function_fault_at, class_fault_at, relocation_fault_at}
+use Rattle.i386_reloc.specs.Refused.{refused_where, name_fault_at, function_fault_at}
 use Rattle.i386_reloc.proofs.Places.{place_named_push}
 
 -- nothing is wrong with a section that isn't loaded
@@ -22,29 +23,9 @@ pub function_fault_unloaded : (bytes : List ℕ) (i : ℕ) → is_loaded bytes i
 unfolding function_fault_at is_not_one_function is_code
 function_fault_unloaded bytes i unloaded = rw unloaded refl
 
-pub class_fault_unloaded : (bytes : List ℕ) (i : ℕ) → is_loaded bytes i ≡ false → class_fault_at bytes i ≡ None
-unfolding class_fault_at is_other_class
-class_fault_unloaded bytes i unloaded = rw unloaded refl
-
-pub relocation_fault_unloaded : (bytes : List ℕ) (i : ℕ) → is_loaded bytes i ≡ false → relocation_fault_at bytes i ≡ None
-unfolding relocation_fault_at is_relocated
-relocation_fault_unloaded bytes i unloaded = rw unloaded refl
-
 -- the class of a loaded section
 pub class_of_read : (bytes : List ℕ) (i : ℕ) (section : Section) → IsLoadedSection bytes i section → class_by (section_header bytes i).kind (section_header bytes i).flags (section_header bytes i).entry ≡ class_by section.kind section.flags section.entry
 class_of_read bytes i section read = rw (sym read.kind, sym read.flags, sym read.entry) refl
-
-pub class_fault_loaded : (bytes : List ℕ) (i : ℕ) (section : Section) → IsLoadedSection bytes i section → class_fault_at bytes i ≡ refused_where (not (is_code_class (class_by section.kind section.flags section.entry))) refusal.UnreadObject
-unfolding class_fault_at is_other_class is_code
-class_fault_loaded bytes i section read = rw (read.loaded, class_of_read bytes i section read) refl
-
-pub class_fault_read : (bytes : List ℕ) (i : ℕ) (section : Section) (class : Class) (code : Bool) → IsLoadedSection bytes i section → class ≡ class_by section.kind section.flags section.entry → code ≡ is_code_class class → class_fault_at bytes i ≡ refused_where (not code) refusal.UnreadObject
-class_fault_read bytes i section class code read class_is code_is =
-    class_fault_loaded bytes i section read ∙ rw (code_is, class_is) refl
-
-pub relocation_fault_loaded : (bytes : List ℕ) (i : ℕ) → is_loaded bytes i ≡ true → relocation_fault_at bytes i ≡ refused_where (nat_lt 0 (relocations_below bytes i (section_count bytes))) refusal.Relocations
-unfolding relocation_fault_at is_relocated
-relocation_fault_loaded bytes i loaded = rw loaded refl
 
 -- the function of a loaded section
 code_function : (bytes : List ℕ) (i : ℕ) (b : Bool) → b && (is_none (cond b (least_below (starts bytes i) (symbol_count bytes)) None) || has_inner_function bytes i) ≡ b && (is_none (least_below (starts bytes i) (symbol_count bytes)) || has_inner_function bytes i)

@@ -11,7 +11,8 @@ use Rattle.i386_reloc.specs.declared.types.Class.{Class}
 use Rattle.i386_reloc.specs.declared.functions.Functions.{Functions}
 use Rattle.i386_reloc.specs.Functions.{functions_below, functions_with, AreFunctions}
 use Rattle.i386_reloc.specs.Loaded.{IsLoadedSection}
-use Rattle.i386_reloc.specs.Normal.{class_by, is_code_class, is_code, is_function_of, starts, function_symbol}
+use Rattle.i386_reloc.specs.Classes.{class_by, is_code_class, is_code}
+use Rattle.i386_reloc.specs.Normal.{is_function_of, starts, function_symbol}
 use Rattle.i386_reloc.proofs.Faults.{class_of_read}
 
 no_functions : (bytes : List ℕ) (i : ℕ) → functions_below bytes i 0 ≡ record { first = None; inner = false }

@@ -1,5 +1,5 @@
 -- What an object's loaded sections are where nothing is wrong with it.
-use Rattle.std.proofs.Common.{◌≡◌, ℕ, zero, suc, Bool, true, false, not, ◌&&◌, ◌||◌, cond, List, [], ◌∷◌, ◌++◌, map, Option, Some, None, IsSome, is_some, is_none, option_map, refl, sym, ◌∙◌, arith, All}
+use Rattle.std.proofs.Common.{◌≡◌, ℕ, zero, suc, Bool, true, false, ◌&&◌, ◌||◌, cond, List, [], ◌∷◌, ◌++◌, map, Option, Some, None, IsSome, is_some, is_none, option_map, refl, sym, ◌∙◌, arith, All}
 use Rattle.std.specs.List.{IsDistinct, AllByRecursion, list_any}
 use Rattle.std.proofs.lemmas.Cmp.{nat_list_eq_equiv}
 use Rattle.std.proofs.lemmas.List.{map-append}
@@ -7,12 +7,14 @@ use Rattle.std.proofs.lemmas.List.Elements.{All-append, All-cons, All-nil}
 use Rattle.std.proofs.lemmas.Map.Keys.{IsDistinct-push}
 use Rattle.elf32_object.specs.Below.{first_of, first_below}
 use Rattle.elf32_object.specs.Fields.{section_count, section_header, section_name, is_loaded, symbol_name}
+use Rattle.ks_base.specs.declared.refusals.Refusal.{Refusal}
 use Rattle.i386_reloc.specs.declared.types.Class.{Class}
-use Rattle.i386_reloc.specs.declared.types.Class.TheVariants.{Zero, Code, Writable, Strings, ReadOnly}
+use Rattle.i386_reloc.specs.declared.types.Class.TheVariants.{Code}
 use Rattle.i386_reloc.specs.declared.types.NormalSection.{NormalSection}
-use Rattle.i386_reloc.specs.Normal.{same_bytes, class_of, is_code_class, is_code, function_symbol, has_inner_function, normal_section, loaded_below, loaded_sections, section_named, name_of, IsFunction, is_not_one_function, is_other_class}
+use Rattle.i386_reloc.specs.Classes.{class_of, is_code_class, is_code}
+use Rattle.i386_reloc.specs.Normal.{same_bytes, function_symbol, has_inner_function, normal_section, loaded_below, loaded_sections, section_named, name_of, IsFunction, is_not_one_function}
 use Rattle.i386_reloc.specs.Places.{place_named}
-use Rattle.i386_reloc.specs.Refused.{name_fault_at, function_fault_at, class_fault_at, name_fault, function_fault, class_fault, relocation_fault, normal_fault}
+use Rattle.i386_reloc.specs.Refused.{name_fault_at, function_fault_at, name_fault, function_fault, relocation_fault, normal_fault}
 use Rattle.i386_reloc.proofs.Faults.{name_fault_loaded}
 use Rattle.i386_reloc.proofs.Places.{not_refused}
 
@@ -21,7 +23,7 @@ both_none None b none = (refl, none)
 both_none (Some x) b none = absurd cc
 
 -- where there is no fault, the name of each loaded section has no place before it
-unplaced : (bytes : List ℕ) (i : ℕ) → is_loaded bytes i ≡ true → name_fault_at bytes i ≡ None → is_some (place_named (loaded_below bytes i) (section_name bytes i)) ≡ false
+pub unplaced : (bytes : List ℕ) (i : ℕ) → is_loaded bytes i ≡ true → name_fault_at bytes i ≡ None → is_some (place_named (loaded_below bytes i) (section_name bytes i)) ≡ false
 unplaced bytes i loaded none = not_refused _ _ (sym (name_fault_loaded bytes i loaded) ∙ none)
 
 some_map : (place : Option ℕ) → is_some (option_map suc place) ≡ is_some place
@@ -52,49 +54,34 @@ distinct_below bytes (suc n) none =
     let nones = both_none (first_below (name_fault_at bytes) n) (name_fault_at bytes n) none in
     distinct_more bytes n (is_loaded bytes n) refl nones.1 (distinct_below bytes n nones.0)
 
--- a loaded section with which nothing is wrong is a function
-code_class : (class : Class) → is_code_class class ≡ true → class ≡ Code
-code_class Code code = refl
-code_class Zero code = absurd cc
-code_class Writable code = absurd cc
-code_class Strings code = absurd cc
-code_class ReadOnly code = absurd cc
+-- a loaded code section with which nothing is wrong is a function
+code_class : (class : Class) → class ≡ Code → is_code_class class ≡ true
+code_class class code = rw code refl
 
-and_right : (a b : Bool) → a ≡ true → a && b ≡ true → b ≡ true
-and_right true b yes_a both = both
-and_right false b yes_a both = absurd cc
+one_symbol : (loaded code : Bool) (symbol : Option ℕ) (inner : Bool) → loaded ≡ true → code ≡ true → loaded && code && (is_none symbol || inner) ≡ false → (name : ℕ → List ℕ) → IsSome (option_map name symbol)
+one_symbol true true None inner is_loaded is_code ok name = absurd cc
+one_symbol true true (Some k) inner is_loaded is_code ok name = refl
+one_symbol true false symbol inner is_loaded is_code ok name = absurd cc
+one_symbol false code symbol inner is_loaded is_code ok name = absurd cc
 
-loaded_code : (loaded code : Bool) → loaded ≡ true → loaded && not code ≡ false → code ≡ true
-loaded_code true true is_loaded ok = refl
-loaded_code true false is_loaded ok = absurd cc
-loaded_code false code is_loaded ok = absurd cc
-
-one_symbol : (code : Bool) (symbol : Option ℕ) (inner : Bool) → code ≡ true → code && (is_none symbol || inner) ≡ false → (name : ℕ → List ℕ) → IsSome (option_map name symbol)
-one_symbol true None inner is_code ok name = absurd cc
-one_symbol true (Some k) inner is_code ok name = refl
-one_symbol false symbol inner is_code ok name = absurd cc
-
-function_here : (bytes : List ℕ) (i : ℕ) → is_loaded bytes i ≡ true → function_fault_at bytes i ≡ None → class_fault_at bytes i ≡ None → IsFunction (normal_section bytes i)
-unfolding normal_section function_fault_at class_fault_at is_not_one_function is_other_class is_code
-function_here bytes i loaded functions classes =
-    let code = loaded_code (is_loaded bytes i) _ loaded (not_refused _ _ classes) in
+function_here : (bytes : List ℕ) (i : ℕ) → is_loaded bytes i ≡ true → function_fault_at bytes i ≡ None → IsFunction (normal_section bytes i)
+unfolding normal_section function_fault_at is_not_one_function is_code
+function_here bytes i loaded functions =
     record {
-      code = code_class (class_of (section_header bytes i)) (and_right (is_loaded bytes i) _ loaded code);
-      named = one_symbol _ (function_symbol bytes i) (has_inner_function bytes i) code (not_refused _ _ functions) (symbol_name bytes);
+      named = λ code. one_symbol (is_loaded bytes i) (is_code_class (class_of (section_header bytes i))) (function_symbol bytes i) (has_inner_function bytes i) loaded (code_class (class_of (section_header bytes i)) code) (not_refused _ _ functions) (symbol_name bytes);
     }
 
-functions_more : (bytes : List ℕ) (i : ℕ) (b : Bool) → is_loaded bytes i ≡ b → function_fault_at bytes i ≡ None → class_fault_at bytes i ≡ None → All IsFunction (loaded_below bytes i) → All IsFunction (cond b (loaded_below bytes i ++ normal_section bytes i ∷ []) (loaded_below bytes i))
-functions_more bytes i true loaded functions classes before =
+functions_more : (bytes : List ℕ) (i : ℕ) (b : Bool) → is_loaded bytes i ≡ b → function_fault_at bytes i ≡ None → All IsFunction (loaded_below bytes i) → All IsFunction (cond b (loaded_below bytes i ++ normal_section bytes i ∷ []) (loaded_below bytes i))
+functions_more bytes i true loaded functions before =
     All-append IsFunction (loaded_below bytes i) (normal_section bytes i ∷ []) before
-    (λ k d within. let e : k ≡ 0 = omega arith in rw e (function_here bytes i loaded functions classes))
-functions_more bytes i false loaded functions classes before = before
+    (λ k d within. let e : k ≡ 0 = omega arith in rw e (function_here bytes i loaded functions))
+functions_more bytes i false loaded functions before = before
 
-functions_below : (bytes : List ℕ) (n : ℕ) → first_below (function_fault_at bytes) n ≡ None → first_below (class_fault_at bytes) n ≡ None → All IsFunction (loaded_below bytes n)
-functions_below bytes zero functions classes = λ k d within. absurd (omega arith)
-functions_below bytes (suc n) functions classes =
+functions_below : (bytes : List ℕ) (n : ℕ) → first_below (function_fault_at bytes) n ≡ None → All IsFunction (loaded_below bytes n)
+functions_below bytes zero functions = λ k d within. absurd (omega arith)
+functions_below bytes (suc n) functions =
     let f = both_none (first_below (function_fault_at bytes) n) (function_fault_at bytes n) functions in
-    let e = both_none (first_below (class_fault_at bytes) n) (class_fault_at bytes n) classes in
-    functions_more bytes n (is_loaded bytes n) refl f.1 e.1 (functions_below bytes n f.0 e.0)
+    functions_more bytes n (is_loaded bytes n) refl f.1 (functions_below bytes n f.0)
 
 -- Each of these is said of all loaded sections.
 pub distinct_names : (bytes : List ℕ) → normal_fault bytes ≡ None → IsDistinct same_bytes (map name_of (loaded_sections bytes))
@@ -102,10 +89,8 @@ unfolding normal_fault name_fault loaded_sections
 distinct_names bytes none = distinct_below bytes (section_count bytes) (both_none _ _ none).0
 
 pub all_functions : (bytes : List ℕ) → normal_fault bytes ≡ None → All IsFunction (loaded_sections bytes)
-unfolding normal_fault function_fault class_fault loaded_sections
-all_functions bytes none =
-    let rest = both_none _ _ (both_none _ _ none).1 in
-    functions_below bytes (section_count bytes) rest.0 (both_none _ _ rest.1).0
+unfolding normal_fault function_fault loaded_sections
+all_functions bytes none = functions_below bytes (section_count bytes) (both_none _ _ (both_none _ _ none).1).0
 
 -- In a list of distinct names the section of a section's name is this section.
 apart : (name : List ℕ) (sections : List NormalSection) → AllByRecursion (λ other. same_bytes name other ≡ false) (map name_of sections) → All (λ section. same_bytes name section.name ≡ false) sections
@@ -123,6 +108,10 @@ named_by_itself (section ∷ sections) distinct =
 pub all_named : (bytes : List ℕ) → normal_fault bytes ≡ None → All (λ section. section_named (loaded_sections bytes) section.name ≡ Some section) (loaded_sections bytes)
 all_named bytes none = named_by_itself (loaded_sections bytes) (distinct_names bytes none)
 
-pub no_fault : (bytes : List ℕ) → name_fault bytes ≡ None → function_fault bytes ≡ None → class_fault bytes ≡ None → relocation_fault bytes ≡ None → normal_fault bytes ≡ None
+pub no_fault : (bytes : List ℕ) → name_fault bytes ≡ None → function_fault bytes ≡ None → relocation_fault bytes ≡ None → normal_fault bytes ≡ None
 unfolding normal_fault
-no_fault bytes names functions classes relocations = rw (names, functions, classes, relocations) refl
+no_fault bytes names functions relocations = rw (names, functions, relocations) refl
+
+pub relocation_refused : (bytes : List ℕ) (why : Refusal) → name_fault bytes ≡ None → function_fault bytes ≡ None → relocation_fault bytes ≡ Some why → normal_fault bytes ≡ Some why
+unfolding normal_fault
+relocation_refused bytes why names functions relocations = rw (names, functions, relocations) refl

@@ -1,6 +1,14 @@
+pub mod Classes
 pub mod Functions
+pub mod Known
 pub mod Loaded
 pub mod Normal
+pub mod Objects
 pub mod Places
+pub mod References
 pub mod Refused
+pub mod Relocations
+pub mod Targets
+pub mod Texts
 pub mod Value
+pub mod Zeros

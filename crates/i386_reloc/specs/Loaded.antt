@@ -1,5 +1,5 @@
 -- A loaded section as it is read.
-use Rattle.std.specs.Prelude.{◌≡◌, ℕ, true, List}
+use Rattle.std.specs.Prelude.{◌≡◌, ◌≤◌, ℕ, true, List, length}
 use Rattle.elf32_object.specs.declared.types.Section.{Section}
 use Rattle.elf32_object.specs.Fields.{section_header, section_name, section_bytes, is_loaded}
 
@@ -13,3 +13,4 @@ pub record IsLoadedSection (bytes : List ℕ) (i : ℕ) (section : Section) : Ty
   pub align : section.align ≡ (section_header bytes i).align
   pub size : section.size ≡ (section_header bytes i).size
   pub bytes_are : section.bytes.now ≡ section_bytes bytes i
+  pub small : length section.bytes.now ≤ 8388608

@@ -1,41 +1,13 @@
--- The loaded sections of an object, and why one has none: the names, classes and functions of its sections
--- (System V gABI, chapter 4, "Sections" and "Symbol Table").
-use Rattle.std.specs.Prelude.{◌≡◌, ℕ, zero, suc, ◌/◌, ◌%◌, Bool, true, false, not, ◌&&◌, ◌||◌, ◌==◌, nat_eq, nat_lt, if◌then◌else◌, List, [], ◌∷◌, ◌++◌, find, bit_and, Option, Some, None, is_none, IsSome, option_map}
+-- The loaded sections of an object as they are compared: their names, classes, functions, bytes with zeros in the
+-- fields that relocations change, and references (System V gABI, chapter 4, "Sections" and "Symbol Table").
+use Rattle.std.specs.Prelude.{◌≡◌, ℕ, zero, suc, ◌%◌, Bool, false, ◌&&◌, ◌||◌, ◌==◌, nat_eq, nat_lt, if◌then◌else◌, List, [], ◌∷◌, ◌++◌, find, Option, Some, None, is_none, IsSome, option_map}
 use Rattle.std.specs.Cmp.Lexicographic.{pointwise}
-use Rattle.elf32_object.specs.declared.types.SectionHeader.{SectionHeader}
-use Rattle.elf32_object.specs.declared.types.SymbolEntry.{SymbolEntry}
 use Rattle.elf32_object.specs.Below.{any_below, least_below}
-use Rattle.elf32_object.specs.Fields.{section_count, section_header, is_loaded, section_name, section_bytes, symbol_count, symbol_entry, symbol_name, relocations_below}
-use Rattle.i386_reloc.specs.declared.types.Class.{Class}
-use Rattle.i386_reloc.specs.declared.types.Class.TheVariants.{Zero, Code, Writable, Strings, ReadOnly}
+use Rattle.elf32_object.specs.Fields.{section_count, section_header, is_loaded, section_name, symbol_count, symbol_entry, symbol_name}
+use Rattle.i386_reloc.specs.declared.types.Class.TheVariants.{Code}
 use Rattle.i386_reloc.specs.declared.types.NormalSection.{NormalSection}
-
--- whether flags have a bit
-abbrev pub has_bit : ℕ → ℕ → Bool
-has_bit bit flags = not (bit_and flags bit == 0)
-
--- The class of a loaded section by its type, flags and size of an entry, the first that fits: SHT_NOBITS (8),
--- SHF_EXECINSTR (4), SHF_WRITE (1), and SHF_MERGE (0x10) with SHF_STRINGS (0x20) where an entry is one byte.
-abbrev pub class_by : (kind flags entry : ℕ) → Class
-class_by kind flags entry =
-    if kind == 8 then Zero
-    else (if has_bit 4 flags then Code
-    else (if has_bit 1 flags then Writable
-    else (if has_bit 0x10 flags && has_bit 0x20 flags && entry == 1 then Strings else ReadOnly)))
-
-abbrev pub class_of : SectionHeader → Class
-class_of header = class_by header.kind header.flags header.entry
-
-abbrev pub is_code_class : Class → Bool
-is_code_class Code = true
-is_code_class Zero = false
-is_code_class Writable = false
-is_code_class Strings = false
-is_code_class ReadOnly = false
-
--- whether a number is the index of a loaded code section
-unfoldable pub is_code : List ℕ → ℕ → Bool
-is_code bytes i = is_loaded bytes i && is_code_class (class_of (section_header bytes i))
+use Rattle.i386_reloc.specs.Classes.{class_of, is_code}
+use Rattle.i386_reloc.specs.References.{is_global, references_of, blanked_bytes, objects_of}
 
 -- whether symbol k is a function (STT_FUNC, 2) of section i; symbol 0 is none
 unfoldable pub is_function_of : List ℕ → ℕ → ℕ → Bool
@@ -55,10 +27,6 @@ unfoldable pub has_inner_function : List ℕ → ℕ → Bool
 has_inner_function bytes i =
     any_below (λ k. is_function_of bytes i k && nat_lt 0 (symbol_entry bytes k).value) (symbol_count bytes)
 
--- STB_GLOBAL (1) and STB_WEAK (2); every other binding is local
-abbrev pub is_global : SymbolEntry → Bool
-is_global symbol = symbol.info / 16 == 1 || symbol.info / 16 == 2
-
 abbrev pub is_global_at : List ℕ → Option ℕ → Bool
 is_global_at bytes None = false
 is_global_at bytes (Some k) = is_global (symbol_entry bytes k)
@@ -73,7 +41,9 @@ normal_section bytes i =
       global = is_global_at bytes (function_symbol bytes i);
       align = (section_header bytes i).align;
       size = (section_header bytes i).size;
-      bytes = section_bytes bytes i;
+      bytes = blanked_bytes bytes i;
+      refs = references_of bytes i;
+      objects = objects_of bytes i;
     }
 
 -- the loaded sections below i, in order
@@ -103,19 +73,10 @@ is_name_twice bytes j =
 unfoldable pub is_not_one_function : List ℕ → ℕ → Bool
 is_not_one_function bytes i = is_code bytes i && (is_none (function_symbol bytes i) || has_inner_function bytes i)
 
--- A loaded section isn't code.
-unfoldable pub is_other_class : List ℕ → ℕ → Bool
-is_other_class bytes i = is_loaded bytes i && not (is_code bytes i)
-
--- A loaded section has relocations.
-unfoldable pub is_relocated : List ℕ → ℕ → Bool
-is_relocated bytes i = is_loaded bytes i && nat_lt 0 (relocations_below bytes i (section_count bytes))
-
 -- a section's name
 abbrev pub name_of : NormalSection → List ℕ
 name_of section = section.name
 
--- a code section that is a function
+-- a code section is a function
 pub record IsFunction (section : NormalSection) : Type 0 where
-  pub code : section.class ≡ Code
-  pub named : IsSome section.function
+  pub named : section.class ≡ Code → IsSome section.function

@@ -1,5 +1,5 @@
 -- Why an object is refused before its sections are compared.
-use Rattle.std.specs.Prelude.{◌≡◌, ◌≢◌, ℕ, Bool, if◌then◌else◌, List, Option, Some, None, Result, Ok, Err}
+use Rattle.std.specs.Prelude.{◌≡◌, ◌≢◌, ℕ, Bool, not, ◌&&◌, ◌||◌, ◌==◌, nat_lt, if◌then◌else◌, List, [], ◌∷◌, length, Option, Some, None, Result, Ok, Err}
 use Rattle.ks_base.specs.declared.refusals.Refusal.{Refusal}
 use Rattle.ks_base.specs.declared.refusals.Refusal.TheVariants as refusal
 use Rattle.ks_base.specs.declared.refusals.Large.{Large}
@@ -8,9 +8,13 @@ use Rattle.elf32_object.specs.declared.types.ObjectFault.{ObjectFault}
 use Rattle.elf32_object.specs.declared.types.ObjectFault.TheVariants as fault
 use Rattle.elf32_object.specs.declared.types.Large as object
 use Rattle.elf32_object.specs.declared.types.Large.TheVariants as large
+use Rattle.elf32_object.specs.declared.types.Reloc.{Reloc}
 use Rattle.elf32_object.specs.Below.{first_of, first_below}
-use Rattle.elf32_object.specs.Fields.{section_count, section_name}
-use Rattle.i386_reloc.specs.Normal.{is_name_twice, is_not_one_function, is_other_class, is_relocated}
+use Rattle.elf32_object.specs.Fields.{section_count, section_name, section_bytes, is_loaded, symbol_name, ends_in}
+use Rattle.elf32_object.specs.Rules.{has_field}
+use Rattle.i386_reloc.specs.Classes.{is_code, is_strings}
+use Rattle.i386_reloc.specs.Normal.{is_name_twice, is_not_one_function}
+use Rattle.i386_reloc.specs.References.{relocations_of, symbol_of, addend_in, is_outside, text_offset}
 
 -- a refusal where a test passes
 abbrev pub refused_where : Bool → Refusal → Option Refusal
@@ -24,11 +28,44 @@ unfoldable pub function_fault_at : List ℕ → ℕ → Option Refusal
 function_fault_at bytes i =
     refused_where (is_not_one_function bytes i) (refusal.NotOneFunction (section_name bytes i))
 
-unfoldable pub class_fault_at : List ℕ → ℕ → Option Refusal
-class_fault_at bytes i = refused_where (is_other_class bytes i) refusal.UnreadObject
+-- Why a relocation is refused. Its type isn't one that is read, or stands where it may not: in a section of texts; a relative one in a
+-- section that isn't code, or with a symbol in a section of texts.
+unfoldable pub is_unknown : List ℕ → ℕ → Reloc → Bool
+is_unknown bytes i r =
+    not (has_field r) || is_strings bytes i
+    || not (r.kind == 1) && (not (is_code bytes i) || nat_lt 0 r.symbol && is_strings bytes (symbol_of bytes r).section)
+
+-- A relocation's symbol is number 0, is absolute (SHN_ABS, 0xfff1), lies in a section that isn't loaded, or lies in none
+-- and has no name.
+unfoldable pub is_no_target : List ℕ → Reloc → Bool
+is_no_target bytes r =
+    r.symbol == 0
+    || (if is_outside (symbol_of bytes r)
+    then length (symbol_name bytes r.symbol) == 0
+    else not (is_loaded bytes (symbol_of bytes r).section))
+
+-- A relocation names a text that doesn't begin in its section, or that no zero ends there.
+unfoldable pub is_no_text : List ℕ → ℕ → Reloc → Bool
+is_no_text bytes i r =
+    not (is_outside (symbol_of bytes r)) && is_strings bytes (symbol_of bytes r).section
+    && not (ends_in (section_bytes bytes (symbol_of bytes r).section) (text_offset (symbol_of bytes r) (addend_in bytes i r)))
+
+-- what is wrong with a relocation of section i; one of type 0 changes nothing and is passed over
+unfoldable pub relocation_fault_of : List ℕ → ℕ → Reloc → Option Refusal
+relocation_fault_of bytes i r =
+    if r.kind == 0 then None
+    else (if is_unknown bytes i r then Some (refusal.UnknownReloc (section_name bytes i) r.index r.kind)
+    else (if is_no_target bytes r then Some (refusal.BadTarget (section_name bytes i) r.index)
+    else (if is_no_text bytes i r then Some (refusal.BadString (section_name bytes i) r.index) else None)))
+
+-- the first refusal among the items of a list
+abbrev pub first_among : {X : Type 0} → (X → Option Refusal) → List X → Option Refusal
+first_among fault [] = None
+first_among fault (x ∷ xs) = first_of (fault x) (first_among fault xs)
 
 unfoldable pub relocation_fault_at : List ℕ → ℕ → Option Refusal
-relocation_fault_at bytes i = refused_where (is_relocated bytes i) refusal.Relocations
+relocation_fault_at bytes i =
+    if is_loaded bytes i then first_among (relocation_fault_of bytes i) (relocations_of bytes i) else None
 
 -- Each fault is looked for in all sections before the next one is.
 unfoldable pub name_fault : List ℕ → Option Refusal
@@ -37,17 +74,13 @@ name_fault bytes = first_below (name_fault_at bytes) (section_count bytes)
 unfoldable pub function_fault : List ℕ → Option Refusal
 function_fault bytes = first_below (function_fault_at bytes) (section_count bytes)
 
-unfoldable pub class_fault : List ℕ → Option Refusal
-class_fault bytes = first_below (class_fault_at bytes) (section_count bytes)
-
 unfoldable pub relocation_fault : List ℕ → Option Refusal
 relocation_fault bytes = first_below (relocation_fault_at bytes) (section_count bytes)
 
 -- why an object has no sections to compare
 unfoldable pub normal_fault : List ℕ → Option Refusal
 normal_fault bytes =
-    first_of (name_fault bytes)
-    (first_of (function_fault bytes) (first_of (class_fault bytes) (relocation_fault bytes)))
+    first_of (name_fault bytes) (first_of (function_fault bytes) (relocation_fault bytes))
 
 -- What an answer says of the fault that it looked for: Ok that there is none, and a refusal that it is this one. For
 -- want of memory nothing is said.

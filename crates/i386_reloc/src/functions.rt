@@ -3,8 +3,8 @@ ghost use Rattle.std.specs.Prelude.{◌≡◌, ◌<◌, ℕ, ◌+◌, ◌%◌, �
 ghost use Rattle.elf32_object.specs.Fields.{symbol_count};
 ghost use Rattle.i386_reloc.specs.Functions.{AreFunctions, functions_with};
 
-use elf32_object::Object;
-use elf32_object::types::Symbol;
+use crate::known::Named;
+use crate::source::Source;
 use std::alloc::{AllocError, Global};
 
 const FUNC: u8 = 2;
@@ -44,30 +44,30 @@ impl Functions {
 
 /// The function symbols of each section, by its index, from one pass over the symbols.
 #[tactic(auto, using(crate::proofs::FunctionSymbols::are_no_functions))]
-pub(crate) fn gather(alloc: Global, object: &Object<'_>) -> Result<Vec<Functions>, AllocError>
-    ensures { IfOk result (λ table. AreFunctions object.now (symbol_count object.now) table.items) }
+pub(crate) fn gather(alloc: Global, source: &Source<'_, '_>) -> Result<Vec<Functions>, AllocError>
+    ensures { IfOk result (λ table. AreFunctions source.now.object.now (symbol_count source.now.object.now) table.items) }
 {
-    let mut table = vec![in alloc; Functions::NONE; object.section_count() as usize]?;
-    for k in 0..object.symbol_count() {
-        gather_symbol(table.as_mut_slice(), object, k);
+    let mut table = vec![in alloc; Functions::NONE; source.object.section_count() as usize]?;
+    for k in 0..source.object.symbol_count() {
+        gather_symbol(table.as_mut_slice(), source, k);
     }
     Ok(table)
 }
 
 /// Takes symbol `k` into the table. Symbol 0 is none.
 #[tactic(auto, using(crate::proofs::FunctionSymbols::are_functions_null, crate::proofs::FunctionSymbols::are_functions_more))]
-fn gather_symbol(table: &mut [Functions], object: &Object<'_>, k: u32)
-    requires within { k < symbol_count object.now }
-    requires before { AreFunctions object.now k table.old }
-    ensures { AreFunctions object.now (k + 1) table.new }
+fn gather_symbol(table: &mut [Functions], source: &Source<'_, '_>, k: u32)
+    requires within { k < symbol_count source.now.object.now }
+    requires before { AreFunctions source.now.object.now k table.old }
+    ensures { AreFunctions source.now.object.now (k + 1) table.new }
 {
     if k > 0 {
-        note(table, k, &object.symbol(k));
+        note(table, k, source.symbol(k));
     }
 }
 
 /// Notes symbol `k` at its section, where it is a function.
-fn note(table: &mut [Functions], k: u32, symbol: &Symbol<'_>)
+fn note(table: &mut [Functions], k: u32, symbol: &Named<'_>)
     ensures { (i : ℕ) (d : Functions) → i < length table.old
         → slice_index_or table.new i d ≡ (if symbol.now.info % 16 == 2 && symbol.now.section == i
         then functions_with (slice_index_or table.old i d) k symbol.now.value

@@ -1,21 +1,33 @@
 //! The loaded sections of an i386 object as they are compared, and the values of its relocations.
 #![tactic(auto)]
 
+mod bindings;
+mod blanking;
 mod checks;
 mod copies;
 mod functions;
+mod known;
 mod loaded;
 mod names;
+mod objects;
+mod ordering;
 mod reading;
+mod references;
 mod refused;
+mod relocations;
 mod sections;
+mod source;
+mod span;
+mod targets;
+mod texts;
 pub mod types;
 mod value;
 
 pub use crate::reading::normalise;
 pub use crate::refused::object_refusal;
 pub use crate::sections::Normal;
-pub use crate::types::{Class, Form, NormalSection};
+pub use crate::span::Span;
+pub use crate::types::{Class, Form, NormalSection, ObjectSymbol, Objects, Ref, Refs, Target};
 pub use crate::value::field_value;
 
 #[cfg(test)]

@@ -2,7 +2,7 @@
 ghost use Rattle.std.specs.Prelude.{◌≡◌, ◌<◌, false, MatchOption};
 ghost use Rattle.elf32_object.specs.Fields.{section_count, is_loaded};
 ghost use Rattle.i386_reloc.specs.Loaded.{IsLoadedSection};
-ghost use Rattle.i386_reloc.specs.Normal.{class_by};
+ghost use Rattle.i386_reloc.specs.Classes.{class_by};
 
 use crate::types::Class;
 use elf32_object::Object;
@@ -19,7 +19,7 @@ const MERGE: u32 = 0x10;
 const STRINGS: u32 = 0x20;
 
 /// The section at an index, `None` exactly where it isn't loaded.
-#[tactic(auto, using(crate::proofs::LoadedBelow::not_loaded_null))]
+#[tactic(auto, using(crate::proofs::LoadedBelow::not_loaded_null, crate::proofs::LoadedBelow::few_bytes))]
 pub(crate) fn loaded_section<'a>(object: &Object<'a>, i: u32) -> Option<Section<'a>>
     requires { i < section_count object.now }
     ensures { MatchOption result (is_loaded object.now i ≡ false) (λ s. IsLoadedSection object.now i s) }

@@ -1,33 +1,44 @@
 //! Reads the loaded sections of an object.
-ghost use Rattle.std.specs.Prelude.{◌≡◌, ◌≢◌, ◌<◌, ℕ, if◌then◌else◌, option_map, Some, None, IsSome, IfOk, IfErr, All, map};
-ghost use Rattle.std.specs.List.{IsDistinct};
+ghost use Rattle.std.specs.Prelude.{◌≡◌, ◌≢◌, ◌<◌, ◌≤◌, ◌+◌, ◌++◌, ◌∷◌, [], ℕ, if◌then◌else◌, option_map, Some, None, IsSome, IfOk, IfErr, OnOk, All, map, length};
+ghost use Rattle.std.specs.List.{IsDistinct, filter};
 ghost use Rattle.std.specs.Option.{ForSome};
-ghost use Rattle.elf32_object.specs.Fields.{section_count, symbol_count, symbol_name};
+ghost use Rattle.elf32_object.specs.Fields.{section_count, symbol_count, symbol_name, is_loaded};
+ghost use Rattle.elf32_object.specs.Rules.{has_field};
+ghost use Rattle.i386_reloc.specs.Classes.{is_code_class};
 ghost use Rattle.i386_reloc.specs.Functions.{AreFunctions};
 ghost use Rattle.i386_reloc.specs.Loaded.{IsLoadedSection};
-ghost use Rattle.i386_reloc.specs.Normal.{is_code_class, function_symbol, is_global_at, loaded_sections, name_of, normal_section, same_bytes, section_named, IsFunction};
-ghost use Rattle.i386_reloc.specs.Refused.{Finds, normal_fault};
+ghost use Rattle.i386_reloc.specs.Normal.{function_symbol, is_global_at, loaded_sections, name_of, normal_section, same_bytes, section_named, IsFunction};
+ghost use Rattle.i386_reloc.specs.Objects.{AreLeft};
+ghost use Rattle.i386_reloc.specs.References.{objects_of, reference_of, relocations_of, fields_of};
+ghost use Rattle.i386_reloc.specs.Refused.{Finds, normal_fault, relocation_fault, relocation_fault_at, relocation_fault_of, first_among};
+ghost use Rattle.i386_reloc.specs.Relocations.{IsPlaced};
 
-use crate::checks::{check_classes, check_functions, check_relocations};
+use crate::bindings::is_global;
+use crate::blanking::blanked;
+use crate::checks::check_functions;
 use crate::functions::{Functions, gather};
 use crate::loaded::{class_of, loaded_section};
 use crate::names::places;
+use crate::objects::{gather_objects, take_objects};
+use crate::ordering::sorted;
+use crate::references::references;
+use crate::relocations::relocations;
 use crate::sections::Normal;
-use crate::types::{Class, NormalSection};
+use crate::source::Source;
+use crate::span::Span;
+use crate::targets::targets;
+use crate::types::{Class, NormalSection, Objects, Ref};
 use elf32_object::Object;
-use elf32_object::types::Section;
-use ks_base::{Bytes, ListOf, Name, Refusal};
+use elf32_object::types::{Reloc, Section};
+use ks_base::{Bytes, ListOf, Refusal};
 use std::alloc::{AllocError, Global};
 
-const GLOBAL: u8 = 1;
-
-const WEAK: u8 = 2;
-
 /// The loaded sections of an object. Refuses the first that comes of these, each being looked for in all sections in
-/// turn: a loaded section with the name of an earlier one, a code section that isn't one function, a loaded section
-/// that isn't code, a loaded section with relocations.
+/// turn: a loaded section with the name of an earlier one, a code section that isn't one function, and a relocation
+/// that makes no reference. A relocation is refused for its type and where it stands, for its symbol, or for its text,
+/// in this order.
 #[tactic(auto, unfolding(crate::specs::Refused::normal_fault))]
-pub fn normalise(alloc: Global, object: &Object<'_>) -> Result<Normal, Refusal>
+pub fn normalise<'a>(alloc: Global, object: &Object<'a>) -> Result<Normal<'a>, Refusal>
     ensures ok { IfOk result (λ normal. (normal ≡ loaded_sections object.now) × (normal_fault object.now ≡ None)) }
     ensures refused { IfErr result
         (λ refusal. refusal ≢ Refusal.Memory → normal_fault object.now ≡ Some refusal) }
@@ -37,55 +48,124 @@ pub fn normalise(alloc: Global, object: &Object<'_>) -> Result<Normal, Refusal>
         (λ normal. All (λ section. section_named normal section.name ≡ Some section) normal) }
 {
     let places = places(alloc, object)?;
-    let functions = gather(alloc, object).map_err(|_| Refusal::Memory)?;
-    check_functions(alloc, object, &functions)?;
-    check_classes(object)?;
-    check_relocations(object)?;
-    let sections = sections(alloc, object, &functions).map_err(|_| Refusal::Memory)?;
-    Ok(Normal::new(sections, places))
+    let source = Source::new(alloc, object).map_err(|_| Refusal::Memory)?;
+    let functions = gather(alloc, &source).map_err(|_| Refusal::Memory)?;
+    check_functions(alloc, source.object, &functions)?;
+    let sections = sections(alloc, &source, &functions)?;
+    let targets = targets(alloc, &source).map_err(|_| Refusal::Memory)?;
+    Ok(Normal::new(sections, places, targets))
 }
 
-#[tactic(auto, using(crate::proofs::LoadedBelow::loaded_below_more, crate::proofs::LoadedBelow::loaded_below_same), unfolding(crate::specs::Normal::loaded_sections))]
-fn sections(
+#[tactic(auto, using(crate::proofs::Firsts::first_below_more, crate::proofs::Parts::loaded_below_step, crate::proofs::Parts::few_loaded), unfolding(crate::specs::Normal::loaded_sections, crate::specs::Refused::relocation_fault))]
+fn sections<'a>(
     alloc: Global,
-    object: &Object<'_>,
+    source: &Source<'_, 'a>,
     functions: &[Functions],
-) -> Result<ListOf<NormalSection>, AllocError>
-    requires { AreFunctions object.now (symbol_count object.now) functions.now }
-    ensures { IfOk result (λ sections. sections ≡ loaded_sections object.now) }
+) -> Result<ListOf<NormalSection<'a>>, Refusal>
+    requires { AreFunctions source.now.object.now (symbol_count source.now.object.now) functions.now }
+    ensures finds { Finds result (relocation_fault source.now.object.now) }
+    ensures sections { IfOk result (λ sections. sections ≡ loaded_sections source.now.object.now) }
+    ensures few { IfOk result (λ sections. length sections ≤ 4096) }
 {
+    let mut objects = gather_objects(alloc, source).map_err(|_| Refusal::Memory)?;
     let mut sections = ListOf::new(alloc);
-    for i in 0..object.section_count() {
-        if let Some(section) = loaded_section(object, i) {
-            sections.push(read_section(alloc, object, i, &section, functions)?)?;
-        }
+    for i in 0..source.object.section_count() {
+        let own = take_objects(alloc, source.object, &mut objects, i);
+        add_section(alloc, &mut sections, source, i, functions, own)?;
     }
     Ok(sections)
 }
 
-#[tactic(auto, using(crate::proofs::FunctionSymbols::function_symbol_read, crate::proofs::FunctionSymbols::function_symbol_in), unfolding(crate::specs::Normal::normal_section))]
-fn read_section(
+/// Adds section `i`, if it is loaded.
+#[tactic(auto, unfolding(crate::specs::Refused::relocation_fault_at))]
+fn add_section<'a>(
     alloc: Global,
-    object: &Object<'_>,
+    sections: &mut ListOf<NormalSection<'a>>,
+    source: &Source<'_, 'a>,
     i: u32,
-    section: &Section<'_>,
     functions: &[Functions],
-) -> Result<NormalSection, AllocError>
-    requires within { i < section_count object.now }
+    objects: Objects<'a>,
+) -> Result<(), Refusal>
+    requires within { i < section_count source.now.object.now }
+    requires functions { AreFunctions source.now.object.now (symbol_count source.now.object.now) functions.now }
+    requires objects { objects ≡ objects_of source.now.object.now i }
+    ensures finds { Finds result (relocation_fault_at source.now.object.now i) }
+    ensures added { OnOk result (sections.new ≡ (if is_loaded source.now.object.now i
+        then sections.old ++ normal_section source.now.object.now i ∷ [] else sections.old)) }
+{
+    let Some(section) = loaded_section(source.object, i) else {
+        return Ok(());
+    };
+    let section = read_section(alloc, source, i, &section, functions, objects)?;
+    match sections.push(section) {
+        Ok(()) => Ok(()),
+        Err(_) => Err(Refusal::Memory),
+    }
+}
+
+fn read_section<'a>(
+    alloc: Global,
+    source: &Source<'_, 'a>,
+    i: u32,
+    section: &Section<'a>,
+    functions: &[Functions],
+    objects: Objects<'a>,
+) -> Result<NormalSection<'a>, Refusal>
+    requires within { i < section_count source.now.object.now }
+    requires loaded { IsLoadedSection source.now.object.now i section.now }
+    requires functions { AreFunctions source.now.object.now (symbol_count source.now.object.now) functions.now }
+    requires objects { objects ≡ objects_of source.now.object.now i }
+    ensures finds { Finds result (first_among (relocation_fault_of source.now.object.now i) (relocations_of source.now.object.now i)) }
+    ensures read { IfOk result (λ read. read ≡ normal_section source.now.object.now i) }
+{
+    let relocations = relocations(alloc, source.object, i).map_err(|_| Refusal::Memory)?;
+    let refs = references(alloc, source, i, section, &relocations)?;
+    let function = symbol_of(class_of(section), functions[i as usize]);
+    match build(
+        alloc,
+        source.object,
+        i,
+        section,
+        function,
+        &relocations,
+        refs,
+        objects,
+    ) {
+        Ok(read) => Ok(read),
+        Err(_) => Err(Refusal::Memory),
+    }
+}
+
+/// A loaded section as it is compared, from its parts.
+#[tactic(auto, using(crate::proofs::Parts::fields_within, crate::proofs::Parts::references_sorted, crate::proofs::Parts::bytes_blanked), unfolding(crate::specs::Normal::normal_section))]
+fn build<'a>(
+    alloc: Global,
+    object: &Object<'a>,
+    i: u32,
+    section: &Section<'a>,
+    function: Option<u32>,
+    relocations: &[Reloc],
+    refs: Vec<Ref<'a>>,
+    objects: Objects<'a>,
+) -> Result<NormalSection<'a>, AllocError>
     requires loaded { IsLoadedSection object.now i section.now }
-    requires functions { AreFunctions object.now (symbol_count object.now) functions.now }
+    requires function { function ≡ function_symbol object.now i }
+    requires relocations { relocations.now ≡ relocations_of object.now i }
+    requires placed { All (λ r. IsPlaced object.now i r) relocations.now }
+    requires refs { refs.items ≡ map (reference_of object.now i) (fields_of object.now i) }
+    requires objects { objects ≡ objects_of object.now i }
     ensures { IfOk result (λ read. read ≡ normal_section object.now i) }
 {
-    let class = class_of(section);
-    let symbol = symbol_of(class, functions[i as usize]);
     Ok(NormalSection {
-        name: Name::from_slice(alloc, section.name)?,
-        class,
-        function: function_name(alloc, object, symbol)?,
-        global: is_global(object, symbol),
+        name: Span::new(section.name),
+        class: class_of(section),
+        function: function_name(object, function),
+        global: is_global_function(object, function),
         align: section.align,
         size: section.size,
-        bytes: Bytes::from_slice(alloc, section.bytes)?,
+        bytes: Bytes::from_vec(blanked(alloc, section.bytes, relocations)?),
+        refs: ListOf::from_vec(sorted(refs)?),
+        objects,
     })
 }
 
@@ -100,30 +180,23 @@ fn symbol_of(class: Class, functions: Functions) -> Option<u32>
     }
 }
 
-fn function_name(
-    alloc: Global,
-    object: &Object<'_>,
-    symbol: Option<u32>,
-) -> Result<Option<Name>, AllocError>
+fn function_name<'a>(object: &Object<'a>, symbol: Option<u32>) -> Option<Span<'a>>
     requires { ForSome symbol (λ k. (0 < k) × (k < symbol_count object.now)) }
-    ensures { IfOk result (λ name. name ≡ option_map (symbol_name object.now) symbol) }
+    ensures { result ≡ option_map (symbol_name object.now) symbol }
 {
     match symbol {
-        Some(k) => Ok(Some(Name::from_slice(alloc, object.symbol(k).name)?)),
-        None => Ok(None),
+        Some(k) => Some(Span::new(object.symbol(k).name)),
+        None => None,
     }
 }
 
-/// Whether a symbol is seen from other objects.
-fn is_global(object: &Object<'_>, symbol: Option<u32>) -> bool
+/// Whether a function is seen from other objects.
+fn is_global_function(object: &Object<'_>, symbol: Option<u32>) -> bool
     requires { ForSome symbol (λ k. (0 < k) × (k < symbol_count object.now)) }
     ensures { result ≡ is_global_at object.now symbol }
 {
     match symbol {
-        Some(k) => {
-            let binding = object.symbol(k).info / 16;
-            binding == GLOBAL || binding == WEAK
-        }
+        Some(k) => is_global(object.symbol(k).info),
         None => false,
     }
 }

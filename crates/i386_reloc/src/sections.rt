@@ -1,68 +1,114 @@
 //! The loaded sections of an object, and lookups among them.
-ghost use Rattle.std.specs.Prelude.{◌≡◌, ℕ, List, length};
-ghost use Rattle.std.specs.Ordering.{nat_cmp};
-ghost use Rattle.std.specs.Cmp.Lexicographic.{slice_cmp};
-ghost use Rattle.std.specs.BTreeMap.{get};
+ghost use Rattle.std.specs.Prelude.{◌≡◌, ℕ, ◌≤◌, List, Some, All, length, map};
+ghost use Rattle.std.specs.List.{IsDistinct};
 ghost use Rattle.std.specs.Option.{option_copied};
-ghost use Rattle.i386_reloc.specs.Normal.{section_named};
-ghost use Rattle.i386_reloc.specs.Places.{place_named};
+ghost use Rattle.i386_reloc.specs.Normal.{same_bytes, name_of, section_named, IsFunction};
+ghost use Rattle.i386_reloc.specs.Places.{named, place_named, targets_in, reference_at, place_of_reference};
+ghost use Rattle.i386_reloc.specs.Texts.{HasTexts};
 
 use crate::types::NormalSection;
-use ks_base::{ListOf, Name};
+use ks_base::ListOf;
 use std::collections::BTreeMap;
 use std::marker::Model;
 
 /// The loaded sections of an object, in the order of its section header table. Contracts see their list.
 #[derive(Drop)]
-pub struct Normal {
-    sections: ListOf<NormalSection>,
-    places: BTreeMap<Name, usize>,
+pub struct Normal<'a> {
+    sections: ListOf<NormalSection<'a>>,
+    places: BTreeMap<&'a [u8], usize>,
+    targets: ListOf<ListOf<Option<u32>>>,
 }
 
-impl Model for Normal {
-    ghost use Rattle.std.specs.Prelude.{◌≡◌, ℕ, List};
-    ghost use Rattle.std.specs.Ordering.{nat_cmp};
-    ghost use Rattle.std.specs.Cmp.Lexicographic.{slice_cmp};
-    ghost use Rattle.std.specs.BTreeMap.{get};
+impl<'a> Model for Normal<'a> {
+    ghost use Rattle.std.specs.Prelude.{◌≡◌, ℕ, ◌≤◌, List, Some, All, length, map};
+    ghost use Rattle.std.specs.List.{IsDistinct};
     ghost use Rattle.i386_reloc.specs.declared.types.NormalSection.{NormalSection};
-    ghost use Rattle.i386_reloc.specs.Places.{place_named};
+    ghost use Rattle.i386_reloc.specs.Normal.{same_bytes, name_of, section_named, IsFunction};
+    ghost use Rattle.i386_reloc.specs.Places.{named, place_named, targets_in};
+    ghost use Rattle.i386_reloc.specs.Texts.{HasTexts};
 
     ghost Value = { List NormalSection };
 
     ghost view = { λ n. n.sections };
 
-    ghost invariant = { λ n. (q : List ℕ) → get (slice_cmp nat_cmp) n.places q ≡ place_named n.sections q };
+    ghost invariant = { λ n. ((q : List ℕ) → named n.places q ≡ place_named n.sections q)
+        × All (λ section. section_named n.sections section.name ≡ Some section) n.sections
+        × All IsFunction n.sections
+        × IsDistinct same_bytes (map name_of n.sections)
+        × HasTexts n.sections
+        × (n.targets ≡ targets_in n.sections)
+        × (length n.sections ≤ 4096) };
 }
 
-impl Normal {
-    /// The sections with the place of each name.
-    pub(crate) fn new(sections: ListOf<NormalSection>, places: BTreeMap<Name, usize>) -> Normal
-        requires { (q : List ℕ) → get (slice_cmp nat_cmp) places q ≡ place_named sections q }
-        ensures { result ≡ sections }
+impl<'a> Normal<'a> {
+    /// The sections with the place of each name and of each reference's target.
+    pub(crate) fn new(
+        sections: ListOf<NormalSection<'a>>,
+        places: BTreeMap<&'a [u8], usize>,
+        targets: ListOf<ListOf<Option<u32>>>,
+    ) -> Normal<'a>
+        requires places { (q : List ℕ) → named places q ≡ place_named sections q }
+        requires named { All (λ section. section_named sections section.name ≡ Some section) sections }
+        requires functions { All IsFunction sections }
+        requires distinct { IsDistinct same_bytes (map name_of sections) }
+        requires texts { HasTexts sections }
+        requires targets { targets ≡ targets_in sections }
+        requires few { length sections ≤ 4096 }
+        ensures { result ≡ sections.entry }
     {
-        Normal { sections, places }
+        Normal {
+            sections,
+            places,
+            targets,
+        }
     }
 
     /// How many sections there are.
     pub fn len(&self) -> usize
-        ensures { result ≡ length self.now }
+        ensures sections { result ≡ length self.now }
+        ensures few { length self.now ≤ 4096 }
     {
         self.sections.len()
     }
 
-    /// All sections in order.
-    pub fn as_slice(&self) -> &[NormalSection]
-        ensures { result.now ≡ self.now }
+    /// All sections in order. No two have one name, each code section is a function, and a reference to a text has that
+    /// text's bytes from its section.
+    pub fn as_slice(&self) -> &[NormalSection<'a>]
+        ensures sections { result.now ≡ self.now }
+        ensures named { All (λ section. section_named self.now section.name ≡ Some section) self.now }
+        ensures functions { All IsFunction self.now }
+        ensures distinct { IsDistinct same_bytes (map name_of self.now) }
+        ensures texts { HasTexts self.now }
+        ensures few { length self.now ≤ 4096 }
     {
         self.sections.as_slice()
     }
 
-    /// The section of a name, `None` exactly where there is none. It takes the logarithm of the number of sections.
+    /// Where the section of a name stands among the sections, counted from 0; `None` exactly where there is none. It takes
+    /// the logarithm of the number of sections.
+    pub fn place(&self, name: &[u8]) -> Option<usize>
+        ensures { result ≡ place_named self.now name.now }
+    {
+        self.places.get(name).copied()
+    }
+
+    /// Where the section stands that the reference `k` of the section at a place goes to, `None` where there is no such
+    /// reference, or where it goes to no section of this object. No name is compared.
+    #[tactic(auto, using(crate::proofs::Places::target_at))]
+    pub fn target_place(&self, section: usize, k: usize) -> Option<usize>
+        ensures { result ≡ place_of_reference self.now (reference_at self.now section k) }
+    {
+        let targets = self.targets.get(section)?;
+        let place = targets.get(k).copied()??;
+        Some(place as usize)
+    }
+
+    /// The section of a name, `None` exactly where there is none.
     #[tactic(auto, using(crate::proofs::Places::section_named_at))]
-    pub fn find(&self, name: &Name) -> Option<&NormalSection>
+    pub fn find(&self, name: &[u8]) -> Option<&NormalSection<'a>>
         ensures { option_copied result ≡ section_named self.now name.now }
     {
-        let place = *self.places.get(name)?;
+        let place = self.place(name)?;
         self.sections.get(place)
     }
 }

@@ -15,7 +15,7 @@ use Rattle.ks_base.specs.declared.refusals.ImageFault.{ImageFault}
 use Rattle.ks_base.specs.declared.refusals.ImageFault.TheVariants.{Short, Magic, Limit, Kind, Range, Order, Name, Trailing}
 use Rattle.ks_base.specs.declared.refusals.ConflictName.{ConflictName}
 use Rattle.ks_base.specs.declared.refusals.Refusal.{Refusal}
-use Rattle.ks_base.specs.declared.refusals.Refusal.TheVariants.{NotElf, NotRel386, BadHeader, BadSection, BadSymbol, BadReloc, UnknownReloc, NotOneFunction, DoubleName, TooLarge, DataChanged, NoChange, Interior, NoCandidate, Mismatch, Ambiguous, Conflict, Unresolved, TwoNames, PreUndecoded, TooSmall, Overlap, NoRoom, TooMany, Busy, StackOut, NothingApplied, BadImage, BadLine, NoThread, NoSymbol, NoStack, BadString, BadTarget, TooManyThreads, NameTaken, Relocations, UnreadObject, Memory}
+use Rattle.ks_base.specs.declared.refusals.Refusal.TheVariants.{NotElf, NotRel386, BadHeader, BadSection, BadSymbol, BadReloc, UnknownReloc, NotOneFunction, DoubleName, TooLarge, DataChanged, NoChange, Interior, NoCandidate, Mismatch, Ambiguous, Conflict, Unresolved, TwoNames, PreUndecoded, TooSmall, Overlap, NoRoom, TooMany, Busy, StackOut, NothingApplied, BadImage, BadLine, NoThread, NoSymbol, NoStack, BadString, BadTarget, TooManyThreads, NameTaken, Memory}
 
 -- the word for a limit of an object
 abbrev pub large_word : Large → List ℕ
@@ -169,8 +169,6 @@ refusal_number (BadString section index) = 35
 refusal_number (BadTarget section index) = 36
 refusal_number TooManyThreads = 37
 refusal_number (NameTaken name) = 38
-refusal_number Relocations = 51
-refusal_number UnreadObject = 52
 refusal_number Memory = 0
 
 -- the text of a refusal
@@ -211,8 +209,6 @@ refusal_text (BadString section index) = words_name_number (codes "bad string ")
 refusal_text (BadTarget section index) = words_name_number (codes "bad target ") section index
 refusal_text TooManyThreads = codes "too many threads"
 refusal_text (NameTaken name) = words_name (codes "name taken ") name
-refusal_text Relocations = codes "relocations"
-refusal_text UnreadObject = codes "unread object"
 refusal_text Memory = []
 
 -- the line that is printed for a refusal, with its line feed; nothing for want of memory

@@ -377,8 +377,6 @@ fn put_refusal_text(line: &mut Line, refusal: &Refusal) -> Result<(), AllocError
         ),
         Refusal::TooManyThreads => line.put_text("too many threads"),
         Refusal::NameTaken(name) => put_words_name(line, "name taken ", name),
-        Refusal::Relocations => line.put_text("relocations"),
-        Refusal::UnreadObject => line.put_text("unread object"),
         Refusal::Memory => Ok(()),
     }
 }
@@ -426,8 +424,6 @@ impl Refusal {
             Refusal::BadTarget(_, _) => 36,
             Refusal::TooManyThreads => 37,
             Refusal::NameTaken(_) => 38,
-            Refusal::Relocations => 51,
-            Refusal::UnreadObject => 52,
             Refusal::Memory => 0,
         }
     }

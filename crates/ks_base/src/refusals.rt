@@ -88,13 +88,13 @@ pub enum ImageFault {
     Short,
     /// The first four bytes aren't the format's.
     Magic,
-    /// A count, a length or a sum is above its limit.
+    /// A count, a length or a sum is above its limit, or a region has no byte.
     Limit,
     /// A kind or a binding that isn't listed.
     Kind,
     /// Bounds, an alignment, or an address outside its region.
     Range,
-    /// Regions or stacks don't ascend, or two of them meet.
+    /// Regions or stacks don't ascend, or two of regions, stacks and the arena meet.
     Order,
     /// An empty name, or a zero byte in one.
     Name,
@@ -134,11 +134,11 @@ pub enum Refusal {
     DoubleName(Name),
     /// 10: a limit of the object is passed.
     TooLarge(Large),
-    /// 11: a data section that is in both objects changed.
+    /// 11: a section of both objects has other data in the second, or another class.
     DataChanged(Name),
-    /// 12: the two objects' code is the same.
+    /// 12: no function of the two objects differs, and none is added.
     NoChange,
-    /// 13: the interior reference at this offset of a section can't be carried over.
+    /// 13: the reference at this offset of a section goes to the interior of a function and can't be kept.
     Interior(Name, u32),
     /// 14: no running function has the name.
     NoCandidate(Name),
@@ -186,10 +186,6 @@ pub enum Refusal {
     TooManyThreads,
     /// 38: a live update has the name.
     NameTaken(Name),
-    /// 51: a loaded section has relocations, where they aren't read.
-    Relocations,
-    /// 52: the object isn't read.
-    UnreadObject,
     /// Memory was wanting. It has no number, and no reply is written for it.
     Memory,
 }

@@ -160,8 +160,6 @@ fn plain_refusals(rt: HostRuntime) -> Result<(), Fail> {
         (Refusal::NothingApplied, "27 nothing applied"),
         (Refusal::NoStack, "32 no stack"),
         (Refusal::TooManyThreads, "37 too many threads"),
-        (Refusal::Relocations, "51 relocations"),
-        (Refusal::UnreadObject, "52 unread object"),
     ];
     for (refusal, wanted) in &table {
         assert!(rt; prints(rt.alloc(), refusal, wanted)?, "{wanted}");

@@ -1,3 +1,5 @@
 pub mod Untaken
 pub mod Loads
 pub mod Diffs
+pub mod Listings
+pub mod Replies

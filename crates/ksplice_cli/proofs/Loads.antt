@@ -5,29 +5,24 @@ use Rattle.ks_io.specs.Outside.{Counts, IsLonger}
 use Rattle.ks_io.specs.Answered.{LoadGives, ShowsIn}
 use Rattle.ks_io.specs.declared.types.FileFault.{FileFault}
 use Rattle.ks_io.specs.declared.types.FileFault.TheVariants.{Missing, TooLong, Failed, Memory}
-use Rattle.ksplice_cli.specs.Answer.{Answer, file_answer, ComesOut}
-use Rattle.ksplice_cli.specs.Calls.{NotHeld, found_file, after_load, LoadEnds}
-use Rattle.ksplice_cli.proofs.Untaken.{nothing_taken}
+use Rattle.ksplice_cli.specs.Answer.{file_answer, ComesOut}
+use Rattle.ksplice_cli.specs.Calls.{NotHeld, found_file, Answered, NoMemory, LoadEnds}
 
 -- a file that is longer than the limit isn't held
 longer_found : (limit : ℕ) (file : Option (List ℕ)) → IsLonger limit file → found_file limit file ≡ NotHeld TooLong
 longer_found limit None h = absurd h
 longer_found limit (Some bytes) h = let no : nat_le (length bytes) limit ≡ false = grind (arith, nat_tests) in rw no refl
 
--- what comes out where nothing was taken for want of memory
-out_of_memory : (answer : Answer) (old new : Option (List ℕ)) (status : ℕ) → status ≡ 6 → new ≡ old → ComesOut answer old new status
-out_of_memory answer old new status s n = rw (s, n) (nothing_taken old answer.output)
-
 -- a load that answered this fault, and whose file's line came out, ends as the load does
-pub load_ends : (fault : FileFault) (file : Option (List ℕ)) (limit : ℕ) (name loaded : List ℕ) (rest : List ℕ → Answer) (before now : Counts) (old new : Option (List ℕ)) (status : ℕ)
+pub load_ends : (fault : FileFault) (file : Option (List ℕ)) (limit : ℕ) (name loaded : List ℕ) (before now : Counts) (old new : Option (List ℕ)) (status : ℕ)
     → LoadGives {T = Unit {0}} file limit (Err fault) loaded → ShowsIn fault before now → (fault ≡ Memory → (status ≡ 6) × (new ≡ old)) → ComesOut (file_answer name fault) old new status
-    → LoadEnds (found_file limit file) name rest before now old new status
-load_ends Missing file limit name loaded rest before now old new status gives shown memory out =
-    record { failed = false; caused = λ e. cc; answer = rw gives out }
-load_ends TooLong file limit name loaded rest before now old new status gives shown memory out =
-    record { failed = false; caused = λ e. cc; answer = rw (longer_found limit file gives) out }
-load_ends Failed file limit name loaded rest before now old new status gives shown memory out =
-    record { failed = true; caused = λ e. shown; answer = out }
-load_ends Memory file limit name loaded rest before now old new status gives shown memory out =
+    → LoadEnds (found_file limit file) name before now old new status
+load_ends Missing file limit name loaded before now old new status gives shown memory out =
+    record { failed = false; caused = λ e. cc; answer = Answered (file_answer name Missing) (rw gives refl) out }
+load_ends TooLong file limit name loaded before now old new status gives shown memory out =
+    record { failed = false; caused = λ e. cc; answer = Answered (file_answer name TooLong) (rw (longer_found limit file gives) refl) out }
+load_ends Failed file limit name loaded before now old new status gives shown memory out =
+    record { failed = true; caused = λ e. shown; answer = Answered (file_answer name Failed) refl out }
+load_ends Memory file limit name loaded before now old new status gives shown memory out =
     let m = memory refl in
-    record { failed = false; caused = λ e. cc; answer = out_of_memory (after_load false (found_file limit file) name rest) old new status m.0 m.1 }
+    record { failed = false; caused = λ e. cc; answer = NoMemory m.0 m.1 }

@@ -1,4 +1,4 @@
--- What a call answers: its output and its status, a function of the words and of what the files are.
+-- What a call answers: its output and its status.
 use Rattle.std.specs.Prelude.{◌≡◌, ℕ, ◌||◌, ◌==◌, List, [], ◌∷◌, ◌++◌, codes, Option, MatchBool}
 use Rattle.ks_base.specs.Text.{shown_name}
 use Rattle.ks_base.specs.declared.refusals.Refusal.{Refusal}

@@ -1,4 +1,4 @@
--- What a call of the program does: a function of its words and of what the files are.
+-- What a call of the program does: which answers are those to its words and to what the files are.
 use Rattle.std.specs.Prelude.{◌≡◌, ◌≢◌, ◌⊎◌, ℕ, ◌<◌, ◌≤◌, Bool, true, false, ◌==◌, nat_eq, nat_le, if◌then◌else◌, List, [], ◌∷◌, length, Option, Some, None}
 use Rattle.std.specs.List.{list_any}
 use Rattle.ks_io.specs.Outside.{Counts, Rose, IsLonger, grown}
@@ -6,7 +6,7 @@ use Rattle.ks_io.specs.Answered.{ShowsIn}
 use Rattle.ks_io.specs.declared.types.FileFault.{FileFault}
 use Rattle.ks_io.specs.declared.types.FileFault.TheVariants.{Missing, TooLong, Failed, Memory}
 use Rattle.ksplice_cli.specs.Answer.{Answer, usage_answer, file_answer, file_line, fault_text, ComesOut}
-use Rattle.ksplice_cli.specs.Reply.{difference_reply, reply_answer}
+use Rattle.ksplice_cli.specs.Reply.{IsReply}
 use Rattle.ksplice_cli.specs.Words.{Asked, Diff}
 
 -- what a load finds where the files are told: the file's bytes, or why there are none
@@ -22,18 +22,24 @@ found_file limit (Some bytes) = if nat_le (length bytes) limit then Held bytes e
 abbrev pub object_limit : ℕ
 object_limit = 8388608
 
--- a load, and what comes after it; a load that the outside fails ends the call whatever the file is
-abbrev pub after_load : Bool → Found → List ℕ → (List ℕ → Answer) → Answer
-after_load true found name rest = file_answer name Failed
-after_load false (Held bytes) name rest = rest bytes
-after_load false (NotHeld fault) name rest = file_answer name fault
+-- the answers of a load, given those of what comes after it; a load that the outside fails ends the call whatever the
+-- file is
+abbrev pub AfterLoad : Bool → Found → List ℕ → (List ℕ → Answer → Type 0) → Answer → Type 0
+AfterLoad true found name rest answer = answer ≡ file_answer name Failed
+AfterLoad false (Held bytes) name rest answer = rest bytes answer
+AfterLoad false (NotHeld fault) name rest answer = answer ≡ file_answer name fault
 
--- Where the files are told, what comes out of a load that ends the call, or of what comes after it: the load is failed
--- by the outside only where the count of faults rose.
-pub record LoadEnds (found : Found) (name : List ℕ) (rest : List ℕ → Answer) (before now : Counts) (old new : Option (List ℕ)) (status : ℕ) : Type 0 where
+-- One of these answers comes out; or memory ran out before there was one, and nothing came out.
+pub data OneComesOut (IsOne : Answer → Type 0) (old new : Option (List ℕ)) (status : ℕ) : Type 0 where
+  Answered : (answer : Answer) → IsOne answer → ComesOut answer old new status → OneComesOut IsOne old new status
+  NoMemory : status ≡ 6 → new ≡ old → OneComesOut IsOne old new status
+
+-- Where the files are told, what comes out of a load that ends the call: the load is failed by the outside only where the
+-- count of faults rose.
+pub record LoadEnds (found : Found) (name : List ℕ) (before now : Counts) (old new : Option (List ℕ)) (status : ℕ) : Type 0 where
   pub failed : Bool
   pub caused : failed ≡ true → Rose before.faults now.faults
-  pub answer : ComesOut (after_load failed found name rest) old new status
+  pub answer : OneComesOut (AfterLoad failed found name (λ bytes answer. ⊥)) old new status
 
 -- What came out is the line of the file of this name, and what was wrong with the file shows in its count.
 pub record EndsWithFile (name : List ℕ) (before now : Counts) (old new : Option (List ℕ)) : Type 0 where
@@ -42,25 +48,24 @@ pub record EndsWithFile (name : List ℕ) (before now : Counts) (old new : Optio
   pub fault_of_file : fault ≢ Memory
   pub line : new ≡ grown old (file_line name (fault_text fault))
 
--- The answer to `diff` over told files, `failing` being the number of the load that the outside fails, 0 where none
+-- The answers to `diff` over told files, `failing` being the number of the load that the outside fails, 0 where none
 -- does. Both objects are loaded before the first is read.
-abbrev pub diff_answer : (List ℕ → Option (List ℕ)) → ℕ → List ℕ → List ℕ → Answer
-diff_answer files failing pre post =
-    after_load (failing == 1) (found_file object_limit (files pre)) pre
-    (λ old. after_load (failing == 2) (found_file object_limit (files post)) post
-    (λ new. reply_answer (difference_reply old new)))
+abbrev pub IsDiffAnswer : (List ℕ → Option (List ℕ)) → ℕ → List ℕ → List ℕ → Answer → Type 0
+IsDiffAnswer files failing pre post =
+    AfterLoad (failing == 1) (found_file object_limit (files pre)) pre
+    (λ old. AfterLoad (failing == 2) (found_file object_limit (files post)) post (IsReply old))
 
--- the answer to what the words ask for
-abbrev pub answer_to : (List ℕ → Option (List ℕ)) → ℕ → Option Asked → Answer
-answer_to files failing None = usage_answer
-answer_to files failing (Some (Diff pre post)) = diff_answer files failing pre post
+-- the answers to what the words ask for
+abbrev pub IsAnswer : (List ℕ → Option (List ℕ)) → ℕ → Option Asked → Answer → Type 0
+IsAnswer files failing None answer = answer ≡ usage_answer
+IsAnswer files failing (Some (Diff pre post)) answer = IsDiffAnswer files failing pre post answer
 
--- Where the files are told, what comes out is the answer for some failing load; one fails only where the count of
--- faults rose.
+-- Where the files are told, what comes out is an answer for some failing load; one fails only where the count of faults
+-- rose.
 pub record Answers (asked : Option Asked) (files : List ℕ → Option (List ℕ)) (before now : Counts) (old new : Option (List ℕ)) (status : ℕ) : Type 0 where
   pub failing : ℕ
   pub caused : failing ≢ 0 → Rose before.faults now.faults
-  pub answer : ComesOut (answer_to files failing asked) old new status
+  pub answer : OneComesOut (IsAnswer files failing asked) old new status
 
 -- a name that the call was given for a file
 abbrev pub NamesFile : Option Asked → List ℕ → Type 0
@@ -90,7 +95,9 @@ pub record ComparesSome (old new : Option (List ℕ)) (status : ℕ) : Type 0 wh
   pub post : List ℕ
   pub pre_fits : length pre ≤ object_limit
   pub post_fits : length post ≤ object_limit
-  pub answer : ComesOut (reply_answer (difference_reply pre post)) old new status
+  pub answer : Answer
+  pub reply : IsReply pre post answer
+  pub comes_out : ComesOut answer old new status
 
 -- the statuses with which a call ends whose file isn't loaded, that has its reply, whose words have a reading; and all
 abbrev pub ends_load : ℕ → Bool

@@ -1,53 +1,56 @@
--- The difference between two objects: which functions of the second are not those of the first.
-use Rattle.std.specs.Prelude.{ℕ, Bool, true, false, ◌&&◌, ◌==◌, if◌then◌else◌, List, [], ◌∷◌, ◌++◌, codes, Option, Some, None, unwrap_or}
-use Rattle.std.specs.List.{filter_map}
+-- The difference between two objects: what becomes of each section of the second, and which functions go.
+use Rattle.std.specs.Prelude.{ℕ, Bool, if◌then◌else◌, List, [], ◌∷◌, ◌++◌, codes, Option, Some, None, unwrap_or}
+use Rattle.std.specs.List.{flat_map, list_any}
 use Rattle.ks_base.specs.Text.{shown_name}
-use Rattle.i386_reloc.specs.declared.types.Class.{Class}
-use Rattle.i386_reloc.specs.declared.types.Class.TheVariants.{Zero, Code, Writable, Strings, ReadOnly}
 use Rattle.i386_reloc.specs.declared.types.NormalSection.{NormalSection}
 use Rattle.i386_reloc.specs.Normal.{same_bytes, section_named}
+use Rattle.extract_post.specs.declared.types.Extract.{Extract}
+use Rattle.ksplice_cli.specs.declared.verb.Verb.{Verb}
+use Rattle.ksplice_cli.specs.declared.verb.Verb.TheVariants.{Changed, Added, Carried, Data}
 
-abbrev pub same_class : Class → Class → Bool
-same_class Zero Zero = true
-same_class Code Code = true
-same_class Writable Writable = true
-same_class Strings Strings = true
-same_class ReadOnly ReadOnly = true
-same_class _ _ = false
+abbrev pub is_among : List (List ℕ) → List ℕ → Bool
+is_among names name = list_any (λ other. same_bytes other name) names
 
--- Sections of one name are the same where class, size and bytes are.
-unfoldable pub is_same : NormalSection → NormalSection → Bool
-is_same old new = same_class old.class new.class && old.size == new.size && same_bytes old.bytes new.bytes
+-- what becomes of the section of a name in an update
+unfoldable pub verb_of : Extract → List ℕ → Option Verb
+verb_of extract name =
+    if is_among extract.changed name then Some Changed
+    else (if is_among extract.added name then Some Added
+    else (if is_among extract.carried name then Some Carried
+    else (if is_among extract.new_data name then Some Data else None)))
 
--- what a function that isn't as it was is called: by the first object's name for it, where it was there
-pub data Change : Type 0 where
-  Changed : (function : List ℕ) → Change
-  Added : (function : List ℕ) → Change
+-- the name of the function that a section is, where there is one
+abbrev pub function_in : NormalSection → List ℕ
+function_in section = unwrap_or section.function []
 
-abbrev pub function_of : NormalSection → List ℕ
-function_of code = unwrap_or code.function []
+abbrev pub function_of : Option NormalSection → List ℕ
+function_of None = []
+function_of (Some section) = function_in section
 
--- what has become of a section, given the section of its name in the first object
-abbrev pub change_from : Option NormalSection → NormalSection → Option Change
-change_from None new = Some (Added (function_of new))
-change_from (Some old) new = if is_same old new then None else Some (Changed (function_of old))
-
-abbrev pub change_in : List NormalSection → NormalSection → Option Change
-change_in pre new = change_from (section_named pre new.name) new
-
--- The functions of the second object that are not in the first, or not the same there, in the second's order. A
--- function that the first object alone has is tied to no other while there are no references, so it is none.
-unfoldable pub changes_between : List NormalSection → List NormalSection → List Change
-changes_between pre post = filter_map (change_in pre) post
-
--- a change's line
+-- a line: what becomes of a function or a section, and its name
 abbrev pub verb_line : List ℕ → List ℕ → List ℕ
-verb_line verb function = verb ++ shown_name function ++ 10 ∷ []
+verb_line verb name = verb ++ shown_name name ++ 10 ∷ []
 
-abbrev pub change_line : Change → List ℕ
-change_line (Changed function) = verb_line (codes "changed ") function
-change_line (Added function) = verb_line (codes "added ") function
+-- The line of a section of the second object, given the section of its name in the first. A changed function is called as
+-- the first object calls it. A section of which nothing becomes has no line.
+abbrev pub section_line : Option Verb → Option NormalSection → NormalSection → List ℕ
+section_line None old new = []
+section_line (Some Changed) old new = verb_line (codes "changed ") (function_of old)
+section_line (Some Added) old new = verb_line (codes "added ") (function_in new)
+section_line (Some Carried) old new = verb_line (codes "carried ") new.name
+section_line (Some Data) old new = verb_line (codes "data ") new.name
 
-abbrev pub line_of : Option Change → List ℕ
-line_of None = []
-line_of (Some change) = change_line change
+abbrev pub line_in : (List ℕ → Option Verb) → List NormalSection → NormalSection → List ℕ
+line_in verbs pre new = section_line (verbs new.name) (section_named pre new.name) new
+
+-- the line of a function of the first object that goes
+abbrev pub dropped_line : List NormalSection → List ℕ → List ℕ
+dropped_line pre name = verb_line (codes "dropped ") (function_of (section_named pre name))
+
+-- The lines of the second object's sections in its order, and then those of the functions that go, in the first's order;
+-- by what becomes of each section, and by an extract.
+unfoldable pub listing_by : (List ℕ → Option Verb) → List NormalSection → List NormalSection → List (List ℕ) → List ℕ
+listing_by verbs pre post dropped = flat_map (line_in verbs pre) post ++ flat_map (dropped_line pre) dropped
+
+unfoldable pub listing : List NormalSection → List NormalSection → Extract → List ℕ
+listing pre post extract = listing_by (verb_of extract) pre post extract.dropped

@@ -4,8 +4,8 @@ ghost use Rattle.std.specs.List.{list_any};
 ghost use Rattle.ks_io.specs.Outside.{Rose, NeverFall};
 ghost use Rattle.ksplice_cli.specs.Answer.{ComesOut, refused_answer, usage_answer};
 ghost use Rattle.ksplice_cli.specs.Asks.{asked_by};
-ghost use Rattle.ksplice_cli.specs.Calls.{Answers, CountsTellOf, EndsWithSomeFile, ComparesSome, ends_reply, is_carried_out, is_status};
-ghost use Rattle.ksplice_cli.specs.Reply.{difference_reply, reply_answer};
+ghost use Rattle.ksplice_cli.specs.Calls.{Answers, CountsTellOf, EndsWithSomeFile, ComparesSome, OneComesOut, ends_reply, is_carried_out, is_status};
+ghost use Rattle.ksplice_cli.specs.Reply.{IsReply};
 ghost use Rattle.ksplice_cli.specs.Words.{Asked, Diff, reading};
 
 use crate::command::Command;
@@ -27,7 +27,7 @@ const USAGE: &str = "usage: ksplice diff PRE POST\n";
 #[tactic(auto, using(crate::proofs::Untaken::nothing_taken))]
 fn print_difference<O: Sink>(alloc: Global, pre: &[u8], post: &[u8], out: &mut O) -> Status
     ensures status { ends_reply result.code ≡ true }
-    ensures answer { ComesOut (reply_answer (difference_reply pre.now post.now)) (O.taken out.old) (O.taken out.new) result.code }
+    ensures answer { OneComesOut (IsReply pre.now post.now) (O.taken out.old) (O.taken out.new) result.code }
     ensures sink { result.code ≡ 5 → Rose (O.faults out.old) (O.faults out.new) }
     ensures never_falls { O.faults out.old ≤ O.faults out.new }
     ensures quiet_kept { O.quiet out.old → O.quiet out.new }
@@ -144,7 +144,7 @@ pub fn ksplice<F: Files, O: Sink>(
     files: &mut F,
     out: &mut O,
 ) -> Status
-    // Where the files are told, status and output are the answer to the words.
+    // Where the files are told, status and output are an answer to the words.
     ensures answers { (told : List ℕ → Option (List ℕ)) → F.told files.old ≡ Some told → Answers (reading (map string_bytes words.now)) told
         (F.counts files.old) (F.counts files.new) (O.taken out.old) (O.taken out.new) result.code }
 

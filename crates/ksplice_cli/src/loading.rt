@@ -1,7 +1,6 @@
 //! Loading a file, or ending the call with its line.
 ghost use Rattle.std.specs.Prelude.{◌≡◌, ◌≢◌, ◌≤◌, ℕ, List, Option, Some, true, length, OnOk, IfOk, IfErr};
 ghost use Rattle.ks_io.specs.Outside.{Rose, NeverFall, CountsTell};
-ghost use Rattle.ksplice_cli.specs.Answer.{Answer};
 ghost use Rattle.ksplice_cli.specs.Calls.{Held, found_file, LoadEnds, EndsWithFile, ends_load};
 
 use crate::saying::end_with_file;
@@ -21,8 +20,8 @@ pub fn load_or_end<F: Files, O: Sink>(
     // Where the files are told, the bytes are those of the file of this name, and the end is the load's.
     ensures loaded { (told : List ℕ → Option (List ℕ)) → F.told files.old ≡ Some told
         → IfOk result (λ bytes. found_file limit (told name.now) ≡ Held bytes.items) }
-    ensures ended { (told : List ℕ → Option (List ℕ)) → F.told files.old ≡ Some told → IfErr result (λ status. (rest : List ℕ → Answer)
-        → LoadEnds (found_file limit (told name.now)) name.now rest (F.counts files.old) (F.counts files.new) (O.taken out.old) (O.taken out.new) status.code) }
+    ensures ended { (told : List ℕ → Option (List ℕ)) → F.told files.old ≡ Some told
+        → IfErr result (λ status. LoadEnds (found_file limit (told name.now)) name.now (F.counts files.old) (F.counts files.new) (O.taken out.old) (O.taken out.new) status.code) }
 
     ensures rises { (told : List ℕ → Option (List ℕ)) → F.told files.old ≡ Some told
         → CountsTell (told name.now) limit (F.counts files.old) (F.counts files.new) }

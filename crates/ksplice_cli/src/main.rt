@@ -2,13 +2,15 @@
 #![tactic(auto)]
 
 pub mod answering;
-mod changes;
 mod command;
 mod comparing;
+mod listing;
 mod loading;
 pub mod real;
 mod saying;
 pub mod status;
+mod verb;
+mod verbs;
 mod words;
 
 use crate::answering::ksplice;

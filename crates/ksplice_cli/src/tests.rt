@@ -1,11 +1,14 @@
 //! Whole calls over files and a sink in memory.
 mod objects;
+mod updates;
 
 use crate::answering::ksplice;
 use ks_io::{MemoryFiles, MemorySink};
 use objects::{A_CALL, ONE_FUNCTION, TWO_FUNCTIONS};
 use std::alloc::Global;
+use std::process::Abort;
 use std::test::Fail;
+use updates::{A_TEXT, DATA, WORK_ALONE, WORK_AND_COLD};
 
 /// Where the one function's constant stands, and its name.
 const CONSTANT: usize = 53;
@@ -16,6 +19,11 @@ const NAME: usize = 109;
 const SECOND_NAME: usize = 147;
 
 const SECOND_SECTION: usize = 167;
+
+/// Where the first letter of the text stands, and the number in the data.
+const TEXT: usize = 60;
+
+const NUMBER: usize = 52;
 
 /// The sink's bytes and the status of a call, over files of which the numbered loads fail and a sink whose numbered
 /// writes fail and that takes at most so many bytes a write.
@@ -41,6 +49,7 @@ fn answer(
     files.put("f and h", &other)?;
     files.put("call", &A_CALL)?;
     files.put("empty", &[])?;
+    put_updates(&mut files)?;
     if words.iter().any(|word| *word == "long name") {
         let long = vec![in alloc; 0u8; 8_388_609]?;
         files.put("long name", long.as_slice())?;
@@ -54,6 +63,21 @@ fn answer(
     Ok((Vec::from_slice(alloc, out.taken())?, status.code))
 }
 
+/// The files of objects with references and data.
+fn put_updates(files: &mut MemoryFiles) -> Result<(), Fail> {
+    let mut text = A_TEXT;
+    text[TEXT] = b'b';
+    let mut data = DATA;
+    data[NUMBER] = 2;
+    files.put("work and cold", &WORK_AND_COLD)?;
+    files.put("work", &WORK_ALONE)?;
+    files.put("text a", &A_TEXT)?;
+    files.put("text b", &text)?;
+    files.put("data", &DATA)?;
+    files.put("other data", &data)?;
+    Ok(())
+}
+
 #[test]
 fn answers(rt: HostRuntime) -> Result<(), Fail> {
     let usage = "usage: ksplice diff PRE POST\n";
@@ -64,13 +88,13 @@ fn answers(rt: HostRuntime) -> Result<(), Fail> {
         (&["diff", "f and g", "f and h"], "added h\n", 0),
         (&["diff", "two", "f and g"], "changed f\nadded g\n", 0),
         (&["diff", "f and g", "one"], "refused 12 no change\n", 3),
-        (&["diff", "call", "call"], "refused 51 relocations\n", 3),
+        (&["diff", "call", "call"], "refused 12 no change\n", 3),
         (&["diff", "one", "one"], "refused 12 no change\n", 3),
-        (&["diff", "empty", "one"], "refused 52 unread object\n", 3),
-        (&["diff", "one", "empty"], "refused 52 unread object\n", 3),
-        (&["diff", "call", "one"], "refused 51 relocations\n", 3),
-        (&["diff", "call", "empty"], "refused 51 relocations\n", 3),
-        (&["diff", "one", "call"], "refused 51 relocations\n", 3),
+        (&["diff", "empty", "one"], "refused 1 not elf\n", 3),
+        (&["diff", "one", "empty"], "refused 1 not elf\n", 3),
+        (&["diff", "call", "one"], "refused 12 no change\n", 3),
+        (&["diff", "call", "empty"], "refused 1 not elf\n", 3),
+        (&["diff", "one", "call"], "added main\n", 0),
         (&["diff", "none", "two"], "file none missing\n", 4),
         (&["diff", "empty", "none"], "file none missing\n", 4),
         (
@@ -85,11 +109,47 @@ fn answers(rt: HostRuntime) -> Result<(), Fail> {
         (&["run", "one", "two"], usage, 2),
         (&[], usage, 2),
     ];
-    let alloc = rt.alloc();
+    compare_answers(&rt, rt.alloc(), &calls)
+}
+
+#[test]
+fn updates_with_references_and_data(rt: HostRuntime) -> Result<(), Fail> {
+    let calls: [(&[&str], &str, u8); 5] = [
+        (
+            &["diff", "work and cold", "work"],
+            "changed work\ndropped work.cold\n",
+            0,
+        ),
+        (
+            &["diff", "text a", "text b"],
+            "changed f\ncarried .rodata.str1.1\n",
+            0,
+        ),
+        (
+            &["diff", "one", "data"],
+            "data .data.n\nchanged f\ndata .bss.z\n",
+            0,
+        ),
+        (
+            &["diff", "data", "other data"],
+            "refused 11 data changed .data.n\n",
+            3,
+        ),
+        (&["diff", "text b", "text b"], "refused 12 no change\n", 3),
+    ];
+    compare_answers(&rt, rt.alloc(), &calls)
+}
+
+/// Makes each call over files and a sink that don't fail, and compares its output and status with these.
+fn compare_answers(
+    rt: &impl Abort,
+    alloc: Global,
+    calls: &[(&[&str], &str, u8)],
+) -> Result<(), Fail> {
     for (words, output, status) in calls {
         let (taken, code) = answer(alloc, words, (Vec::new(alloc), Vec::new(alloc)), 7)?;
         assert_eq!(rt; taken.as_slice(), output.as_bytes(), "output of {words:?}");
-        assert_eq!(rt; code, status, "status of {words:?}");
+        assert_eq!(rt; code, *status, "status of {words:?}");
     }
     Ok(())
 }
@@ -129,8 +189,16 @@ fn want_of_memory(rt: HostRuntime) -> Result<(), Fail> {
     let alloc = rt.alloc();
     let calls: [(&[&str], &str, u8); 4] = [
         (&["diff", "one", "two"], "changed f\n", 0),
-        (&["diff", "two", "f and g"], "changed f\nadded g\n", 0),
-        (&["diff", "one", "call"], "refused 51 relocations\n", 3),
+        (
+            &["diff", "text a", "text b"],
+            "changed f\ncarried .rodata.str1.1\n",
+            0,
+        ),
+        (
+            &["diff", "data", "other data"],
+            "refused 11 data changed .data.n\n",
+            3,
+        ),
         (&["diff", "one", "none"], "file none missing\n", 4),
     ];
     for (words, output, status) in calls {

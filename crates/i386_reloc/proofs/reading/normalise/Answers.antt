@@ -1,23 +1,60 @@
-use Rattle.std.proofs.Common.{◌≡◌, arith}
+use Rattle.std.proofs.Common.{◌≡◌, sym, ap, ◌∙◌, arith}
 use Rattle.std.proofs.lemmas.Grind.{common_steps}
+use Rattle.std.proofs.lemmas.Result.{err_from_is_err_and}
 use Rattle.i386_reloc.specs.Normal.{loaded_sections}
-use Rattle.i386_reloc.proofs.Normals.{no_fault, all_functions, distinct_names, all_named}
+use Rattle.i386_reloc.specs.Refused.{function_fault, relocation_fault}
+use Rattle.i386_reloc.proofs.Normals.{no_fault, relocation_refused, all_functions, distinct_names, all_named}
+use Rattle.i386_reloc.proofs.StandingTexts.{has_texts}
 use Rattle.i386_reloc.proofs.reading.normalise.Goals as goal
+
+pub new-requires-2-clause-named : goal.new-requires-2-clause-named
+new-requires-2-clause-named c =
+    let here : c.in_ok-source.source.object.now ≡ c.args.object.now = grind (arith, common_steps) in
+    let none = no_fault c.args.object.now c.in_ok-places.ensures.finds (ap function_fault (sym here) ∙ c.in_ok-check_functions.ensures) (ap relocation_fault (sym here) ∙ c.in_ok-sections.ensures.finds) in
+    rw (c.in_ok-sections.ensures.sections ∙ ap loaded_sections here) (all_named c.args.object.now none)
+
+pub new-requires-2-clause-functions : goal.new-requires-2-clause-functions
+new-requires-2-clause-functions c =
+    let here : c.in_ok-source.source.object.now ≡ c.args.object.now = grind (arith, common_steps) in
+    let none = no_fault c.args.object.now c.in_ok-places.ensures.finds (ap function_fault (sym here) ∙ c.in_ok-check_functions.ensures) (ap relocation_fault (sym here) ∙ c.in_ok-sections.ensures.finds) in
+    rw (c.in_ok-sections.ensures.sections ∙ ap loaded_sections here) (all_functions c.args.object.now none)
+
+pub new-requires-2-clause-distinct : goal.new-requires-2-clause-distinct
+new-requires-2-clause-distinct c =
+    let here : c.in_ok-source.source.object.now ≡ c.args.object.now = grind (arith, common_steps) in
+    let none = no_fault c.args.object.now c.in_ok-places.ensures.finds (ap function_fault (sym here) ∙ c.in_ok-check_functions.ensures) (ap relocation_fault (sym here) ∙ c.in_ok-sections.ensures.finds) in
+    rw (c.in_ok-sections.ensures.sections ∙ ap loaded_sections here) (distinct_names c.args.object.now none)
+
+pub new-requires-2-clause-texts : goal.new-requires-2-clause-texts
+new-requires-2-clause-texts c =
+    let here : c.in_ok-source.source.object.now ≡ c.args.object.now = grind (arith, common_steps) in
+    rw (c.in_ok-sections.ensures.sections ∙ ap loaded_sections here)
+    (has_texts c.args.object.now c.in_ok-places.ensures.finds (ap relocation_fault (sym here) ∙ c.in_ok-sections.ensures.finds))
 
 pub returns-clause-functions : goal.returns-clause-functions
 returns-clause-functions c =
-    let none = no_fault c.args.object.now c.in_ok-places.ensures.finds c.in_ok-check_functions.ensures c.in_ok-check_classes.ensures c.in_ok-check_relocations.ensures in
-    let same : c.new.result ≡ loaded_sections c.args.object.now = grind (arith, common_steps) in
+    let here : c.in_ok-source.source.object.now ≡ c.args.object.now = grind (arith, common_steps) in
+    let none = no_fault c.args.object.now c.in_ok-places.ensures.finds (ap function_fault (sym here) ∙ c.in_ok-check_functions.ensures) (ap relocation_fault (sym here) ∙ c.in_ok-sections.ensures.finds) in
+    let same : c.new-2.result ≡ loaded_sections c.args.object.now = grind (arith, common_steps) in
     rw same (all_functions c.args.object.now none)
 
 pub returns-clause-distinct : goal.returns-clause-distinct
 returns-clause-distinct c =
-    let none = no_fault c.args.object.now c.in_ok-places.ensures.finds c.in_ok-check_functions.ensures c.in_ok-check_classes.ensures c.in_ok-check_relocations.ensures in
-    let same : c.new.result ≡ loaded_sections c.args.object.now = grind (arith, common_steps) in
+    let here : c.in_ok-source.source.object.now ≡ c.args.object.now = grind (arith, common_steps) in
+    let none = no_fault c.args.object.now c.in_ok-places.ensures.finds (ap function_fault (sym here) ∙ c.in_ok-check_functions.ensures) (ap relocation_fault (sym here) ∙ c.in_ok-sections.ensures.finds) in
+    let same : c.new-2.result ≡ loaded_sections c.args.object.now = grind (arith, common_steps) in
     rw same (distinct_names c.args.object.now none)
 
 pub returns-clause-named : goal.returns-clause-named
 returns-clause-named c =
-    let none = no_fault c.args.object.now c.in_ok-places.ensures.finds c.in_ok-check_functions.ensures c.in_ok-check_classes.ensures c.in_ok-check_relocations.ensures in
-    let same : c.new.result ≡ loaded_sections c.args.object.now = grind (arith, common_steps) in
+    let here : c.in_ok-source.source.object.now ≡ c.args.object.now = grind (arith, common_steps) in
+    let none = no_fault c.args.object.now c.in_ok-places.ensures.finds (ap function_fault (sym here) ∙ c.in_ok-check_functions.ensures) (ap relocation_fault (sym here) ∙ c.in_ok-sections.ensures.finds) in
+    let same : c.new-2.result ≡ loaded_sections c.args.object.now = grind (arith, common_steps) in
     rw same (all_named c.args.object.now none)
+
+pub returns-in_err-sections-clause-refused : goal.returns-in_err-sections-clause-refused
+returns-in_err-sections-clause-refused c =
+    let here : c.in_ok-source.source.object.now ≡ c.args.object.now = grind (arith, common_steps) in
+    let p = err_from_is_err_and c.from_residual-in_err-sections.result c.from_residual-in_err-sections.ensures.1 in
+    rw (p.1, p.2)
+    (λ memory. relocation_refused c.args.object.now _ c.in_ok-places.ensures.finds (ap function_fault (sym here) ∙ c.in_ok-check_functions.ensures) (ap relocation_fault (sym here) ∙ c.in_err-sections.ensures.finds memory))

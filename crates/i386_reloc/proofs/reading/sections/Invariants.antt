@@ -1,6 +1,14 @@
-use Rattle.std.proofs.Common.{◌≡◌}
+use Rattle.std.proofs.Common.{◌≡◌, None}
+use Rattle.elf32_object.specs.Below.{first_below}
 use Rattle.i386_reloc.specs.Normal.{loaded_below}
+use Rattle.i386_reloc.specs.Objects.{AreLeft}
+use Rattle.i386_reloc.specs.Refused.{relocation_fault_at}
 use Rattle.i386_reloc.proofs.reading.sections.Given as goal
 
 abbrev pub invariant-loop-i : goal.invariant-loop-i
-invariant-loop-i l = l.sections ≡ loaded_below l.object l.i
+invariant-loop-i l =
+    record {
+      none : first_below (relocation_fault_at l.source.object.now) l.i ≡ None;
+      sections : l.sections ≡ loaded_below l.source.object.now l.i;
+      objects : AreLeft l.source.object.now l.i l.objects.items;
+    }

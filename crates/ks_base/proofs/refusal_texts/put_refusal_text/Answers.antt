@@ -24,7 +24,3 @@ returns-in-TooMany c = rw c.in-TooMany.is c.put_text-in-TooMany.ensures.ok
 pub returns-in-TooManyThreads : goal.returns-in-TooManyThreads
 unfolding refusal_text
 returns-in-TooManyThreads c = rw c.in-TooManyThreads.is c.put_text-in-TooManyThreads.ensures.ok
-
-pub returns-in-Relocations : goal.returns-in-Relocations
-unfolding refusal_text
-returns-in-Relocations c = rw c.in-Relocations.is c.put_text-in-Relocations.ensures.ok

@@ -1,0 +1,9 @@
+use Rattle.std.proofs.Common.{◌≡◌, drop}
+use Rattle.std.specs.List.{position, position_from}
+use Rattle.extract_post.specs.Marks.{breaks}
+use Rattle.extract_post.proofs.interiors.first_in.Given as goal
+
+-- none of the references that are passed breaks
+abbrev pub invariant-loop-k : goal.invariant-loop-k
+invariant-loop-k l =
+    position_from (breaks l.post l.old l.new l.changed l.stays) l.k (drop l.k l.refs) ≡ position (breaks l.post l.old l.new l.changed l.stays) l.refs

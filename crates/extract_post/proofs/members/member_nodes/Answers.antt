@@ -1,0 +1,9 @@
+use Rattle.std.proofs.Common.{◌≡◌, ◌+◌, ◌*◌, length, ap, ◌∙◌, arith}
+use Rattle.extract_post.proofs.Numbered.{tell_members}
+use Rattle.extract_post.proofs.members.member_nodes.Goals as goal
+
+pub returns : goal.returns
+returns c =
+    tell_members c.args.pre.now c.args.post.now c.requires.pre_distinct c.requires.post_distinct c.as_slice-2.result.now
+    (rw c.as_slice-2.ensures.value c.in_ok-seeds.ensures.seeds) c.in_ok-nodes.nodes.items c.as_slice.result.now
+    (c.as_slice.ensures.value ∙ c.in_ok-edges.ensures) (3 * (c.len.result + c.len-2.result)) (omega arith) c.in_ok-nodes.ensures.marks

@@ -1,0 +1,11 @@
+use Rattle.std.proofs.Common.{ap, ◌∙◌}
+use Rattle.std.specs.List.{flat_map}
+use Rattle.extract_post.specs.Edges.{forward}
+use Rattle.extract_post.proofs.Walks.{tell_reached}
+use Rattle.extract_post.proofs.reaching.reached.Goals as goal
+
+pub returns : goal.returns
+returns c =
+    tell_reached c.args.normal.now c.requires.distinct c.args.seeds.now c.in_ok-marks.marks.items c.as_slice.result.now
+    (c.as_slice.ensures.value ∙ (c.in_ok-edges.ensures ∙ ap (flat_map forward) c.requires.links))
+    c.len.result c.len.ensures.sections c.in_ok-marks.ensures.len c.in_ok-marks.ensures.marks

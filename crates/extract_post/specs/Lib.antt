@@ -1,0 +1,10 @@
+pub mod Reaches
+pub mod Members
+pub mod Extract
+pub mod Edges
+pub mod Closures
+pub mod Seeds
+pub mod Marks
+pub mod Fits
+pub mod Found
+pub mod Texts

@@ -1,0 +1,64 @@
+-- Which functions an update replaces, adds and drops, and which data it brings with it.
+use Rattle.std.specs.Prelude.{IsTrue, ◌⊎◌, ℕ, Bool, not, ◌&&◌, ◌||◌, List, is_some}
+use Rattle.i386_reloc.specs.declared.types.Class.{Class}
+use Rattle.i386_reloc.specs.declared.types.NormalSection.{NormalSection}
+use Rattle.i386_reloc.specs.Classes.{is_code_class}
+use Rattle.i386_reloc.specs.Normal.{section_named}
+use Rattle.section_equal.specs.Same.{same_in}
+use Rattle.extract_post.specs.Reaches.{is_read_only_class, is_constant_class, is_data_class, is_in, Reaches, PointsInto}
+
+-- whether an object has a section of this name
+abbrev pub is_there : List NormalSection → List ℕ → Bool
+is_there sections name = is_some (section_named sections name)
+
+-- a read-only section that isn't the same in both objects, and what reaches one in either object
+abbrev pub is_changed_constant : List NormalSection → List NormalSection → List ℕ → Bool
+is_changed_constant pre post name =
+    (is_in is_read_only_class pre name || is_in is_read_only_class post name) && not (same_in pre post name)
+
+pub record ReachesChanged (pre post : List NormalSection) (name : List ℕ) : Type 0 where
+  pub other : List ℕ
+  pub reaches : Reaches pre name other ⊎ Reaches post name other
+  pub changed : IsTrue (is_changed_constant pre post other)
+
+-- whether both objects have a section of this name, of a wanted class in each
+abbrev pub is_in_both : (Class → Bool) → List NormalSection → List NormalSection → List ℕ → Bool
+is_in_both wanted pre post name = is_in wanted pre name && is_in wanted post name
+
+-- A code section of both objects differs where it isn't the same, or reaches a read-only section that isn't.
+pub data Differs (pre post : List NormalSection) : List ℕ → Type 0 where
+  Itself : (name : List ℕ) → IsTrue (is_in_both is_code_class pre post name) → IsTrue (not (same_in pre post name)) → Differs pre post name
+  Through : (name : List ℕ) → IsTrue (is_in_both is_code_class pre post name) → ReachesChanged pre post name → Differs pre post name
+
+-- Two code sections are tied where, in either object, one of them has a reference to the interior of the other, itself or
+-- in a read-only section that it reaches.
+pub data Tied (pre post : List NormalSection) : List ℕ → List ℕ → Type 0 where
+  InPre : (a b : List ℕ) → IsTrue (is_in is_code_class pre a) → PointsInto pre a b → Tied pre post a b
+  InPost : (a b : List ℕ) → IsTrue (is_in is_code_class post a) → PointsInto post a b → Tied pre post a b
+  Back : (a b : List ℕ) → Tied pre post a b → Tied pre post b a
+
+-- The members: code sections that differ, those of post alone, and each one that is tied to a member.
+pub data Member (pre post : List NormalSection) : List ℕ → Type 0 where
+  Differing : (name : List ℕ) → Differs pre post name → Member pre post name
+  OnlyInPost : (name : List ℕ) → IsTrue (is_in is_code_class post name && not (is_there pre name)) → Member pre post name
+  Joined : (name other : List ℕ) → Member pre post name → Tied pre post name other → Member pre post other
+
+-- Members of both objects are changed, members of post alone are added, members of pre alone are dropped.
+abbrev pub IsChanged : List NormalSection → List NormalSection → List ℕ → Type 0
+IsChanged pre post name = Member pre post name × IsTrue (is_in_both is_code_class pre post name)
+
+abbrev pub IsAdded : List NormalSection → List NormalSection → List ℕ → Type 0
+IsAdded pre post name = Member pre post name × IsTrue (is_in is_code_class post name && not (is_there pre name))
+
+abbrev pub IsDropped : List NormalSection → List NormalSection → List ℕ → Type 0
+IsDropped pre post name = Member pre post name × IsTrue (is_in is_code_class pre name && not (is_there post name))
+
+-- New data are the data sections of post alone.
+abbrev pub is_new_data : List NormalSection → List NormalSection → List ℕ → Bool
+is_new_data pre post name = is_in is_data_class post name && not (is_there pre name)
+
+-- Carried are the sections of read-only data and texts that changed, added or new data sections reach in post.
+pub record IsCarried (pre post : List NormalSection) (name : List ℕ) : Type 0 where
+  pub from : List ℕ
+  pub brought : (Member pre post from × IsTrue (is_in is_code_class post from)) ⊎ IsTrue (is_new_data pre post from)
+  pub reaches : Reaches post from name

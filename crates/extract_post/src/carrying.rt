@@ -1,0 +1,36 @@
+//! The read-only data and texts that an update carries with it.
+ghost use Rattle.std.specs.Prelude.{◌≡◌, IfOk, length};
+ghost use Rattle.extract_post.specs.Edges.{links_in};
+ghost use Rattle.extract_post.specs.Closures.{HasDistinctNames};
+ghost use Rattle.extract_post.specs.Members.{Member, IsCarried};
+ghost use Rattle.extract_post.specs.Marks.{Marks};
+
+use crate::marks::{both, either};
+use crate::reaching::reached;
+use crate::tests_of_names::{code, constants, new_data};
+use crate::types::Link;
+use i386_reloc::Normal;
+use std::alloc::{AllocError, Global};
+
+/// Which sections of the second object are carried, by the marks of its members.
+pub(crate) fn carried(
+    alloc: Global,
+    pre: &Normal<'_>,
+    post: &Normal<'_>,
+    links: &[Link],
+    members: &[bool],
+) -> Result<Vec<bool>, AllocError>
+    requires distinct { HasDistinctNames post.now }
+    requires links { links.now ≡ links_in post.now }
+    requires members { Marks (Member pre.now post.now) post.now members.now }
+    ensures { IfOk result (λ marks. Marks (IsCarried pre.now post.now) post.now marks.items) }
+{
+    let code = code(alloc, post)?;
+    let functions = both(alloc, code.as_slice(), members)?;
+    let data = new_data(alloc, pre, post)?;
+    let starts = either(alloc, functions.as_slice(), data.as_slice())?;
+    let reached = reached(alloc, post, links, starts.as_slice())?;
+    let constants = constants(alloc, post)?;
+    let marks = both(alloc, reached.as_slice(), constants.as_slice())?;
+    Ok(marks)
+}

@@ -1,0 +1,28 @@
+//! The difference of two objects: which functions an update replaces, adds and drops, and which data it brings with it.
+#![tactic(auto)]
+
+mod breaking;
+mod carrying;
+mod changes;
+mod classes;
+mod comparing;
+mod edges;
+mod extracting;
+mod interiors;
+mod linking;
+mod marks;
+mod member_edges;
+mod members;
+mod naming;
+mod reaching;
+mod same_sections;
+#[cfg(test)]
+mod test_objects;
+#[cfg(test)]
+mod tests;
+mod tests_of_names;
+mod texts;
+pub mod types;
+
+pub use crate::extracting::extract;
+pub use crate::types::Extract;

@@ -1,0 +1,56 @@
+-- How a reply comes about, and comes out.
+use Rattle.std.proofs.Common.{◌≡◌, ◌≢◌, ◌⊎◌, inl, inr, ℕ, List, Option, None, Result, Ok, Err, IfOk, IfErr, codes, refl, subst}
+use Rattle.ks_base.specs.declared.refusals.Refusal.{Refusal}
+use Rattle.ks_base.specs.declared.refusals.Refusal.TheVariants.{Memory}
+use Rattle.ks_io.specs.Outside.{Counts}
+use Rattle.i386_reloc.specs.declared.types.NormalSection.{NormalSection}
+use Rattle.extract_post.specs.Extract.{Extracts}
+use Rattle.ksplice_cli.specs.Answer.{ComesOut, answer_of, refused_answer, usage_answer}
+use Rattle.ksplice_cli.specs.Reply.{IsDifference, NoneExtracted, Lists, Listed, IsReply, sections_of}
+use Rattle.ksplice_cli.specs.Words.{Asked}
+use Rattle.ksplice_cli.specs.Calls.{OneComesOut, Answered, NoMemory, Answers}
+
+-- the lines of an extract are the difference
+pub listed : (pre post : List ℕ) (old new : List NormalSection) (result : Result (List ℕ) Refusal) → sections_of pre ≡ Ok old → sections_of post ≡ Ok new
+    → IfOk result (λ lines. Listed old new lines) → IfOk result (λ lines. IsDifference pre post (Ok lines))
+listed pre post old new (Ok lines) first second l = rw l.lists (Lists old new l.extract first second l.extracts)
+listed pre post old new (Err refusal) first second l = tt
+
+-- why there is no extract is why there is no difference
+pub none_extracted : (pre post : List ℕ) (old new : List NormalSection) (result : Result (List ℕ) Refusal) → sections_of pre ≡ Ok old → sections_of post ≡ Ok new
+    → IfErr result (λ refusal. refusal ≢ Memory → Extracts old new (Err refusal)) → IfErr result (λ refusal. refusal ≢ Memory → IsDifference pre post (Err refusal))
+none_extracted pre post old new (Ok lines) first second none = tt
+none_extracted pre post old new (Err refusal) first second none = λ ample. NoneExtracted old new refusal first second (none ample)
+
+-- the lines of a difference come out
+pub lines_come_out : (pre post lines output : List ℕ) (old new : Option (List ℕ)) (status : ℕ) → IsDifference pre post (Ok lines) → output ≡ lines
+    → ComesOut (answer_of output 0) old new status → OneComesOut (IsReply pre post) old new status
+lines_come_out pre post lines output old new status difference e out =
+    Answered (answer_of lines 0) (record { reply = Ok lines; difference = difference; told = refl }) (subst (λ (x : List ℕ). ComesOut (answer_of x 0) old new status) e out)
+
+-- a refusal comes out, where it isn't want of memory
+is_memory : (refusal : Refusal) → (refusal ≡ Memory) ⊎ (refusal ≢ Memory)
+is_memory Memory = inl refl
+is_memory other = inr (λ e. cc)
+
+comes_out_by : (pre post : List ℕ) (refusal : Refusal) (old new : Option (List ℕ)) (status : ℕ) → (refusal ≡ Memory) ⊎ (refusal ≢ Memory)
+    → (refusal ≢ Memory → IsDifference pre post (Err refusal)) → (refusal ≢ Memory → ComesOut (refused_answer refusal) old new status) → (refusal ≡ Memory → (status ≡ 6) × (new ≡ old))
+    → OneComesOut (IsReply pre post) old new status
+comes_out_by pre post refusal old new status (inl e) difference out memory = let m = memory e in NoMemory m.0 m.1
+comes_out_by pre post refusal old new status (inr ample) difference out memory =
+    Answered (refused_answer refusal) (record { reply = Err refusal; difference = difference ample; told = refl }) (out ample)
+
+pub refusal_comes_out : (pre post : List ℕ) (refusal : Refusal) (old new : Option (List ℕ)) (status : ℕ)
+    → (refusal ≢ Memory → IsDifference pre post (Err refusal)) → (refusal ≢ Memory → ComesOut (refused_answer refusal) old new status) → (refusal ≡ Memory → (status ≡ 6) × (new ≡ old))
+    → OneComesOut (IsReply pre post) old new status
+refusal_comes_out pre post refusal old new status = comes_out_by pre post refusal old new status (is_memory refusal)
+
+-- the usage line comes out, where the words have no reading
+pub usage_comes_out : (output : List ℕ) (old new : Option (List ℕ)) (status : ℕ) → output ≡ codes "usage: ksplice diff PRE POST\n"
+    → ComesOut (answer_of output 2) old new status → ComesOut usage_answer old new status
+usage_comes_out output old new status e out = subst (λ (x : List ℕ). ComesOut (answer_of x 2) old new status) e out
+
+pub usage_answers : (asked : Option Asked) (files : List ℕ → Option (List ℕ)) (before now : Counts) (old new : Option (List ℕ)) (status : ℕ) → asked ≡ None
+    → ComesOut usage_answer old new status → Answers asked files before now old new status
+usage_answers asked files before now old new status none out =
+    record { failing = 0; caused = λ no. absurd (no refl); answer = Answered usage_answer (rw none refl) out }

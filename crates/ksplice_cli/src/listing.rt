@@ -1,0 +1,135 @@
+//! The lines of a difference.
+ghost use Rattle.std.specs.Prelude.{◌≡◌, ◌++◌, Some, IfOk, OnOk};
+ghost use Rattle.std.specs.Option.{option_copied};
+ghost use Rattle.std.specs.List.{flat_map};
+ghost use Rattle.ksplice_cli.specs.Difference.{function_in, function_of, verb_line, section_line, line_in, dropped_line, listing_by, listing};
+ghost use Rattle.ksplice_cli.specs.Verbs.{verb_at};
+
+use crate::verb::Verb;
+use crate::verbs::verbs_of;
+use extract_post::Extract;
+use i386_reloc::{Normal, NormalSection};
+use ks_base::{Line, Name, Names};
+use std::alloc::{AllocError, Global};
+use std::collections::BTreeMap;
+
+/// The lines of an extract: for each section of the second object that it lists, in that object's order, and then
+/// for each function of the first that goes, in that object's order.
+#[tactic(auto, using(crate::proofs::Listings::same_listing))]
+pub fn list_extract(
+    alloc: Global,
+    old: &Normal<'_>,
+    new: &Normal<'_>,
+    extract: &Extract,
+) -> Result<Line, AllocError>
+    ensures { IfOk result (λ lines. lines ≡ listing old.now new.now extract.now) }
+{
+    let verbs = verbs_of(alloc, extract)?;
+    list_by(alloc, &verbs, old, new, &extract.dropped)
+}
+
+#[tactic(auto, unfolding(crate::specs::Difference::listing_by))]
+fn list_by(
+    alloc: Global,
+    verbs: &BTreeMap<&[u8], Verb>,
+    old: &Normal<'_>,
+    new: &Normal<'_>,
+    dropped: &Names,
+) -> Result<Line, AllocError>
+    ensures { IfOk result (λ lines. lines ≡ listing_by (verb_at verbs.now) old.now new.now dropped.now) }
+{
+    let mut lines = Line::new(alloc);
+    put_sections(alloc, &mut lines, verbs, old, new)?;
+    put_dropped(alloc, &mut lines, old, dropped)?;
+    Ok(lines)
+}
+
+fn put_sections(
+    alloc: Global,
+    lines: &mut Line,
+    verbs: &BTreeMap<&[u8], Verb>,
+    old: &Normal<'_>,
+    new: &Normal<'_>,
+) -> Result<(), AllocError>
+    ensures { OnOk result (lines.new ≡ lines.old ++ flat_map (line_in (verb_at verbs.now) old.now) new.now) }
+{
+    for section in new.as_slice() {
+        put_section(alloc, lines, verbs, old, section)?;
+    }
+    Ok(())
+}
+
+fn put_section(
+    alloc: Global,
+    lines: &mut Line,
+    verbs: &BTreeMap<&[u8], Verb>,
+    old: &Normal<'_>,
+    section: &NormalSection<'_>,
+) -> Result<(), AllocError>
+    ensures { OnOk result (lines.new ≡ lines.old ++ line_in (verb_at verbs.now) old.now section.now) }
+{
+    let name = section.name.as_slice();
+    match verbs.get(name).copied() {
+        Some(verb) => put_verb(alloc, lines, verb, old.find(name), section),
+        None => Ok(()),
+    }
+}
+
+fn put_verb(
+    alloc: Global,
+    lines: &mut Line,
+    verb: Verb,
+    old: Option<&NormalSection<'_>>,
+    section: &NormalSection<'_>,
+) -> Result<(), AllocError>
+    ensures { OnOk result (lines.new ≡ lines.old ++ section_line (Some verb) (option_copied old.entry) section.now) }
+{
+    match verb {
+        Verb::Changed => put_line(alloc, lines, "changed ", function_of(old)),
+        Verb::Added => put_line(alloc, lines, "added ", function_in(section)),
+        Verb::Carried => put_line(alloc, lines, "carried ", section.name.as_slice()),
+        Verb::Data => put_line(alloc, lines, "data ", section.name.as_slice()),
+    }
+}
+
+fn put_dropped(
+    alloc: Global,
+    lines: &mut Line,
+    old: &Normal<'_>,
+    names: &Names,
+) -> Result<(), AllocError>
+    ensures { OnOk result (lines.new ≡ lines.old ++ flat_map (dropped_line old.now) names.now) }
+{
+    for name in names.as_slice() {
+        let function = function_of(old.find(name.as_slice()));
+        put_line(alloc, lines, "dropped ", function)?;
+    }
+    Ok(())
+}
+
+fn put_line(alloc: Global, lines: &mut Line, verb: &str, name: &[u8]) -> Result<(), AllocError>
+    ensures { OnOk result (lines.new ≡ lines.old ++ verb_line verb.now name.now) }
+{
+    lines.put_text(verb)?;
+    lines.put_name(&Name::from_slice(alloc, name)?)?;
+    lines.put_text("\n")
+}
+
+// The name of the function that a section is, and none where there is no section.
+fn function_of<'a>(section: Option<&'a NormalSection<'_>>) -> &'a [u8]
+    ensures { result.now ≡ function_of (option_copied section.entry) }
+{
+    match section {
+        Some(section) => function_in(section),
+        None => &[],
+    }
+}
+
+fn function_in<'a>(section: &'a NormalSection<'_>) -> &'a [u8]
+    ensures { result.now ≡ function_in section.now }
+{
+    match &section.function {
+        Some(function) => function.as_slice(),
+        None => &[],
+    }
+}
