@@ -5,7 +5,7 @@ use crate::{
 };
 use elf32_object::read_object;
 use elf32_object::types::{Large, ObjectFault};
-use ks_base::{Name, Refusal};
+use ks_base::{Line, Refusal};
 use std::alloc::{AllocError, Global};
 use std::test::Fail;
 
@@ -127,10 +127,6 @@ fn refusal(alloc: Global, object: &[u8], changes: &[(usize, u8)]) -> Result<Refu
     Ok(normalise(alloc, &object).err().ok_or("accepted")?)
 }
 
-fn name(alloc: Global, text: &str) -> Result<Name, AllocError> {
-    Name::from_slice(alloc, text.as_bytes())
-}
-
 fn section<'n, 'a>(normal: &'n Normal<'a>, name: &str) -> Result<&'n NormalSection<'a>, Fail> {
     Ok(normal.find(name.as_bytes()).ok_or("no such section")?)
 }
@@ -166,17 +162,68 @@ fn reads_functions(rt: HostRuntime) -> Result<(), Fail> {
     Ok(())
 }
 
-/// A target's kind, name, and offset and text.
-fn target<'r>(reference: &'r Ref<'_>) -> (&'static str, &'r [u8], u32, &'r [u8]) {
-    match &reference.target {
-        Target::Section(name) => ("section", name.as_slice(), 0, &[]),
-        Target::Outside(name) => ("outside", name.as_slice(), 0, &[]),
+/// What a reference is to be: its offset, form, the kind and name of its target, a text's offset and bytes, its addend.
+#[derive(Clone, Copy)]
+struct Row {
+    offset: u32,
+    form: Form,
+    kind: &'static str,
+    name: &'static str,
+    start: u32,
+    text: &'static str,
+    addend: u32,
+}
+
+const fn expected(
+    offset: u32,
+    form: Form,
+    target: (&'static str, &'static str),
+    text: (u32, &'static str),
+    addend: u32,
+) -> Row {
+    Row {
+        offset,
+        form,
+        kind: target.0,
+        name: target.1,
+        start: text.0,
+        text: text.1,
+        addend,
+    }
+}
+
+/// Whether a target is of this kind, name, offset and text.
+fn is_target(target: &Target<'_>, row: &Row) -> bool {
+    match target {
+        Target::Section(name) => row.kind == "section" && name.as_slice() == row.name.as_bytes(),
+        Target::Outside(name) => row.kind == "outside" && name.as_slice() == row.name.as_bytes(),
         Target::Text {
             section,
             offset,
             text,
-        } => ("text", section.as_slice(), *offset, text.as_slice()),
+        } => {
+            row.kind == "text"
+                && section.as_slice() == row.name.as_bytes()
+                && *offset == row.start
+                && text.as_slice() == row.text.as_bytes()
+        }
     }
+}
+
+fn is_reference(reference: &Ref<'_>, row: &Row) -> bool {
+    reference.offset == row.offset
+        && reference.form == row.form
+        && is_target(&reference.target, row)
+        && reference.addend == row.addend
+}
+
+/// Whether references are these rows.
+fn are_references(refs: &[Ref<'_>], rows: &[Row]) -> bool {
+    refs.len() == rows.len()
+        && refs
+            .iter()
+            .zip(rows.iter())
+            .all(|(reference, row)| is_reference(reference, row))
 }
 
 #[test]
@@ -184,59 +231,61 @@ fn reads_references(rt: HostRuntime) -> Result<(), Fail> {
     let alloc = rt.alloc();
     let object = read_object(alloc, &REFERENCES)?;
     let normal = normalise(alloc, &object)?;
-    let f = section(&normal, ".text.f")?;
-    let mut blank = vec![in alloc; 0; 20]?;
-    blank.push(0xc3)?;
-    assert_eq!(rt; f.bytes.as_slice(), blank.as_slice());
-    let expected = [
-        (0, Form::Absolute, ("text", ".rodata.str", 3, "cdef\0"), 0),
-        (
-            4,
-            Form::Absolute,
-            ("text", ".rodata.str", 3, "cdef\0"),
-            0xffff_ffff,
-        ),
-        (8, Form::Absolute, ("section", ".data.v", 0, ""), 2),
-        (
+    let text = ("text", ".rodata.str");
+    let cdef = (3, "cdef\0");
+    let rows = [
+        expected(0, Form::Absolute, text, cdef, 0),
+        expected(4, Form::Absolute, text, cdef, 0xffff_ffff),
+        expected(8, Form::Absolute, ("section", ".data.v"), (0, ""), 2),
+        expected(
             12,
             Form::Relative,
-            ("outside", "printf", 0, ""),
+            ("outside", "printf"),
+            (0, ""),
             0xffff_fffc,
         ),
-        (
+        expected(
             16,
             Form::Relative,
-            ("section", ".text.f", 0, ""),
+            ("section", ".text.f"),
+            (0, ""),
             0xffff_fffc,
         ),
     ];
-    assert_eq!(rt; f.refs.len(), expected.len());
-    for (reference, (offset, form, to, addend)) in f.refs.as_slice().iter().zip(expected.iter()) {
-        assert_eq!(rt; reference.offset, *offset);
-        assert_eq!(rt; reference.form, *form);
-        let (kind, name, start, text) = target(reference);
-        assert_eq!(rt; kind, to.0);
-        assert_eq!(rt; name, to.1.as_bytes());
-        assert_eq!(rt; start, to.2);
-        assert_eq!(rt; text, to.3.as_bytes());
-        assert_eq!(rt; reference.addend, *addend);
-    }
-    for (k, place) in [Some(1), Some(1), Some(3), None, Some(0), None]
-        .iter()
-        .enumerate()
-    {
+    let f = section(&normal, ".text.f")?;
+    assert!(rt; are_references(f.refs.as_slice(), &rows));
+    let k = section(&normal, ".rodata.k")?;
+    let rows = [expected(4, Form::Absolute, ("outside", "c"), (0, ""), 7)];
+    assert!(rt; are_references(k.refs.as_slice(), &rows));
+    assert_eq!(rt; k.class, Class::ReadOnly);
+    Ok(())
+}
+
+#[test]
+fn blanks_fields(rt: HostRuntime) -> Result<(), Fail> {
+    let alloc = rt.alloc();
+    let object = read_object(alloc, &REFERENCES)?;
+    let normal = normalise(alloc, &object)?;
+    let mut blank = vec![in alloc; 0; 20]?;
+    blank.push(0xc3)?;
+    let f = section(&normal, ".text.f")?;
+    assert_eq!(rt; f.bytes.as_slice(), blank.as_slice());
+    let k = section(&normal, ".rodata.k")?;
+    let half = [0x11, 0x22, 0x33, 0x44, 0, 0, 0, 0];
+    assert_eq!(rt; k.bytes.as_slice(), half.as_slice());
+    Ok(())
+}
+
+#[test]
+fn finds_targets(rt: HostRuntime) -> Result<(), Fail> {
+    let alloc = rt.alloc();
+    let object = read_object(alloc, &REFERENCES)?;
+    let normal = normalise(alloc, &object)?;
+    let places = [Some(1), Some(1), Some(3), None, Some(0), None];
+    for (k, place) in places.iter().enumerate() {
         assert_eq!(rt; normal.target_place(0, k), *place);
     }
     assert_eq!(rt; normal.target_place(9, 0), None);
-    let k = section(&normal, ".rodata.k")?;
-    assert_eq!(rt; k.class, Class::ReadOnly);
-    assert_eq!(rt;
-        k.bytes.as_slice(),
-        [0x11, 0x22, 0x33, 0x44, 0, 0, 0, 0].as_slice()
-    );
-    let c = k.refs.as_slice().first().ok_or("no reference")?;
-    assert_eq!(rt; target(c).1, "c".as_bytes());
-    assert_eq!(rt; c.addend, 7);
     Ok(())
 }
 
@@ -265,43 +314,74 @@ fn reads_data(rt: HostRuntime) -> Result<(), Fail> {
     Ok(())
 }
 
+/// Whether an object with some bytes changed is refused with this line.
+fn is_refused(
+    alloc: Global,
+    object: &[u8],
+    changes: &[(usize, u8)],
+    wanted: &str,
+) -> Result<bool, Fail> {
+    let refusal = refusal(alloc, object, changes)?;
+    let mut line = Line::new(alloc);
+    line.put_refusal(&refusal)?;
+    Ok(line.bytes() == wanted.as_bytes())
+}
+
 #[test]
-fn refuses(rt: HostRuntime) -> Result<(), Fail> {
-    let alloc = rt.alloc();
-    let f = || name(alloc, ".text.f");
-    let g = || name(alloc, ".text.g");
-    let functions: [(&[(usize, u8)], Refusal); 5] = [
-        (&[(292, 1)], Refusal::DoubleName(f()?)),
-        (&[(108, 1)], Refusal::NotOneFunction(g()?)),
-        (&[(116, 0)], Refusal::NotOneFunction(g()?)),
-        (&[(140, 2)], Refusal::NotOneFunction(f()?)),
-        (&[(140, 2), (292, 1)], Refusal::DoubleName(f()?)),
+fn refuses_functions(rt: HostRuntime) -> Result<(), Fail> {
+    let rows: [(&[(usize, u8)], &str); 5] = [
+        (&[(292, 1)], "refused 9 double name .text.f\n"),
+        (&[(108, 1)], "refused 8 not one function .text.g\n"),
+        (&[(116, 0)], "refused 8 not one function .text.g\n"),
+        (&[(140, 2)], "refused 8 not one function .text.f\n"),
+        (&[(140, 2), (292, 1)], "refused 9 double name .text.f\n"),
     ];
-    for (changes, wanted) in &functions {
-        assert_eq!(rt; refusal(alloc, &FUNCTIONS, *changes)?, *wanted);
+    for (changes, wanted) in rows {
+        assert!(rt;
+            is_refused(rt.alloc(), &FUNCTIONS, changes, wanted)?,
+            "{wanted}"
+        );
     }
-    let k = || name(alloc, ".rodata.k");
-    let texts = || name(alloc, ".rodata.str");
-    let references: [(&[(usize, u8)], Refusal); 16] = [
-        (&[(104, 3)], Refusal::UnknownReloc(f()?, 0, 3)),
-        (&[(112, 2)], Refusal::UnknownReloc(f()?, 1, 2)),
-        (&[(152, 2)], Refusal::UnknownReloc(k()?, 0, 2)),
-        (&[(768, 2)], Refusal::UnknownReloc(texts()?, 0, 1)),
-        (&[(105, 0)], Refusal::BadTarget(f()?, 0)),
-        (&[(105, 8)], Refusal::BadTarget(f()?, 0)),
-        (&[(105, 9)], Refusal::BadTarget(f()?, 0)),
-        (&[(105, 10)], Refusal::BadTarget(f()?, 0)),
-        (&[(52, 8)], Refusal::BadString(f()?, 1)),
-        (&[(83, 0x67)], Refusal::BadString(f()?, 1)),
-        (&[(105, 0), (104, 3)], Refusal::UnknownReloc(f()?, 0, 3)),
-        (&[(52, 8), (105, 0)], Refusal::BadTarget(f()?, 0)),
-        (&[(52, 8), (136, 3)], Refusal::BadString(f()?, 1)),
-        (&[(152, 2), (52, 8)], Refusal::BadString(f()?, 1)),
-        (&[(104, 3), (208, 1)], Refusal::NotOneFunction(f()?)),
-        (&[(104, 3), (208, 1), (620, 21)], Refusal::DoubleName(k()?)),
+    Ok(())
+}
+
+#[test]
+fn refuses_references(rt: HostRuntime) -> Result<(), Fail> {
+    let rows: [(&[(usize, u8)], &str); 16] = [
+        (&[(104, 3)], "refused 7 unknown relocation .text.f 0 3\n"),
+        (&[(112, 2)], "refused 7 unknown relocation .text.f 1 2\n"),
+        (&[(152, 2)], "refused 7 unknown relocation .rodata.k 0 2\n"),
+        (
+            &[(768, 2)],
+            "refused 7 unknown relocation .rodata.str 0 1\n",
+        ),
+        (&[(105, 0)], "refused 36 bad target .text.f 0\n"),
+        (&[(105, 8)], "refused 36 bad target .text.f 0\n"),
+        (&[(105, 9)], "refused 36 bad target .text.f 0\n"),
+        (&[(105, 10)], "refused 36 bad target .text.f 0\n"),
+        (&[(52, 8)], "refused 35 bad string .text.f 1\n"),
+        (&[(83, 0x67)], "refused 35 bad string .text.f 1\n"),
+        (
+            &[(105, 0), (104, 3)],
+            "refused 7 unknown relocation .text.f 0 3\n",
+        ),
+        (&[(52, 8), (105, 0)], "refused 36 bad target .text.f 0\n"),
+        (&[(52, 8), (136, 3)], "refused 35 bad string .text.f 1\n"),
+        (&[(152, 2), (52, 8)], "refused 35 bad string .text.f 1\n"),
+        (
+            &[(104, 3), (208, 1)],
+            "refused 8 not one function .text.f\n",
+        ),
+        (
+            &[(104, 3), (208, 1), (620, 21)],
+            "refused 9 double name .rodata.k\n",
+        ),
     ];
-    for (changes, wanted) in &references {
-        assert_eq!(rt; refusal(alloc, &REFERENCES, *changes)?, *wanted);
+    for (changes, wanted) in rows {
+        assert!(rt;
+            is_refused(rt.alloc(), &REFERENCES, changes, wanted)?,
+            "{wanted}"
+        );
     }
     Ok(())
 }
