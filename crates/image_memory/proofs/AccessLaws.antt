@@ -10,9 +10,9 @@ use Rattle.image_memory.specs.Contents.{piece_range, holding}
 use Rattle.image_memory.specs.Access.{first_fault, bytes_at, byte_at, overlaid, overlaid_piece, written, new_byte, access_fault}
 use Rattle.image_memory.specs.declared.types.Access.{Access}
 use Rattle.image_memory.specs.declared.types.Access.TheVariants.{Read, Write}
-use Rattle.image_memory.specs.declared.types.Fault.TheVariants.{Unmapped}
+use Rattle.ks_base.specs.declared.refusals.Fault.TheVariants.{Unmapped}
 use Rattle.image_memory.specs.declared.types.Piece.{Piece}
-use Rattle.image_memory.specs.declared.types.Fault.{Fault}
+use Rattle.ks_base.specs.declared.refusals.Fault.{Fault}
 use Rattle.image_memory.proofs.RangeLaws.{found_along}
 
 -- no byte is bad below n

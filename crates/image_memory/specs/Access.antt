@@ -9,8 +9,8 @@ use Rattle.image_memory.specs.declared.types.Kind.TheVariants.{Code, ReadOnly, W
 use Rattle.image_memory.specs.declared.types.Piece.{Piece}
 use Rattle.image_memory.specs.declared.types.Access.{Access}
 use Rattle.image_memory.specs.declared.types.Access.TheVariants.{Read, Write}
-use Rattle.image_memory.specs.declared.types.Fault.{Fault}
-use Rattle.image_memory.specs.declared.types.Fault.TheVariants.{Unmapped, CodeAccess, ReadOnlyWrite}
+use Rattle.ks_base.specs.declared.refusals.Fault.{Fault}
+use Rattle.ks_base.specs.declared.refusals.Fault.TheVariants.{Unmapped, CodeAccess, ReadOnlyWrite}
 
 abbrev pub kind_of : Piece → Kind
 kind_of piece = piece.kind

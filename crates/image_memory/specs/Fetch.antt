@@ -1,5 +1,5 @@
 -- What is fetched at an address.
-use Rattle.std.specs.Prelude.{ℕ, ◌-◌, Bool, true, false, List, ◌++◌, length, take, drop, replicate, nat_lt, if◌then◌else◌}
+use Rattle.std.specs.Prelude.{ℕ, ◌-◌, Bool, true, false, List, [], ◌++◌, length, take, drop, replicate, nat_lt, unwrap_or, if◌then◌else◌}
 use Rattle.std.specs.Prelude.{Option, Some, None, Result, Ok, Err}
 use Rattle.std.specs.List.{find}
 use Rattle.image_memory.specs.Contents.{Contents, holding, fenced_at, spliced_at}
@@ -8,8 +8,8 @@ use Rattle.image_memory.specs.declared.types.Kind.TheVariants.{Code, ReadOnly, W
 use Rattle.image_memory.specs.declared.types.Piece.{Piece}
 use Rattle.image_memory.specs.declared.types.Fence.{Fence}
 use Rattle.image_memory.specs.declared.types.Window.{Window}
-use Rattle.image_memory.specs.declared.types.Fault.{Fault}
-use Rattle.image_memory.specs.declared.types.Fault.TheVariants.{Stray, Unmapped}
+use Rattle.ks_base.specs.declared.refusals.Fault.{Fault}
+use Rattle.ks_base.specs.declared.refusals.Fault.TheVariants as faults
 
 abbrev pub is_code : Kind → Bool
 is_code Code = true
@@ -36,18 +36,43 @@ abbrev pub cut_before : ℕ → Option Fence → List ℕ → List ℕ
 cut_before pc None bytes = bytes
 cut_before pc (Some fence) bytes = take (fence.range.low - pc) bytes
 
--- the window at pc where code bytes stand from pc on: in a retired range the jump's five bytes at a
--- spliced home and a fault elsewhere, otherwise at most 15 bytes that end before the next retired range
-abbrev pub fetched : List Fence → ℕ → List ℕ → Result Window Fault
-fetched fences pc bytes =
-    if fenced_at fences pc
-    then (if spliced_at fences pc then Ok (shown (take 5 bytes)) else Err Stray)
-    else Ok (shown (take 15 (cut_before pc (next_fence fences pc) bytes)))
+-- what a thread meets at an address
+pub data View : Type 0 where
+  -- no code piece holds the address
+  Unmapped : View
+  -- a spliced home, where a jump stands: the function goes on at its newest version
+  AtHome : View
+  -- any other address of a retired range
+  Stray : View
+  -- the code from there on: at most 15 bytes, which end at the piece's end and before the next retired range
+  Bytes : (bytes : List ℕ) → View
 
-abbrev pub window_of : List Fence → ℕ → Option (List ℕ) → Result Window Fault
-window_of fences pc None = Err Unmapped
-window_of fences pc (Some bytes) = fetched fences pc bytes
+-- what is met at pc where code bytes stand from pc on
+abbrev pub met : List Fence → ℕ → List ℕ → View
+met fences pc bytes =
+    if spliced_at fences pc then AtHome
+    else (if fenced_at fences pc then Stray
+    else Bytes (take 15 (cut_before pc (next_fence fences pc) bytes)))
+
+abbrev pub view_of : List Fence → ℕ → Option (List ℕ) → View
+view_of fences pc None = Unmapped
+view_of fences pc (Some bytes) = met fences pc bytes
+
+-- the view at pc
+unfoldable pub view_at : Contents → ℕ → View
+view_at contents pc = view_of contents.fences pc (code_from contents.pieces pc)
+
+-- the five bytes of the jump at a spliced home, as far as its piece goes
+abbrev pub jump_at : List Piece → ℕ → List ℕ
+jump_at pieces home = take 5 (unwrap_or (code_from pieces home) [])
+
+-- what is fetched where a view is met: at a spliced home its jump
+abbrev pub window_for : View → List ℕ → Result Window Fault
+window_for Unmapped jump = Err faults.Unmapped
+window_for AtHome jump = Ok (shown jump)
+window_for Stray jump = Err faults.Stray
+window_for (Bytes bytes) jump = Ok (shown bytes)
 
 -- the window at pc
 unfoldable pub window_at : Contents → ℕ → Result Window Fault
-window_at contents pc = window_of contents.fences pc (code_from contents.pieces pc)
+window_at contents pc = window_for (view_at contents pc) (jump_at contents.pieces pc)

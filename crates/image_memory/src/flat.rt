@@ -10,7 +10,8 @@ ghost use Rattle.image_memory.specs.Fetch.{code_from, cut_before, next_fence};
 
 use crate::bytes::{copy_front, front};
 use crate::space::Space;
-use crate::types::{Access, Fault, Fence, Kind, Piece, Pieces, Window};
+use crate::types::{Access, Fence, Kind, Piece, Pieces, Window};
+use ks_base::Fault;
 use std::alloc::{AllocError, Global};
 
 /// A memory as two sorted lists: its pieces, found by halving, and its retired ranges.
@@ -230,7 +231,7 @@ impl Space for FlatSpace {
         Ok(())
     }
 
-    #[tactic(auto, unfolding(crate::specs::Fetch::window_at))]
+    #[tactic(auto, unfolding(crate::specs::Fetch::window_at, crate::specs::Fetch::view_at))]
     fn window(&self, pc: u32) -> Result<Window, Fault> {
         let Some(bytes) = self.code_from(pc) else {
             return Err(Fault::Unmapped);

@@ -12,7 +12,7 @@ pub mod types;
 pub use flat::FlatSpace;
 pub use placement::are_placed;
 pub use space::Space;
-pub use types::{Access, Fault, Fence, Kind, Piece, Pieces, Window};
+pub use types::{Access, Fence, Kind, Piece, Pieces, Window};
 
 #[cfg(test)]
 mod tests;

@@ -4,12 +4,11 @@ ghost use Rattle.std.specs.Option.{option_copied};
 ghost use Rattle.image_memory.specs.Ranges.{lies_in};
 ghost use Rattle.image_memory.specs.Contents.{piece_range};
 ghost use Rattle.image_memory.specs.Access.{access_fault, overlaid_piece, written};
-ghost use Rattle.image_memory.specs.Fetch.{code_in, shown};
-ghost use Rattle.image_memory.specs.declared.types.Fault.TheVariants.{Stray};
+ghost use Rattle.image_memory.specs.Fetch.{code_in, shown, window_for, AtHome, Stray};
 
 use crate::bytes::{front, overlay};
-use crate::types::{Access, Fault, Fence, Kind, Piece, Window};
-use ks_base::Bytes;
+use crate::types::{Access, Fence, Kind, Piece, Window};
+use ks_base::{Bytes, Fault};
 use std::alloc::Global;
 use std::mem;
 
@@ -81,8 +80,8 @@ impl Fence {
 
     // What is fetched at an address of the range, where these code bytes stand from it on.
     pub(crate) fn window(&self, pc: u32, bytes: &[u8]) -> Result<Window, Fault>
-        ensures { result ≡ (if self.now.jump && (self.now.range.low == pc)
-            then Ok (shown (take 5 bytes.now)) else Err Stray) }
+        ensures { result ≡ window_for (if self.now.jump && (self.now.range.low == pc) then AtHome else Stray)
+            (take 5 bytes.now) }
     {
         if self.is_home(pc) {
             Ok(Window::of(front(bytes, 5)))

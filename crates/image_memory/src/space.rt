@@ -4,7 +4,8 @@ ghost use Rattle.image_memory.specs.Contents.{Contents, Room, IsValid, look_at, 
 ghost use Rattle.image_memory.specs.Access.{first_fault, read_fault, write_fault, bytes_at, after_write};
 ghost use Rattle.image_memory.specs.Fetch.{window_at};
 
-use crate::types::{Fault, Kind, Window};
+use crate::types::{Kind, Window};
+use ks_base::Fault;
 
 /// A memory: pieces in ascending order of base, and retired ranges in ascending order, each with
 /// whether its low is a spliced home (`contents`); and what is kept spare for pieces and fences to come

@@ -1,6 +1,6 @@
 //! Each call of a memory, over code, read-only and writable pieces of which two are adjacent.
-use crate::{Fault, FlatSpace, Kind, Piece, Pieces, Space, are_placed};
-use ks_base::Bytes;
+use crate::{FlatSpace, Kind, Piece, Pieces, Space, are_placed};
+use ks_base::{Bytes, Fault};
 use std::alloc::{AllocError, Global};
 use std::test::Fail;
 

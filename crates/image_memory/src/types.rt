@@ -1,29 +1,6 @@
 //! What memory consists of, why an access to it fails, and the bytes of a fetch.
 use ks_base::{Bytes, ListOf, Range};
 
-/// Why a thread stops.
-#[derive(Clone, Copy, PartialEq, Eq, Debug)]
-pub enum Fault {
-    /// The code there was retired.
-    Stray,
-    /// No piece holds the address; of a fetch, no code piece.
-    Unmapped,
-    /// Code was read or written as data.
-    CodeAccess,
-    /// A read-only piece was written.
-    ReadOnlyWrite,
-    /// The bytes are no instruction.
-    Undecoded,
-    /// The instruction is known and isn't carried out.
-    Unsupported,
-    /// A division by zero, or one whose quotient doesn't fit.
-    Divide,
-    /// A breakpoint or another instruction that traps.
-    Trap,
-    /// A LOCK prefix where none may stand.
-    BadLock,
-}
-
 /// What a piece of memory may be used for.
 #[derive(Clone, Copy, PartialEq, Eq, Debug)]
 pub enum Kind {

@@ -11,7 +11,8 @@ pub mod reply;
 pub use list::ListOf;
 pub use places::{Bytes, Name, Names, Range, Ranges, Spot};
 pub use refusals::{
-    ConflictName, Difference, DifferenceKind, ImageFault, Large, Place, Refusal, StackOut, Standing,
+    ConflictName, Difference, DifferenceKind, Fault, ImageFault, Large, Place, Refusal, StackOut,
+    Standing,
 };
 pub use reply::Line;
 

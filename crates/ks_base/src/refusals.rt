@@ -1,5 +1,29 @@
 //! Why a request is refused.
 use crate::places::{Name, Spot};
+use std::alloc::AllocError;
+
+/// Why a thread stops.
+#[derive(Clone, Copy, PartialEq, Eq, Debug)]
+pub enum Fault {
+    /// The code there was retired.
+    Stray,
+    /// No piece holds the address; of a fetch, no code piece.
+    Unmapped,
+    /// Code was read or written as data.
+    CodeAccess,
+    /// A read-only piece was written.
+    ReadOnlyWrite,
+    /// The bytes are no instruction.
+    Undecoded,
+    /// The instruction is known and isn't carried out.
+    Unsupported,
+    /// A division by zero, or one whose quotient doesn't fit.
+    Divide,
+    /// A breakpoint or another instruction that traps.
+    Trap,
+    /// A LOCK prefix where none may stand.
+    BadLock,
+}
 
 /// Which limit of an object is passed.
 #[derive(Clone, Copy, PartialEq, Eq, Debug)]
@@ -188,4 +212,15 @@ pub enum Refusal {
     NameTaken(Name),
     /// Memory was wanting. It has no number, and no reply is written for it.
     Memory,
+}
+
+impl From<AllocError> for Refusal {
+    ghost use Rattle.std.specs.Prelude.{◌≡◌};
+    ghost use Rattle.ks_base.specs.declared.refusals.Refusal.TheVariants.{Memory};
+
+    ghost from_gives = { λ _ refusal. refusal ≡ Memory };
+
+    fn from(_error: AllocError) -> Refusal {
+        Refusal::Memory
+    }
 }

@@ -1,8 +1,11 @@
 -- What the symbols of a running program's table say: which addresses a name has, and which function an
 -- address lies in.
-use Rattle.std.specs.Prelude.{ℕ, ◌-◌, Bool, ◌&&◌, not, List, [], ◌∷◌, map, Option, Some, None, nat_lt, nat_le, if◌then◌else◌, nat_eq}
-use Rattle.std.specs.List.{filter}
+use Rattle.std.specs.Prelude.{ℕ, ◌-◌, Bool, ◌&&◌, not, List, [], ◌∷◌, map, min, Option, Some, None, nat_lt, nat_le, if◌then◌else◌, nat_eq}
+use Rattle.std.specs.Prelude.{Result, Ok, Err}
+use Rattle.std.specs.List.{filter, reduce}
 use Rattle.std.specs.Cmp.Lexicographic.{pointwise}
+use Rattle.ks_base.specs.declared.refusals.Refusal.{Refusal}
+use Rattle.ks_base.specs.declared.refusals.Refusal.TheVariants.{NoSymbol, TwoNames}
 use Rattle.symbol_table.specs.declared.symbols.Symbol.{Symbol}
 
 -- a number put among ascending numbers, where it isn't there yet
@@ -45,6 +48,20 @@ global_addresses symbols name = addresses_of (is_global_named name) symbols
 
 abbrev pub data_addresses : List Symbol → List ℕ → List ℕ
 data_addresses symbols name = addresses_of (is_data_named name) symbols
+
+-- the one address that a name has, refused where it has none, or by the two lowest where it has several
+abbrev pub only_address : List ℕ → List ℕ → Result ℕ Refusal
+only_address name [] = Err (NoSymbol name)
+only_address name (a ∷ []) = Ok a
+only_address name (a ∷ b ∷ rest) = Err (TwoNames name a b)
+
+-- the one address of the function symbols of a name
+abbrev pub function_named : List Symbol → List ℕ → Result ℕ Refusal
+function_named symbols name = only_address name (function_addresses symbols name)
+
+-- the least address of a symbol above an address
+abbrev pub next_address : List Symbol → ℕ → Option ℕ
+next_address symbols address = reduce min (filter (nat_lt address) (map address_of symbols))
 
 -- whether a function begins at or below an address
 abbrev pub begins_by : ℕ → Symbol → Bool

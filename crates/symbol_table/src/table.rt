@@ -2,14 +2,15 @@
 ghost use Rattle.std.specs.Prelude.{◌≡◌, ◌+◌, ◌<◌, ◌≤◌, ◌++◌, [], ◌∷◌, length, OnOk, IfOk};
 ghost use Rattle.std.specs.Option.{option_copied, option_map};
 ghost use Rattle.std.specs.List.{slice_get};
-ghost use Rattle.symbol_table.specs.Symbols.{function_addresses, global_addresses, data_addresses, name_below};
+ghost use Rattle.ks_base.specs.Gives.{Gives};
+ghost use Rattle.symbol_table.specs.Symbols.{function_addresses, global_addresses, data_addresses, name_below, only_address, function_named, next_address};
 
 use crate::addresses::Addresses;
 use crate::kinds::{Kind, addresses_of};
 use crate::names::note_name;
 use crate::starts::{Start, last_start, note_symbol};
 use crate::symbols::Symbol;
-use ks_base::Name;
+use ks_base::{Name, Refusal};
 use std::alloc::{AllocError, Global};
 use std::marker::Model;
 
@@ -83,6 +84,16 @@ impl SymbolTable {
         )
     }
 
+    /// The one address of the function symbols of a name. [`Refusal::NoSymbol`] comes exactly where there is
+    /// none, [`Refusal::TwoNames`] with the two lowest where there are several, and [`Refusal::Memory`] for
+    /// want of memory alone.
+    pub fn function_named(&self, name: &Name) -> Result<u32, Refusal>
+        ensures { Gives (λ address. address) result (function_named self.now.symbols name.now) }
+    {
+        let found = self.functions_of(name)?;
+        only_address(*self.symbols.allocator(), name, found.as_slice())
+    }
+
     /// The distinct addresses of the global symbols of a name, ascending.
     pub fn globals_of(&self, name: &Name) -> Result<Addresses, AllocError>
         ensures { IfOk result (λ found. found ≡ global_addresses self.now.symbols name.now) }
@@ -125,6 +136,17 @@ impl SymbolTable {
         }
     }
 
+    /// The least address of a symbol above an address, `None` exactly where there is none. It takes no memory.
+    pub fn next_address(&self, address: u32) -> Option<u32>
+        ensures { result ≡ next_address self.now.symbols address }
+    {
+        self.symbols
+            .iter()
+            .map(|symbol| symbol.address)
+            .filter(|other| *other > address)
+            .min()
+    }
+
     /// Makes at least `n` spare places. The symbols stay, whatever the answer is; after `Err` nothing is
     /// said of the spare places.
     pub fn reserve(&mut self, n: u32) -> Result<(), AllocError>
@@ -153,5 +175,16 @@ impl SymbolTable {
         note_name(&mut self.places, self.symbols.as_slice(), &symbol);
         self.spare -= 1;
         let _ = self.symbols.push(symbol);
+    }
+}
+
+// The one address of ascending ones that a name has.
+fn only_address(alloc: Global, name: &Name, addresses: &[u32]) -> Result<u32, Refusal>
+    ensures { Gives (λ address. address) result (only_address name.now addresses.now) }
+{
+    match addresses {
+        [address] => Ok(*address),
+        [low, high, ..] => Err(Refusal::TwoNames(Name::from_slice(alloc, name.as_slice())?, *low, *high)),
+        [] => Err(Refusal::NoSymbol(Name::from_slice(alloc, name.as_slice())?)),
     }
 }

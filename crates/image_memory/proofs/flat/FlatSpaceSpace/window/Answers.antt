@@ -3,12 +3,12 @@ use Rattle.std.proofs.Common.{◌≡◌, sym, ap, ◌∙◌, Some, None, true, f
 use Rattle.std.specs.List.{find}
 use Rattle.image_memory.specs.Ranges.{lies_in}
 use Rattle.image_memory.specs.Contents.{fence_range, fenced_at}
-use Rattle.image_memory.specs.Fetch.{window_at, code_from, shown, cut_before, next_fence}
-use Rattle.image_memory.proofs.FenceLaws.{spliced_found, any_found, any_nowhere}
+use Rattle.image_memory.specs.Fetch.{window_at, view_at, code_from, shown, cut_before, next_fence}
+use Rattle.image_memory.proofs.FenceLaws.{spliced_found, spliced_nowhere, any_found, any_nowhere}
 use Rattle.image_memory.proofs.flat.FlatSpaceSpace.window.Goals as goal
 
 pub returns-in-Some-fence_at : goal.returns-in-Some-fence_at
-unfolding window_at
+unfolding window_at view_at
 returns-in-Some-fence_at c =
     let space = c.args.self.now in
     let fence = c.in-Some-fence_at.fence.now in
@@ -18,10 +18,10 @@ returns-in-Some-fence_at c =
     let fenced : fenced_at space.fences.items c.args.pc ≡ true
     = any_found (λ f. lies_in c.args.pc (fence_range f)) space.fences.items fence held in
     let spliced = spliced_found 0 space.fences.items c.args.pc fence space.fenced held in
-    rw (code, fenced, spliced) c.window.ensures
+    rw (code, spliced, fenced) c.window.ensures
 
 pub returns-in-None : goal.returns-in-None
-unfolding window_at
+unfolding window_at view_at
 returns-in-None c =
     let space = c.args.self.now in
     let bytes = c.in-Some.bytes.now in
@@ -30,6 +30,7 @@ returns-in-None c =
     = sym (rw c.in-None.is at c.fence_at.ensures) in
     let free : fenced_at space.fences.items c.args.pc ≡ false
     = any_nowhere (λ f. lies_in c.args.pc (fence_range f)) space.fences.items gone in
+    let unspliced = spliced_nowhere 0 space.fences.items c.args.pc space.fenced gone in
     let shows : c.of.result ≡ shown (take 15 (cut_before c.args.pc (next_fence space.fences.items c.args.pc) bytes))
     = c.of.ensures ∙ ap shown (c.front.ensures ∙ sym (c.open_length.ensures.cut bytes)) in
-    rw (code, free, shows) refl
+    rw (code, unspliced, free, shows) refl
