@@ -3,3 +3,5 @@ pub mod Loads
 pub mod Diffs
 pub mod Listings
 pub mod Replies
+pub mod Codes
+pub mod Pages

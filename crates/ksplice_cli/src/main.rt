@@ -4,6 +4,8 @@
 pub mod answering;
 mod command;
 mod comparing;
+mod diffing;
+mod image_code;
 mod listing;
 mod loading;
 pub mod real;
