@@ -61,13 +61,13 @@ pub record IsReply (pre post : List ℕ) (answer : Answer) : Type 0 where
   pub told : answer ≡ reply_answer reply
 
 -- the lines of the instructions of a function of an image that was read, or why there are none
-abbrev pub code_in : Result Contents Refusal → List ℕ → Result (List ℕ) Refusal
-code_in (Err refusal) name = Err refusal
-code_in (Ok image) name = code_of image name
+abbrev pub code_of_read : Result Contents Refusal → List ℕ → Result (List ℕ) Refusal
+code_of_read (Err refusal) name = Err refusal
+code_of_read (Ok image) name = code_of image name
 
 -- the reply to `code` where the image file is loaded: what is wrong with the file comes before what is wrong with the name
 unfoldable pub code_reply : List ℕ → List ℕ → Result (List ℕ) Refusal
-code_reply bytes name = code_in (image_of bytes) name
+code_reply bytes name = code_of_read (image_of bytes) name
 
 abbrev pub code_answer : List ℕ → List ℕ → Answer
 code_answer bytes name = reply_answer (code_reply bytes name)

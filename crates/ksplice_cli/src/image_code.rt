@@ -95,7 +95,7 @@ fn print_listing<O: Sink>(alloc: Global, listing: &mut Listing, out: &mut O) -> 
 }
 
 // Writes the next page of a listing; the status, where the listing ends with it.
-#[tactic(auto, using(crate::proofs::Untaken::nothing_taken))]
+#[tactic(auto, using(crate::proofs::Untaken::nothing_taken, crate::proofs::Pages::page_came_out))]
 fn print_page<O: Sink>(alloc: Global, listing: &mut Listing, out: &mut O) -> Option<Status>
     ensures status { IfSome result (λ status. ends_reply status.code ≡ true) }
     ensures last { IfSome result (λ status. ComesOut (answer_of listing.old 0) (O.taken out.old) (O.taken out.new) status.code) }
