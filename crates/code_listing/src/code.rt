@@ -1,0 +1,104 @@
+//! The code of a memory up to an end.
+ghost use Rattle.std.specs.Prelude.{◌≡◌, ◌≤◌, ◌<◌, ◌++◌, [], length, take, IfOk, IfSome, MatchOption, None};
+ghost use Rattle.std.specs.Option.{option_map};
+ghost use Rattle.image_memory.specs.Fetch.{view_at, Unmapped, Bytes};
+ghost use Rattle.code_listing.specs.Listing.{instruction_in, listing, remaining};
+
+use crate::lines::{put_end, put_instruction, put_undecoded};
+use ia32_decode::{Decoded, decode};
+use image_memory::{FlatSpace, Space, Window};
+use ks_base::Line;
+use std::alloc::AllocError;
+
+// A page takes no further line once it has so many bytes.
+const PAGE_LENGTH: usize = 65_536;
+
+/// A memory in which nothing was replaced, and the address at which the listing of its code ends.
+#[derive(Drop)]
+pub(crate) struct Code {
+    pub(crate) memory: FlatSpace,
+    pub(crate) end: u32,
+    ghost unfenced: { (⟦<FlatSpace as Space>⟧.contents memory).fences ≡ [] },
+    ghost end_low: { end ≤ 0xFFFF_0000 },
+}
+
+// An instruction, and what was fetched at its address.
+#[derive(Clone, Copy)]
+struct Instruction {
+    decoded: Decoded,
+    window: Window,
+    ghost short: { decoded.length ≤ 15 },
+}
+
+impl Instruction {
+    // The instruction's own bytes.
+    fn bytes(&self) -> &[u8]
+        ensures { result.now ≡ take self.now.decoded.length self.now.window.bytes }
+    {
+        &self.window.bytes[..self.decoded.length as usize]
+    }
+}
+
+// The instruction at the front of a window.
+fn instruction_of(window: Window) -> Option<Instruction>
+    requires { window.length ≤ 15 }
+    ensures { option_map (λ i. (i.decoded, take i.decoded.length i.window.bytes)) result
+        ≡ instruction_in (Bytes (take window.length window.bytes)) }
+{
+    let decoded = decode(&window.bytes[..window.length as usize])?;
+    Some(Instruction { decoded, window })
+}
+
+impl Code {
+    // What is fetched at an address, where code stands there.
+    fn window_at(&self, address: u32) -> Option<Window>
+        ensures view { MatchOption result (view_at (⟦<FlatSpace as Space>⟧.contents self.now.memory) address ≡ Unmapped)
+            (λ w. view_at (⟦<FlatSpace as Space>⟧.contents self.now.memory) address ≡ Bytes (take w.length w.bytes)) }
+        ensures short { IfSome result (λ w. w.length ≤ 15) }
+    {
+        self.memory.window(address).ok()
+    }
+
+    // The instruction at an address.
+    fn instruction_at(&self, address: u32) -> Option<Instruction>
+        ensures { option_map (λ i. (i.decoded, take i.decoded.length i.window.bytes)) result
+            ≡ instruction_in (view_at (⟦<FlatSpace as Space>⟧.contents self.now.memory) address) }
+    {
+        instruction_of(self.window_at(address)?)
+    }
+
+    // Puts the line of an address, and answers the address of the line behind it, `None` where it is the last one.
+    fn put_line(&self, address: u32, page: &mut Line) -> Result<Option<u32>, AllocError>
+        ensures lines { IfOk result (λ next. page.old ++ listing (⟦<FlatSpace as Space>⟧.contents self.now.memory) self.now.end address
+            ≡ page.new ++ remaining (⟦<FlatSpace as Space>⟧.contents self.now.memory) self.now.end next) }
+        ensures grows { IfOk result (λ _. length page.old < length page.new) }
+    {
+        if self.end <= address {
+            put_end(page, address)?;
+            return Ok(None);
+        }
+        let Some(instruction) = self.instruction_at(address) else {
+            put_undecoded(page, address)?;
+            return Ok(None);
+        };
+        put_instruction(page, address, &instruction.decoded, instruction.bytes())?;
+        Ok(Some(address + instruction.decoded.length))
+    }
+
+    // Puts the lines from an address on until the page is full, and answers the address of the line behind them, `None`
+    // where none is left.
+    pub(crate) fn put_lines(&self, first: Option<u32>, page: &mut Line) -> Result<Option<u32>, AllocError>
+        ensures lines { IfOk result (λ next. page.old ++ remaining (⟦<FlatSpace as Space>⟧.contents self.now.memory) self.now.end first
+            ≡ page.new ++ remaining (⟦<FlatSpace as Space>⟧.contents self.now.memory) self.now.end next) }
+        ensures some { IfOk result (λ next. page.new ≡ [] → next ≡ None) }
+    {
+        let mut next = first;
+        while page.bytes().len() < PAGE_LENGTH {
+            let Some(address) = next else {
+                return Ok(None);
+            };
+            next = self.put_line(address, page)?;
+        }
+        Ok(next)
+    }
+}
