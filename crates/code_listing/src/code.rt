@@ -9,6 +9,7 @@ use ia32_decode::{Decoded, decode};
 use image_memory::{FlatSpace, Space, Window};
 use ks_base::Line;
 use std::alloc::AllocError;
+use std::marker::Model;
 
 // A page takes no further line once it has so many bytes.
 const PAGE_LENGTH: usize = 65_536;
@@ -16,10 +17,19 @@ const PAGE_LENGTH: usize = 65_536;
 /// A memory in which nothing was replaced, and the address at which the listing of its code ends.
 #[derive(Drop)]
 pub(crate) struct Code {
-    pub(crate) memory: FlatSpace,
-    pub(crate) end: u32,
-    ghost unfenced: { (⟦<FlatSpace as Space>⟧.contents memory).fences ≡ [] },
-    ghost end_low: { end ≤ 0xFFFF_0000 },
+    memory: FlatSpace,
+    end: u32,
+}
+
+impl Model for Code {
+    ghost use Rattle.std.specs.Prelude.{◌≡◌, ◌≤◌, []};
+    ghost use Rattle.code_listing.specs.Extent.{Extent};
+
+    ghost Value = { Extent };
+
+    ghost view = { λ c. record { contents = ⟦<FlatSpace as Space>⟧.contents c.memory; end = c.end } };
+
+    ghost invariant = { λ c. ((⟦<FlatSpace as Space>⟧.contents c.memory).fences ≡ []) × (c.end ≤ 0xFFFF_0000) };
 }
 
 // An instruction, and what was fetched at its address.
@@ -50,10 +60,19 @@ fn instruction_of(window: Window) -> Option<Instruction>
 }
 
 impl Code {
+    // The code of a memory up to an end.
+    pub(crate) fn new(memory: FlatSpace, end: u32) -> Self
+        requires unfenced { (⟦<FlatSpace as Space>⟧.contents memory).fences ≡ [] }
+        requires low { end ≤ 0xFFFF_0000 }
+        ensures { result ≡ record { contents = ⟦<FlatSpace as Space>⟧.contents memory; end = end } }
+    {
+        Code { memory, end }
+    }
+
     // What is fetched at an address, where code stands there.
     fn window_at(&self, address: u32) -> Option<Window>
-        ensures view { MatchOption result (view_at (⟦<FlatSpace as Space>⟧.contents self.now.memory) address ≡ Unmapped)
-            (λ w. view_at (⟦<FlatSpace as Space>⟧.contents self.now.memory) address ≡ Bytes (take w.length w.bytes)) }
+        ensures view { MatchOption result (view_at self.now.contents address ≡ Unmapped)
+            (λ w. view_at self.now.contents address ≡ Bytes (take w.length w.bytes)) }
         ensures short { IfSome result (λ w. w.length ≤ 15) }
     {
         self.memory.window(address).ok()
@@ -62,15 +81,15 @@ impl Code {
     // The instruction at an address.
     fn instruction_at(&self, address: u32) -> Option<Instruction>
         ensures { option_map (λ i. (i.decoded, take i.decoded.length i.window.bytes)) result
-            ≡ instruction_in (view_at (⟦<FlatSpace as Space>⟧.contents self.now.memory) address) }
+            ≡ instruction_in (view_at self.now.contents address) }
     {
         instruction_of(self.window_at(address)?)
     }
 
     // Puts the line of an address, and answers the address of the line behind it, `None` where it is the last one.
     fn put_line(&self, address: u32, page: &mut Line) -> Result<Option<u32>, AllocError>
-        ensures lines { IfOk result (λ next. page.old ++ listing (⟦<FlatSpace as Space>⟧.contents self.now.memory) self.now.end address
-            ≡ page.new ++ remaining (⟦<FlatSpace as Space>⟧.contents self.now.memory) self.now.end next) }
+        ensures lines { IfOk result (λ next. page.old ++ listing self.now.contents self.now.end address
+            ≡ page.new ++ remaining self.now.contents self.now.end next) }
         ensures grows { IfOk result (λ _. length page.old < length page.new) }
     {
         if self.end <= address {
@@ -88,8 +107,8 @@ impl Code {
     // Puts the lines from an address on until the page is full, and answers the address of the line behind them, `None`
     // where none is left.
     pub(crate) fn put_lines(&self, first: Option<u32>, page: &mut Line) -> Result<Option<u32>, AllocError>
-        ensures lines { IfOk result (λ next. page.old ++ remaining (⟦<FlatSpace as Space>⟧.contents self.now.memory) self.now.end first
-            ≡ page.new ++ remaining (⟦<FlatSpace as Space>⟧.contents self.now.memory) self.now.end next) }
+        ensures lines { IfOk result (λ next. page.old ++ remaining self.now.contents self.now.end first
+            ≡ page.new ++ remaining self.now.contents self.now.end next) }
         ensures some { IfOk result (λ next. page.new ≡ [] → next ≡ None) }
     {
         let mut next = first;

@@ -9,7 +9,7 @@ ghost use Rattle.code_listing.specs.Listing.{code_of, end_above, end_within};
 
 use crate::code::Code;
 use image_file::Image;
-use image_memory::{FlatSpace, Piece, Space};
+use image_memory::{FlatSpace, Piece};
 use ks_base::{Line, Name, Refusal};
 use std::alloc::{AllocError, Global};
 use std::marker::Model;
@@ -28,7 +28,7 @@ impl Model for Listing {
 
     ghost Value = { List ℕ };
 
-    ghost view = { λ l. remaining (⟦<FlatSpace as Space>⟧.contents l.code.memory) l.code.end l.next };
+    ghost view = { λ l. remaining l.code.contents l.code.end l.next };
 }
 
 impl Listing {
@@ -59,7 +59,7 @@ pub fn list_code(alloc: Global, image: Image, name: &Name) -> Result<Listing, Re
     let end = end_above(&image, address);
     let memory = FlatSpace::new(alloc, image.pieces)?;
     Ok(Listing {
-        code: Code { memory, end },
+        code: Code::new(memory, end),
         next: Some(address),
     })
 }
