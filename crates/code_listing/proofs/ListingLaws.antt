@@ -46,10 +46,10 @@ enough contents end zero (suc m) address few many = sym (when_not (nat_lt addres
 enough contents end (suc n) zero address few many = when_not (nat_lt address end) _ _ (λ is. let h : suc address ≤ end = leb-true _ _ is in omega arith)
 enough contents end (suc n) (suc m) address few many =
     same_where (nat_lt address end) _ _ _ (λ is.
-        let h : suc address ≤ end = leb-true _ _ is in
-        same_rest address (instruction_in (view_at contents address)) (lines_of n contents end) (lines_of m contents end) (λ d bytes found.
-            let some : 0 < d.length = has_bytes (view_at contents address) d bytes found in
-            enough contents end n m (address + d.length) (omega arith) (omega arith)))
+    let h : suc address ≤ end = leb-true _ _ is in
+    same_rest address (instruction_in (view_at contents address)) (lines_of n contents end) (lines_of m contents end) (λ d bytes found.
+    let some : 0 < d.length = has_bytes (view_at contents address) d bytes found in
+    enough contents end n m (address + d.length) (omega arith) (omega arith)))
 
 one_more : (contents : Contents) (end n address : ℕ) → address < end → lines_of (suc n) contents end address ≡ lines_by address (instruction_in (view_at contents address)) (lines_of n contents end)
 unfolding lines_of
@@ -65,8 +65,8 @@ below_end contents end address below =
     ap (λ n. lines_of n contents end address) count
     ∙ one_more contents end (end - suc address) address below
     ∙ same_rest address (instruction_in (view_at contents address)) (lines_of (end - suc address) contents end) (listing contents end) (λ d bytes found.
-        let some : 0 < d.length = has_bytes (view_at contents address) d bytes found in
-        enough contents end (end - suc address) (end - (address + d.length)) (address + d.length) (omega arith) (omega arith))
+    let some : 0 < d.length = has_bytes (view_at contents address) d bytes found in
+    enough contents end (end - suc address) (end - (address + d.length)) (address + d.length) (omega arith) (omega arith))
 
 pub at_end : (contents : Contents) (end address : ℕ) → end ≤ address → listing contents end address ≡ end_line address
 at_end contents end address above =

@@ -106,7 +106,11 @@ impl Code {
 
     // Puts the lines from an address on until the page is full, and answers the address of the line behind them, `None`
     // where none is left.
-    pub(crate) fn put_lines(&self, first: Option<u32>, page: &mut Line) -> Result<Option<u32>, AllocError>
+    pub(crate) fn put_lines(
+        &self,
+        first: Option<u32>,
+        page: &mut Line,
+    ) -> Result<Option<u32>, AllocError>
         ensures lines { IfOk result (λ next. page.old ++ remaining self.now.contents self.now.end first
             ≡ page.new ++ remaining self.now.contents self.now.end next) }
         ensures some { IfOk result (λ next. page.new ≡ [] → next ≡ None) }
