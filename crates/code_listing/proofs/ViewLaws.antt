@@ -1,8 +1,7 @@
 -- What is fetched in a memory without retired ranges is what is met there.
-use Rattle.std.proofs.Common.{◌≡◌, ℕ, ◌+◌, ◌-◌, ◌≤◌, List, [], ◌∷◌, ◌++◌, length, take, replicate, Option, Some, None, IfSome, MatchOption, Result, Ok, Err, refl, ap, sym, subst, ◌∙◌, arith, length-take}
+use Rattle.std.proofs.Common.{◌≡◌, ℕ, ◌-◌, ◌≤◌, List, [], length, take, replicate, Option, Some, None, IfSome, MatchOption, Result, Ok, Err, refl, ap, sym, subst, arith, length-take}
 use Rattle.std.proofs.Math.Seq.{take-append_seam}
 use Rattle.std.specs.Result.{result_ok}
-use Rattle.image_memory.specs.declared.types.Piece.{Piece}
 use Rattle.image_memory.specs.declared.types.Fence.{Fence}
 use Rattle.image_memory.specs.declared.types.Window.{Window}
 use Rattle.image_memory.specs.Contents.{Contents}

@@ -1,7 +1,7 @@
 //! The code of a memory up to an end.
-ghost use Rattle.std.specs.Prelude.{◌≡◌, ◌≤◌, ◌<◌, ◌++◌, [], length, take, IfOk, IfSome, MatchOption, None};
-ghost use Rattle.std.specs.Option.{option_map};
+ghost use Rattle.std.specs.Prelude.{◌≡◌, ◌≤◌, ◌<◌, ◌++◌, [], length, take, OnOk, IfOk, IfSome, MatchOption, None};
 ghost use Rattle.image_memory.specs.Fetch.{view_at, Unmapped, Bytes};
+ghost use Rattle.code_listing.specs.Lines.{instruction_line};
 ghost use Rattle.code_listing.specs.Listing.{instruction_in, listing, remaining};
 
 use crate::lines::{put_end, put_instruction, put_undecoded};
@@ -33,30 +33,49 @@ impl Model for Code {
 }
 
 // An instruction, and what was fetched at its address.
-#[derive(Clone, Copy)]
+#[derive(Drop)]
 struct Instruction {
     decoded: Decoded,
     window: Window,
-    ghost short: { decoded.length ≤ 15 },
+}
+
+impl Model for Instruction {
+    ghost use Rattle.std.specs.Prelude.{◌≤◌, List, ℕ, take};
+    ghost use Rattle.ia32_decode.specs.declared.types.Decoded.{Decoded};
+
+    ghost Value = { Decoded × List ℕ };
+
+    ghost view = { λ i. (i.decoded, take i.decoded.length i.window.bytes) };
+
+    ghost invariant = { λ i. i.decoded.length ≤ 15 };
 }
 
 impl Instruction {
-    // The instruction's own bytes.
-    fn bytes(&self) -> &[u8]
-        ensures { result.now ≡ take self.now.decoded.length self.now.window.bytes }
+    // The instruction at the front of a window.
+    fn at_front(window: Window) -> Option<Self>
+        requires { window.length ≤ 15 }
+        ensures { result ≡ instruction_in (Bytes (take window.length window.bytes)) }
     {
-        &self.window.bytes[..self.decoded.length as usize]
+        let decoded = decode(&window.bytes[..window.length as usize])?;
+        Some(Instruction { decoded, window })
     }
-}
 
-// The instruction at the front of a window.
-fn instruction_of(window: Window) -> Option<Instruction>
-    requires { window.length ≤ 15 }
-    ensures { option_map (λ i. (i.decoded, take i.decoded.length i.window.bytes)) result
-        ≡ instruction_in (Bytes (take window.length window.bytes)) }
-{
-    let decoded = decode(&window.bytes[..window.length as usize])?;
-    Some(Instruction { decoded, window })
+    // How many bytes it has.
+    fn length(&self) -> u32
+        ensures length { result ≡ self.now.0.length }
+        ensures short { result ≤ 15 }
+    {
+        self.decoded.length
+    }
+
+    // Puts its line.
+    fn put(&self, address: u32, page: &mut Line) -> Result<(), AllocError>
+        ensures line { OnOk result (page.new ≡ page.old ++ instruction_line address self.now.0 self.now.1) }
+        ensures grows { OnOk result (length page.old < length page.new) }
+    {
+        let bytes = &self.window.bytes[..self.decoded.length as usize];
+        put_instruction(page, address, &self.decoded, bytes)
+    }
 }
 
 impl Code {
@@ -80,10 +99,9 @@ impl Code {
 
     // The instruction at an address.
     fn instruction_at(&self, address: u32) -> Option<Instruction>
-        ensures { option_map (λ i. (i.decoded, take i.decoded.length i.window.bytes)) result
-            ≡ instruction_in (view_at self.now.contents address) }
+        ensures { result ≡ instruction_in (view_at self.now.contents address) }
     {
-        instruction_of(self.window_at(address)?)
+        Instruction::at_front(self.window_at(address)?)
     }
 
     // Puts the line of an address, and answers the address of the line behind it, `None` where it is the last one.
@@ -100,8 +118,8 @@ impl Code {
             put_undecoded(page, address)?;
             return Ok(None);
         };
-        put_instruction(page, address, &instruction.decoded, instruction.bytes())?;
-        Ok(Some(address + instruction.decoded.length))
+        instruction.put(address, page)?;
+        Ok(Some(address + instruction.length()))
     }
 
     // Puts the lines from an address on until the page is full, and answers the address of the line behind them, `None`

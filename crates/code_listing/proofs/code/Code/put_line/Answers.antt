@@ -1,4 +1,4 @@
-use Rattle.std.proofs.Common.{◌≡◌, ◌≤◌, ◌<◌, ◌++◌, ap, sym, ◌∙◌, arith}
+use Rattle.std.proofs.Common.{◌+◌, ◌≤◌, ◌<◌, ◌++◌, ap, sym, ◌∙◌, arith}
 use Rattle.code_listing.specs.Extent.{Extent}
 use Rattle.code_listing.specs.Lines.{instruction_line}
 use Rattle.code_listing.specs.Listing.{lines_by, listing}
@@ -26,5 +26,6 @@ returns-clause-lines c =
     let same = ap (λ (e : Extent). e.end) c.self.view_is in
     let below : c.args.address < code.end = omega (arith, c.if-self-address.false) in
     let some = ap (λ o. lines_by c.args.address o (listing code.contents code.end)) (sym c.in-Some.ensures) in
-    let line = c.in_ok-put_instruction.ensures.line ∙ ap (λ bytes. c.args.page.now ++ instruction_line c.args.address c.in-Some.instruction.decoded bytes) c.bytes.ensures in
-    first_line _ _ _ _ _ line (below_end code.contents code.end c.args.address below ∙ some)
+    let instruction = c.in-Some.instruction in
+    let next = ap (λ n. instruction_line c.args.address instruction.0 instruction.1 ++ listing code.contents code.end (c.args.address + n)) (sym c.length.ensures.length) in
+    first_line _ _ _ _ _ c.in_ok-put.ensures.line (below_end code.contents code.end c.args.address below ∙ some ∙ next)
