@@ -14,7 +14,7 @@ use std::marker::Model;
 // A page takes no further line once it has so many bytes.
 const PAGE_LENGTH: usize = 65_536;
 
-/// A memory in which nothing was replaced, and the address at which the listing of its code ends.
+// A memory in which nothing was replaced, and the address at which the listing of its code ends.
 #[derive(Drop)]
 pub(crate) struct Code {
     memory: FlatSpace,
@@ -32,7 +32,7 @@ impl Model for Code {
     ghost invariant = { λ c. ((⟦<FlatSpace as Space>⟧.contents c.memory).fences ≡ []) × (c.end ≤ 0xFFFF_0000) };
 }
 
-// An instruction, and what was fetched at its address.
+// An instruction, and what was fetched at its address. A clause sees it with its own bytes.
 #[derive(Drop)]
 struct Instruction {
     decoded: Decoded,

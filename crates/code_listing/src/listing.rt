@@ -1,9 +1,9 @@
 //! The lines of a function's instructions, a page at a time.
-ghost use Rattle.std.specs.Prelude.{◌≡◌, ◌≤◌, ◌<◌, ◌+◌, ◌++◌, [], length, OnErr, IfOk, IfSome};
+ghost use Rattle.std.specs.Prelude.{◌≡◌, ◌≤◌, ◌++◌, [], OnErr, IfOk, IfSome};
 ghost use Rattle.std.specs.Option.{option_copied};
 ghost use Rattle.ks_base.specs.Gives.{Gives};
 ghost use Rattle.image_memory.specs.Ranges.{lies_in};
-ghost use Rattle.image_memory.specs.Contents.{ArePlaced, piece_range, holding};
+ghost use Rattle.image_memory.specs.Contents.{piece_range, holding};
 ghost use Rattle.image_file.specs.Seen.{contents_of};
 ghost use Rattle.code_listing.specs.Listing.{code_of, end_above, end_within};
 
