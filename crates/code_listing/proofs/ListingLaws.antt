@@ -20,7 +20,8 @@ decoded_has_bytes window (Some e) d bytes from is =
     let same : e ≡ d = ap (λ o. first_of_pair o e) is in
     subst (λ (x : Decoded). 0 < x.length) same (some_bytes_of window (Some e) from)
 
-has_bytes : (view : View) (d : Decoded) (bytes : List ℕ) → instruction_in view ≡ Some (d, bytes) → 0 < d.length
+-- an instruction has at least one byte
+pub has_bytes : (view : View) (d : Decoded) (bytes : List ℕ) → instruction_in view ≡ Some (d, bytes) → 0 < d.length
 has_bytes Unmapped d bytes is = absurd (cc)
 has_bytes AtHome d bytes is = absurd (cc)
 has_bytes Stray d bytes is = absurd (cc)
