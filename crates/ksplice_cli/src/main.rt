@@ -6,6 +6,7 @@ mod command;
 mod comparing;
 mod diffing;
 mod image_code;
+pub mod laws;
 mod listing;
 mod loading;
 pub mod real;
