@@ -38,6 +38,11 @@ lines_of (suc n) contents end address =
 abbrev pub listing : Contents → ℕ → ℕ → List ℕ
 listing contents end address = lines_of (end - address) contents end address
 
+-- what is left of a listing whose next line is that of an address, if it has one
+abbrev pub remaining : Contents → ℕ → Option ℕ → List ℕ
+remaining contents end None = []
+remaining contents end (Some address) = listing contents end address
+
 -- where the listing of a function ends: at the end of its region, or at the next symbol above it where that is lower
 abbrev pub end_within : Option Piece → Option ℕ → ℕ
 end_within None next = 0

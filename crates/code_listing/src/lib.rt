@@ -1,6 +1,13 @@
 //! The instructions of one function of an image, as the lines that show them.
 #![tactic(auto)]
 
+mod code;
+mod laws;
+mod lines;
 pub mod listing;
 
+pub use laws::lines_follow_one_another;
 pub use listing::{Listing, list_code};
+
+#[cfg(test)]
+mod tests;

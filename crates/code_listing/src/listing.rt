@@ -1,10 +1,15 @@
 //! The lines of a function's instructions, a page at a time.
-ghost use Rattle.std.specs.Prelude.{◌≡◌, ◌++◌, [], OnErr, IfOk};
+ghost use Rattle.std.specs.Prelude.{◌≡◌, ◌≤◌, ◌++◌, [], OnErr, IfOk, IfSome};
+ghost use Rattle.std.specs.Option.{option_copied};
 ghost use Rattle.ks_base.specs.Gives.{Gives};
+ghost use Rattle.image_memory.specs.Ranges.{lies_in};
+ghost use Rattle.image_memory.specs.Contents.{piece_range, holding};
 ghost use Rattle.image_file.specs.Seen.{contents_of};
-ghost use Rattle.code_listing.specs.Listing.{code_of};
+ghost use Rattle.code_listing.specs.Listing.{code_of, end_above, end_within};
 
+use crate::code::Code;
 use image_file::Image;
+use image_memory::{FlatSpace, Piece};
 use ks_base::{Line, Name, Refusal};
 use std::alloc::{AllocError, Global};
 use std::marker::Model;
@@ -12,15 +17,18 @@ use std::marker::Model;
 /// The lines that are still to come of a function's instructions. A clause sees it as their bytes.
 #[derive(Drop)]
 pub struct Listing {
-    lines: Vec<u8>,
+    code: Code,
+    // the address of the next line, `None` after the last line
+    next: Option<u32>,
 }
 
 impl Model for Listing {
     ghost use Rattle.std.specs.Prelude.{ℕ, List};
+    ghost use Rattle.code_listing.specs.Listing.{remaining};
 
     ghost Value = { List ℕ };
 
-    ghost view = { λ l. l.lines.items };
+    ghost view = { λ l. remaining l.code.contents l.code.end l.next };
 }
 
 impl Listing {
@@ -31,7 +39,9 @@ impl Listing {
         ensures end { IfOk result (λ page. page ≡ [] → self.old ≡ []) }
         ensures err { OnErr result (self.new ≡ self.old) }
     {
-        Err(AllocError)
+        let mut page = Line::new(alloc);
+        self.next = self.code.put_lines(self.next, &mut page)?;
+        Ok(page)
     }
 }
 
@@ -41,8 +51,59 @@ impl Listing {
 ///
 /// [`Refusal::NoSymbol`] comes exactly where no function symbol has the name, [`Refusal::TwoNames`] exactly where several
 /// addresses do, and [`Refusal::Memory`] for want of memory alone.
+#[tactic(auto, unfolding(crate::specs::Listing::code_of))]
 pub fn list_code(alloc: Global, image: Image, name: &Name) -> Result<Listing, Refusal>
     ensures { Gives (λ lines. lines) result (code_of (contents_of image) name.now) }
 {
-    Err(Refusal::Memory)
+    let address = image.symbols.function_named(name)?;
+    let end = end_above(&image, address);
+    let memory = FlatSpace::new(alloc, image.pieces)?;
+    Ok(Listing {
+        code: Code::new(memory, end),
+        next: Some(address),
+    })
+}
+
+// Where the listing of the function at an address ends.
+fn end_above(image: &Image, address: u32) -> u32
+    ensures end { result ≡ end_above (contents_of image.now) address }
+    ensures low { result ≤ 0xFFFF_0000 }
+{
+    let Some(region) = region_at(image, address) else {
+        return 0;
+    };
+    end_within(region, image.symbols.next_address(address))
+}
+
+// The region that has a byte at an address.
+fn region_at(image: &Image, address: u32) -> Option<&Piece>
+    ensures region { option_copied result ≡ holding image.now.pieces address }
+    ensures low { IfSome result (λ region. (piece_range region.now).high ≤ 0xFFFF_0000) }
+{
+    image
+        .pieces
+        .as_slice()
+        .iter()
+        .find(|region| has_byte(region, address))
+}
+
+fn has_byte(region: &Piece, address: u32) -> bool
+    ensures { result ≡ lies_in address (piece_range region.now) }
+{
+    let address = u64::from(address);
+    let base = u64::from(region.base);
+    base <= address && address - base < region.bytes.len() as u64
+}
+
+// The end of a region, or the address of the next symbol where that is lower.
+fn end_within(region: &Piece, next: Option<u32>) -> u32
+    requires { (piece_range region.now).high ≤ 0xFFFF_0000 }
+    ensures end { result ≡ end_within (Some region.now) next }
+    ensures low { result ≤ 0xFFFF_0000 }
+{
+    let high = region.base + region.bytes.len() as u32;
+    match next {
+        Some(address) => address.min(high),
+        None => high,
+    }
 }

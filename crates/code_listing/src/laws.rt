@@ -1,0 +1,20 @@
+//! What holds of every listing.
+ghost use Rattle.std.specs.Prelude.{◌≡◌, ◌≤◌, ◌<◌, ℕ, List, Some};
+ghost use Rattle.image_memory.specs.Contents.{Contents};
+ghost use Rattle.image_memory.specs.Fetch.{View, view_at};
+ghost use Rattle.ia32_decode.specs.declared.types.Decoded.{Decoded};
+ghost use Rattle.code_listing.specs.Lines.{end_line};
+ghost use Rattle.code_listing.specs.Listing.{instruction_in, lines_by, listing};
+
+/// Below its end a listing is the line of the instruction at its address and then the listing from behind that
+/// instruction on, or the one line that says that no instruction stands there; at its end, or behind it, it is its last
+/// line. Each instruction has at least one byte, and so the number of lines that the definition allows never cuts a listing
+/// short.
+pub fn lines_follow_one_another()
+    ensures below { (contents : Contents) (end address : ℕ) → address < end → listing contents end address
+        ≡ lines_by address (instruction_in (view_at contents address)) (listing contents end) }
+    ensures end { (contents : Contents) (end address : ℕ) → end ≤ address → listing contents end address
+        ≡ end_line address }
+    ensures some_bytes { (view : View) (decoded : Decoded) (bytes : List ℕ) → instruction_in view ≡ Some (decoded, bytes)
+        → 0 < decoded.length }
+{}
