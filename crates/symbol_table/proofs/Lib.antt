@@ -1,3 +1,4 @@
 pub mod AscendingLaws
+pub mod BlockLaws
 pub mod NameLaws
 pub mod StartLaws

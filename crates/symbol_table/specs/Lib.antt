@@ -1,3 +1,4 @@
+pub mod Blocks
 pub mod Kinds
 pub mod Names
 pub mod Starts

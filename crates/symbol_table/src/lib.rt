@@ -3,6 +3,7 @@
 #![tactic(auto)]
 
 pub mod addresses;
+mod blocks;
 mod kinds;
 mod names;
 mod starts;
