@@ -8,7 +8,9 @@ use Rattle.std.proofs.lemmas.Bool.{cases_lt}
 use Rattle.std.proofs.Math.Nat.{pow-suc}
 use Rattle.std.proofs.lemmas.Nat.{pow_pos, one_shl}
 use Rattle.std.proofs.lemmas.Nat.Bits.{bit_at-trailing_zeros}
+use Rattle.std.proofs.lemmas.List.{take-append-drop, drop-drop, drop_all, length-drop, append-nil, length-take-le, length-append, get_or_append_left, get_or-take, get_or-append_right, length_push, take_at}
 use Rattle.std.proofs.lemmas.List.Edits.{get_or-between, length-between}
+use borrow.Rule.Slice.PartMut.{put_mid}
 use Rattle.symbol_table.specs.Blocks.{block_begin, InBlocks}
 
 -- ---- where blocks begin
@@ -88,3 +90,52 @@ block_sorted less xs end blocks within k d low below =
 -- what is in order as a whole is in blocks
 pub in_blocks_sorted : {X : Type 0} (less : X → X → Bool) (xs : List X) → IsSortedBy less xs → InBlocks less xs
 in_blocks_sorted less xs up end within k d above below = up k d (omega arith) (omega arith)
+
+-- what is left from a block on is the block and what is left after it
+pub drop_between : {X : Type 0} (xs : List X) (begin end : ℕ) → begin ≤ end → drop begin xs ≡ between begin end xs ++ drop end xs
+drop_between xs begin end order =
+    let e : begin + (end - begin) ≡ end = omega arith in
+    sym (take-append-drop (end - begin) (drop begin xs)) ∙ ap (λ ys. between begin end xs ++ ys) (drop-drop (end - begin) begin xs ∙ ap (λ n. drop n xs) e)
+
+pub block_sorted_at : {X : Type 0} (less : X → X → Bool) (xs : List X) (begin end : ℕ) → begin ≡ block_begin end → InBlocks less xs → end ≤ length xs → IsSortedBy less (between begin end xs)
+block_sorted_at less xs begin end is blocks within =
+    let P : ℕ → Type 0 = λ n. IsSortedBy less (between n end xs) in
+    subst P (sym is) (block_sorted less xs end blocks within)
+
+-- ---- the last block put in order
+put_to_end : {X : Type 0} (begin : ℕ) (xs ys : List X) → put_mid begin (length xs - begin) xs ys ≡ take begin xs ++ ys
+put_to_end begin xs ys =
+    let none : drop (length xs - begin) (drop begin xs) ≡ [] = drop_all (length xs - begin) (drop begin xs) (omega (arith, length-drop begin xs)) in
+    ap (λ rest. take begin xs ++ (ys ++ rest)) none ∙ ap (λ rest. take begin xs ++ rest) (append-nil ys)
+
+blocks_joined : {X : Type 0} (less : X → X → Bool) (xs ys : List X) → 0 < length xs → length xs < 2 ^ 64 → length ys ≡ length xs - block_begin (length xs) → IsSortedBy less ys → InBlocks less (take (length xs - 1) xs) → InBlocks less (take (block_begin (length xs)) xs ++ ys)
+blocks_joined less xs ys some fits len_ys up blocks =
+    let begin = block_begin (length xs) in
+    let below : begin < length xs = block_begin_below (length xs) some in
+    let front = take begin xs in
+    let len_front : length front ≡ begin = length-take-le begin xs (omega arith) in
+    let len : length (front ++ ys) ≡ length xs = omega (arith, length-append front ys, len_front, len_ys) in
+    let len_rest : length (take (length xs - 1) xs) ≡ length xs - 1 = length-take-le (length xs - 1) xs (omega arith) in
+    let Q : ℕ → Type 0 = λ n. IsSortedWithin less (front ++ ys) (block_begin n) n in
+    let S : ℕ → Type 0 = λ n. (k : ℕ) (d : _) → k < block_begin n → get_or (front ++ ys) k d ≡ get_or (take (length xs - 1) xs) k d in
+    in_blocks_more less (take (length xs - 1) xs) (front ++ ys) (omega (arith, len, len_rest)) (omega (arith, len))
+    (subst S (sym len) (λ k d l. get_or_append_left front ys d k (omega (arith, len_front)) ∙ get_or-take begin xs k d l ∙ sym (get_or-take (length xs - 1) xs k d (omega arith))))
+    blocks
+    (subst Q (sym len) (λ k d low high.
+    let e : (k + 1) - begin ≡ (k - begin) + 1 = omega arith in
+    ap (λ x. less x (get_or (front ++ ys) k d)) (get_or-append_right front ys begin (k + 1) d len_front (omega arith) ∙ ap (λ i. get_or ys i d) e)
+    ∙ ap (λ x. less (get_or ys (k - begin + 1) d) x) (get_or-append_right front ys begin k d len_front low)
+    ∙ up (k - begin) d (omega arith) (omega (arith, len_ys))))
+
+pub blocks_from_last : {X : Type 0} (less : X → X → Bool) (xs ys : List X) (begin : ℕ) → 0 < length xs → length xs < 2 ^ 64 → begin ≡ block_begin (length xs) → length ys ≡ length xs - begin → IsSortedBy less ys → InBlocks less (take (length xs - 1) xs) → InBlocks less (put_mid begin (length xs - begin) xs ys)
+blocks_from_last less xs ys begin some fits is len_ys up blocks =
+    let P : List _ → Type 0 = InBlocks less in
+    let R : ℕ → Type 0 = λ n. InBlocks less (take n xs ++ ys) in
+    subst P (sym (put_to_end begin xs ys)) (subst R (sym is) (blocks_joined less xs ys some fits (len_ys ∙ ap (λ n. length xs - n) is) up blocks))
+
+-- the list before one item more
+pub before_push : {X : Type 0} (less : X → X → Bool) (xs : List X) (x : X) → InBlocks less xs → InBlocks less (take (length (xs ++ x ∷ []) - 1) (xs ++ x ∷ []))
+before_push less xs x blocks =
+    let e : length xs ≡ length (xs ++ x ∷ []) - 1 = omega (arith, length_push xs x) in
+    let P : List _ → Type 0 = InBlocks less in
+    subst P (sym (take_at xs (x ∷ []) _ e)) blocks
