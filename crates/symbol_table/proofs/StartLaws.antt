@@ -384,6 +384,10 @@ marked_after symbols starts new place all at_end =
       | false ↦ λ function. marked_after_other symbols starts new all function
     ] refl
 
+pub starts_after : (symbols : List Symbol) (starts moved : List Start) (new : Symbol) (place : ℕ) → HasAllStarts symbols starts → place ≡ length symbols → IsPermutation (starts_with new place starts) moved → InBlocks start_less moved → HasAllStarts (symbols ++ new ∷ []) moved
+starts_after symbols starts moved new place all at_end more blocks =
+    record { blocks = blocks; marked = marked_moved (symbols ++ new ∷ []) (starts_with new place starts) moved more (marked_after symbols starts new place all.marked at_end) }
+
 pub marked_more : (symbols : List Symbol) (starts more : List Start) (symbol : Symbol) (place : ℕ) → place < length symbols → symbol ≡ get_or symbols place symbol → more ≡ starts_with symbol place starts → MarksFunctions (take place symbols) starts → MarksFunctions (take (place + 1) symbols) more
 marked_more symbols starts more symbol place less is_at is all =
     let len : place ≡ length (take place symbols) = sym (length-take-le place symbols (omega arith)) in
