@@ -196,7 +196,11 @@ fn only_address(alloc: Global, name: &Name, addresses: &[u32]) -> Result<u32, Re
 {
     match addresses {
         [address] => Ok(*address),
-        [low, high, ..] => Err(Refusal::TwoNames(Name::from_slice(alloc, name.as_slice())?, *low, *high)),
+        [low, high, ..] => Err(Refusal::TwoNames(
+            Name::from_slice(alloc, name.as_slice())?,
+            *low,
+            *high,
+        )),
         [] => Err(Refusal::NoSymbol(Name::from_slice(alloc, name.as_slice())?)),
     }
 }
