@@ -1,4 +1,4 @@
-use Rattle.std.proofs.Common.{◌≡◌, ◌∙◌, ◌++◌, [], ◌∷◌, arith}
+use Rattle.std.proofs.Common.{◌≡◌, ◌++◌, [], ◌∷◌, arith}
 use Rattle.symbol_table.proofs.StartLaws.{when_ok}
 use Rattle.symbol_table.proofs.NameLaws.{reached_more}
 use Rattle.symbol_table.proofs.names.list_places.Goals as goal

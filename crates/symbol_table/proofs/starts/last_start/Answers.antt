@@ -1,9 +1,8 @@
-use Rattle.std.proofs.Common.{◌≡◌, ◌≤◌, ◌∙◌, ℕ, length, drop, Option, sym, ap, subst, refl, arith}
+use Rattle.std.proofs.Common.{◌≡◌, ◌≤◌, ◌∙◌, length, drop, Option, sym, ap, subst, arith}
 use Rattle.std.specs.Prelude.{IfSome}
 use Rattle.std.proofs.lemmas.List.{drop_all}
 use Rattle.symbol_table.specs.declared.starts.Start.{Start}
 use Rattle.symbol_table.specs.Starts.{start_less, greater_start, start_below}
-use Rattle.symbol_table.specs.Blocks.{block_begin}
 use Rattle.symbol_table.proofs.BlockLaws.{block_sorted_at}
 use Rattle.symbol_table.proofs.StartLaws.{last_more, below_reaches}
 use Rattle.symbol_table.proofs.starts.last_start.Goals as goal

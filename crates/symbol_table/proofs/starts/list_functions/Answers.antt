@@ -1,5 +1,4 @@
-use Rattle.std.proofs.Common.{◌≡◌, ◌∙◌, ◌++◌, [], ◌∷◌, List, take, sym, subst, arith}
-use Rattle.symbol_table.specs.declared.symbols.Symbol.{Symbol}
+use Rattle.std.proofs.Common.{[], List, sym, subst, arith}
 use Rattle.symbol_table.specs.declared.starts.Start.{Start}
 use Rattle.symbol_table.specs.Starts.{MarksFunctions}
 use Rattle.symbol_table.proofs.StartLaws.{marked_none, marked_more}
