@@ -1,4 +1,4 @@
-use Rattle.std.proofs.Common.{◌≡◌, ℕ, nat_eq, List, [], ◌∷◌, refl, sym, subst}
+use Rattle.std.proofs.Common.{ℕ, nat_eq, List, [], ◌∷◌, refl, sym, subst}
 use Rattle.std.specs.List.{IsDistinct}
 use Rattle.symbol_table.specs.Bodies.{homes}
 use Rattle.symbol_table.proofs.tests.homes_have_their_newest_base.Goals as goal
