@@ -3,7 +3,6 @@
 #![tactic(auto)]
 
 mod front;
-mod memory;
 mod numbers;
 pub mod reading;
 mod regions;

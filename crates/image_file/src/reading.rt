@@ -1,6 +1,6 @@
 //! Reading an image from the bytes of a file.
 ghost use Rattle.std.specs.Prelude.{◌≡◌};
-ghost use Rattle.image_file.specs.Fields.{Gives};
+ghost use Rattle.ks_base.specs.Gives.{Gives};
 ghost use Rattle.image_file.specs.Reading.{image_of, Contents};
 ghost use Rattle.image_file.specs.Seen.{contents_of};
 

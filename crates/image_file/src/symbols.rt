@@ -5,7 +5,8 @@ ghost use Rattle.std.specs.List.{All, AllWithin, list_any};
 ghost use Rattle.image_memory.specs.Contents.{ArePlaced, holding, piece_range};
 ghost use Rattle.image_memory.specs.Ranges.{lies_in};
 ghost use Rattle.image_memory.specs.Access.{kind_of};
-ghost use Rattle.image_file.specs.Fields.{Gives, field, items_at};
+ghost use Rattle.ks_base.specs.Gives.{Gives};
+ghost use Rattle.image_file.specs.Fields.{field, items_at};
 ghost use Rattle.image_file.specs.Rules.{fits_region, symbol_kind_rules, binding_rules, name_length_rules, name_rules, is_zero};
 ghost use Rattle.image_file.specs.Keeps.{all_hold, keeps_symbol};
 ghost use Rattle.image_file.specs.Reading.{name_at, symbol_among, symbol_at, symbol_width};
@@ -47,7 +48,7 @@ pub(crate) fn symbols_of(
     for _ in 0..count {
         let symbol = symbol_of(alloc, bytes, pieces, offset)?;
         offset += 16 + symbol.name.len() as u32;
-        symbols.reserve(1).map_err(|_| Refusal::Memory)?;
+        symbols.reserve(1)?;
         symbols.add(symbol);
     }
     Ok((symbols, offset))
@@ -180,5 +181,5 @@ fn name_of(alloc: Global, bytes: &[u8], offset: u32, count: u32) -> Result<Name,
     if has_zero(name) {
         return Err(Refusal::BadImage(offset, ImageFault::Name));
     }
-    Name::from_slice(alloc, name).map_err(|_| Refusal::Memory)
+    Ok(Name::from_slice(alloc, name)?)
 }
