@@ -1,3 +1,6 @@
 pub mod Items
 pub mod Ends
 pub mod Spelled
+pub mod Stands
+pub mod Again
+pub mod Whole

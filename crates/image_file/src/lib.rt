@@ -3,6 +3,7 @@
 #![tactic(auto)]
 
 mod front;
+pub mod laws;
 mod numbers;
 pub mod reading;
 mod regions;
