@@ -4,3 +4,6 @@ pub mod Spelled
 pub mod Stands
 pub mod Again
 pub mod Whole
+pub mod Takes
+pub mod Back
+pub mod Whole_back

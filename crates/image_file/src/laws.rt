@@ -1,5 +1,5 @@
 //! What holds of every image and its spelling.
-ghost use Rattle.std.specs.Prelude.{◌≡◌, ◌<◌, ◌^◌, Ok, Some, true};
+ghost use Rattle.std.specs.Prelude.{◌≡◌, ◌<◌, ◌^◌, ℕ, List, Ok, Some, true, slice_index};
 ghost use Rattle.std.specs.List.{All};
 ghost use Rattle.std.specs.Option.{option_map};
 ghost use Rattle.image_memory.specs.declared.types.Kind.TheVariants.{Code};
@@ -15,6 +15,12 @@ use crate::types::Image;
 /// Reading the spelling of what keeps the rules of an image gives that again.
 pub fn spelling_is_read()
     ensures { (image : Contents) → Keeps image → image_of (spelling image) ≡ Ok image }
+{}
+
+/// What is read as an image is the spelling of that image, and so no other bytes are read as it.
+pub fn read_is_spelled()
+    ensures { (bytes : List ℕ) (image : Contents) → ((i : ℕ) → slice_index bytes i < 256) →
+        image_of bytes ≡ Ok image → spelling image ≡ bytes }
 {}
 
 /// An image keeps the rules.
