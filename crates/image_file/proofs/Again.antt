@@ -55,11 +55,13 @@ region_read bytes arena floor total offset piece rest kept above small s =
     let s4 = behind bytes offset (number k) (number piece.base ++ (number n ++ (piece.bytes ++ rest))) (offset + 4) refl s0 in
     let s8 = behind bytes (offset + 4) (number piece.base) (number n ++ (piece.bytes ++ rest)) (offset + 8) (omega arith) s4 in
     let s12 = behind bytes (offset + 8) (number n) (piece.bytes ++ rest) (offset + 12) (omega arith) s8 in
-    rw (field_read bytes offset region_kind_rules k (number piece.base ++ (number n ++ (piece.bytes ++ rest))) (kind_small piece.kind) (kind_holds piece.kind) s0,
-        field_read bytes (offset + 4) base_rules piece.base (number n ++ (piece.bytes ++ rest)) (omega arith) p.0 s4,
-        field_read bytes (offset + 8) (length_rules arena floor total piece.base) n (piece.bytes ++ rest) (omega arith) fits.0 s8,
-        content_read bytes (offset + 12) piece.bytes rest n refl s12,
-        kind_again piece.kind) refl
+    rw (
+      field_read bytes offset region_kind_rules k (number piece.base ++ (number n ++ (piece.bytes ++ rest))) (kind_small piece.kind) (kind_holds piece.kind) s0,
+      field_read bytes (offset + 4) base_rules piece.base (number n ++ (piece.bytes ++ rest)) (omega arith) p.0 s4,
+      field_read bytes (offset + 8) (length_rules arena floor total piece.base) n (piece.bytes ++ rest) (omega arith) fits.0 s8,
+      content_read bytes (offset + 12) piece.bytes rest n refl s12,
+      kind_again piece.kind,
+    ) refl
 
 -- ---- symbols
 
@@ -131,13 +133,16 @@ symbol_read bytes pieces offset symbol rest below kept s =
     let s8 = behind bytes (offset + 4) (number k) (number g ++ (number n ++ (symbol.name ++ rest))) (offset + 8) (omega arith) s4 in
     let s12 = behind bytes (offset + 8) (number g) (number n ++ (symbol.name ++ rest)) (offset + 12) (omega arith) s8 in
     let s16 = behind bytes (offset + 12) (number n) (symbol.name ++ rest) (offset + 16) (omega arith) s12 in
-    rw (field_read bytes offset no_rules symbol.address (number k ++ (number g ++ (number n ++ (symbol.name ++ rest)))) (omega arith) refl s0,
-        field_read bytes (offset + 4) (symbol_kind_rules pieces symbol.address) k (number g ++ (number n ++ (symbol.name ++ rest))) (function_small symbol.function) q.0 s4,
-        field_read bytes (offset + 8) binding_rules g (number n ++ (symbol.name ++ rest)) (global_small symbol.global) (global_holds symbol.global) s8,
-        field_read bytes (offset + 12) name_length_rules n (symbol.name ++ rest) (omega arith) q.1 s12,
-        content_read bytes (offset + 16) symbol.name rest n refl s16,
-        all_read (offset + 16) (name_rules symbol.name) symbol.name p.1,
-        function_again symbol.function, global_again symbol.global) refl
+    rw (
+      field_read bytes offset no_rules symbol.address (number k ++ (number g ++ (number n ++ (symbol.name ++ rest)))) (omega arith) refl s0,
+      field_read bytes (offset + 4) (symbol_kind_rules pieces symbol.address) k (number g ++ (number n ++ (symbol.name ++ rest))) (function_small symbol.function) q.0 s4,
+      field_read bytes (offset + 8) binding_rules g (number n ++ (symbol.name ++ rest)) (global_small symbol.global) (global_holds symbol.global) s8,
+      field_read bytes (offset + 12) name_length_rules n (symbol.name ++ rest) (omega arith) q.1 s12,
+      content_read bytes (offset + 16) symbol.name rest n refl s16,
+      all_read (offset + 16) (name_rules symbol.name) symbol.name p.1,
+      function_again symbol.function,
+      global_again symbol.global,
+    ) refl
 
 -- ---- stacks
 
@@ -157,5 +162,7 @@ stack_read bytes arena pieces floor total offset stack rest kept above small s =
     let up = fits.2 in
     let s0 : Stands bytes offset (number stack.low ++ (number stack.high ++ rest)) = s in
     let s4 = behind bytes offset (number stack.low) (number stack.high ++ rest) (offset + 4) refl s0 in
-    rw (field_read bytes offset stack_low_rules stack.low (number stack.high ++ rest) (omega arith) p.0 s0,
-        field_read bytes (offset + 4) (stack_high_rules arena pieces floor total stack.low) stack.high rest (omega arith) fits.0 s4) refl
+    rw (
+      field_read bytes offset stack_low_rules stack.low (number stack.high ++ rest) (omega arith) p.0 s0,
+      field_read bytes (offset + 4) (stack_high_rules arena pieces floor total stack.low) stack.high rest (omega arith) fits.0 s4,
+    ) refl

@@ -48,12 +48,14 @@ header_read bytes image rest keeps s =
     let s12 = behind bytes 8 (number (length image.symbols)) t12 12 refl s8 in
     let s16 = behind bytes 12 (number (length image.stacks)) t16 16 refl s12 in
     let s20 = behind bytes 16 (number a.low) t20 20 refl s16 in
-    rw (field_read bytes 0 magic_rules 0x314D_494B t4 (omega arith) refl s0,
-        field_read bytes 4 (count_rules 1024) (length image.pieces) t8 (omega arith) (count_holds 1024 (length image.pieces) few_regions) s4,
-        field_read bytes 8 (count_rules 65536) (length image.symbols) t12 (omega arith) (count_holds 65536 (length image.symbols) few_symbols) s8,
-        field_read bytes 12 (count_rules 64) (length image.stacks) t16 (omega arith) (count_holds 64 (length image.stacks) few_stacks) s12,
-        field_read bytes 16 arena_low_rules a.low t20 (omega arith) p.0 s16,
-        field_read bytes 20 (arena_high_rules a.low) a.high rest fits p.1 s20) refl
+    rw (
+      field_read bytes 0 magic_rules 0x314D_494B t4 (omega arith) refl s0,
+      field_read bytes 4 (count_rules 1024) (length image.pieces) t8 (omega arith) (count_holds 1024 (length image.pieces) few_regions) s4,
+      field_read bytes 8 (count_rules 65536) (length image.symbols) t12 (omega arith) (count_holds 65536 (length image.symbols) few_symbols) s8,
+      field_read bytes 12 (count_rules 64) (length image.stacks) t16 (omega arith) (count_holds 64 (length image.stacks) few_stacks) s12,
+      field_read bytes 16 arena_low_rules a.low t20 (omega arith) p.0 s16,
+      field_read bytes 20 (arena_high_rules a.low) a.high rest fits p.1 s20,
+    ) refl
 
 region_wide : (piece : Piece) → length (region_spelling piece) ≡ region_width piece
 unfolding region_spelling
@@ -137,8 +139,10 @@ image_read image keeps =
     let e3 = e2 + length t in
     let from4 : Stands bytes e3 [] = behind bytes e2 t [] e3 refl from3 in
     let whole : leb (length bytes) e3 ≡ true = le-leb (length bytes) e3 (let p = from4.place in omega arith) in
-    rw (header_read bytes image (r ++ (s ++ (t ++ []))) keeps from0,
-        regions_read bytes image e1 (s ++ (t ++ [])) keeps refl from1,
-        symbols_read bytes image e1 e2 (t ++ []) keeps refl from2,
-        stacks_read bytes image e2 e3 [] keeps refl from3,
-        whole) refl
+    rw (
+      header_read bytes image (r ++ (s ++ (t ++ []))) keeps from0,
+      regions_read bytes image e1 (s ++ (t ++ [])) keeps refl from1,
+      symbols_read bytes image e1 e2 (t ++ []) keeps refl from2,
+      stacks_read bytes image e2 e3 [] keeps refl from3,
+      whole,
+    ) refl

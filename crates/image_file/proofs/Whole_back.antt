@@ -90,7 +90,7 @@ unfolding image_of
 image_back bytes image fits e =
     let Q : Type 0 = spelling image ≡ bytes in
     let made = λ (header : Header) (regions : List Piece × ℕ) (symbols : List Symbol × ℕ) (stacks : List Range × ℕ).
-      let c : Contents = record { pieces = regions.0; symbols = symbols.0; stacks = stacks.0; arena = header.arena } in c in
+    let c : Contents = record { pieces = regions.0; symbols = symbols.0; stacks = stacks.0; arena = header.arena } in c in
     let last = λ (end : ℕ). let rules : List Rule = (leb (length bytes) end orElse faults.Trailing) ∷ [] in rules in
     let k4 = λ (header : Header) (regions : List Piece × ℕ) (symbols : List Symbol × ℕ) (stacks : List Range × ℕ). checked stacks.1 (last stacks.1) (made header regions symbols stacks) in
     let k3 = λ (header : Header) (regions : List Piece × ℕ) (symbols : List Symbol × ℕ). items_at header.stacks (stack_at bytes header.arena regions.0) stack_width [] symbols.1 >>= k4 header regions symbols in
