@@ -1,8 +1,8 @@
 -- Each part of an image is read where its spelling stands.
-use Rattle.std.proofs.Common.{◌≡◌, ℕ, ◌+◌, ◌-◌, ◌^◌, ◌<◌, ◌≤◌, Bool, true, false, cond, leb, eqb, List, [], ◌∷◌, ◌++◌, length, ◌⊎◌, inl, inr, Some, None, Ok, refl, arith, IsTrue, ◌&&◌}
+use Rattle.std.proofs.Common.{◌≡◌, ℕ, ◌+◌, ◌-◌, ◌^◌, ◌<◌, ◌≤◌, Bool, true, false, cond, leb, eqb, List, [], ◌∷◌, ◌++◌, length, ◌⊎◌, inl, inr, None, Ok, refl, arith, ◌&&◌}
 use Rattle.std.specs.Option.{option_map}
-use Rattle.std.specs.List.{All, find}
-use Rattle.std.proofs.lemmas.Bool.{and_parts, and_from, cases_Bool, ltb-true, leb-true, le-leb}
+use Rattle.std.specs.List.{All}
+use Rattle.std.proofs.lemmas.Bool.{and_parts, cases_Bool}
 use Rattle.std.proofs.lemmas.Bool.Decides.{nat_tests}
 use Rattle.std.proofs.lemmas.List.Elements.{All-head, All-tail}
 use Rattle.ks_base.specs.declared.places.Range.{Range}
@@ -13,9 +13,8 @@ use Rattle.image_memory.specs.Contents.{holding, piece_range}
 use Rattle.image_memory.specs.Ranges.{lies_in}
 use Rattle.image_memory.specs.Access.{kind_of}
 use Rattle.symbol_table.specs.declared.symbols.Symbol.{Symbol}
-use Rattle.image_file.specs.Fields.{content_at}
-use Rattle.image_file.specs.Rules.{arena_low_rules, arena_high_rules, region_kind_rules, region_kind, base_rules, length_rules, fits_region, no_rules, symbol_kind_rules, binding_rules, name_length_rules, name_rules, stack_low_rules, stack_high_rules}
-use Rattle.image_file.specs.Keeps.{all_hold, keeps_arena, keeps_region, symbol_kind, keeps_symbol, keeps_stack}
+use Rattle.image_file.specs.Rules.{region_kind_rules, region_kind, base_rules, length_rules, fits_region, no_rules, symbol_kind_rules, binding_rules, name_length_rules, name_rules, stack_low_rules, stack_high_rules}
+use Rattle.image_file.specs.Keeps.{all_hold, keeps_region, symbol_kind, keeps_symbol, keeps_stack}
 use Rattle.image_file.specs.Reading.{region_after, symbol_among, stack_after}
 use Rattle.image_file.specs.Spelling.{number, kind_number, region_spelling, symbol_spelling, stack_spelling}
 use Rattle.image_file.proofs.Stands.{Stands, behind, content_read, all_read, field_read}
@@ -121,8 +120,8 @@ pub symbol_read : (bytes : List ℕ) (pieces : List Piece) (offset : ℕ) (symbo
 unfolding symbol_among symbol_spelling
 symbol_read bytes pieces offset symbol rest below kept s =
     let n = length symbol.name in
-    let k = symbol_kind symbol in
-    let g = cond symbol.global 1 0 in
+    let k : ℕ = symbol_kind symbol in
+    let g : ℕ = cond symbol.global 1 0 in
     let p = and_parts (all_hold (symbol_kind_rules pieces symbol.address k) && all_hold (name_length_rules n)) (all_hold (name_rules symbol.name)) kept in
     let q = and_parts (all_hold (symbol_kind_rules pieces symbol.address k)) (all_hold (name_length_rules n)) p.0 in
     let fits : fits_region k (option_map kind_of (holding pieces symbol.address)) ≡ true = lies_well pieces symbol.address k q.0 in

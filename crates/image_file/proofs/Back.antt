@@ -1,15 +1,12 @@
 -- Each part of an image that is read is spelled by the bytes that were read.
-use Rattle.std.proofs.Common.{◌≡◌, ℕ, zero, suc, ◌+◌, ◌-◌, ◌^◌, ◌<◌, ◌≤◌, Bool, true, false, cond, leb, eqb, List, [], ◌∷◌, ◌++◌, length, drop, Result, Ok, refl, sym, ap, subst, ◌∙◌, append_assoc, length-append, arith}
-use Rattle.std.specs.List.{flat_map}
-use Rattle.std.proofs.lemmas.Bool.{and_parts, leb-true}
+use Rattle.std.proofs.Common.{◌≡◌, ℕ, zero, suc, ◌+◌, true, cond, eqb, List, ◌++◌, length, Result, Ok, refl, sym, subst, arith}
 use Rattle.std.proofs.lemmas.Bool.Decides.{nat_tests}
-use Rattle.std.proofs.lemmas.List.{append-nil, drop_all}
 use Rattle.ks_base.specs.declared.places.Range.{Range}
 use Rattle.ks_base.specs.declared.refusals.Refusal.{Refusal}
 use Rattle.image_memory.specs.declared.types.Piece.{Piece}
 use Rattle.symbol_table.specs.declared.symbols.Symbol.{Symbol}
-use Rattle.image_file.specs.Fields.{◌>>=◌, checked, content_at, field, items_at}
-use Rattle.image_file.specs.Rules.{magic_rules, count_rules, arena_low_rules, arena_high_rules, region_kind_rules, region_kind, base_rules, length_rules, no_rules, symbol_kind_rules, binding_rules, name_length_rules, name_rules, stack_low_rules, stack_high_rules}
+use Rattle.image_file.specs.Fields.{◌>>=◌, checked, content_at, field}
+use Rattle.image_file.specs.Rules.{region_kind_rules, region_kind, base_rules, length_rules, no_rules, symbol_kind_rules, binding_rules, name_length_rules, name_rules, stack_low_rules, stack_high_rules}
 use Rattle.image_file.specs.Keeps.{all_hold}
 use Rattle.image_file.specs.Reading.{region_after, name_at, symbol_among, stack_after}
 use Rattle.image_file.specs.Spelling.{number, kind_number, region_spelling, symbol_spelling, stack_spelling}

@@ -1,5 +1,5 @@
 -- The spelling of an image is read as that image.
-use Rattle.std.proofs.Common.{◌≡◌, ℕ, ◌+◌, ◌-◌, ◌^◌, ◌<◌, ◌≤◌, true, leb, List, [], ◌∷◌, ◌++◌, length, Ok, refl, sym, ap, subst, ◌∙◌, append_assoc, length-append, arith, IsTrue}
+use Rattle.std.proofs.Common.{◌≡◌, ℕ, ◌+◌, ◌≤◌, true, leb, List, [], ◌∷◌, ◌++◌, length, Ok, refl, subst, append_assoc, arith, IsTrue}
 use Rattle.std.specs.List.{flat_map}
 use Rattle.std.proofs.lemmas.Bool.{and_parts, le-leb}
 use Rattle.std.proofs.lemmas.Bool.Decides.{nat_tests}
@@ -11,7 +11,7 @@ use Rattle.symbol_table.specs.declared.symbols.Symbol.{Symbol}
 use Rattle.image_file.specs.declared.front.Header.{Header}
 use Rattle.image_file.specs.Fields.{items_at}
 use Rattle.image_file.specs.Rules.{own_range, end_of, total_of, magic_rules, count_rules, arena_low_rules, arena_high_rules}
-use Rattle.image_file.specs.Keeps.{all_hold, keeps_arena, keeps_region, keeps_symbol, keeps_stack, Keeps}
+use Rattle.image_file.specs.Keeps.{all_hold, keeps_region, keeps_symbol, keeps_stack, Keeps}
 use Rattle.image_file.specs.Reading.{Contents, header_at, region_at, region_width, symbol_at, symbol_width, stack_at, stack_width, image_of}
 use Rattle.image_file.specs.Spelling.{number, region_spelling, symbol_spelling, stack_spelling, header_spelling, spelling}
 use Rattle.image_file.proofs.Ends.{ends_below, total_below, All_here}

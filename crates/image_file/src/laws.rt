@@ -33,9 +33,7 @@ pub fn image_keeps_rules(image: &Image)
 // A number of 32 bits is below 2^32.
 fn fits(number: u32)
     ensures { number < 2 ^ 32 }
-{
-    let _ = number;
-}
+{}
 
 /// What an image is written as is read as that image again.
 pub fn written_is_read(image: &Image)

@@ -6,6 +6,7 @@ ghost use Rattle.image_file.specs.Spelling.{number, kind_number, region_spelling
 ghost use Rattle.image_file.specs.Reading.{image_of};
 ghost use Rattle.image_file.specs.Seen.{contents_of};
 
+use crate::laws::written_is_read;
 use crate::types::Image;
 use image_memory::{Kind, Piece};
 use ks_base::{Bytes, Range};
@@ -22,6 +23,7 @@ pub fn write_image(alloc: Global, image: &Image) -> Result<Bytes, AllocError>
     ensures exact { IfOk result (λ bytes. bytes ≡ spelling (contents_of image.now)) }
     ensures read_again { IfOk result (λ bytes. image_of bytes ≡ Ok (contents_of image.now)) }
 {
+    written_is_read(image);
     let mut out = Vec::new(alloc);
     put_header(&mut out, image)?;
     put_regions(&mut out, image.pieces.as_slice())?;
