@@ -2,8 +2,8 @@ pub mod Items
 pub mod Ends
 pub mod Spelled
 pub mod Stands
-pub mod Again
-pub mod Whole
+pub mod PartsRead
+pub mod ImageRead
 pub mod Takes
-pub mod Back
-pub mod Whole_back
+pub mod PartsSpelled
+pub mod ImageSpelled

@@ -23,6 +23,7 @@ pub fn write_image(alloc: Global, image: &Image) -> Result<Bytes, AllocError>
     ensures exact { IfOk result (λ bytes. bytes ≡ spelling (contents_of image.now)) }
     ensures read_again { IfOk result (λ bytes. image_of bytes ≡ Ok (contents_of image.now)) }
 {
+    // the law that `read_again` stands on
     written_is_read(image);
     let mut out = Vec::new(alloc);
     put_header(&mut out, image)?;

@@ -1,4 +1,4 @@
-use Rattle.image_file.proofs.Whole.{image_read}
+use Rattle.image_file.proofs.ImageRead.{image_read}
 use Rattle.image_file.proofs.laws.spelling_is_read.Goals as goal
 
 pub returns : goal.returns

@@ -1,5 +1,5 @@
 use Rattle.image_file.specs.Seen.{contents_of}
-use Rattle.image_file.proofs.Whole.{image_read}
+use Rattle.image_file.proofs.ImageRead.{image_read}
 use Rattle.image_file.proofs.laws.written_is_read.Goals as goal
 
 pub returns : goal.returns

@@ -1,6 +1,6 @@
 use Rattle.std.proofs.Common.{◌≡◌, Ok, rules, sym, arith}
 use Rattle.image_file.specs.Reading.{Contents, image_of}
-use Rattle.image_file.proofs.Whole_back.{image_back}
+use Rattle.image_file.proofs.ImageSpelled.{image_back}
 use Rattle.image_file.proofs.reading.read_image.Goals as goal
 
 pub returns-clause-spelled : goal.returns-clause-spelled

@@ -16,7 +16,7 @@ use Rattle.image_file.specs.Reading.{Contents, header_at, region_at, region_widt
 use Rattle.image_file.specs.Spelling.{number, region_spelling, symbol_spelling, stack_spelling, header_spelling, spelling}
 use Rattle.image_file.proofs.Ends.{ends_below, total_below, All_here}
 use Rattle.image_file.proofs.Stands.{Stands, behind, field_read, items_read}
-use Rattle.image_file.proofs.Again.{region_read, symbol_read, stack_read}
+use Rattle.image_file.proofs.PartsRead.{region_read, symbol_read, stack_read}
 
 count_holds : (limit n : ℕ) → n ≤ limit → all_hold (count_rules limit n) ≡ true
 count_holds limit n h = grind (arith, nat_tests)

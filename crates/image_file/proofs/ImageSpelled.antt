@@ -15,7 +15,7 @@ use Rattle.image_file.specs.Keeps.{all_hold}
 use Rattle.image_file.specs.Reading.{Contents, header_at, region_at, region_width, symbol_at, symbol_width, stack_at, stack_width, image_of}
 use Rattle.image_file.specs.Spelling.{number, region_spelling, symbol_spelling, stack_spelling, header_spelling, spelling}
 use Rattle.image_file.proofs.Takes.{IsBytes, after_bind, ok_is, Takes, Takes-then, AreTaken, all_kept, field_taken, items_taken}
-use Rattle.image_file.proofs.Back.{region_back, symbol_back, stack_back}
+use Rattle.image_file.proofs.PartsSpelled.{region_back, symbol_back, stack_back}
 
 abbrev header_text : Header → List ℕ
 header_text h = number 0x314D_494B ++ number h.regions ++ number h.symbols ++ number h.stacks ++ number h.arena.low ++ number h.arena.high
