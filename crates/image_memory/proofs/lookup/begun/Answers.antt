@@ -4,13 +4,13 @@ use Rattle.std.proofs.lemmas.List.Sorted.{IsPartitionPoint-from_clause, IsPartit
 use Rattle.image_memory.specs.Contents.{piece_range}
 use Rattle.image_memory.specs.declared.types.Piece.{Piece}
 use Rattle.image_memory.proofs.RangeLaws.{lows_rise}
-use Rattle.image_file.proofs.symbols.begun.Goals as goal
+use Rattle.image_memory.proofs.lookup.begun.Goals as goal
 
 pub returns : goal.returns
 returns c =
     let pieces = c.args.pieces.now in
     let rise = IsPartitionedBy-leb (λ (piece : Piece). piece.base) pieces c.args.address
-    (lows_rise piece_range 0 pieces c.requires.ascend) in
+    (lows_rise piece_range 0 pieces c.requires) in
     let at = IsPartitionPoint-from_clause (λ piece. leb piece.base c.args.address) pieces
     c.partition_point.result c.partition_point.ensures.partitioned rise (λ a r f' k. search rules) in
     record {
