@@ -4,6 +4,7 @@ ghost use Rattle.image_memory.specs.Fetch.{view_at, Unmapped, Bytes};
 ghost use Rattle.code_listing.specs.Lines.{instruction_line};
 ghost use Rattle.code_listing.specs.Listing.{instruction_in, listing, remaining};
 
+use crate::laws::lines_follow_one_another;
 use crate::lines::{put_end, put_instruction, put_undecoded};
 use ia32_decode::{Decoded, decode};
 use image_memory::{FlatSpace, Space, Window};
@@ -110,6 +111,7 @@ impl Code {
             ≡ page.new ++ remaining self.now.contents self.now.end next) }
         ensures grows { IfOk result (λ _. length page.old < length page.new) }
     {
+        lines_follow_one_another();
         if self.end <= address {
             put_end(page, address)?;
             return Ok(None);

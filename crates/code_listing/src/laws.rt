@@ -6,6 +6,8 @@ ghost use Rattle.ia32_decode.specs.declared.types.Decoded.{Decoded};
 ghost use Rattle.code_listing.specs.Lines.{end_line};
 ghost use Rattle.code_listing.specs.Listing.{instruction_in, lines_by, listing};
 
+use ia32_decode::instructions_have_bytes;
+
 /// Below its end a listing is the line of the instruction at its address and then the listing from behind that
 /// instruction on, or the one line that says that no instruction stands there; at its end, or behind it, it is its last
 /// line. Each instruction has at least one byte, and so the number of lines that the definition allows never cuts a listing
@@ -17,4 +19,6 @@ pub fn lines_follow_one_another()
         ≡ end_line address }
     ensures some_bytes { (view : View) (decoded : Decoded) (bytes : List ℕ) → instruction_in view ≡ Some (decoded, bytes)
         → 0 < decoded.length }
-{}
+{
+    instructions_have_bytes();
+}

@@ -1,6 +1,7 @@
 -- How the bytes of an instruction are laid out: prefixes, opcode, ModRM byte, SIB byte, displacement and immediate
--- (Intel SDM volume 2, sections 2.1.1 to 2.1.5). A byte past the end of the window counts as 0: an instruction that
--- reads one is longer than the window, and so isn't decoded.
+-- (Intel SDM volume 2, sections 2.1.1 to 2.1.5). A byte past the end of the window counts as 0, so that each part is
+-- defined at every window. An instruction with such a byte is longer than the window, and so isn't decoded; a byte
+-- behind an instruction, as the one after a ModRM byte that has no SIB byte, counts for nothing.
 use Rattle.std.specs.Prelude.{ℕ, ◌+◌, ◌*◌, ◌/◌, ◌%◌, Bool, true, false, ◌&&◌, ◌||◌, not, List, [], ◌∷◌, Option, Some, None, take, length, unwrap_or, nat_lt, ◌==◌, if◌then◌else◌}
 use Rattle.std.specs.List.{list_any, slice_index_or, position}
 use Rattle.ia32_decode.specs.declared.types.Register.{Register}

@@ -13,7 +13,7 @@ use Rattle.ia32_decode.specs.declared.types.Instr.{Instr}
 use Rattle.ia32_decode.specs.declared.types.Instr.TheVariants.{Nop, NopOperand, Move, LoadAddress}
 use Rattle.ia32_decode.specs.declared.types.Decoded.{Decoded}
 
--- no prefix but 66, 2E and 3E
+-- whether there is a prefix other than 66, 2E and 3E
 abbrev pub has_others : Prefixes → Bool
 has_others p = p.lock || p.repeat_not_equal || p.repeat || p.extra_segment || p.stack_segment || p.segment_f || p.segment_g
 

@@ -1,5 +1,5 @@
 //! What holds of decoding at every window.
-ghost use Rattle.std.specs.Prelude.{◌≡◌, ◌<◌, ℕ, List, Some, take};
+ghost use Rattle.std.specs.Prelude.{◌≡◌, ◌≤◌, ◌<◌, ℕ, List, Some, length, take};
 ghost use Rattle.ia32_decode.specs.declared.types.Decoded.{Decoded};
 ghost use Rattle.ia32_decode.specs.Encoding.{byte_in};
 ghost use Rattle.ia32_decode.specs.Decode.{decoded_from, Spells};
@@ -8,6 +8,14 @@ ghost use Rattle.ia32_decode.specs.Decode.{decoded_from, Spells};
 pub fn decoding_rests_on_its_bytes()
     ensures { (window other : List ℕ) (decoded : Decoded) → decoded_from window ≡ Some decoded →
         take decoded.length other ≡ take decoded.length window → decoded_from other ≡ Some decoded }
+{}
+
+/// An instruction has at least one byte, at most 15, and no more than the window it is decoded from.
+pub fn instructions_have_bytes()
+    ensures some { (window : List ℕ) (decoded : Decoded) → decoded_from window ≡ Some decoded → 0 < decoded.length }
+    ensures short { (window : List ℕ) (decoded : Decoded) → decoded_from window ≡ Some decoded → decoded.length ≤ 15 }
+    ensures within { (window : List ℕ) (decoded : Decoded) → decoded_from window ≡ Some decoded →
+        decoded.length ≤ length window }
 {}
 
 /// At most one line of the opcode table spells a front of a window, and so one instruction stands there.

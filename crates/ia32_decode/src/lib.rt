@@ -16,7 +16,7 @@ mod registers;
 mod types;
 
 pub use decoder::decode;
-pub use laws::{decoding_rests_on_its_bytes, one_line_spells};
+pub use laws::{decoding_rests_on_its_bytes, instructions_have_bytes, one_line_spells};
 pub use padding_forms::is_padding;
 pub use types::{
     Arithmetic, Condition, Counting, Decoded, Field, Fields, Index, Instr, Memory, Operand,

@@ -2,7 +2,7 @@ use Rattle.std.proofs.Common.{◌+◌, ◌≤◌, ◌<◌, ◌++◌, ap, sym, �
 use Rattle.code_listing.specs.Extent.{Extent}
 use Rattle.code_listing.specs.Lines.{instruction_line}
 use Rattle.code_listing.specs.Listing.{lines_by, listing}
-use Rattle.code_listing.proofs.ListingLaws.{below_end, at_end, last_line, first_line}
+use Rattle.code_listing.proofs.ListingLaws.{last_line, first_line}
 use Rattle.code_listing.proofs.code.Code.put_line.Goals as goal
 
 pub returns-then-self-address-clause-lines : goal.returns-then-self-address-clause-lines
@@ -10,7 +10,7 @@ returns-then-self-address-clause-lines c =
     let code = c.args.self.now in
     let same = ap (λ (e : Extent). e.end) c.self.view_is in
     let above : code.end ≤ c.args.address = omega (arith, c.if-self-address.true) in
-    last_line _ _ _ _ c.in_ok-put_end.ensures.line (at_end code.contents code.end c.args.address above)
+    last_line _ _ _ _ c.in_ok-put_end.ensures.line (c.lines_follow_one_another.ensures.end code.contents code.end c.args.address above)
 
 pub returns-in_default-clause-lines : goal.returns-in_default-clause-lines
 returns-in_default-clause-lines c =
@@ -18,7 +18,7 @@ returns-in_default-clause-lines c =
     let same = ap (λ (e : Extent). e.end) c.self.view_is in
     let below : c.args.address < code.end = omega (arith, c.if-self-address.false) in
     let none = ap (λ o. lines_by c.args.address o (listing code.contents code.end)) (sym c.in_default.ensures) in
-    last_line _ _ _ _ c.in_ok-put_undecoded.ensures.line (below_end code.contents code.end c.args.address below ∙ none)
+    last_line _ _ _ _ c.in_ok-put_undecoded.ensures.line (c.lines_follow_one_another.ensures.below code.contents code.end c.args.address below ∙ none)
 
 pub returns-clause-lines : goal.returns-clause-lines
 returns-clause-lines c =
@@ -28,4 +28,4 @@ returns-clause-lines c =
     let some = ap (λ o. lines_by c.args.address o (listing code.contents code.end)) (sym c.in-Some.ensures) in
     let instruction = c.in-Some.instruction in
     let next = ap (λ n. instruction_line c.args.address instruction.0 instruction.1 ++ listing code.contents code.end (c.args.address + n)) (sym c.length.ensures.length) in
-    first_line _ _ _ _ _ c.in_ok-put.ensures.line (below_end code.contents code.end c.args.address below ∙ some ∙ next)
+    first_line _ _ _ _ _ c.in_ok-put.ensures.line (c.lines_follow_one_another.ensures.below code.contents code.end c.args.address below ∙ some ∙ next)
