@@ -1,28 +1,27 @@
 -- What the search for broken references tells.
-use Rattle.std.proofs.Common.{◌≡◌, ◌⊎◌, inl, inr, ℕ, zero, suc, ◌+◌, ◌<◌, Bool, true, false, not, ◌&&◌, ◌||◌, List, [], ◌∷◌, length, map, Option, Some, None, refl, sym, ap, subst, ◌∙◌, arith, All}
-use Rattle.std.specs.List.{slice_get, position}
-use Rattle.std.proofs.lemmas.Bool.{cases_Bool, and_parts, and_from, or_cases, or_left, or_right}
+use Rattle.std.proofs.Common.{◌≡◌, ◌⊎◌, inl, inr, ℕ, Bool, true, false, not, ◌&&◌, List, length, Option, Some, None, refl, sym, ap, subst, ◌∙◌}
+use Rattle.std.specs.List.{slice_get}
+use Rattle.std.proofs.lemmas.Bool.{and_parts, and_from, or_cases, or_left, or_right}
 use Rattle.std.proofs.lemmas.List.{length-map}
 use Rattle.std.proofs.lemmas.Option.{slice_get_within}
 use Rattle.reachability.specs.Reached.{Tells}
 use Rattle.i386_reloc.specs.declared.types.Ref.{Ref}
-use Rattle.i386_reloc.specs.declared.types.Target.{Target}
 use Rattle.i386_reloc.specs.declared.types.NormalSection.{NormalSection}
 use Rattle.i386_reloc.specs.Classes.{is_code_class}
 use Rattle.i386_reloc.specs.Normal.{section_named}
-use Rattle.extract_post.specs.Reaches.{is_read_only_class, is_data_class, is_in, goes_to, goes_to_target, is_interior, Reaches}
-use Rattle.extract_post.specs.Members.{is_there, is_in_both, is_new_data, Member, IsChanged, IsAdded, IsDropped}
-use Rattle.extract_post.specs.Extract.{IsFirst, NoneIs, places, IsDataOf, IsBroken}
+use Rattle.extract_post.specs.Reaches.{is_read_only_class, is_data_class, is_in, goes_to, goes_to_target, is_interior}
+use Rattle.extract_post.specs.Members.{is_there, is_in_both, is_new_data, Member, IsChanged}
+use Rattle.extract_post.specs.Extract.{NoneIs, IsDataOf, IsBroken}
 use Rattle.extract_post.specs.Extract.IsDataOf.{Itself, Reached}
 use Rattle.extract_post.specs.Extract.IsBroken.{OldData, NewData}
 use Rattle.extract_post.specs.Closures.{HasDistinctNames, SeedReaches}
 use Rattle.extract_post.specs.Edges.{place_of_target}
 use Rattle.extract_post.specs.Found.{FirstBroken, Broken}
-use Rattle.extract_post.specs.Marks.{marked, Marks, tests, TellDataOf, TellMembers, AreBoth, AreApart, ArePart, Stays, breaks_at, breaks, breaks_in, NoBreakBelow, FirstBreak}
-use Rattle.extract_post.proofs.Links.{option_cases, named_at, section_found, target_of_place, place_of_goes}
+use Rattle.extract_post.specs.Marks.{marked, Marks, tests, TellDataOf, AreBoth, AreApart, Stays, breaks_at, breaks, breaks_in, NoBreakBelow, FirstBreak}
+use Rattle.extract_post.proofs.Links.{option_cases, section_found, target_of_place, place_of_goes}
 use Rattle.extract_post.proofs.Tells.{tells_through}
 use Rattle.extract_post.proofs.ChangeLaws.{tells_true, true_tells}
-use Rattle.extract_post.proofs.MarkLaws.{tells_test, tells_and, tells_or, tests_at}
+use Rattle.extract_post.proofs.MarkLaws.{tells_test, tells_and, tests_at}
 use Rattle.extract_post.proofs.Firsts.{first_of_test, none_of_test, none_placed, first_placed}
 
 pub tells_both_ways : (P : Type 0) (b : Bool) → (b ≡ true → P) → (P → b ≡ true) → Tells b P

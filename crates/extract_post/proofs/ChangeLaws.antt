@@ -1,8 +1,8 @@
 -- What marks tell of sections that are other than in the first object.
-use Rattle.std.proofs.Common.{◌≡◌, ◌⊎◌, inl, inr, ℕ, zero, suc, ◌+◌, ◌-◌, ◌*◌, ◌<◌, ◌≤◌, nat_le, Bool, true, false, not, ◌&&◌, ◌||◌, List, [], ◌∷◌, length, map, Option, Some, None, is_some, refl, sym, ap, subst, ◌∙◌, arith}
-use Rattle.std.specs.List.{slice_get, slice_index_or}
-use Rattle.std.proofs.lemmas.Bool.{cases_Bool, cases_lt, and_parts, and_from, and_left, or_from, or_cases, leb-true, le-leb, lt-leb}
-use Rattle.std.proofs.lemmas.Option.{slice_get_within, slice_get_past, slice_get_cases}
+use Rattle.std.proofs.Common.{◌≡◌, ◌⊎◌, inl, inr, ℕ, ◌+◌, ◌-◌, ◌*◌, ◌<◌, ◌≤◌, nat_le, Bool, true, false, not, ◌&&◌, ◌||◌, List, length, Option, Some, None, refl, sym, ap, subst, ◌∙◌, arith}
+use Rattle.std.specs.List.{slice_get}
+use Rattle.std.proofs.lemmas.Bool.{cases_lt, and_parts, and_from, and_left, or_from, leb-true, le-leb}
+use Rattle.std.proofs.lemmas.Option.{slice_get_within, slice_get_cases}
 use Rattle.std.proofs.lemmas.List.{length-map, get_or_past}
 use Rattle.reachability.specs.Reached.{Tells}
 use Rattle.i386_reloc.specs.declared.types.Class.{Class}
@@ -12,15 +12,14 @@ use Rattle.i386_reloc.specs.Classes.{is_code_class}
 use Rattle.i386_reloc.specs.Normal.{section_named}
 use Rattle.i386_reloc.specs.Places.{place_named}
 use Rattle.section_equal.specs.Same.{same_in}
-use Rattle.extract_post.specs.Reaches.{is_constant_class, is_read_only_class, is_data_class, has_class, is_in, some_reference, goes_to, refers_on, Reaches}
+use Rattle.extract_post.specs.Reaches.{is_constant_class, is_read_only_class, is_data_class, has_class, is_in, some_reference, goes_to, Reaches}
 use Rattle.extract_post.specs.Reaches.Reaches.{Refers, Further}
 use Rattle.extract_post.specs.Members.{is_there, is_in_both, is_changed_constant, ReachesChanged, Differs}
 use Rattle.extract_post.specs.Members.Differs.{Itself as DiffersItself, Through as DiffersThrough}
 use Rattle.extract_post.specs.Extract.{other_class, DataDiffers}
 use Rattle.extract_post.specs.Extract.DataDiffers.{OtherClass, Itself as DataItself, Through as DataThrough}
-use Rattle.extract_post.specs.Edges.{member_node, pre_numbers, post_numbers}
-use Rattle.extract_post.specs.Seeds.{IsSeed, IsSeedNode, AreSeeds}
-use Rattle.extract_post.specs.Closures.{HasDistinctNames, ReachesSeed}
+use Rattle.extract_post.specs.Seeds.{IsSeed, AreSeeds}
+use Rattle.extract_post.specs.Closures.{ReachesSeed}
 use Rattle.extract_post.specs.Marks.{marked, Marks, tests, TellReaching, TellReachesChanged, AreBoth, AreEither, AreOther, AreShifted, shifted, marked_at, is_other}
 use Rattle.i386_reloc.proofs.Places.{section_named_at}
 use Rattle.extract_post.proofs.Links.{option_cases, section_at_place, section_found}

@@ -1,22 +1,20 @@
 -- What marks tell of data, and of sections that are carried.
-use Rattle.std.proofs.Common.{◌≡◌, ◌⊎◌, inl, inr, ℕ, zero, suc, ◌+◌, ◌<◌, Bool, true, false, not, ◌&&◌, ◌||◌, List, [], ◌∷◌, length, map, Option, Some, None, refl, sym, ap, subst, ◌∙◌, arith}
-use Rattle.std.specs.List.{slice_get, slice_index_or}
-use Rattle.std.proofs.lemmas.Bool.{cases_Bool, and_parts, and_from}
-use Rattle.std.proofs.lemmas.List.{length-map}
+use Rattle.std.proofs.Common.{◌≡◌, ◌⊎◌, inl, inr, ℕ, Bool, true, false, not, ◌&&◌, ◌||◌, List, Option, Some, None, refl, sym, ap, ◌∙◌}
+use Rattle.std.specs.List.{slice_get}
+use Rattle.std.proofs.lemmas.Bool.{and_parts}
 use Rattle.reachability.specs.Reached.{Tells}
 use Rattle.i386_reloc.specs.declared.types.Class.{Class}
 use Rattle.i386_reloc.specs.declared.types.Class.TheVariants.{Zero, Code, Writable, Strings, ReadOnly}
 use Rattle.i386_reloc.specs.declared.types.NormalSection.{NormalSection}
 use Rattle.i386_reloc.specs.Classes.{is_code_class}
 use Rattle.i386_reloc.specs.Normal.{section_named}
-use Rattle.extract_post.specs.Reaches.{is_constant_class, is_read_only_class, is_data_class, has_class, is_in, Reaches}
+use Rattle.extract_post.specs.Reaches.{is_constant_class, is_read_only_class, is_data_class, has_class, is_in}
 use Rattle.extract_post.specs.Members.{is_there, is_new_data, Member, IsCarried}
-use Rattle.extract_post.specs.Extract.{IsDataOf}
 use Rattle.extract_post.specs.Closures.{HasDistinctNames, SeedReaches}
 use Rattle.extract_post.specs.Marks.{marked, Marks, tests, TellReached, TellDataOf, AreBoth, AreEither}
-use Rattle.extract_post.proofs.Links.{option_cases, named_at, section_found}
+use Rattle.extract_post.proofs.Links.{option_cases, section_found}
 use Rattle.extract_post.proofs.Tells.{tells_through}
-use Rattle.extract_post.proofs.ChangeLaws.{tells_true, true_tells, reaches_to, reaches_from}
+use Rattle.extract_post.proofs.ChangeLaws.{tells_true, true_tells, reaches_to}
 use Rattle.extract_post.proofs.MarkLaws.{tells_test, tells_and, tells_or, tests_at}
 
 pub tell_data_of : (post : List NormalSection) (starts reached constants wanted marks : List Bool) → TellReached post starts reached → constants ≡ tests (is_in is_read_only_class post) post → AreEither starts constants wanted → AreBoth reached wanted marks → TellDataOf post starts marks

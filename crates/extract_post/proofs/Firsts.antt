@@ -1,6 +1,6 @@
 -- Firsts and picks of lists.
-use Rattle.std.proofs.Common.{◌≡◌, ◌⊎◌, inl, inr, ℕ, zero, suc, ◌+◌, ◌<◌, Bool, true, false, cond, List, [], ◌∷◌, ◌++◌, length, map, Option, Some, None, refl, sym, ap, subst, ◌∙◌, arith, All}
-use Rattle.std.specs.List.{slice_get, flat_map, position, position_from}
+use Rattle.std.proofs.Common.{◌≡◌, inl, inr, ℕ, zero, suc, ◌+◌, ◌<◌, Bool, true, false, List, [], ◌∷◌, ◌++◌, length, map, Some, None, refl, sym, ap, subst, ◌∙◌, arith}
+use Rattle.std.specs.List.{slice_get, position, position_from}
 use Rattle.std.proofs.lemmas.Bool.{cases_Bool}
 use Rattle.std.proofs.lemmas.Option.{same_Some}
 use Rattle.std.proofs.lemmas.Iterator.Adapters.{position_from-zero}
@@ -11,7 +11,7 @@ use Rattle.i386_reloc.specs.declared.types.NormalSection.{NormalSection}
 use Rattle.extract_post.specs.Extract.{Picks, IsFirst, NoneIs, places}
 use Rattle.extract_post.specs.Extract.Picks.{Ends, Takes, Leaves}
 use Rattle.extract_post.specs.Extract.IsFirst.{Here, Later}
-use Rattle.extract_post.specs.Marks.{marked, Marks, marked_names}
+use Rattle.extract_post.specs.Marks.{Marks, marked_names}
 use Rattle.extract_post.proofs.ChangeLaws.{true_tells}
 
 false_tells : (P : Type 0) (b : Bool) → Tells b P → b ≡ false → P → ⊥

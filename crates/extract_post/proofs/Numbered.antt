@@ -1,6 +1,6 @@
 -- The numbers of nodes for members fit, and edges stay among them.
-use Rattle.std.proofs.Common.{◌≡◌, ◌⊎◌, inl, inr, ℕ, zero, suc, ◌+◌, ◌*◌, ◌<◌, ◌≤◌, ◌^◌, Bool, true, false, not, ◌&&◌, ◌||◌, cond, nat_lt, List, [], ◌∷◌, ◌++◌, length, Option, Some, None, option_map, refl, sym, ap, subst, ◌∙◌, arith, All}
-use Rattle.std.specs.List.{list_any, flat_map, slice_get, slice_index_or}
+use Rattle.std.proofs.Common.{◌≡◌, inl, inr, ℕ, suc, ◌+◌, ◌*◌, ◌<◌, ◌≤◌, ◌^◌, Bool, true, false, not, ◌&&◌, nat_lt, List, [], ◌∷◌, ◌++◌, length, Option, Some, None, refl, sym, subst, ◌∙◌, arith, All}
+use Rattle.std.specs.List.{list_any, flat_map, slice_index_or}
 use Rattle.std.proofs.lemmas.Bool.{cases_Bool, lt-ltb, ltb-true, and_parts, not-false}
 use Rattle.std.proofs.lemmas.List.Elements.{All-nil, All-cons, All-weaker, All-append}
 use Rattle.std.proofs.lemmas.Option.{slice_get_within}
@@ -13,10 +13,10 @@ use Rattle.extract_post.specs.Reaches.{is_constant_class, is_read_only_class}
 use Rattle.extract_post.specs.Closures.{HasDistinctNames}
 use Rattle.extract_post.specs.Edges.{Link, Numbers, links_in, pre_numbers, post_numbers, edge, joins, twins_from, member_node, from_node, into_node, member_edges}
 use Rattle.extract_post.specs.Seeds.{AreSeeds}
-use Rattle.extract_post.specs.Marks.{marked, TellMembers}
+use Rattle.extract_post.specs.Marks.{TellMembers}
 use Rattle.extract_post.specs.Fits.{IsNumbered}
-use Rattle.extract_post.proofs.Links.{option_cases, link_found, IsLink, section_at_place}
-use Rattle.extract_post.proofs.Walks.{is_outside, none_any, none_outside, edges_within, link_places}
+use Rattle.extract_post.proofs.Links.{option_cases, link_found, section_at_place}
+use Rattle.extract_post.proofs.Walks.{is_outside, none_any, edges_within, link_places}
 use Rattle.extract_post.proofs.Tells.{member_tells_pre, member_tells_post}
 
 pub place_within : (sections : List NormalSection) (name : List ℕ) (place : ℕ) → place_named sections name ≡ Some place → place < length sections

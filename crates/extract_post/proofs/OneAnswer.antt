@@ -1,13 +1,12 @@
 -- Two objects have one extract, or one refusal.
-use Rattle.std.proofs.Common.{◌≡◌, ℕ, List, [], ◌∷◌, Result, Ok, Err, refl, sym, ap, ◌∙◌}
+use Rattle.std.proofs.Common.{◌≡◌, ℕ, List, [], ◌∷◌, Result, Ok, Err, refl, ap}
 use Rattle.std.proofs.lemmas.List.Elements.{All-head, All-tail}
 use Rattle.ks_base.specs.declared.refusals.Refusal.{Refusal}
 use Rattle.ks_base.specs.declared.refusals.Refusal.TheVariants as refusal
 use Rattle.i386_reloc.specs.declared.types.Ref.{Ref}
 use Rattle.i386_reloc.specs.declared.types.NormalSection.{NormalSection}
 use Rattle.extract_post.specs.declared.types.Extract.{Extract}
-use Rattle.extract_post.specs.Members.{Member}
-use Rattle.extract_post.specs.Extract.{Picks, IsFirst, NoneIs, DataDiffers, IsBroken, places, IsExtract, Extracts}
+use Rattle.extract_post.specs.Extract.{Picks, IsFirst, NoneIs, IsBroken, places, IsExtract, Extracts}
 use Rattle.extract_post.specs.Extract.Picks.{Ends, Takes, Leaves}
 use Rattle.extract_post.specs.Extract.IsFirst.{Here, Later}
 use Rattle.extract_post.specs.Extract.Extracts.{OtherData, Broken, NoMember, Extracted}

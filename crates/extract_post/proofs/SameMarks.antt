@@ -1,6 +1,6 @@
 -- Marks made from those of the sections that are the same in both objects.
-use Rattle.std.proofs.Common.{◌≡◌, ℕ, zero, suc, Bool, true, false, not, ◌&&◌, ◌||◌, List, [], ◌∷◌, length, map, Some, arith, refl, sym, ap, ◌∙◌}
-use Rattle.std.specs.List.{slice_get, slice_index_or}
+use Rattle.std.proofs.Common.{◌≡◌, ℕ, suc, Bool, not, ◌&&◌, ◌||◌, List, [], ◌∷◌, length, map, Some, arith, refl, ap, ◌∙◌}
+use Rattle.std.specs.List.{slice_get}
 use Rattle.i386_reloc.specs.declared.types.NormalSection.{NormalSection}
 use Rattle.section_equal.specs.Same.{same_in}
 use Rattle.extract_post.specs.Members.{is_changed_constant}

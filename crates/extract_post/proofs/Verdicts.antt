@@ -1,7 +1,7 @@
 -- What the answers say.
-use Rattle.std.proofs.Common.{◌≡◌, ◌⊎◌, inl, inr, ℕ, zero, suc, ◌+◌, ◌<◌, Bool, true, false, not, ◌&&◌, List, [], ◌∷◌, length, map, Option, Some, None, Ok, Err, refl, sym, ap, subst, ◌∙◌, arith, All}
-use Rattle.std.specs.List.{slice_get, position, IsDistinct, AllByRecursion}
-use Rattle.std.proofs.lemmas.Bool.{cases_Bool, and_parts}
+use Rattle.std.proofs.Common.{◌≡◌, inl, inr, ℕ, zero, suc, ◌+◌, ◌<◌, Bool, true, false, not, List, [], ◌∷◌, length, Some, None, Ok, Err, sym, ap, subst, ◌∙◌, arith}
+use Rattle.std.specs.List.{slice_get, position}
+use Rattle.std.proofs.lemmas.Bool.{and_parts}
 use Rattle.std.proofs.lemmas.List.{length-map}
 use Rattle.std.proofs.lemmas.List.Elements.{All-head, All-tail}
 use Rattle.std.proofs.lemmas.Option.{slice_get_within, same_Some}
@@ -11,9 +11,9 @@ use Rattle.ks_base.specs.declared.refusals.Refusal.TheVariants as refusal
 use Rattle.i386_reloc.specs.declared.types.Ref.{Ref}
 use Rattle.i386_reloc.specs.declared.types.NormalSection.{NormalSection}
 use Rattle.i386_reloc.specs.Classes.{is_code_class}
-use Rattle.i386_reloc.specs.Normal.{same_bytes, name_of, section_named}
+use Rattle.i386_reloc.specs.Normal.{section_named}
 use Rattle.extract_post.specs.Reaches.{is_in}
-use Rattle.extract_post.specs.Members.{is_there, is_in_both, is_new_data, Differs, Member}
+use Rattle.extract_post.specs.Members.{is_there, Member}
 use Rattle.extract_post.specs.Members.Differs.{Itself as DiffersItself, Through as DiffersThrough}
 use Rattle.extract_post.specs.Members.Member.{Differing, OnlyInPost, Joined}
 use Rattle.extract_post.specs.declared.types.Extract.{Extract}
@@ -22,7 +22,7 @@ use Rattle.extract_post.specs.Extract.IsFirst.{Here, Later}
 use Rattle.extract_post.specs.Extract.Extracts.{OtherData, Broken, NoMember, Extracted}
 use Rattle.extract_post.specs.Found.{FirstBroken, HasNoOther}
 use Rattle.extract_post.specs.Seeds.{IsSeed}
-use Rattle.extract_post.specs.Marks.{marked, Marks, tests, TellMembers, ArePart, IsFresh}
+use Rattle.extract_post.specs.Marks.{marked, Marks, tests, TellMembers, ArePart}
 use Rattle.extract_post.proofs.Links.{option_cases, section_found}
 use Rattle.extract_post.proofs.MarkLaws.{tells_test, tests_at}
 use Rattle.extract_post.proofs.Firsts.{first_marked_section, no_marked_section}

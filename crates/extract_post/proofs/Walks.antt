@@ -1,8 +1,8 @@
 -- What a graph search along an object's edges tells.
-use Rattle.std.proofs.Common.{◌≡◌, ◌⊎◌, inl, inr, ℕ, zero, suc, ◌+◌, ◌*◌, ◌<◌, ◌^◌, Bool, true, false, not, ◌&&◌, ◌||◌, nat_lt, List, [], ◌∷◌, ◌++◌, length, map, Option, Some, None, refl, sym, ap, subst, ◌∙◌, arith, All}
-use Rattle.std.specs.List.{slice_get, slice_index_or, flat_map, list_any}
+use Rattle.std.proofs.Common.{◌≡◌, inl, inr, ℕ, ◌<◌, Bool, true, false, not, ◌&&◌, nat_lt, List, [], ◌∷◌, length, refl, sym, subst, ◌∙◌, arith, All}
+use Rattle.std.specs.List.{slice_index_or, flat_map, list_any}
 use Rattle.std.proofs.lemmas.Option.{slice_get_within}
-use Rattle.std.proofs.lemmas.Bool.{cases_Bool, and_from, lt-ltb, ltb-true, and_parts, or_parts, not-false}
+use Rattle.std.proofs.lemmas.Bool.{cases_Bool, lt-ltb, ltb-true, and_parts, or_parts, not-false}
 use Rattle.std.proofs.lemmas.List.Elements.{All-nil, All-cons, All-weaker}
 use Rattle.reachability.specs.declared.edge.Edge.{Edge}
 use Rattle.reachability.specs.Reached.{Tells, IsWithin, ReachedAlong}
@@ -10,7 +10,7 @@ use Rattle.i386_reloc.specs.declared.types.NormalSection.{NormalSection}
 use Rattle.extract_post.specs.Reaches.{is_constant_class}
 use Rattle.extract_post.specs.Closures.{HasDistinctNames}
 use Rattle.extract_post.specs.Edges.{Link, links_in, forward, backward, edge}
-use Rattle.extract_post.specs.Marks.{marked, TellReaching, TellReached}
+use Rattle.extract_post.specs.Marks.{TellReaching, TellReached}
 use Rattle.extract_post.proofs.Links.{any_in_flat_map, link_found, IsLink}
 use Rattle.extract_post.proofs.Tells.{forward_tells, backward_tells}
 

@@ -1,5 +1,5 @@
 -- The edges along which an extract is searched for. Sections are numbered by their places.
-use Rattle.std.specs.Prelude.{ℕ, zero, suc, ◌+◌, Bool, true, false, not, ◌&&◌, if◌then◌else◌, List, [], ◌∷◌, ◌++◌, length, Option, Some, None, option_map, slice_get}
+use Rattle.std.specs.Prelude.{ℕ, suc, ◌+◌, if◌then◌else◌, List, [], ◌∷◌, ◌++◌, length, Option, Some, None, slice_get}
 use Rattle.std.specs.List.{flat_map}
 use Rattle.reachability.specs.declared.edge.Edge.{Edge}
 use Rattle.i386_reloc.specs.declared.types.Class.{Class}
@@ -8,10 +8,10 @@ use Rattle.i386_reloc.specs.declared.types.Target.TheVariants.{Section, Outside,
 use Rattle.i386_reloc.specs.declared.types.Ref.{Ref}
 use Rattle.i386_reloc.specs.declared.types.NormalSection.{NormalSection}
 use Rattle.i386_reloc.specs.Classes.{is_code_class}
-use Rattle.i386_reloc.specs.Places.{place_named, at_place}
+use Rattle.i386_reloc.specs.Places.{place_named}
 pub use Rattle.extract_post.specs.declared.types.Link.{Link}
 pub use Rattle.extract_post.specs.declared.types.Numbers.{Numbers}
-use Rattle.extract_post.specs.Reaches.{is_read_only_class, is_constant_class, is_in, is_interior}
+use Rattle.extract_post.specs.Reaches.{is_read_only_class, is_constant_class, is_interior}
 
 -- an edge
 abbrev pub edge : ℕ → ℕ → Edge

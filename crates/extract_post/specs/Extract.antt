@@ -1,5 +1,5 @@
 -- What `extract` answers: five lists of sections, or why there are none.
-use Rattle.std.specs.Prelude.{IsTrue, ℕ, Bool, not, ◌&&◌, false, List, [], ◌∷◌, map, All, Option, Some, None, Result, Ok, Err}
+use Rattle.std.specs.Prelude.{IsTrue, ℕ, Bool, not, ◌&&◌, false, List, [], ◌∷◌, map, All, Option, Some, Result, Ok, Err}
 use Rattle.std.specs.List.{flat_map}
 use Rattle.ks_base.specs.declared.refusals.Refusal.{Refusal}
 use Rattle.ks_base.specs.declared.refusals.Refusal.TheVariants as refusal

@@ -5,7 +5,7 @@ use Rattle.i386_reloc.specs.declared.types.NormalSection.{NormalSection}
 use Rattle.i386_reloc.specs.Classes.{is_code_class}
 use Rattle.i386_reloc.specs.Normal.{section_named}
 use Rattle.section_equal.specs.Same.{same_in}
-use Rattle.extract_post.specs.Reaches.{is_read_only_class, is_constant_class, is_data_class, is_in, Reaches, PointsInto}
+use Rattle.extract_post.specs.Reaches.{is_read_only_class, is_data_class, is_in, Reaches, PointsInto}
 
 -- whether an object has a section of this name
 abbrev pub is_there : List NormalSection → List ℕ → Bool

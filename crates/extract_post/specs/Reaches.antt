@@ -2,7 +2,7 @@
 use Rattle.std.specs.Prelude.{IsTrue, ℕ, ◌-◌, ◌^◌, Bool, true, false, not, ◌&&◌, ◌==◌, List, Option, Some, None}
 use Rattle.std.specs.List.{list_any}
 use Rattle.i386_reloc.specs.declared.types.Class.{Class}
-use Rattle.i386_reloc.specs.declared.types.Class.TheVariants.{Zero, Code, Writable, Strings, ReadOnly}
+use Rattle.i386_reloc.specs.declared.types.Class.TheVariants.{Zero, Writable, Strings, ReadOnly}
 use Rattle.i386_reloc.specs.declared.types.Form.{Form}
 use Rattle.i386_reloc.specs.declared.types.Form.TheVariants.{Absolute, Relative}
 use Rattle.i386_reloc.specs.declared.types.Target.{Target}

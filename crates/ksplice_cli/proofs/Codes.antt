@@ -3,7 +3,7 @@ use Rattle.std.proofs.Common.{◌≡◌, ◌≢◌, ◌⊎◌, inl, inr, ℕ, Bo
 use Rattle.ks_base.specs.declared.refusals.Refusal.{Refusal}
 use Rattle.ks_base.specs.declared.refusals.Refusal.TheVariants.{Memory}
 use Rattle.ks_io.specs.Outside.{Counts, CountsTell, Rose}
-use Rattle.ksplice_cli.specs.Answer.{Answer, ComesOut, answer_of, refused_answer}
+use Rattle.ksplice_cli.specs.Answer.{ComesOut, answer_of, refused_answer}
 use Rattle.ksplice_cli.specs.Reply.{code_reply, code_answer, reply_answer}
 use Rattle.ksplice_cli.specs.Words.{Code}
 use Rattle.ksplice_cli.specs.Calls.{Held, found_file, image_limit, AfterLoad, OneComesOut, Answered, NoMemory, LoadEnds, Answers, CountsTellOf}

@@ -1,6 +1,5 @@
 use Rattle.i386_reloc.specs.Classes.{is_code_class}
 use Rattle.extract_post.specs.Members.{is_in_both}
-use Rattle.extract_post.specs.Marks.{AreBoth}
 use Rattle.extract_post.proofs.BreakLaws.{tested_members}
 use Rattle.extract_post.proofs.breaking.changed.Goals as goal
 

@@ -1,4 +1,3 @@
-use Rattle.extract_post.specs.Marks.{FirstBreak}
 use Rattle.extract_post.proofs.BreakLaws.{tell_broken}
 use Rattle.extract_post.proofs.breaking.first_broken.Goals as goal
 

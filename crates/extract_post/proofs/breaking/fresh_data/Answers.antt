@@ -1,4 +1,3 @@
-use Rattle.extract_post.specs.Marks.{TellDataOf}
 use Rattle.extract_post.specs.Members.{is_new_data}
 use Rattle.extract_post.proofs.BreakLaws.{tell_data_marks, new_is_data}
 use Rattle.extract_post.proofs.breaking.fresh_data.Goals as goal

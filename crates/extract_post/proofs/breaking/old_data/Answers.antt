@@ -1,4 +1,3 @@
-use Rattle.extract_post.specs.Marks.{TellDataOf}
 use Rattle.extract_post.specs.Members.{is_in_both}
 use Rattle.extract_post.specs.Reaches.{is_data_class}
 use Rattle.extract_post.proofs.BreakLaws.{tell_data_marks, both_is_data}

@@ -1,4 +1,3 @@
-use Rattle.extract_post.specs.Marks.{AreApart}
 use Rattle.extract_post.proofs.BreakLaws.{tell_staying}
 use Rattle.extract_post.proofs.breaking.staying.Goals as goal
 

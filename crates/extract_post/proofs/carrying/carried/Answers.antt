@@ -1,4 +1,3 @@
-use Rattle.extract_post.specs.Marks.{AreBoth, AreEither, TellReached}
 use Rattle.extract_post.proofs.DataLaws.{tell_carried}
 use Rattle.extract_post.proofs.carrying.carried.Goals as goal
 

@@ -1,4 +1,3 @@
-use Rattle.extract_post.specs.Marks.{AreBoth, AreEither}
 use Rattle.extract_post.proofs.ChangeLaws.{tell_data}
 use Rattle.extract_post.proofs.changes.differing_data.Goals as goal
 

@@ -1,4 +1,3 @@
-use Rattle.extract_post.specs.Marks.{AreBoth, AreEither}
 use Rattle.extract_post.proofs.ChangeLaws.{tell_seeds}
 use Rattle.extract_post.proofs.changes.first_members.Goals as goal
 

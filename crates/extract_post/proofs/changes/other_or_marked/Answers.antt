@@ -1,4 +1,3 @@
-use Rattle.extract_post.specs.Marks.{AreEither}
 use Rattle.extract_post.proofs.SameMarks.{are_other}
 use Rattle.extract_post.proofs.changes.other_or_marked.Goals as goal
 

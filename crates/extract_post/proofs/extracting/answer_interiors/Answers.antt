@@ -1,5 +1,3 @@
-use Rattle.std.proofs.Common.{sym, ap, ◌∙◌, rules, arith}
-use Rattle.extract_post.specs.Found.{Broken}
 use Rattle.extract_post.proofs.Verdicts.{broken, part_pre, part_post}
 use Rattle.extract_post.proofs.extracting.answer_interiors.Goals as goal
 

@@ -1,4 +1,3 @@
-use Rattle.extract_post.specs.Marks.{AreBoth, AreEither}
 use Rattle.extract_post.proofs.DataLaws.{tell_data_of}
 use Rattle.extract_post.proofs.interiors.data_of.Goals as goal
 

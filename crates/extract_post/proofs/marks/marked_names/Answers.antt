@@ -1,5 +1,4 @@
-use Rattle.std.proofs.Common.{arith, ◌∙◌, ap, ◌++◌, drop, append_assoc}
-use Rattle.extract_post.specs.Marks.{marked_names}
+use Rattle.std.proofs.Common.{◌∙◌}
 use Rattle.extract_post.proofs.MarkLaws.{marked_names_drop}
 use Rattle.extract_post.proofs.marks.marked_names.Goals as goal
 

@@ -1,4 +1,4 @@
-use Rattle.std.proofs.Common.{◌≡◌, ℕ, ◌+◌, ◌<◌, Bool, false, get_or, vec_len}
+use Rattle.std.proofs.Common.{◌≡◌, ℕ, ◌+◌, ◌<◌, false, get_or, vec_len}
 use Rattle.extract_post.proofs.marks.part.Given as goal
 
 abbrev pub invariant-loop-i : goal.invariant-loop-i

@@ -1,4 +1,4 @@
-use Rattle.std.proofs.Common.{◌≡◌, ℕ, ◌<◌, Bool, false, get_or, vec_len}
+use Rattle.std.proofs.Common.{◌≡◌, ℕ, ◌<◌, false, get_or, vec_len}
 use Rattle.extract_post.specs.Marks.{shifted}
 use Rattle.extract_post.proofs.marks.shifted.Given as goal
 

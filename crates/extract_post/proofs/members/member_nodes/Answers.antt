@@ -1,4 +1,4 @@
-use Rattle.std.proofs.Common.{◌≡◌, ◌+◌, ◌*◌, length, ap, ◌∙◌, arith}
+use Rattle.std.proofs.Common.{◌+◌, ◌*◌, ◌∙◌, arith}
 use Rattle.extract_post.proofs.Numbered.{tell_members}
 use Rattle.extract_post.proofs.members.member_nodes.Goals as goal
 

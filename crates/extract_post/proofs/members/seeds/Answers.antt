@@ -1,5 +1,4 @@
-use Rattle.std.proofs.Common.{◌≡◌, ◌+◌, ◌*◌, length, arith, rules}
-use Rattle.extract_post.specs.Marks.{AreShifted}
+use Rattle.std.proofs.Common.{◌+◌, ◌*◌, arith}
 use Rattle.extract_post.proofs.ChangeLaws.{seeds_are}
 use Rattle.extract_post.proofs.members.seeds.Goals as goal
 

@@ -1,7 +1,4 @@
-use Rattle.std.proofs.Common.{◌∙◌, ap, sym, subst, List, ℕ}
-use Rattle.extract_post.specs.Extract.{Picks}
 use Rattle.extract_post.specs.Members.{IsCarried}
-use Rattle.extract_post.specs.Marks.{marked_names}
 use Rattle.extract_post.proofs.Firsts.{picks_marked}
 use Rattle.extract_post.proofs.naming.carried_names.Goals as goal
 

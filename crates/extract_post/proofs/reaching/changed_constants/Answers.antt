@@ -1,4 +1,3 @@
-use Rattle.extract_post.specs.Marks.{AreApart}
 use Rattle.extract_post.proofs.SameMarks.{are_changed}
 use Rattle.extract_post.proofs.reaching.changed_constants.Goals as goal
 

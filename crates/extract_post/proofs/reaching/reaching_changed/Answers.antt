@@ -1,4 +1,3 @@
-use Rattle.extract_post.specs.Marks.{AreEither}
 use Rattle.extract_post.proofs.ChangeLaws.{tell_changed}
 use Rattle.extract_post.proofs.reaching.reaching_changed.Goals as goal
 
