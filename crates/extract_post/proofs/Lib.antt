@@ -18,3 +18,4 @@ pub mod EndsOfTexts
 pub mod Samenesses
 pub mod SameMarks
 pub mod Targets
+pub mod OneAnswer

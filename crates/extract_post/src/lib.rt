@@ -9,6 +9,7 @@ mod comparing;
 mod edges;
 mod extracting;
 mod interiors;
+mod laws;
 mod linking;
 mod marks;
 mod member_edges;
@@ -25,4 +26,5 @@ mod texts;
 pub mod types;
 
 pub use crate::extracting::extract;
+pub use crate::laws::objects_have_one_extract;
 pub use crate::types::Extract;

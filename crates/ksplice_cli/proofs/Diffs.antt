@@ -11,12 +11,12 @@ rose_later : (before between now : ℕ) → before ≤ between → Rose between 
 rose_later before between now h rose = omega arith
 
 -- what comes out is one of these answers, so it is one of those
-carried_over : {P Q : Answer → Type 0} {old new : Option (List ℕ)} {status : ℕ} → ((answer : Answer) → P answer → Q answer) → OneComesOut P old new status → OneComesOut Q old new status
+pub carried_over : {P Q : Answer → Type 0} {old new : Option (List ℕ)} {status : ℕ} → ((answer : Answer) → P answer → Q answer) → OneComesOut P old new status → OneComesOut Q old new status
 carried_over f (Answered answer one out) = Answered answer (f answer one) out
 carried_over f (NoMemory s n) = NoMemory s n
 
 -- an answer of a load that ends the call is one whatever comes after the load
-ended_load : (failed : Bool) (found : Found) (name : List ℕ) (rest : List ℕ → Answer → Type 0) (answer : Answer) → AfterLoad failed found name (λ bytes other. ⊥) answer → AfterLoad failed found name rest answer
+pub ended_load : (failed : Bool) (found : Found) (name : List ℕ) (rest : List ℕ → Answer → Type 0) (answer : Answer) → AfterLoad failed found name (λ bytes other. ⊥) answer → AfterLoad failed found name rest answer
 ended_load true found name rest answer one = one
 ended_load false (Held bytes) name rest answer one = absurd one
 ended_load false (NotHeld fault) name rest answer one = one

@@ -6,21 +6,21 @@ use Rattle.ks_io.specs.Outside.{Counts}
 use Rattle.i386_reloc.specs.declared.types.NormalSection.{NormalSection}
 use Rattle.extract_post.specs.Extract.{Extracts}
 use Rattle.ksplice_cli.specs.Answer.{ComesOut, answer_of, refused_answer, usage_answer}
-use Rattle.ksplice_cli.specs.Reply.{IsDifference, NoneExtracted, Lists, Listed, IsReply, sections_of}
+use Rattle.ksplice_cli.specs.Reply.{IsDifference, NoneExtracted, Lists, Listed, IsReply, both_sections}
 use Rattle.ksplice_cli.specs.Words.{Asked}
 use Rattle.ksplice_cli.specs.Calls.{OneComesOut, Answered, NoMemory, Answers}
 
 -- the lines of an extract are the difference
-pub listed : (pre post : List ℕ) (old new : List NormalSection) (result : Result (List ℕ) Refusal) → sections_of pre ≡ Ok old → sections_of post ≡ Ok new
+pub listed : (pre post : List ℕ) (old new : List NormalSection) (result : Result (List ℕ) Refusal) → both_sections pre post ≡ Ok (old, new)
     → IfOk result (λ lines. Listed old new lines) → IfOk result (λ lines. IsDifference pre post (Ok lines))
-listed pre post old new (Ok lines) first second l = rw l.lists (Lists old new l.extract first second l.extracts)
-listed pre post old new (Err refusal) first second l = tt
+listed pre post old new (Ok lines) read l = rw l.lists (Lists old new l.extract read l.extracts)
+listed pre post old new (Err refusal) read l = tt
 
 -- why there is no extract is why there is no difference
-pub none_extracted : (pre post : List ℕ) (old new : List NormalSection) (result : Result (List ℕ) Refusal) → sections_of pre ≡ Ok old → sections_of post ≡ Ok new
+pub none_extracted : (pre post : List ℕ) (old new : List NormalSection) (result : Result (List ℕ) Refusal) → both_sections pre post ≡ Ok (old, new)
     → IfErr result (λ refusal. refusal ≢ Memory → Extracts old new (Err refusal)) → IfErr result (λ refusal. refusal ≢ Memory → IsDifference pre post (Err refusal))
-none_extracted pre post old new (Ok lines) first second none = tt
-none_extracted pre post old new (Err refusal) first second none = λ ample. NoneExtracted old new refusal first second (none ample)
+none_extracted pre post old new (Ok lines) read none = tt
+none_extracted pre post old new (Err refusal) read none = λ ample. NoneExtracted old new refusal read (none ample)
 
 -- the lines of a difference come out
 pub lines_come_out : (pre post lines output : List ℕ) (old new : Option (List ℕ)) (status : ℕ) → IsDifference pre post (Ok lines) → output ≡ lines
@@ -29,7 +29,7 @@ lines_come_out pre post lines output old new status difference e out =
     Answered (answer_of lines 0) (record { reply = Ok lines; difference = difference; told = refl }) (subst (λ (x : List ℕ). ComesOut (answer_of x 0) old new status) e out)
 
 -- a refusal comes out, where it isn't want of memory
-is_memory : (refusal : Refusal) → (refusal ≡ Memory) ⊎ (refusal ≢ Memory)
+pub is_memory : (refusal : Refusal) → (refusal ≡ Memory) ⊎ (refusal ≢ Memory)
 is_memory Memory = inl refl
 is_memory other = inr (λ e. cc)
 
@@ -46,7 +46,7 @@ pub refusal_comes_out : (pre post : List ℕ) (refusal : Refusal) (old new : Opt
 refusal_comes_out pre post refusal old new status = comes_out_by pre post refusal old new status (is_memory refusal)
 
 -- the usage line comes out, where the words have no reading
-pub usage_comes_out : (output : List ℕ) (old new : Option (List ℕ)) (status : ℕ) → output ≡ codes "usage: ksplice diff PRE POST\n"
+pub usage_comes_out : (output : List ℕ) (old new : Option (List ℕ)) (status : ℕ) → output ≡ codes "usage: ksplice diff PRE POST | code IMAGE NAME\n"
     → ComesOut (answer_of output 2) old new status → ComesOut usage_answer old new status
 usage_comes_out output old new status e out = subst (λ (x : List ℕ). ComesOut (answer_of x 2) old new status) e out
 

@@ -2,6 +2,7 @@
 use Rattle.std.specs.Prelude.{◌≡◌, ℕ, ◌||◌, ◌==◌, List, [], ◌∷◌, ◌++◌, codes, Option, MatchBool}
 use Rattle.ks_base.specs.Text.{shown_name}
 use Rattle.ks_base.specs.declared.refusals.Refusal.{Refusal}
+use Rattle.ks_base.specs.declared.refusals.Refusal.TheVariants.{BadImage, BadLine}
 use Rattle.ks_base.specs.Refusals.{refusal_line}
 use Rattle.ks_io.specs.Outside.{grown, TookFront}
 use Rattle.ks_io.specs.declared.types.FileFault.{FileFault}
@@ -16,11 +17,17 @@ answer_of output status = record { output = output; status = status }
 
 -- the line for words without a reading, with status 2
 abbrev pub usage_answer : Answer
-usage_answer = record { output = codes "usage: ksplice diff PRE POST\n"; status = 2 }
+usage_answer = record { output = codes "usage: ksplice diff PRE POST | code IMAGE NAME\n"; status = 2 }
 
--- the line of a refusal, with status 3
+-- the status of a refusal: 7 for what isn't in the form of an image or of a script, and 3 for all others
+abbrev pub refused_status : Refusal → ℕ
+refused_status (BadImage offset fault) = 7
+refused_status (BadLine number) = 7
+refused_status other = 3
+
+-- the line of a refusal, with its status
 abbrev pub refused_answer : Refusal → Answer
-refused_answer refusal = record { output = refusal_line refusal; status = 3 }
+refused_answer refusal = record { output = refusal_line refusal; status = refused_status refusal }
 
 -- the line of a file that was not loaded, with status 4; want of memory has no line
 abbrev pub fault_text : FileFault → List ℕ

@@ -6,8 +6,8 @@ use Rattle.ks_io.specs.Answered.{ShowsIn}
 use Rattle.ks_io.specs.declared.types.FileFault.{FileFault}
 use Rattle.ks_io.specs.declared.types.FileFault.TheVariants.{Missing, TooLong, Failed, Memory}
 use Rattle.ksplice_cli.specs.Answer.{Answer, usage_answer, file_answer, file_line, fault_text, ComesOut}
-use Rattle.ksplice_cli.specs.Reply.{IsReply}
-use Rattle.ksplice_cli.specs.Words.{Asked, Diff}
+use Rattle.ksplice_cli.specs.Reply.{IsReply, code_answer}
+use Rattle.ksplice_cli.specs.Words.{Asked, Diff, Code}
 
 -- what a load finds where the files are told: the file's bytes, or why there are none
 pub data Found : Type 0 where
@@ -18,9 +18,12 @@ abbrev pub found_file : ℕ → Option (List ℕ) → Found
 found_file limit None = NotHeld Missing
 found_file limit (Some bytes) = if nat_le (length bytes) limit then Held bytes else NotHeld TooLong
 
--- the most bytes that an object file may have
+-- the most bytes that an object file may have, and an image file
 abbrev pub object_limit : ℕ
 object_limit = 8388608
+
+abbrev pub image_limit : ℕ
+image_limit = 33554432
 
 -- the answers of a load, given those of what comes after it; a load that the outside fails ends the call whatever the
 -- file is
@@ -55,10 +58,16 @@ IsDiffAnswer files failing pre post =
     AfterLoad (failing == 1) (found_file object_limit (files pre)) pre
     (λ old. AfterLoad (failing == 2) (found_file object_limit (files post)) post (IsReply old))
 
+-- the answers to `code` over told files
+abbrev pub IsCodeAnswer : (List ℕ → Option (List ℕ)) → ℕ → List ℕ → List ℕ → Answer → Type 0
+IsCodeAnswer files failing image name =
+    AfterLoad (failing == 1) (found_file image_limit (files image)) image (λ bytes answer. answer ≡ code_answer bytes name)
+
 -- the answers to what the words ask for
 abbrev pub IsAnswer : (List ℕ → Option (List ℕ)) → ℕ → Option Asked → Answer → Type 0
 IsAnswer files failing None answer = answer ≡ usage_answer
 IsAnswer files failing (Some (Diff pre post)) answer = IsDiffAnswer files failing pre post answer
+IsAnswer files failing (Some (Code image name)) answer = IsCodeAnswer files failing image name answer
 
 -- Where the files are told, what comes out is an answer for some failing load; one fails only where the count of faults
 -- rose.
@@ -71,17 +80,20 @@ pub record Answers (asked : Option Asked) (files : List ℕ → Option (List ℕ
 abbrev pub NamesFile : Option Asked → List ℕ → Type 0
 NamesFile None name = ⊥
 NamesFile (Some (Diff pre post)) name = (name ≡ pre) ⊎ (name ≡ post)
+NamesFile (Some (Code image function)) name = name ≡ image
+
+-- one of the files that the call was given is so, by its limit and its name
+abbrev pub NamesOne : Option Asked → (ℕ → List ℕ → Type 0) → Type 0
+NamesOne None P = ⊥
+NamesOne (Some (Diff pre post)) P = P object_limit pre ⊎ P object_limit post
+NamesOne (Some (Code image name)) P = P image_limit image
 
 -- Where the files are told, the counts rise only for a file that the call was given: absences for one that isn't there,
 -- excesses for one that is longer than its limit.
-abbrev pub NamesOne : Option Asked → (List ℕ → Type 0) → Type 0
-NamesOne None P = ⊥
-NamesOne (Some (Diff pre post)) P = P pre ⊎ P post
-
 unfoldable pub CountsTellOf : Option Asked → (List ℕ → Option (List ℕ)) → Counts → Counts → Type 0
 CountsTellOf asked files before now =
-    (before.absences < now.absences → NamesOne asked (λ name. files name ≡ None))
-    × (before.excesses < now.excesses → NamesOne asked (λ name. IsLonger object_limit (files name)))
+    (before.absences < now.absences → NamesOne asked (λ limit name. files name ≡ None))
+    × (before.excesses < now.excesses → NamesOne asked (λ limit name. IsLonger limit (files name)))
 
 -- What came out is the line of a file that the call was given.
 pub record EndsWithSomeFile (asked : Option Asked) (before now : Counts) (old new : Option (List ℕ)) : Type 0 where
@@ -99,15 +111,27 @@ pub record ComparesSome (old new : Option (List ℕ)) (status : ℕ) : Type 0 wh
   pub reply : IsReply pre post answer
   pub comes_out : ComesOut answer old new status
 
+-- What came out is the reply about the function of this name for some image file within the limit.
+pub record ListsSome (name : List ℕ) (old new : Option (List ℕ)) (status : ℕ) : Type 0 where
+  pub bytes : List ℕ
+  pub fits : length bytes ≤ image_limit
+  pub comes_out : ComesOut (code_answer bytes name) old new status
+
+-- What came out is the reply to what the words ask for, for some files.
+abbrev pub RepliesSome : Option Asked → Option (List ℕ) → Option (List ℕ) → ℕ → Type 0
+RepliesSome None old new status = ⊥
+RepliesSome (Some (Diff pre post)) old new status = ComparesSome old new status
+RepliesSome (Some (Code image name)) old new status = ListsSome name old new status
+
 -- the statuses with which a call ends whose file isn't loaded, that has its reply, whose words have a reading; and all
 abbrev pub ends_load : ℕ → Bool
 ends_load status = list_any (nat_eq status) (4 ∷ 5 ∷ 6 ∷ [])
 
 abbrev pub ends_reply : ℕ → Bool
-ends_reply status = list_any (nat_eq status) (0 ∷ 3 ∷ 5 ∷ 6 ∷ [])
+ends_reply status = list_any (nat_eq status) (0 ∷ 3 ∷ 5 ∷ 6 ∷ 7 ∷ [])
 
 abbrev pub is_carried_out : ℕ → Bool
-is_carried_out status = list_any (nat_eq status) (0 ∷ 3 ∷ 4 ∷ 5 ∷ 6 ∷ [])
+is_carried_out status = list_any (nat_eq status) (0 ∷ 3 ∷ 4 ∷ 5 ∷ 6 ∷ 7 ∷ [])
 
 abbrev pub is_status : ℕ → Bool
-is_status status = list_any (nat_eq status) (0 ∷ 2 ∷ 3 ∷ 4 ∷ 5 ∷ 6 ∷ [])
+is_status status = list_any (nat_eq status) (0 ∷ 2 ∷ 3 ∷ 4 ∷ 5 ∷ 6 ∷ 7 ∷ [])

@@ -1,7 +1,7 @@
--- The reply to `diff`: the difference of two object files, or why there is none.
-use Rattle.std.specs.Prelude.{◌≡◌, ◌≢◌, ℕ, List, Option, Some, None, Result, Ok, Err}
+-- The replies: to `diff` the difference of two object files, to `code` the instructions of one function of an image, or
+-- why there are none.
+use Rattle.std.specs.Prelude.{◌≡◌, ℕ, List, Option, Some, None, Result, Ok, Err}
 use Rattle.ks_base.specs.declared.refusals.Refusal.{Refusal}
-use Rattle.ks_base.specs.declared.refusals.Refusal.TheVariants.{Memory}
 use Rattle.elf32_object.specs.declared.types.ObjectFault.{ObjectFault}
 use Rattle.elf32_object.specs.Rules.{object_fault}
 use Rattle.i386_reloc.specs.declared.types.NormalSection.{NormalSection}
@@ -9,13 +9,10 @@ use Rattle.i386_reloc.specs.Normal.{loaded_sections}
 use Rattle.i386_reloc.specs.Refused.{normal_fault, refusal_of_fault}
 use Rattle.extract_post.specs.declared.types.Extract.{Extract}
 use Rattle.extract_post.specs.Extract.{Extracts}
+use Rattle.image_file.specs.Reading.{Contents, image_of}
+use Rattle.code_listing.specs.Listing.{code_of}
 use Rattle.ksplice_cli.specs.Answer.{Answer, refused_answer, answer_of}
 use Rattle.ksplice_cli.specs.Difference.{listing}
-
--- What a function returned is what the definition gives, unless memory ran out.
-abbrev pub Gives : {X : Type 0} → Result X Refusal → Result X Refusal → Type 0
-Gives (Ok x) given = given ≡ Ok x
-Gives (Err refusal) given = refusal ≢ Memory → given ≡ Err refusal
 
 abbrev pub sections_unless : Option ObjectFault → Option Refusal → List NormalSection → Result (List NormalSection) Refusal
 sections_unless (Some fault) refusal sections = Err (refusal_of_fault fault)
@@ -26,13 +23,25 @@ sections_unless None None sections = Ok sections
 unfoldable pub sections_of : List ℕ → Result (List NormalSection) Refusal
 sections_of bytes = sections_unless (object_fault bytes) (normal_fault bytes) (loaded_sections bytes)
 
--- The difference of two object files: the lines of what an update from one to the other is made of. What is wrong with the
--- first comes before what is wrong with the second, and that before what is wrong with the two together.
+-- the sections of a second object beside those of the first
+abbrev pub beside : List NormalSection → Result (List NormalSection) Refusal → Result (List NormalSection × List NormalSection) Refusal
+beside old (Err refusal) = Err refusal
+beside old (Ok new) = Ok (old, new)
+
+abbrev pub both : Result (List NormalSection) Refusal → Result (List NormalSection) Refusal → Result (List NormalSection × List NormalSection) Refusal
+both (Err refusal) second = Err refusal
+both (Ok old) second = beside old second
+
+-- the sections of two object files; what is wrong with the first comes before what is wrong with the second
+unfoldable pub both_sections : List ℕ → List ℕ → Result (List NormalSection × List NormalSection) Refusal
+both_sections pre post = both (sections_of pre) (sections_of post)
+
+-- The difference of two object files: the lines of what an update from one to the other is made of. What is wrong with one of
+-- them comes before what is wrong with the two together.
 pub data IsDifference (pre post : List ℕ) : Result (List ℕ) Refusal → Type 0 where
-  FirstRefused : (refusal : Refusal) → sections_of pre ≡ Err refusal → IsDifference pre post (Err refusal)
-  SecondRefused : (old : List NormalSection) (refusal : Refusal) → sections_of pre ≡ Ok old → sections_of post ≡ Err refusal → IsDifference pre post (Err refusal)
-  NoneExtracted : (old new : List NormalSection) (refusal : Refusal) → sections_of pre ≡ Ok old → sections_of post ≡ Ok new → Extracts old new (Err refusal) → IsDifference pre post (Err refusal)
-  Lists : (old new : List NormalSection) (extract : Extract) → sections_of pre ≡ Ok old → sections_of post ≡ Ok new → Extracts old new (Ok extract) → IsDifference pre post (Ok (listing old new extract))
+  Unread : (refusal : Refusal) → both_sections pre post ≡ Err refusal → IsDifference pre post (Err refusal)
+  NoneExtracted : (old new : List NormalSection) (refusal : Refusal) → both_sections pre post ≡ Ok (old, new) → Extracts old new (Err refusal) → IsDifference pre post (Err refusal)
+  Lists : (old new : List NormalSection) (extract : Extract) → both_sections pre post ≡ Ok (old, new) → Extracts old new (Ok extract) → IsDifference pre post (Ok (listing old new extract))
 
 -- lines that list an extract of the sections of two objects
 pub record Listed (old new : List NormalSection) (lines : List ℕ) : Type 0 where
@@ -50,3 +59,15 @@ pub record IsReply (pre post : List ℕ) (answer : Answer) : Type 0 where
   pub reply : Result (List ℕ) Refusal
   pub difference : IsDifference pre post reply
   pub told : answer ≡ reply_answer reply
+
+-- the lines of the instructions of a function of an image that was read, or why there are none
+abbrev pub code_of_read : Result Contents Refusal → List ℕ → Result (List ℕ) Refusal
+code_of_read (Err refusal) name = Err refusal
+code_of_read (Ok image) name = code_of image name
+
+-- the reply to `code` where the image file is loaded: what is wrong with the file comes before what is wrong with the name
+unfoldable pub code_reply : List ℕ → List ℕ → Result (List ℕ) Refusal
+code_reply bytes name = code_of_read (image_of bytes) name
+
+abbrev pub code_answer : List ℕ → List ℕ → Answer
+code_answer bytes name = reply_answer (code_reply bytes name)

@@ -6,6 +6,7 @@ use Rattle.i386_reloc.specs.Normal.{same_bytes}
 -- a command, with its words
 pub data Asked : Type 0 where
   Diff : (pre post : List ℕ) → Asked
+  Code : (image name : List ℕ) → Asked
 
 -- a word that begins with a dash is an option, and there are none
 abbrev pub begins_with_dash : List ℕ → Bool
@@ -14,7 +15,9 @@ begins_with_dash (first ∷ rest) = first == 45
 
 -- a command's name, and exactly its number of words
 abbrev pub command_of : List (List ℕ) → Option Asked
-command_of (name ∷ pre ∷ post ∷ []) = if same_bytes name (codes "diff") then Some (Diff pre post) else None
+command_of (command ∷ first ∷ second ∷ []) =
+    if same_bytes command (codes "diff") then Some (Diff first second)
+    else (if same_bytes command (codes "code") then Some (Code first second) else None)
 command_of _ = None
 
 -- the words' reading, if they have one

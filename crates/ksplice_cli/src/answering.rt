@@ -2,100 +2,21 @@
 ghost use Rattle.std.specs.Prelude.{◌≡◌, ◌≢◌, ◌≤◌, ℕ, List, Option, Some, None, map, string_bytes, nat_eq, true};
 ghost use Rattle.std.specs.List.{list_any};
 ghost use Rattle.ks_io.specs.Outside.{Rose, NeverFall};
-ghost use Rattle.ksplice_cli.specs.Answer.{ComesOut, refused_answer, usage_answer};
+ghost use Rattle.ksplice_cli.specs.Answer.{ComesOut, usage_answer};
 ghost use Rattle.ksplice_cli.specs.Asks.{asked_by};
-ghost use Rattle.ksplice_cli.specs.Calls.{Answers, CountsTellOf, EndsWithSomeFile, ComparesSome, OneComesOut, ends_reply, is_carried_out, is_status};
-ghost use Rattle.ksplice_cli.specs.Reply.{IsReply};
-ghost use Rattle.ksplice_cli.specs.Words.{Asked, Diff, reading};
+ghost use Rattle.ksplice_cli.specs.Calls.{Answers, CountsTellOf, EndsWithSomeFile, RepliesSome, is_carried_out, is_status};
+ghost use Rattle.ksplice_cli.specs.Words.{reading};
 
 use crate::command::Command;
-use crate::comparing::compare;
-use crate::loading::load_or_end;
+use crate::diffing::diff;
+use crate::image_code::code;
 use crate::saying::say;
 use crate::status::Status;
 use crate::words::read_words;
-use ks_base::{Line, Refusal};
 use ks_io::{Files, Sink};
 use std::alloc::Global;
 
-/// The most bytes that an object file may have.
-const OBJECT_LIMIT: u32 = 8_388_608;
-
-const USAGE: &str = "usage: ksplice diff PRE POST\n";
-
-// Writes the reply of a comparison, or its refusal.
-#[tactic(auto, using(crate::proofs::Untaken::nothing_taken))]
-fn print_difference<O: Sink>(alloc: Global, pre: &[u8], post: &[u8], out: &mut O) -> Status
-    ensures status { ends_reply result.code ≡ true }
-    ensures answer { OneComesOut (IsReply pre.now post.now) (O.taken out.old) (O.taken out.new) result.code }
-    ensures sink { result.code ≡ 5 → Rose (O.faults out.old) (O.faults out.new) }
-    ensures never_falls { O.faults out.old ≤ O.faults out.new }
-    ensures quiet_kept { O.quiet out.old → O.quiet out.new }
-    ensures quiet { O.quiet out.old → result.code ≢ 5 }
-{
-    match compare(alloc, pre, post) {
-        Ok(lines) => say(out, lines.bytes(), Status::DONE),
-        Err(refusal) => refuse(alloc, &refusal, out),
-    }
-}
-
-// Ends with a refusal's line. Want of memory has none.
-#[tactic(auto, using(crate::proofs::Untaken::nothing_taken))]
-fn refuse<O: Sink>(alloc: Global, refusal: &Refusal, out: &mut O) -> Status
-    ensures status { ends_reply result.code ≡ true }
-    ensures answer { refusal.now ≢ Refusal.Memory → ComesOut (refused_answer refusal.now) (O.taken out.old) (O.taken out.new) result.code }
-    ensures memory { refusal.now ≡ Refusal.Memory → (result.code ≡ 6) × (O.taken out.new ≡ O.taken out.old) }
-    ensures sink { result.code ≡ 5 → Rose (O.faults out.old) (O.faults out.new) }
-    ensures never_falls { O.faults out.old ≤ O.faults out.new }
-    ensures quiet_kept { O.quiet out.old → O.quiet out.new }
-    ensures quiet { O.quiet out.old → result.code ≢ 5 }
-{
-    if let Refusal::Memory = refusal {
-        return Status::NO_MEMORY;
-    }
-    let mut line = Line::new(alloc);
-    match line.put_refusal(refusal) {
-        Ok(()) => say(out, line.bytes(), Status::REFUSED),
-        Err(_) => Status::NO_MEMORY,
-    }
-}
-
-// Loads both objects, and only then compares them.
-fn diff<F: Files, O: Sink>(
-    alloc: Global,
-    pre: &str,
-    post: &str,
-    files: &mut F,
-    out: &mut O,
-) -> Status
-    ensures answers { (told : List ℕ → Option (List ℕ)) → F.told files.old ≡ Some told → Answers (Some (Diff pre.now post.now)) told
-        (F.counts files.old) (F.counts files.new) (O.taken out.old) (O.taken out.new) result.code }
-    ensures rises { (told : List ℕ → Option (List ℕ)) → F.told files.old ≡ Some told
-        → CountsTellOf (Some (Diff pre.now post.now)) told (F.counts files.old) (F.counts files.new) }
-    ensures file { result.code ≡ 4 → EndsWithSomeFile (Some (Diff pre.now post.now))
-        (F.counts files.old) (F.counts files.new) (O.taken out.old) (O.taken out.new) }
-    ensures done { result.code ≡ 0 → ComparesSome (O.taken out.old) (O.taken out.new) result.code }
-    ensures refused { result.code ≡ 3 → ComparesSome (O.taken out.old) (O.taken out.new) result.code }
-    ensures status { is_carried_out result.code ≡ true }
-    ensures sink { result.code ≡ 5 → Rose (O.faults out.old) (O.faults out.new) }
-    ensures quiet { O.quiet out.old → result.code ≢ 5 }
-    ensures told_kept { F.told files.new ≡ F.told files.old }
-    ensures counts { NeverFall (F.counts files.old) (F.counts files.new) }
-    ensures quiet_files { F.quiet files.old → F.quiet files.new }
-    ensures quiet_faults { F.quiet files.old → (F.counts files.new).faults ≡ (F.counts files.old).faults }
-    ensures never_falls { O.faults out.old ≤ O.faults out.new }
-    ensures quiet_kept { O.quiet out.old → O.quiet out.new }
-{
-    let old = match load_or_end(alloc, pre, OBJECT_LIMIT, files, out) {
-        Ok(bytes) => bytes,
-        Err(status) => return status,
-    };
-    let new = match load_or_end(alloc, post, OBJECT_LIMIT, files, out) {
-        Ok(bytes) => bytes,
-        Err(status) => return status,
-    };
-    print_difference(alloc, old.as_slice(), new.as_slice(), out)
-}
+const USAGE: &str = "usage: ksplice diff PRE POST | code IMAGE NAME\n";
 
 // Carries out what the words ask for.
 fn carry_out<F: Files, O: Sink>(
@@ -110,8 +31,9 @@ fn carry_out<F: Files, O: Sink>(
         → CountsTellOf (Some (asked_by command.entry)) told (F.counts files.old) (F.counts files.new) }
     ensures file { result.code ≡ 4 → EndsWithSomeFile (Some (asked_by command.entry))
         (F.counts files.old) (F.counts files.new) (O.taken out.old) (O.taken out.new) }
-    ensures done { result.code ≡ 0 → ComparesSome (O.taken out.old) (O.taken out.new) result.code }
-    ensures refused { result.code ≡ 3 → ComparesSome (O.taken out.old) (O.taken out.new) result.code }
+    ensures done { result.code ≡ 0 → RepliesSome (Some (asked_by command.entry)) (O.taken out.old) (O.taken out.new) result.code }
+    ensures refused { result.code ≡ 3 → RepliesSome (Some (asked_by command.entry)) (O.taken out.old) (O.taken out.new) result.code }
+    ensures unreadable { result.code ≡ 7 → RepliesSome (Some (asked_by command.entry)) (O.taken out.old) (O.taken out.new) result.code }
     ensures status { is_carried_out result.code ≡ true }
     ensures sink { result.code ≡ 5 → Rose (O.faults out.old) (O.faults out.new) }
     ensures quiet { O.quiet out.old → result.code ≢ 5 }
@@ -124,6 +46,7 @@ fn carry_out<F: Files, O: Sink>(
 {
     match command {
         Command::Diff { pre, post } => diff(alloc, pre, post, files, out),
+        Command::Code { image, name } => code(alloc, image, name, files, out),
     }
 }
 
@@ -137,6 +60,7 @@ fn carry_out<F: Files, O: Sink>(
 ///   its count. The output is the file's line.
 /// - 5: the sink failed, which shows in its count. It has taken a front of the output.
 /// - 6: memory ran out. The sink has taken a front of the output.
+/// - 7: the image isn't in its form. The output is the refusal's line.
 #[tactic(auto, using(crate::proofs::Diffs::none_tells))]
 pub fn ksplice<F: Files, O: Sink>(
     alloc: Global,
@@ -157,8 +81,9 @@ pub fn ksplice<F: Files, O: Sink>(
     ensures status { is_status result.code ≡ true }
     ensures usage { result.code ≡ 2 → reading (map string_bytes words.now) ≡ None }
     ensures no_reading { reading (map string_bytes words.now) ≡ None → ComesOut usage_answer (O.taken out.old) (O.taken out.new) result.code }
-    ensures done { result.code ≡ 0 → ComparesSome (O.taken out.old) (O.taken out.new) result.code }
-    ensures refused { result.code ≡ 3 → ComparesSome (O.taken out.old) (O.taken out.new) result.code }
+    ensures done { result.code ≡ 0 → RepliesSome (reading (map string_bytes words.now)) (O.taken out.old) (O.taken out.new) result.code }
+    ensures refused { result.code ≡ 3 → RepliesSome (reading (map string_bytes words.now)) (O.taken out.old) (O.taken out.new) result.code }
+    ensures unreadable { result.code ≡ 7 → RepliesSome (reading (map string_bytes words.now)) (O.taken out.old) (O.taken out.new) result.code }
     ensures file { result.code ≡ 4 → EndsWithSomeFile (reading (map string_bytes words.now))
         (F.counts files.old) (F.counts files.new) (O.taken out.old) (O.taken out.new) }
     ensures sink { result.code ≡ 5 → Rose (O.faults out.old) (O.faults out.new) }

@@ -5,4 +5,6 @@
 pub enum Command<'a> {
     /// `diff PRE POST`: the difference between two object files, by their names.
     Diff { pre: &'a str, post: &'a str },
+    /// `code IMAGE NAME`: the instructions of one function of an image, by the names of both.
+    Code { image: &'a str, name: &'a str },
 }

@@ -1,7 +1,8 @@
 //! The reply to `diff`.
 ghost use Rattle.std.specs.Prelude.{◌≢◌, Ok, Err, IfOk, IfErr};
+ghost use Rattle.ks_base.specs.Gives.{Gives};
 ghost use Rattle.extract_post.specs.Extract.{Extracts};
-ghost use Rattle.ksplice_cli.specs.Reply.{Gives, IsDifference, Listed, sections_of};
+ghost use Rattle.ksplice_cli.specs.Reply.{IsDifference, Listed, both_sections, sections_of};
 
 use crate::listing::list_extract;
 use elf32_object::read_object;
@@ -16,14 +17,27 @@ pub fn compare<'a>(alloc: Global, pre: &'a [u8], post: &'a [u8]) -> Result<Line,
     ensures ok { IfOk result (λ lines. IsDifference pre.now post.now (Ok lines)) }
     ensures refused { IfErr result (λ refusal. refusal ≢ Refusal.Memory → IsDifference pre.now post.now (Err refusal)) }
 {
+    let both = read_both(alloc, pre, post)?;
+    difference(alloc, &both.0, &both.1)
+}
+
+// The sections of both objects, the first one's read first.
+#[tactic(auto, unfolding(crate::specs::Reply::both_sections))]
+fn read_both<'a>(
+    alloc: Global,
+    pre: &'a [u8],
+    post: &'a [u8],
+) -> Result<(Normal<'a>, Normal<'a>), Refusal>
+    ensures { Gives (λ both. both) result (both_sections pre.now post.now) }
+{
     let old = read_sections(alloc, pre)?;
     let new = read_sections(alloc, post)?;
-    difference(alloc, &old, &new)
+    Ok((old, new))
 }
 
 #[tactic(auto, unfolding(crate::specs::Reply::sections_of))]
 fn read_sections(alloc: Global, bytes: &[u8]) -> Result<Normal<'_>, Refusal>
-    ensures { Gives result (sections_of bytes.now) }
+    ensures { Gives (λ sections. sections) result (sections_of bytes.now) }
 {
     match read_object(alloc, bytes) {
         Ok(object) => normalise(alloc, &object),
@@ -36,8 +50,5 @@ fn difference<'a>(alloc: Global, old: &Normal<'a>, new: &Normal<'a>) -> Result<L
     ensures refused { IfErr result (λ refusal. refusal ≢ Refusal.Memory → Extracts old.now new.now (Err refusal)) }
 {
     let extract = extract(alloc, old, new)?;
-    match list_extract(alloc, old, new, &extract) {
-        Ok(lines) => Ok(lines),
-        Err(_) => Err(Refusal::Memory),
-    }
+    Ok(list_extract(alloc, old, new, &extract)?)
 }

@@ -4,6 +4,9 @@
 pub mod answering;
 mod command;
 mod comparing;
+mod diffing;
+mod image_code;
+pub mod laws;
 mod listing;
 mod loading;
 pub mod real;

@@ -2,11 +2,11 @@
 ghost use Rattle.std.specs.Prelude.{◌≡◌, ◌≢◌, ◌⊎◌, ◌≤◌, false, true, ◌||◌, ◌==◌, IfOk};
 ghost use Rattle.ks_io.specs.Outside.{Rose};
 ghost use Rattle.ks_io.specs.declared.types.FileFault.TheVariants.{Memory};
-ghost use Rattle.ksplice_cli.specs.Answer.{ComesOut, answer_of, file_line, fault_text, file_answer};
-ghost use Rattle.ksplice_cli.specs.Calls.{ends_load};
+ghost use Rattle.ksplice_cli.specs.Answer.{ComesOut, answer_of, file_line, fault_text, file_answer, refused_answer, refused_status};
+ghost use Rattle.ksplice_cli.specs.Calls.{ends_load, ends_reply};
 
 use crate::status::Status;
-use ks_base::{Line, Name};
+use ks_base::{Line, Name, Refusal};
 use ks_io::{FileFault, Sink, SinkFault, write_all};
 use std::alloc::{AllocError, Global};
 
@@ -24,6 +24,38 @@ pub fn say<O: Sink>(out: &mut O, output: &[u8], status: Status) -> Status
         Ok(()) => status,
         Err(SinkFault::SinkFailed) => Status::NO_SINK,
         Err(SinkFault::Memory) => Status::NO_MEMORY,
+    }
+}
+
+/// Ends the call with a refusal's line. Want of memory has none.
+#[tactic(auto, using(crate::proofs::Untaken::nothing_taken))]
+pub fn refuse<O: Sink>(alloc: Global, refusal: &Refusal, out: &mut O) -> Status
+    ensures status { ends_reply result.code ≡ true }
+    ensures answer { refusal.now ≢ Refusal.Memory → ComesOut (refused_answer refusal.now) (O.taken out.old) (O.taken out.new) result.code }
+    ensures memory { refusal.now ≡ Refusal.Memory → (result.code ≡ 6) × (O.taken out.new ≡ O.taken out.old) }
+    ensures sink { result.code ≡ 5 → Rose (O.faults out.old) (O.faults out.new) }
+    ensures never_falls { O.faults out.old ≤ O.faults out.new }
+    ensures quiet_kept { O.quiet out.old → O.quiet out.new }
+    ensures quiet { O.quiet out.old → result.code ≢ 5 }
+{
+    if let Refusal::Memory = refusal {
+        return Status::NO_MEMORY;
+    }
+    let mut line = Line::new(alloc);
+    match line.put_refusal(refusal) {
+        Ok(()) => say(out, line.bytes(), status_of(refusal)),
+        Err(_) => Status::NO_MEMORY,
+    }
+}
+
+// The status of a refusal.
+fn status_of(refusal: &Refusal) -> Status
+    ensures { result.code ≡ refused_status refusal.now }
+{
+    match refusal {
+        Refusal::BadImage(..) => Status::BAD_INPUT,
+        Refusal::BadLine(_) => Status::BAD_INPUT,
+        _ => Status::REFUSED,
     }
 }
 

@@ -24,4 +24,7 @@ impl Status {
 
     /// Memory ran out. A front of the output is written.
     pub const NO_MEMORY: Status = Status { code: 6 };
+
+    /// The image or the script isn't in its form. The refusal is written.
+    pub const BAD_INPUT: Status = Status { code: 7 };
 }

@@ -1,8 +1,10 @@
 //! Whole calls over files and a sink in memory.
+mod images;
 mod objects;
 mod updates;
 
 use crate::answering::ksplice;
+use images::{LISTING, PROGRAM};
 use ks_io::{MemoryFiles, MemorySink};
 use objects::{A_CALL, ONE_FUNCTION, TWO_FUNCTIONS};
 use std::alloc::Global;
@@ -49,6 +51,8 @@ fn answer(
     files.put("f and h", &other)?;
     files.put("call", &A_CALL)?;
     files.put("empty", &[])?;
+    files.put("program", &PROGRAM)?;
+    files.put("cut", b"KIM1")?;
     put_updates(&mut files)?;
     if words.iter().any(|word| *word == "long name") {
         let long = vec![in alloc; 0u8; 8_388_609]?;
@@ -80,7 +84,7 @@ fn put_updates(files: &mut MemoryFiles) -> Result<(), Fail> {
 
 #[test]
 fn answers(rt: HostRuntime) -> Result<(), Fail> {
-    let usage = "usage: ksplice diff PRE POST\n";
+    let usage = "usage: ksplice diff PRE POST | code IMAGE NAME\n";
     let calls: [(&[&str], &str, u8); 22] = [
         (&["diff", "one", "two"], "changed f\n", 0),
         (&["diff", "renamed", "two"], "changed \\x07\n", 0),
@@ -140,6 +144,35 @@ fn updates_with_references_and_data(rt: HostRuntime) -> Result<(), Fail> {
     compare_answers(&rt, rt.alloc(), &calls)
 }
 
+#[test]
+fn code_of_an_image(rt: HostRuntime) -> Result<(), Fail> {
+    let usage = "usage: ksplice diff PRE POST | code IMAGE NAME\n";
+    let calls: [(&[&str], &str, u8); 9] = [
+        (&["code", "program", "f"], LISTING, 0),
+        (
+            &["code", "program", "nope"],
+            "refused 31 no symbol nope\n",
+            3,
+        ),
+        (
+            &["code", "cut", "f"],
+            "refused 28 bad image at 4 short\n",
+            7,
+        ),
+        (
+            &["code", "one", "f"],
+            "refused 28 bad image at 0 magic\n",
+            7,
+        ),
+        (&["code", "f", "program"], "file f missing\n", 4),
+        (&["diff", "program", "one"], "refused 1 not elf\n", 3),
+        (&["code", "program"], usage, 2),
+        (&["code", "program", "f", "main"], usage, 2),
+        (&["code", "program", "-f"], usage, 2),
+    ];
+    compare_answers(&rt, rt.alloc(), &calls)
+}
+
 /// Makes each call over files and a sink that don't fail, and compares its output and status with these.
 fn compare_answers(
     rt: &impl Abort,
@@ -157,21 +190,26 @@ fn compare_answers(
 #[test]
 fn faults_of_the_outside(rt: HostRuntime) -> Result<(), Fail> {
     let alloc = rt.alloc();
-    let words = ["diff", "one", "two"];
-    let calls: [(&[u64], &[u64], usize, &str, u8); 6] = [
-        (&[1], &[], 100, "file one failed\n", 4),
-        (&[2], &[], 100, "file two failed\n", 4),
-        (&[3], &[], 100, "changed f\n", 0),
-        (&[], &[2], 4, "chan", 5),
-        (&[], &[], 0, "", 5),
-        (&[1], &[1], 4, "", 5),
+    let diff: [&str; 3] = ["diff", "one", "two"];
+    let code: [&str; 3] = ["code", "program", "f"];
+    let calls: [(&[&str], &[u64], &[u64], usize, &str, u8); 10] = [
+        (&diff, &[1], &[], 100, "file one failed\n", 4),
+        (&diff, &[2], &[], 100, "file two failed\n", 4),
+        (&diff, &[3], &[], 100, "changed f\n", 0),
+        (&diff, &[], &[2], 4, "chan", 5),
+        (&diff, &[], &[], 0, "", 5),
+        (&diff, &[1], &[1], 4, "", 5),
+        (&code, &[1], &[], 100, "file program failed\n", 4),
+        (&code, &[2], &[], 1, LISTING, 0),
+        (&code, &[], &[3], 5, "0x00100000", 5),
+        (&code, &[], &[], 0, "", 5),
     ];
-    for (loads, writes, most, output, status) in calls {
+    for (words, loads, writes, most, output, status) in calls {
         let failing = (
             Vec::from_slice(alloc, loads)?,
             Vec::from_slice(alloc, writes)?,
         );
-        let (taken, code) = answer(alloc, &words, failing, most)?;
+        let (taken, code) = answer(alloc, words, failing, most)?;
         assert_eq!(rt;
             taken.as_slice(),
             output.as_bytes(),
@@ -187,7 +225,8 @@ fn faults_of_the_outside(rt: HostRuntime) -> Result<(), Fail> {
 #[test]
 fn want_of_memory(rt: HostRuntime) -> Result<(), Fail> {
     let alloc = rt.alloc();
-    let calls: [(&[&str], &str, u8); 4] = [
+    let calls: [(&[&str], &str, u8); 5] = [
+        (&["code", "program", "f"], LISTING, 0),
         (&["diff", "one", "two"], "changed f\n", 0),
         (
             &["diff", "text a", "text b"],

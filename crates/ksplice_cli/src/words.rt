@@ -49,6 +49,10 @@ fn command_in(words: &[String]) -> Option<Command<'_>>
             pre: pre.as_str(),
             post: post.as_str(),
         }),
+        [command, image, name] if command.as_str() == "code" => Some(Command::Code {
+            image: image.as_str(),
+            name: name.as_str(),
+        }),
         _ => None,
     }
 }

@@ -1,5 +1,5 @@
 use Rattle.ksplice_cli.proofs.Replies.{lines_come_out, refusal_comes_out}
-use Rattle.ksplice_cli.proofs.answering.print_difference.Goals as goal
+use Rattle.ksplice_cli.proofs.diffing.print_difference.Goals as goal
 
 pub returns-in-Ok-clause-answer : goal.returns-in-Ok-clause-answer
 returns-in-Ok-clause-answer g c =

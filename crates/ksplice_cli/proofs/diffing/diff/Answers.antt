@@ -1,6 +1,6 @@
 use Rattle.std.proofs.Common.{◌∙◌}
 use Rattle.ksplice_cli.proofs.Diffs.{first_ends, second_ends, both_held, first_tells, both_tell}
-use Rattle.ksplice_cli.proofs.answering.diff.Goals as goal
+use Rattle.ksplice_cli.proofs.diffing.diff.Goals as goal
 
 pub returns-in-Err-clause-answers : goal.returns-in-Err-clause-answers
 returns-in-Err-clause-answers g c = λ told is_told.

@@ -1,0 +1,33 @@
+"""Runs a program and says how long it took and how much memory it used, for the scripts here."""
+import os
+import subprocess
+import sys
+import time
+
+TOP = os.path.dirname(os.path.dirname(os.path.abspath(__file__)))
+PROGRAM = os.path.join(TOP, "crates", "ksplice_cli", "out", "ksplice_cli")
+LIMIT, LONG = 60, 10
+
+
+def timed(command, folder, out):
+    """The shortest of three runs and what the last wrote, or None where a run took longer than the limit."""
+    best = None
+    for _ in range(3):
+        start = time.perf_counter()
+        try:
+            done = subprocess.run(command, cwd=folder, stdout=out, stderr=subprocess.DEVNULL, check=False, timeout=LIMIT)
+        except subprocess.TimeoutExpired:
+            return None
+        took = time.perf_counter() - start
+        best = took if best is None else min(best, took)
+        if took > LONG:
+            break
+    return best, done
+
+
+def peak(command, folder):
+    """The most memory in use, in bytes, as a process of its own sees it."""
+    report = "import resource,subprocess,sys; subprocess.run(sys.argv[1:], stdout=subprocess.DEVNULL); " \
+             "print(resource.getrusage(resource.RUSAGE_CHILDREN).ru_maxrss * 1024)"
+    return int(subprocess.run([sys.executable, "-c", report] + command, cwd=folder, stdout=subprocess.PIPE,
+                              check=True).stdout)
