@@ -1,3 +1,9 @@
 pub mod Items
 pub mod Ends
 pub mod Spelled
+pub mod Stands
+pub mod PartsRead
+pub mod ImageRead
+pub mod Takes
+pub mod PartsSpelled
+pub mod ImageSpelled

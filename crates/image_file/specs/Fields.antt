@@ -1,11 +1,11 @@
 -- The fields of an image file, by their offset from its start, and what is refused at one.
-use Rattle.std.specs.Prelude.{◌≡◌, ◌≢◌, ℕ, zero, suc, ◌+◌, Bool, List, [], ◌∷◌, ◌++◌, length, take, drop, nat_lt, if◌then◌else◌}
+use Rattle.std.specs.Prelude.{ℕ, zero, suc, ◌+◌, Bool, List, [], ◌∷◌, ◌++◌, length, take, drop, nat_lt, if◌then◌else◌}
 use Rattle.std.specs.Prelude.{Result, Ok, Err}
 use Rattle.std.specs.Int.{w32, from_le_bytes}
 use Rattle.ks_base.specs.declared.refusals.ImageFault.{ImageFault}
 use Rattle.ks_base.specs.declared.refusals.ImageFault.TheVariants.{Short}
 use Rattle.ks_base.specs.declared.refusals.Refusal.{Refusal}
-use Rattle.ks_base.specs.declared.refusals.Refusal.TheVariants.{BadImage, Memory}
+use Rattle.ks_base.specs.declared.refusals.Refusal.TheVariants.{BadImage}
 
 infixl 10 ◌>>=◌
 abbrev pub ◌>>=◌ : {A B : Type 0} → Result A Refusal → (A → Result B Refusal) → Result B Refusal
@@ -51,8 +51,3 @@ items_at zero item width before offset = Ok (before, offset)
 items_at (suc n) item width before offset = do
   x ← item before offset
   items_at n item width (before ++ x ∷ []) (offset + width x)
-
--- What a function returned, seen by view, is what reading gives, unless memory ran out.
-abbrev pub Gives : {X Y : Type 0} → (X → Y) → Result X Refusal → Result Y Refusal → Type 0
-Gives view (Ok x) read = read ≡ Ok (view x)
-Gives view (Err e) read = e ≢ Memory → read ≡ Err e

@@ -1,6 +1,7 @@
 //! The front of the file: its magic bytes, its counts and the arena.
 ghost use Rattle.std.specs.Prelude.{◌≡◌, ◌≤◌, IfOk, IsTrue};
-ghost use Rattle.image_file.specs.Fields.{Gives, field};
+ghost use Rattle.ks_base.specs.Gives.{Gives};
+ghost use Rattle.image_file.specs.Fields.{field};
 ghost use Rattle.image_file.specs.Rules.{magic_rules, arena_low_rules, arena_high_rules};
 ghost use Rattle.image_file.specs.Keeps.{all_hold, keeps_arena};
 ghost use Rattle.image_file.specs.Reading.{header_at};

@@ -3,7 +3,7 @@
 #![tactic(auto)]
 
 mod front;
-mod memory;
+pub mod laws;
 mod numbers;
 pub mod reading;
 mod regions;

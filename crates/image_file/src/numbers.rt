@@ -1,6 +1,7 @@
 //! Numbers and bytes at an offset of the file.
 ghost use Rattle.std.specs.Prelude.{◌≡◌, ◌≤◌, ◌+◌, ◌<◌, ◌^◌, IfOk, length};
-ghost use Rattle.image_file.specs.Fields.{Gives, content_at, number_at, field};
+ghost use Rattle.ks_base.specs.Gives.{Gives};
+ghost use Rattle.image_file.specs.Fields.{content_at, number_at, field};
 ghost use Rattle.image_file.specs.Rules.{no_rules, count_rules};
 
 use ks_base::{ImageFault, Refusal};

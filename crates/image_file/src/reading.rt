@@ -1,7 +1,8 @@
 //! Reading an image from the bytes of a file.
-ghost use Rattle.std.specs.Prelude.{◌≡◌};
-ghost use Rattle.image_file.specs.Fields.{Gives};
+ghost use Rattle.std.specs.Prelude.{◌≡◌, IfOk};
+ghost use Rattle.ks_base.specs.Gives.{Gives};
 ghost use Rattle.image_file.specs.Reading.{image_of, Contents};
+ghost use Rattle.image_file.specs.Spelling.{spelling};
 ghost use Rattle.image_file.specs.Seen.{contents_of};
 
 use crate::front::header_of;
@@ -12,7 +13,7 @@ use crate::types::Image;
 use ks_base::{ImageFault, Refusal};
 use std::alloc::Global;
 
-/// The image that the bytes of a file spell.
+/// The image that the bytes of a file spell. No other bytes spell it.
 ///
 /// [`Refusal::BadImage`] has the offset of the field that breaks a rule, in bytes from the file's start,
 /// and which rule it is; it comes exactly where a rule is broken, and names the first one in the order of
@@ -21,7 +22,8 @@ use std::alloc::Global;
 /// want of memory alone.
 #[tactic(auto, unfolding(crate::specs::Reading::image_of))]
 pub fn read_image(alloc: Global, bytes: &[u8]) -> Result<Image, Refusal>
-    ensures { Gives contents_of result (image_of bytes.now) }
+    ensures exact { Gives contents_of result (image_of bytes.now) }
+    ensures spelled { IfOk result (λ image. bytes.now ≡ spelling (contents_of image)) }
 {
     let header = header_of(bytes)?;
     let (pieces, offset) = regions_of(alloc, bytes, header.regions, header.arena)?;

@@ -2,12 +2,12 @@
 ghost use Rattle.std.specs.Prelude.{◌≡◌, ◌≤◌, ◌+◌, ◌*◌, ◌<◌, ◌^◌, IfOk, IsTrue, length, []};
 ghost use Rattle.std.specs.List.{All};
 ghost use Rattle.image_memory.specs.Contents.{ArePlaced, piece_range};
-ghost use Rattle.image_file.specs.Fields.{Gives, field, items_at};
+ghost use Rattle.ks_base.specs.Gives.{Gives};
+ghost use Rattle.image_file.specs.Fields.{field, items_at};
 ghost use Rattle.image_file.specs.Rules.{region_kind_rules, region_kind, base_rules, length_rules, total_of};
 ghost use Rattle.image_file.specs.Keeps.{all_hold, keeps_region};
 ghost use Rattle.image_file.specs.Reading.{region_after, region_at, region_width};
 
-use crate::memory::keep;
 use crate::numbers::{content_of, number_of};
 use crate::tests_of_fields::{END_LIMIT, LOWEST, MEMORY_LIMIT, meets};
 use image_memory::{Kind, Piece, Pieces};
@@ -40,7 +40,7 @@ pub(crate) fn regions_of(
         floor = piece.base + length;
         total += length;
         offset += 12 + length;
-        keep(&mut pieces, piece)?;
+        pieces.push(piece)?;
     }
     Ok((pieces, offset))
 }
@@ -71,7 +71,7 @@ fn region_of(
     Ok(Piece {
         kind: region_kind(kind),
         base,
-        bytes: Bytes::from_slice(alloc, content).map_err(|_| Refusal::Memory)?,
+        bytes: Bytes::from_slice(alloc, content)?,
     })
 }
 

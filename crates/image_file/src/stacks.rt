@@ -3,12 +3,12 @@ ghost use Rattle.std.specs.Prelude.{◌≡◌, ◌≤◌, ◌+◌, ◌-◌, ◌*
 ghost use Rattle.std.specs.List.{All};
 ghost use Rattle.image_memory.specs.Ranges.{Ascends};
 ghost use Rattle.image_memory.specs.Contents.{ArePlaced};
-ghost use Rattle.image_file.specs.Fields.{Gives, field, items_at};
+ghost use Rattle.ks_base.specs.Gives.{Gives};
+ghost use Rattle.image_file.specs.Fields.{field, items_at};
 ghost use Rattle.image_file.specs.Rules.{own_range, stack_low_rules, stack_high_rules, total_of};
 ghost use Rattle.image_file.specs.Keeps.{all_hold, keeps_stack};
 ghost use Rattle.image_file.specs.Reading.{stack_after, stack_at, stack_width};
 
-use crate::memory::keep;
 use crate::numbers::number_of;
 use crate::tests_of_fields::{END_LIMIT, LOWEST, MEMORY_LIMIT, is_aligned, meets, meets_a_piece};
 use image_memory::Piece;
@@ -47,7 +47,7 @@ pub(crate) fn stacks_of(
         floor = stack.high;
         total += stack.high - stack.low;
         offset += 8;
-        keep(&mut stacks, stack)?;
+        stacks.push(stack)?;
     }
     Ok((stacks, offset))
 }

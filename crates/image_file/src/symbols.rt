@@ -1,17 +1,17 @@
 //! The symbols.
 ghost use Rattle.std.specs.Prelude.{◌≡◌, ◌≤◌, ◌+◌, ◌*◌, ◌<◌, ◌^◌, ◌==◌, IfOk, IsTrue, if◌then◌else◌, length, []};
 ghost use Rattle.std.specs.Option.{option_map};
-ghost use Rattle.std.specs.List.{All, AllWithin, list_any};
-ghost use Rattle.image_memory.specs.Contents.{ArePlaced, holding, piece_range};
-ghost use Rattle.image_memory.specs.Ranges.{lies_in};
+ghost use Rattle.std.specs.List.{All, list_any};
+ghost use Rattle.image_memory.specs.Contents.{ArePlaced, holding};
 ghost use Rattle.image_memory.specs.Access.{kind_of};
-ghost use Rattle.image_file.specs.Fields.{Gives, field, items_at};
+ghost use Rattle.ks_base.specs.Gives.{Gives};
+ghost use Rattle.image_file.specs.Fields.{field, items_at};
 ghost use Rattle.image_file.specs.Rules.{fits_region, symbol_kind_rules, binding_rules, name_length_rules, name_rules, is_zero};
 ghost use Rattle.image_file.specs.Keeps.{all_hold, keeps_symbol};
 ghost use Rattle.image_file.specs.Reading.{name_at, symbol_among, symbol_at, symbol_width};
 
 use crate::numbers::{content_of, number_of, plain_of};
-use image_memory::{Kind, Piece};
+use image_memory::{Kind, Piece, piece_at};
 use ks_base::{ImageFault, Name, Refusal};
 use std::alloc::Global;
 use symbol_table::{Symbol, SymbolTable};
@@ -47,7 +47,7 @@ pub(crate) fn symbols_of(
     for _ in 0..count {
         let symbol = symbol_of(alloc, bytes, pieces, offset)?;
         offset += 16 + symbol.name.len() as u32;
-        symbols.reserve(1).map_err(|_| Refusal::Memory)?;
+        symbols.reserve(1)?;
         symbols.add(symbol);
     }
     Ok((symbols, offset))
@@ -103,38 +103,13 @@ fn fits_region(number: u32, region: Option<Kind>) -> bool
     }
 }
 
-// How many pieces begin at or below an address.
-fn begun(pieces: &[Piece], address: u32) -> usize
-    requires { ArePlaced pieces.now }
-    ensures bound { result ≤ length pieces.now }
-    ensures below { AllWithin (λ piece. piece.base ≤ address) pieces.now 0 result }
-    ensures above { AllWithin (λ piece. address < piece.base) pieces.now result (length pieces.now) }
-{
-    pieces.partition_point(|piece| piece.base <= address)
-}
-
-// Whether a piece has a byte at an address.
-fn holds(piece: &Piece, address: u32) -> bool
-    ensures { result ≡ lies_in address (piece_range piece.now) }
-{
-    piece.base <= address && ((address - piece.base) as usize) < piece.bytes.len()
-}
-
 // The kind of the piece that has a byte at an address.
 fn kind_at(pieces: &[Piece], address: u32) -> Option<Kind>
     requires { ArePlaced pieces.now }
     ensures { result ≡ option_map kind_of (holding pieces.now address) }
 {
-    let begun = begun(pieces, address);
-    if begun == 0 {
-        return None;
-    }
-    let piece = &pieces[begun - 1];
-    if holds(piece, address) {
-        Some(piece.kind)
-    } else {
-        None
-    }
+    let piece = piece_at(pieces, u64::from(address))?;
+    Some(piece.kind)
 }
 
 fn binding_of(bytes: &[u8], offset: u32) -> Result<u32, Refusal>
@@ -180,5 +155,5 @@ fn name_of(alloc: Global, bytes: &[u8], offset: u32, count: u32) -> Result<Name,
     if has_zero(name) {
         return Err(Refusal::BadImage(offset, ImageFault::Name));
     }
-    Name::from_slice(alloc, name).map_err(|_| Refusal::Memory)
+    Ok(Name::from_slice(alloc, name)?)
 }

@@ -1,7 +1,7 @@
 //! What an image holds.
 ghost use Rattle.std.specs.Prelude.{◌≤◌, length, IsTrue};
 ghost use Rattle.std.specs.List.{All};
-ghost use Rattle.image_memory.specs.Contents.{piece_range};
+ghost use Rattle.image_memory.specs.Contents.{ArePlaced, ArePlaced-prop, piece_range};
 ghost use Rattle.image_memory.specs.Ranges.{Ascends, Ascends-prop};
 ghost use Rattle.image_file.specs.Rules.{own_range, total_of};
 ghost use Rattle.image_file.specs.Keeps.{keeps_arena, keeps_region, keeps_symbol, keeps_stack};
@@ -28,7 +28,7 @@ pub struct Image {
     pub ghost few_stacks: { length stacks ≤ 64 },
     pub ghost arena_kept: { IsTrue (keeps_arena arena) },
     pub ghost regions_kept: { All (λ piece. IsTrue (keeps_region arena piece)) pieces },
-    pub ghost regions_ascend: { Ascends piece_range 0 pieces } by { Ascends-prop piece_range 0 pieces },
+    pub ghost regions_placed: { ArePlaced pieces } by { ArePlaced-prop pieces },
     pub ghost regions_fit: { total_of piece_range pieces ≤ 16777216 },
     pub ghost symbols_kept: { All (λ symbol. IsTrue (keeps_symbol pieces symbol)) symbols.symbols },
     pub ghost stacks_kept: { All (λ stack. IsTrue (keeps_stack arena pieces stack)) stacks },

@@ -1,10 +1,12 @@
 //! Writing an image as the bytes of a file.
-ghost use Rattle.std.specs.Prelude.{◌≡◌, ◌<◌, ◌≤◌, ◌^◌, ◌++◌, length, OnOk, IfOk, if◌then◌else◌};
+ghost use Rattle.std.specs.Prelude.{◌≡◌, ◌<◌, ◌≤◌, ◌^◌, ◌++◌, length, Ok, OnOk, IfOk, if◌then◌else◌};
 ghost use Rattle.std.specs.List.{All, flat_map};
 ghost use Rattle.image_file.specs.Keeps.{symbol_kind};
 ghost use Rattle.image_file.specs.Spelling.{number, kind_number, region_spelling, symbol_spelling, stack_spelling, header_spelling, spelling};
+ghost use Rattle.image_file.specs.Reading.{image_of};
 ghost use Rattle.image_file.specs.Seen.{contents_of};
 
+use crate::laws::written_is_read;
 use crate::types::Image;
 use image_memory::{Kind, Piece};
 use ks_base::{Bytes, Range};
@@ -14,11 +16,15 @@ use symbol_table::{Symbol, SymbolTable};
 // The bytes 4B 49 4D 31 as a number.
 const MAGIC: u32 = 0x314D_494B;
 
-/// The one spelling of an image as the bytes of a file. `Err` comes for want of memory alone.
+/// The one spelling of an image as the bytes of a file, which are read as that image again. `Err` comes for
+/// want of memory alone.
 #[tactic(auto, unfolding(crate::specs::Spelling::spelling))]
 pub fn write_image(alloc: Global, image: &Image) -> Result<Bytes, AllocError>
-    ensures { IfOk result (λ bytes. bytes ≡ spelling (contents_of image.now)) }
+    ensures exact { IfOk result (λ bytes. bytes ≡ spelling (contents_of image.now)) }
+    ensures read_again { IfOk result (λ bytes. image_of bytes ≡ Ok (contents_of image.now)) }
 {
+    // the law that `read_again` stands on
+    written_is_read(image);
     let mut out = Vec::new(alloc);
     put_header(&mut out, image)?;
     put_regions(&mut out, image.pieces.as_slice())?;

@@ -3,8 +3,9 @@ use Rattle.std.specs.Prelude.{ℕ, ◌+◌, ◌-◌, ◌≤◌, Bool, ◌&&◌, 
 use Rattle.std.specs.Prelude.{Option}
 use Rattle.std.specs.Option.{option_map}
 use Rattle.std.specs.List.{find, list_any, All}
+use native.Mathlib.Bridge.{le_prop}
 use Rattle.ks_base.specs.declared.places.Range.{Range}
-use Rattle.image_memory.specs.Ranges.{lies_in, Ascends}
+use Rattle.image_memory.specs.Ranges.{lies_in, Ascends, Ascends-prop}
 use Rattle.image_memory.specs.declared.types.Kind.{Kind}
 use Rattle.image_memory.specs.declared.types.Piece.{Piece}
 use Rattle.image_memory.specs.declared.types.Fence.{Fence}
@@ -30,6 +31,9 @@ fence_range fence = fence.range
 pub record ArePlaced (pieces : List Piece) : Type 0 where
   pub ascend : Ascends piece_range 0 pieces
   pub end_below : All (λ piece. (piece_range piece).high ≤ 0xFFFF_0000) pieces
+
+pub ArePlaced-prop : (pieces : List Piece) → IsProp (ArePlaced pieces)
+ArePlaced-prop pieces = hlevel (Ascends-prop piece_range 0 pieces, le_prop)
 
 -- what holds of each memory at every moment
 pub record IsValid (contents : Contents) : Type 0 where

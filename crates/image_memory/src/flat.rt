@@ -9,6 +9,7 @@ ghost use Rattle.image_memory.specs.Access.{access_fault, kind_of, first_fault, 
 ghost use Rattle.image_memory.specs.Fetch.{code_from, cut_before, next_fence};
 
 use crate::bytes::{copy_front, front};
+use crate::lookup::{begun, piece_at};
 use crate::space::Space;
 use crate::types::{Access, Fence, Kind, Piece, Pieces, Window};
 use ks_base::Fault;
@@ -49,9 +50,7 @@ impl FlatSpace {
         ensures above { AllWithin (λ piece. address < piece.base) self.now.pieces.items result
             (vec_len self.now.pieces) }
     {
-        self.pieces
-            .as_slice()
-            .partition_point(|piece| u64::from(piece.base) <= address)
+        begun(self.pieces.as_slice(), address)
     }
 
     // The piece that has a byte at an address.
@@ -59,16 +58,7 @@ impl FlatSpace {
         ensures piece { option_copied result ≡ holding self.now.pieces.items address }
         ensures holds { IfSome result (λ piece. IsTrue (lies_in address (piece_range piece.now))) }
     {
-        let begun = self.begun(address);
-        if begun == 0 {
-            return None;
-        }
-        let piece = &self.pieces[begun - 1];
-        if piece.holds(address) {
-            Some(piece)
-        } else {
-            None
-        }
+        piece_at(self.pieces.as_slice(), address)
     }
 
     // Why the first bad byte of so many from an address on can't be used.

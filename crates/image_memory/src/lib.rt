@@ -4,12 +4,14 @@
 
 mod bytes;
 pub mod flat;
+pub mod lookup;
 mod parts;
 pub mod placement;
 pub mod space;
 pub mod types;
 
 pub use flat::FlatSpace;
+pub use lookup::piece_at;
 pub use placement::are_placed;
 pub use space::Space;
 pub use types::{Access, Fence, Kind, Piece, Pieces, Window};

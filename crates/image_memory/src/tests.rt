@@ -1,5 +1,5 @@
 //! Each call of a memory, over code, read-only and writable pieces of which two are adjacent.
-use crate::{FlatSpace, Kind, Piece, Pieces, Space, are_placed};
+use crate::{FlatSpace, Kind, Piece, Pieces, Space, are_placed, piece_at};
 use ks_base::{Bytes, Fault};
 use std::alloc::{AllocError, Global};
 use std::test::Fail;
@@ -51,6 +51,17 @@ fn reads<S: Space>(space: &S, address: u32) -> (Result<(), Fault>, [u8; 4]) {
     let mut bytes = [0xee; 4];
     let answer = space.read(address, &mut bytes);
     (answer, bytes)
+}
+
+#[test]
+fn pieces_found(rt: HostRuntime) -> Result<(), Fail> {
+    let pieces = example(rt.alloc())?;
+    assert!(rt; are_placed(&pieces));
+    let found = piece_at(pieces.as_slice(), 0x0020_0002).ok_or("none")?;
+    assert_eq!(rt; found.base, 0x0020_0000);
+    assert!(rt; piece_at(pieces.as_slice(), 0x0020_0007).is_none());
+    assert!(rt; piece_at(pieces.as_slice(), 0x000f_ffff).is_none());
+    Ok(())
 }
 
 #[test]

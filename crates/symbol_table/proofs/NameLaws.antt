@@ -1,34 +1,29 @@
 -- Laws of the symbols' places in order of their names.
 use Rattle.std.proofs.Common.{◌≡◌, ℕ, suc, zero, ◌+◌, ◌<◌, ◌≤◌, Bool, true, false, cond, ◌||◌, ◌&&◌, eqb, List, [], ◌∷◌, ◌++◌, map, length, get_or, take, drop, refl, sym, ◌∙◌, ap, subst, Option, Some, None, arith}
-use Rattle.std.specs.List.{slice_get, insert, filter, filter_map, cons_option, list_any}
+use Rattle.std.specs.List.{slice_get, between, filter, filter_map, cons_option, list_any}
 use Rattle.std.specs.List.Sorted.{IsSortedBy, IsPartitionedBy, IsPermutation}
-use Rattle.std.specs.Ordering.{nat_cmp, is_lt, is_le, is_eq, ordering_index, ordering_reverse}
+use Rattle.std.specs.Ordering.{nat_cmp, is_lt, is_le, is_eq, ordering_index}
 use Rattle.std.specs.declared.cmp.Ordering.{Ordering}
 use Rattle.std.specs.declared.cmp.Ordering.TheVariants.{Less, Equal, Greater}
 use Rattle.std.specs.Cmp.Lexicographic.{slice_cmp}
 use Rattle.std.proofs.lemmas.Bool.{false≢true, cond-true, cond-false}
 use Rattle.std.proofs.lemmas.Cmp.{nat_list_cmp_total}
-use Rattle.std.proofs.lemmas.List.{get_or-map}
-use Rattle.std.proofs.lemmas.List.Sorted.{searchable_from_sorted, IsPermutation-refl, IsPermutation-insert, IsPermutation-map, IsPermutation-cons, IsPermutation-trans, IsPermutation-to_front, list_any-IsPermutation}
+use Rattle.std.proofs.lemmas.List.{get_or-map, map_push, map_more}
+use Rattle.std.proofs.lemmas.Option.{slice_get-get_or}
+use Rattle.std.proofs.lemmas.List.Elements.{filter-append, filter_map-append}
+use Rattle.std.proofs.lemmas.List.Sorted.{searchable_from_sorted, IsPermutation-refl, IsPermutation-map, IsPermutation-trans, IsPermutation-append_left, IsPermutation-append_comm, list_any-IsPermutation}
 use Rattle.std.proofs.lemmas.Map.Text.{is_eq-slice_cmp}
 use Rattle.symbol_table.specs.declared.symbols.Symbol.{Symbol}
 use Rattle.symbol_table.specs.declared.kinds.Kind.{Kind}
 use Rattle.symbol_table.specs.Kinds.{is_of_kind, is_listed}
 use Rattle.symbol_table.specs.Symbols.{ascending, addresses_of, address_of, is_named}
-use Rattle.symbol_table.specs.Names.{name_of, reached, order_of, order_at, is_before, is_not_after, is_named_at, NoneBefore, NamesAscend, HasAllNames, kind_address}
+use Rattle.symbol_table.specs.Names.{name_of, reached, order_of, order_at, is_before, is_not_after, is_named_at, has_lesser_name, HasAllNames, kind_address, found_at}
+use Rattle.symbol_table.specs.Blocks.{InBlocks}
+use Rattle.symbol_table.proofs.BlockLaws.{drop_between, in_blocks_sorted}
 use Rattle.symbol_table.proofs.AscendingLaws.{has, same_members, has-ascending, ascends-ascending}
 use Rattle.symbol_table.proofs.StartLaws.{slice_get-push, slice_get-last}
 
 -- ---- what a search by halving finds
-sorted_places : (symbols : List Symbol) (places : List ℕ) → NamesAscend (reached symbols places) → IsSortedBy (λ a b. is_lt (slice_cmp nat_cmp (name_of (slice_get symbols a)) (name_of (slice_get symbols b)))) places
-sorted_places symbols [] up k d ge less = absurd (omega arith)
-sorted_places symbols (a ∷ []) up k d ge less = absurd (omega arith)
-sorted_places symbols (a ∷ b ∷ rest) up zero d ge less = up.0.0
-sorted_places symbols (a ∷ b ∷ rest) up (suc k) d ge less =
-    let e : suc (k + 1) ≡ suc k + 1 = omega arith in
-    let P : ℕ → Type 0 = λ m. is_lt (slice_cmp nat_cmp (name_of (slice_get symbols (get_or (a ∷ b ∷ rest) m d))) (name_of (slice_get symbols (get_or (b ∷ rest) k d)))) ≡ false in
-    subst P e (sorted_places symbols (b ∷ rest) up.1 k d (omega arith) (omega arith))
-
 lt_stays : (a b : Ordering) → ordering_index a ≤ ordering_index b → is_lt b ≡ true → is_lt a ≡ true
 lt_stays Less b le is = refl
 lt_stays Equal Less le is = absurd (omega arith)
@@ -45,13 +40,13 @@ le_stays Greater Less le is = absurd (omega arith)
 le_stays Greater Equal le is = absurd (omega arith)
 le_stays Greater Greater le is = is
 
-pub parted_before : (symbols : List Symbol) (places : List ℕ) (name : List ℕ) → NamesAscend (reached symbols places) → IsPartitionedBy (is_before symbols name) places
+pub parted_before : (symbols : List Symbol) (places : List ℕ) (name : List ℕ) → IsSortedBy (has_lesser_name symbols) places → IsPartitionedBy (is_before symbols name) places
 parted_before symbols places name up i j d le less is =
-    lt_stays (order_at symbols name (get_or places i d)) (order_at symbols name (get_or places j d)) (searchable_from_sorted nat_list_cmp_total (λ place. name_of (slice_get symbols place)) places name (sorted_places symbols places up) i j d le less) is
+    lt_stays (order_at symbols name (get_or places i d)) (order_at symbols name (get_or places j d)) (searchable_from_sorted nat_list_cmp_total (λ place. name_of (slice_get symbols place)) places name up i j d le less) is
 
-pub parted_up_to : (symbols : List Symbol) (places : List ℕ) (name : List ℕ) → NamesAscend (reached symbols places) → IsPartitionedBy (is_not_after symbols name) places
+pub parted_up_to : (symbols : List Symbol) (places : List ℕ) (name : List ℕ) → IsSortedBy (has_lesser_name symbols) places → IsPartitionedBy (is_not_after symbols name) places
 parted_up_to symbols places name up i j d le less is =
-    le_stays (order_at symbols name (get_or places i d)) (order_at symbols name (get_or places j d)) (searchable_from_sorted nat_list_cmp_total (λ place. name_of (slice_get symbols place)) places name (sorted_places symbols places up) i j d le less) is
+    le_stays (order_at symbols name (get_or places i d)) (order_at symbols name (get_or places j d)) (searchable_from_sorted nat_list_cmp_total (λ place. name_of (slice_get symbols place)) places name up i j d le less) is
 
 -- ---- a part of a list that a test passes, and no more
 pub filter_part : {X : Type 0} (p : X → Bool) (xs : List X) (low k : ℕ) → low + k ≤ length xs → ((j : ℕ) (d : X) → j < low → p (get_or xs j d) ≡ false) → ((j : ℕ) (d : X) → low ≤ j → j < low + k → p (get_or xs j d) ≡ true) → ((j : ℕ) (d : X) → low + k ≤ j → j < length xs → p (get_or xs j d) ≡ false) → take k (drop low xs) ≡ filter p xs
@@ -88,31 +83,6 @@ before_up_to Less low = refl
 before_up_to Equal low = refl
 before_up_to Greater low = low
 
--- ---- a place put in
-not_before : (a b : Ordering) → b ≡ ordering_reverse a → is_lt a ≡ true → is_lt b ≡ false
-not_before Less b turned low = ap is_lt turned
-not_before Equal b turned low = absurd (false≢true low)
-not_before Greater b turned low = absurd (false≢true low)
-
-none_before_insert : (f : ℕ → Option Symbol) (name : List ℕ) (place : ℕ) (places : List ℕ) (k : ℕ) → is_lt (order_of name (f place)) ≡ false → NoneBefore name (map f places) → NoneBefore name (map f (insert places k place))
-none_before_insert f name place [] zero new none = (new, tt)
-none_before_insert f name place [] (suc k) new none = (new, tt)
-none_before_insert f name place (x ∷ xs) zero new none = (new, none)
-none_before_insert f name place (x ∷ xs) (suc k) new none = (none.0, none_before_insert f name place xs k new none.1)
-
-none_before_each : (f : ℕ → Option Symbol) (name : List ℕ) (places : List ℕ) → ((j d : ℕ) → j < length places → is_lt (order_of name (f (get_or places j d))) ≡ false) → NoneBefore name (map f places)
-none_before_each f name [] each = tt
-none_before_each f name (x ∷ xs) each = (each 0 x (omega arith), none_before_each f name xs (λ j d l. each (suc j) d (omega arith)))
-
-ascend_insert : (f : ℕ → Option Symbol) (place : ℕ) (places : List ℕ) (k : ℕ) → k ≤ length places → ((j d : ℕ) → j < k → is_lt (order_of (name_of (f place)) (f (get_or places j d))) ≡ true) → ((j d : ℕ) → k ≤ j → j < length places → is_lt (order_of (name_of (f place)) (f (get_or places j d))) ≡ false) → NamesAscend (map f places) → NamesAscend (map f (insert places k place))
-ascend_insert f place [] zero le below above up = (tt, tt)
-ascend_insert f place [] (suc k) le below above up = absurd (omega arith)
-ascend_insert f place (x ∷ xs) zero le below above up = (none_before_each f (name_of (f place)) (x ∷ xs) (λ j d l. above j d (omega arith) l), up)
-ascend_insert f place (x ∷ xs) (suc k) le below above up =
-    let low = below 0 x (omega arith) in
-    let high = not_before (slice_cmp nat_cmp (name_of (f x)) (name_of (f place))) (slice_cmp nat_cmp (name_of (f place)) (name_of (f x))) (nat_list_cmp_total.antisymm (name_of (f place)) (name_of (f x))) low in
-    (none_before_insert f (name_of (f x)) place xs k high up.0, ascend_insert f place xs k (omega arith) (λ j d l. below (suc j) d (omega arith)) (λ j d g l. above (suc j) d (omega arith) (omega arith)) up.1)
-
 -- ---- one more symbol
 is_missing : Option Symbol → Bool
 is_missing None = true
@@ -142,28 +112,33 @@ reached_still symbols new (place ∷ rest) there =
     let first = stays symbols new place (slice_get symbols place) refl (not_first _ _ there) in
     ap (λ o. o ∷ reached (symbols ++ new ∷ []) rest) first ∙ ap (λ os. slice_get symbols place ∷ os) (reached_still symbols new rest (not_second _ _ there))
 
-map_some_push : (symbols : List Symbol) (new : Symbol) → map Some (symbols ++ new ∷ []) ≡ map Some symbols ++ Some new ∷ []
-map_some_push [] new = refl
-map_some_push (symbol ∷ rest) new = ap (λ os. Some symbol ∷ os) (map_some_push rest new)
+places_still : (symbols : List Symbol) (new : Symbol) (places : List ℕ) → HasAllNames symbols places → reached (symbols ++ new ∷ []) places ≡ reached symbols places
+places_still symbols new places all = reached_still symbols new places (sym (list_any-IsPermutation is_missing _ _ all.all) ∙ none_missing symbols)
 
-pub names_after : (symbols : List Symbol) (places : List ℕ) (new : Symbol) (k place : ℕ) → HasAllNames symbols places → place ≡ length symbols → k ≤ length places → ((j d : ℕ) → j < k → is_before symbols new.name (get_or places j d) ≡ true) → ((j d : ℕ) → k ≤ j → j < length places → is_before symbols new.name (get_or places j d) ≡ false) → HasAllNames (symbols ++ new ∷ []) (insert places k place)
-names_after symbols places new k place all at_end le below above =
+-- the blocks stay in order
+pub names_later : (symbols : List Symbol) (new : Symbol) (places : List ℕ) → HasAllNames symbols places → InBlocks (has_lesser_name (symbols ++ new ∷ [])) places
+names_later symbols new places all end within k d above below =
     let later : ℕ → Option Symbol = slice_get (symbols ++ new ∷ []) in
-    let still : map later places ≡ reached symbols places = reached_still symbols new places (sym (list_any-IsPermutation is_missing _ _ all.all) ∙ none_missing symbols) in
+    let still : map later places ≡ reached symbols places = places_still symbols new places all in
+    let same : (j : ℕ) → j < length places → later (get_or places j d) ≡ slice_get symbols (get_or places j d) = λ j l. sym (get_or-map later places j d None l) ∙ ap (λ os. get_or os j None) still ∙ get_or-map (slice_get symbols) places j d None l in
+    ap (λ o. is_lt (slice_cmp nat_cmp (name_of o) (name_of (later (get_or places k d))))) (same (k + 1) (omega arith))
+    ∙ ap (λ o. is_lt (slice_cmp nat_cmp (name_of (slice_get symbols (get_or places (k + 1) d))) (name_of o))) (same k (omega arith))
+    ∙ all.blocks end within k d above below
+
+pub names_after : (symbols : List Symbol) (places moved : List ℕ) (new : Symbol) (place : ℕ) → HasAllNames symbols places → place ≡ length symbols → IsPermutation (places ++ place ∷ []) moved → InBlocks (has_lesser_name (symbols ++ new ∷ [])) moved → HasAllNames (symbols ++ new ∷ []) moved
+names_after symbols places moved new place all at_end more blocks =
+    let later : ℕ → Option Symbol = slice_get (symbols ++ new ∷ []) in
+    let still : map later places ≡ reached symbols places = places_still symbols new places all in
     let here : later place ≡ Some new = ap later at_end ∙ slice_get-last symbols new in
-    let same : (j d : ℕ) → j < length places → later (get_or places j d) ≡ slice_get symbols (get_or places j d) = λ j d l. sym (get_or-map later places j d None l) ∙ ap (λ os. get_or os j None) still ∙ get_or-map (slice_get symbols) places j d None l in
-    let order : (j d : ℕ) → j < length places → is_lt (order_of (name_of (later place)) (later (get_or places j d))) ≡ is_before symbols new.name (get_or places j d) =
-    λ j d l. ap (λ o. is_lt (order_of (name_of o) (later (get_or places j d)))) here ∙ ap (λ o. is_lt (order_of new.name o)) (same j d l) in
-    let P : List (Option Symbol) → Type 0 = NamesAscend in
-    let Q : List (Option Symbol) → Type 0 = λ os. IsPermutation os (later place ∷ map later places) in
-    let R : List (Option Symbol) → Type 0 = λ os. IsPermutation (Some new ∷ map Some symbols) (Some new ∷ os) in
-    let S : Option Symbol → Type 0 = λ o. IsPermutation (Some new ∷ map Some symbols) (o ∷ map later places) in
-    let moved = subst S (sym here) (subst R (sym still) (IsPermutation-cons (Some new) _ _ all.all)) in
+    let parts : map later (places ++ place ∷ []) ≡ reached symbols places ++ Some new ∷ [] = map_push later places place ∙ ap (λ os. os ++ later place ∷ []) still ∙ ap (λ o. reached symbols places ++ o ∷ []) here in
+    let P : List (Option Symbol) → Type 0 = λ os. IsPermutation os (map later (places ++ place ∷ [])) in
+    let Q : List (Option Symbol) → Type 0 = λ os. IsPermutation (map Some symbols ++ Some new ∷ []) os in
     record {
-      ascend = ascend_insert later place places k le (λ j d l. order j d (omega arith) ∙ below j d l) (λ j d g l. order j d l ∙ above j d g l) (subst P (sym still) all.ascend);
+      blocks = blocks;
       all =
-          IsPermutation-trans _ _ _ (subst Q (sym (map_some_push symbols new)) (IsPermutation-trans _ _ _ (IsPermutation-to_front (map Some symbols) (Some new)) moved))
-          (IsPermutation-map later _ _ (IsPermutation-insert places k place));
+          IsPermutation-trans _ _ _
+          (subst P (sym (map_push Some symbols new)) (subst Q (sym parts) (IsPermutation-append_left (Some new ∷ []) _ _ all.all)))
+          (IsPermutation-map later _ _ more);
     }
 
 -- ---- the addresses that a lookup finds
@@ -216,17 +191,52 @@ has_found n kind name symbols (place ∷ rest) =
     ∙ ap (λ b. b || has n later) (one_passes n kind name (slice_get symbols place))
     ∙ ap (λ b. passes (λ symbol. is_listed kind name symbol && eqb n symbol.address) (slice_get symbols place) || b) (has_found n kind name symbols rest)
 
-pub found_by_name : (kind : Kind) (name : List ℕ) (symbols : List Symbol) (places : List ℕ) → HasAllNames symbols places → ascending (filter_map (λ place. kind_address kind (slice_get symbols place)) (filter (is_named_at symbols name) places)) ≡ addresses_of (is_listed kind name) symbols
-found_by_name kind name symbols places all =
-    let found = filter_map (λ place. kind_address kind (slice_get symbols place)) (filter (is_named_at symbols name) places) in
+-- numbers in another order are the same, each once and ascending
+ascending_moved : (found moved : List ℕ) → IsPermutation found moved → ascending moved ≡ ascending found
+ascending_moved found moved same =
+    same_members (ascending moved) (ascending found) (ascends-ascending moved) (ascends-ascending found) (λ n.
+    has-ascending n moved ∙ sym (list_any-IsPermutation (eqb n) found moved same) ∙ sym (has-ascending n found))
+
+pub found_by_name : (kind : Kind) (name : List ℕ) (symbols : List Symbol) (places found : List ℕ) → HasAllNames symbols places → IsPermutation (found_at symbols kind name places) found → ascending found ≡ addresses_of (is_listed kind name) symbols
+found_by_name kind name symbols places moved all same =
+    let found = found_at symbols kind name places in
     let wanted = map address_of (filter (is_listed kind name) symbols) in
-    same_members (ascending found) (ascending wanted) (ascends-ascending found) (ascends-ascending wanted) (λ n.
+    ascending_moved found moved same
+    ∙ same_members (ascending found) (ascending wanted) (ascends-ascending found) (ascends-ascending wanted) (λ n.
     has-ascending n found ∙ has_found n kind name symbols places
     ∙ sym (list_any-IsPermutation (passes (λ symbol. is_listed kind name symbol && eqb n symbol.address)) (map Some symbols) (reached symbols places) all.all)
     ∙ any_passes (λ symbol. is_listed kind name symbol && eqb n symbol.address) symbols
     ∙ sym (has_wanted n (is_listed kind name) symbols)
     ∙ sym (has-ascending n wanted))
 
+found_append : (symbols : List Symbol) (kind : Kind) (name places rest : List ℕ) → found_at symbols kind name (places ++ rest) ≡ found_at symbols kind name places ++ found_at symbols kind name rest
+found_append symbols kind name places rest = ap (filter_map (λ place. kind_address kind (slice_get symbols place))) (filter-append (is_named_at symbols name) places rest) ∙ filter_map-append (λ place. kind_address kind (slice_get symbols place)) (filter (is_named_at symbols name) places) (filter (is_named_at symbols name) rest)
+
+-- one block more is looked through
+pub found_more : (symbols : List Symbol) (kind : Kind) (name places : List ℕ) (begin end : ℕ) (found block : List ℕ) → begin ≤ end → block ≡ found_at symbols kind name (between begin end places) → IsPermutation (found_at symbols kind name (drop end places)) found → IsPermutation (found_at symbols kind name (drop begin places)) (found ++ block)
+found_more symbols kind name places begin end found block order is so_far =
+    let here = between begin end places in
+    let rest = drop end places in
+    let P : List ℕ → Type 0 = λ ys. IsPermutation ys (found ++ block) in
+    let Q : List ℕ → Type 0 = λ ys. IsPermutation (found_at symbols kind name here ++ found_at symbols kind name rest) (found ++ ys) in
+    subst P (sym (ap (found_at symbols kind name) (drop_between places begin end order) ∙ found_append symbols kind name here rest))
+    (subst Q (sym is) (IsPermutation-trans _ _ _ (IsPermutation-append_comm (found_at symbols kind name here) (found_at symbols kind name rest)) (IsPermutation-append_left (found_at symbols kind name here) _ _ so_far)))
+
+-- ---- all symbols' places
+pub reached_more : (symbols : List Symbol) (places more : List ℕ) (place : ℕ) → place < length symbols → more ≡ places ++ place ∷ [] → reached symbols places ≡ map Some (take place symbols) → reached symbols more ≡ map Some (take (place + 1) symbols)
+reached_more symbols places more place less is all =
+    let some : Symbol = record { address = 0; function = true; global = true; name = [] } in
+    ap (reached symbols) is ∙ map_push (slice_get symbols) places place ∙ ap (λ os. os ++ slice_get symbols place ∷ []) all
+    ∙ ap (λ o. map Some (take place symbols) ++ o ∷ []) (slice_get-get_or symbols place some less) ∙ sym (map_more Some symbols place some less)
+
+pub names_sorted : (symbols : List Symbol) (held places sorted : List ℕ) → held ≡ places → reached symbols places ≡ map Some symbols → IsPermutation held sorted → IsSortedBy (has_lesser_name symbols) sorted → HasAllNames symbols sorted
+names_sorted symbols held places sorted is all same up =
+    let P : List (Option Symbol) → Type 0 = λ os. IsPermutation os (reached symbols sorted) in
+    record {
+      blocks = in_blocks_sorted (has_lesser_name symbols) sorted up;
+      all = subst P (ap (reached symbols) is ∙ all) (IsPermutation-map (slice_get symbols) held sorted same);
+    }
+
 -- no symbols and no places
 pub names_of_none : HasAllNames [] []
-names_of_none = record { ascend = tt; all = IsPermutation-refl [] }
+names_of_none = record { blocks = λ end within k d above below. absurd (omega arith); all = IsPermutation-refl [] }

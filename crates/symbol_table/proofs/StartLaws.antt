@@ -1,96 +1,243 @@
 -- Laws of the starts of functions, kept by address.
-use Rattle.std.proofs.Common.{◌≡◌, ℕ, suc, zero, ◌+◌, ◌<◌, ◌≤◌, Bool, true, false, cond, ◌&&◌, ltb, leb, List, [], ◌∷◌, ◌++◌, length, get_or, refl, sym, ◌∙◌, ap, subst, Option, Some, None, inl, inr, arith}
-use Rattle.std.specs.Prelude.{unwrap_or, Result, Ok, Err, IsOk, is_ok}
-use Rattle.std.specs.List.{slice_get, insert}
-use Rattle.std.specs.List.Sorted.{IsNonDecreasingBy}
-use Rattle.std.proofs.lemmas.Bool.{ltb-true, ltb-false, lt-ltb, le-ltb, leb-true, leb-false, le-leb, lt-leb, eqb-true, eqb-false, cond-true, cond-false, false≢true, cases_lt}
-use Rattle.std.proofs.lemmas.Option.{slice_get-get_or}
+use Rattle.std.proofs.Common.{◌≡◌, ℕ, suc, zero, ◌+◌, ◌<◌, ◌≤◌, Bool, true, false, cond, ◌&&◌, ◌||◌, eqb, ltb, leb, List, [], ◌∷◌, ◌++◌, length, get_or, take, drop, refl, sym, ◌∙◌, ap, ap₂, subst, Option, Some, None, inl, inr, arith}
+use Rattle.std.specs.Prelude.{Result, Ok, Err, IsOk, is_ok, IfSome}
+use Rattle.std.specs.Cmp.{IsStrictWeakOrder}
+use Rattle.std.specs.List.{slice_get, between, list_any}
+use Rattle.std.specs.List.Sorted.{IsNonDecreasingBy, IsSortedBy, IsPermutation}
+use Rattle.std.proofs.lemmas.Bool.{ltb-true, ltb-false, lt-ltb, le-ltb, leb-true, le-leb, lt-leb, cond-true, cond-false, false≢true, cases_lt}
+use Rattle.std.proofs.lemmas.Bool.Decides.{nat_tests}
+use Rattle.std.proofs.lemmas.List.Sorted.{sorted_far, IsNonDecreasingBy-from_all_adjacent, list_any-IsPermutation}
+use Rattle.std.proofs.lemmas.Option.{slice_get-get_or, slice_get_within}
+use Rattle.std.proofs.lemmas.List.{length-take-le, take_more}
 use Rattle.symbol_table.specs.declared.symbols.Symbol.{Symbol}
 use Rattle.symbol_table.specs.declared.starts.Start.{Start}
 use Rattle.symbol_table.specs.Symbols.{begins_by, nearer, function_below}
-use Rattle.symbol_table.specs.Starts.{StartAbove, StartsAscend, with_start, start_below, Marks, HasAllStarts, is_start_at, starts_with}
+use Rattle.symbol_table.specs.Starts.{start_less, greater_start, start_below, starts_with, Marks, MarksFunctions, HasAllStarts}
+use Rattle.symbol_table.specs.Blocks.{InBlocks}
+use Rattle.symbol_table.proofs.BlockLaws.{drop_between, in_blocks_sorted}
 
--- ---- ascending starts by place
-start_above_at : (address : ℕ) (starts : List Start) (k : ℕ) (d : Start) → StartAbove address starts → k < length starts → address < (get_or starts k d).address
-start_above_at address [] k d above less = absurd (omega arith)
-start_above_at address (start ∷ rest) zero d above less = above.0
-start_above_at address (start ∷ rest) (suc k) d above less = start_above_at address rest k d above.1 (omega arith)
+-- ---- the order of starts
+less_by : (a b p q : ℕ) → Bool
+less_by a b p q = ltb a b || (eqb a b && ltb q p)
 
-pub starts_rise : (starts : List Start) → StartsAscend starts → IsNonDecreasingBy (λ (start : Start). start.address) starts
-starts_rise [] up i j d le less = absurd (omega arith)
-starts_rise (start ∷ rest) up zero zero d le less = omega arith
-starts_rise (start ∷ rest) up zero (suc j) d le less = (let above = start_above_at start.address rest j d up.0 (omega arith) in omega arith)
-starts_rise (start ∷ rest) up (suc i) zero d le less = absurd (omega arith)
-starts_rise (start ∷ rest) up (suc i) (suc j) d le less = starts_rise rest up.1 i j d (omega arith) (omega arith)
+less_by_one_way : (a b p q : ℕ) → less_by a b p q ≡ true → less_by b a q p ≡ false
+unfolding less_by
+less_by_one_way a b p q is = grind (arith, nat_tests)
 
-start_above_lower : (a b : ℕ) (starts : List Start) → a < b → StartAbove b starts → StartAbove a starts
-start_above_lower a b [] less above = tt
-start_above_lower a b (start ∷ rest) less above = (omega (arith, above.0), start_above_lower a b rest less above.1)
+less_by_chain : (a b c p q r : ℕ) → less_by a b p q ≡ false → less_by b c q r ≡ false → less_by a c p r ≡ false
+unfolding less_by
+less_by_chain a b c p q r one two = grind (arith, nat_tests)
 
--- ---- what a search by halving finds
-some_unwrapped : (starts : List Start) (k : ℕ) (d : Start) → k < length starts → Some (unwrap_or (slice_get starts k) d) ≡ slice_get starts k
-some_unwrapped starts k d less =
-    let e = slice_get-get_or starts k d less in
-    ap (λ o. Some (unwrap_or o d)) e ∙ sym e
+less_by_address : (a b p q : ℕ) → less_by b a q p ≡ false → a ≤ b
+unfolding less_by
+less_by_address a b p q is = grind (arith, nat_tests)
 
-pub below_none : (address : ℕ) (starts : List Start) → ((k : ℕ) (d : Start) → k < length starts → leb (get_or starts k d).address address ≡ false) → start_below address starts ≡ None
-below_none address [] high = refl
-below_none address (start ∷ rest) high = cond-true _ _ _ (lt-ltb address start.address (leb-false start.address address (high 0 start (omega arith))))
+less_by_address_same : (a b p q : ℕ) → less_by a b p q ≡ false → less_by b a q p ≡ false → a ≡ b
+unfolding less_by
+less_by_address_same a b p q one two = grind (arith, nat_tests)
 
-pub below_some : (address : ℕ) (starts : List Start) (k : ℕ) → k < length starts → ((j : ℕ) (d : Start) → j < k + 1 → leb (get_or starts j d).address address ≡ true) → ((j : ℕ) (d : Start) → k + 1 ≤ j → j < length starts → leb (get_or starts j d).address address ≡ false) → start_below address starts ≡ slice_get starts k
-below_some address [] k less low high = absurd (omega arith)
-below_some address (start ∷ rest) zero less low high =
-    cond-false _ _ _ (le-ltb address start.address (leb-true start.address address (low 0 start (omega arith))))
-    ∙ ap (λ o. Some (unwrap_or o start)) (below_none address rest (λ j d l. high (suc j) d (omega arith) (omega arith)))
-below_some address (start ∷ rest) (suc k) less low high =
-    cond-false _ _ _ (le-ltb address start.address (leb-true start.address address (low 0 start (omega arith))))
-    ∙ ap (λ o. Some (unwrap_or o start)) (below_some address rest k (omega arith) (λ j d l. low (suc j) d (omega arith)) (λ j d g l. high (suc j) d (omega arith) (omega arith)))
-    ∙ some_unwrapped rest k start (omega arith)
+less_by_place_same : (a b p q : ℕ) → less_by a b p q ≡ false → less_by b a q p ≡ false → p ≡ q
+unfolding less_by
+less_by_place_same a b p q one two = grind (arith, nat_tests)
 
--- ---- a start put in
-pub start_is_there : (new : Start) (starts : List Start) (k : ℕ) → ((j : ℕ) (d : Start) → j < k → ltb (get_or starts j d).address new.address ≡ true) → is_start_at new.address (slice_get starts k) ≡ true → with_start new starts ≡ starts
-start_is_there new [] k low there = absurd (false≢true there)
-start_is_there new (start ∷ rest) zero low there =
-    let e = eqb-true start.address new.address there in
-    cond-false _ _ _ (le-ltb new.address start.address (omega arith)) ∙ cond-false _ _ _ (le-ltb start.address new.address (omega arith))
-start_is_there new (start ∷ rest) (suc k) low there =
-    let less = ltb-true start.address new.address (low 0 start (omega arith)) in
-    cond-false _ _ _ (le-ltb new.address start.address (omega arith)) ∙ cond-true _ _ _ (lt-ltb start.address new.address less)
-    ∙ ap (λ xs. start ∷ xs) (start_is_there new rest k (λ j d l. low (suc j) d (omega arith)) there)
+less_by_later : (a b p q : ℕ) → q < p → less_by a b p q ≡ leb a b
+unfolding less_by
+less_by_later a b p q later = grind (arith, nat_tests)
 
-pub start_goes_in : (new : Start) (starts : List Start) (k : ℕ) → k ≤ length starts → ((j : ℕ) (d : Start) → j < k → ltb (get_or starts j d).address new.address ≡ true) → ((j : ℕ) (d : Start) → k ≤ j → j < length starts → ltb (get_or starts j d).address new.address ≡ false) → is_start_at new.address (slice_get starts k) ≡ false → with_start new starts ≡ insert starts k new
-start_goes_in new [] zero le low high there = refl
-start_goes_in new [] (suc k) le low high there = absurd (omega arith)
-start_goes_in new (start ∷ rest) zero le low high there =
-    let apart = eqb-false start.address new.address there in
-    let above = ltb-false start.address new.address (high 0 start (omega arith) (omega arith)) in
-    cond-true _ _ _ (lt-ltb new.address start.address (omega arith))
-start_goes_in new (start ∷ rest) (suc k) le low high there =
-    let less = ltb-true start.address new.address (low 0 start (omega arith)) in
-    cond-false _ _ _ (le-ltb new.address start.address (omega arith)) ∙ cond-true _ _ _ (lt-ltb start.address new.address less)
-    ∙ ap (λ xs. start ∷ xs) (start_goes_in new rest k (omega arith) (λ j d l. low (suc j) d (omega arith)) (λ j d g l. high (suc j) d (omega arith) (omega arith)) there)
+pub starts_order : IsStrictWeakOrder start_less
+unfolding less_by
+starts_order = record {
+  one_way = λ x y. less_by_one_way x.address y.address x.place y.place;
+  chain = λ x y z. less_by_chain x.address y.address z.address x.place y.place z.place;
+}
 
-above-with_start : (address : ℕ) (new : Start) (starts : List Start) → address < new.address → StartAbove address starts → StartAbove address (with_start new starts)
-above-with_start address new [] less above = (less, tt)
-above-with_start address new (start ∷ rest) less above =
-    elim (ltb new.address start.address) as (λ b. StartAbove address (cond b (new ∷ start ∷ rest) (cond (ltb start.address new.address) (start ∷ with_start new rest) (start ∷ rest)))) [
-      | true ↦ (less, above)
-      | false ↦ elim (ltb start.address new.address) as (λ b. StartAbove address (cond b (start ∷ with_start new rest) (start ∷ rest))) [
-        | true ↦ (above.0, above-with_start address new rest less above.1)
-        | false ↦ above
-      ]
-    ]
+equal_starts : (x y : Start) → start_less x y ≡ false → start_less y x ≡ false → x ≡ y
+unfolding less_by
+equal_starts x y one two =
+    let make : ℕ → ℕ → Start = λ a p. record { address = a; place = p } in
+    ap₂ make (less_by_address_same x.address y.address x.place y.place one two) (less_by_place_same x.address y.address x.place y.place one two)
 
-ascend-with_start : (new : Start) (starts : List Start) → StartsAscend starts → StartsAscend (with_start new starts)
-ascend-with_start new [] up = (tt, tt)
-ascend-with_start new (start ∷ rest) up =
-    elim (ltb new.address start.address) as (λ b. ltb new.address start.address ≡ b → StartsAscend (cond b (new ∷ start ∷ rest) (cond (ltb start.address new.address) (start ∷ with_start new rest) (start ∷ rest)))) [
-      | true ↦ λ low. let less = ltb-true new.address start.address low in ((less, start_above_lower new.address start.address rest less up.0), up)
-      | false ↦ λ _. elim (ltb start.address new.address) as (λ b. ltb start.address new.address ≡ b → StartsAscend (cond b (start ∷ with_start new rest) (start ∷ rest))) [
-        | true ↦ λ high. (above-with_start start.address new rest (ltb-true start.address new.address high) up.0, ascend-with_start new rest up.1)
-        | false ↦ λ _. up
+not_self : (x : Start) → start_less x x ≡ false
+not_self x = grind (arith, nat_tests)
+
+pub starts_rise : (starts : List Start) → IsSortedBy start_less starts → IsNonDecreasingBy (λ (start : Start). start.address) starts
+unfolding less_by
+starts_rise starts up =
+    IsNonDecreasingBy-from_all_adjacent (λ (start : Start). start.address) starts (λ k d less. less_by_address (get_or starts k d).address (get_or starts (k + 1) d).address (get_or starts k d).place (get_or starts (k + 1) d).place (up k d (omega arith) less))
+
+-- ---- the greater of two starts
+greater_none : (o : Option Start) → greater_start o None ≡ o
+greater_none None = refl
+greater_none (Some start) = refl
+
+greater_of_greater : (x y z : Start) → greater_start (greater_start (Some x) (Some y)) (Some z) ≡ greater_start (Some x) (greater_start (Some y) (Some z))
+greater_of_greater x y z =
+    elim (start_less y x) as (λ b. start_less y x ≡ b → greater_start (cond b (Some x) (Some y)) (Some z) ≡ greater_start (Some x) (cond (start_less z y) (Some y) (Some z))) [
+      | true ↦ λ yx. elim (start_less z y) as (λ b. start_less z y ≡ b → cond (start_less z x) (Some x) (Some z) ≡ greater_start (Some x) (cond b (Some y) (Some z))) [
+        | true ↦ λ zy.
+            let zx : start_less z x ≡ true =
+            elim (start_less z x) as (λ b. start_less z x ≡ b → b ≡ true) [
+              | true ↦ λ _. refl
+              | false ↦ λ zx. absurd (false≢true (sym (starts_order.chain z x y zx (starts_order.one_way y x yx)) ∙ zy))
+            ] refl in
+            cond-true _ _ _ zx ∙ sym (cond-true _ _ _ yx)
+        | false ↦ λ _. refl
+      ] refl
+      | false ↦ λ yx. elim (start_less z y) as (λ b. start_less z y ≡ b → cond b (Some y) (Some z) ≡ greater_start (Some x) (cond b (Some y) (Some z))) [
+        | true ↦ λ _. sym (cond-false _ _ _ yx)
+        | false ↦ λ zy. sym (cond-false _ _ _ (starts_order.chain z y x zy yx))
       ] refl
     ] refl
+
+greater_joined : (a b c : Option Start) → greater_start (greater_start a b) c ≡ greater_start a (greater_start b c)
+greater_joined None b c = refl
+greater_joined (Some x) None c = refl
+greater_joined (Some x) (Some y) None = greater_none (greater_start (Some x) (Some y))
+greater_joined (Some x) (Some y) (Some z) = greater_of_greater x y z
+
+-- ---- the start below an address, of several lists
+start_below_append : (address : ℕ) (starts rest : List Start) → start_below address (starts ++ rest) ≡ greater_start (start_below address starts) (start_below address rest)
+start_below_append address [] rest = refl
+start_below_append address (start ∷ starts) rest =
+    elim (leb start.address address) as (λ b. cond b (greater_start (Some start) (start_below address (starts ++ rest))) (start_below address (starts ++ rest)) ≡ greater_start (cond b (greater_start (Some start) (start_below address starts)) (start_below address starts)) (start_below address rest)) [
+      | true ↦ ap (greater_start (Some start)) (start_below_append address starts rest) ∙ sym (greater_joined (Some start) (start_below address starts) (start_below address rest))
+      | false ↦ start_below_append address starts rest
+    ]
+
+-- one block more is looked through
+pub last_more : (address : ℕ) (starts : List Start) (begin end : ℕ) → begin ≤ end → greater_start (start_below address (between begin end starts)) (start_below address (drop end starts)) ≡ start_below address (drop begin starts)
+last_more address starts begin end order = sym (ap (start_below address) (drop_between starts begin end order) ∙ start_below_append address (between begin end starts) (drop end starts))
+
+greater_keeps : (P : Start → Type 0) (start : Start) (o : Option Start) → P start → IfSome o P → IfSome (greater_start (Some start) o) P
+greater_keeps P start None one rest = one
+greater_keeps P start (Some other) one rest =
+    elim (start_less other start) as (λ b. IfSome (cond b (Some start) (Some other)) P) [ true ↦ one | false ↦ rest ]
+
+pub below_reaches : (address : ℕ) (starts : List Start) → IfSome (start_below address starts) (λ start. start.address ≤ address)
+below_reaches address [] = tt
+below_reaches address (start ∷ rest) =
+    elim (leb start.address address) as (λ b. leb start.address address ≡ b → IfSome (cond b (greater_start (Some start) (start_below address rest)) (start_below address rest)) (λ (start : Start). start.address ≤ address)) [
+      | true ↦ λ low. greater_keeps (λ (start : Start). start.address ≤ address) start (start_below address rest) (leb-true _ _ low) (below_reaches address rest)
+      | false ↦ λ _. below_reaches address rest
+    ] refl
+
+-- ---- what a search by halving finds
+pub below_none : (address : ℕ) (starts : List Start) → ((k : ℕ) (d : Start) → k < length starts → leb (get_or starts k d).address address ≡ false) → start_below address starts ≡ None
+below_none address [] high = refl
+below_none address (start ∷ rest) high = cond-false _ _ _ (high 0 start (omega arith)) ∙ below_none address rest (λ k d l. high (suc k) d (omega arith))
+
+greater_at : (start : Start) (rest : List Start) (k : ℕ) → k < length rest → start_less (get_or rest k start) start ≡ false → greater_start (Some start) (slice_get rest k) ≡ slice_get rest k
+greater_at start rest k less far =
+    let e = slice_get-get_or rest k start less in
+    ap (greater_start (Some start)) e ∙ cond-false _ _ _ far ∙ sym e
+
+below_at : (address : ℕ) (starts : List Start) (k : ℕ) → k < length starts → ((j : ℕ) (d : Start) → j < k → start_less (get_or starts k d) (get_or starts j d) ≡ false) → ((j : ℕ) (d : Start) → j < k + 1 → leb (get_or starts j d).address address ≡ true) → ((j : ℕ) (d : Start) → k + 1 ≤ j → j < length starts → leb (get_or starts j d).address address ≡ false) → start_below address starts ≡ slice_get starts k
+below_at address [] k less far low high = absurd (omega arith)
+below_at address (start ∷ rest) zero less far low high =
+    cond-true _ _ _ (low 0 start (omega arith)) ∙ ap (greater_start (Some start)) (below_none address rest (λ j d l. high (suc j) d (omega arith) (omega arith)))
+below_at address (start ∷ rest) (suc k) less far low high =
+    cond-true _ _ _ (low 0 start (omega arith))
+    ∙ ap (greater_start (Some start)) (below_at address rest k (omega arith) (λ j d l. far (suc j) d (omega arith)) (λ j d l. low (suc j) d (omega arith)) (λ j d g l. high (suc j) d (omega arith) (omega arith)))
+    ∙ greater_at start rest k (omega arith) (far 0 start (omega arith))
+
+pub below_some : (address : ℕ) (starts : List Start) (k : ℕ) → IsSortedBy start_less starts → k < length starts → ((j : ℕ) (d : Start) → j < k + 1 → leb (get_or starts j d).address address ≡ true) → ((j : ℕ) (d : Start) → k + 1 ≤ j → j < length starts → leb (get_or starts j d).address address ≡ false) → start_below address starts ≡ slice_get starts k
+below_some address starts k up less low high = below_at address starts k less (λ j d l. sorted_far start_less starts_order starts up j k d (omega arith) less) low high
+
+-- ---- the start below an address rests on which starts there are, not on their order
+passing : (Start → Bool) → Option Start → Bool
+passing p None = false
+passing p (Some start) = p start
+
+any_below : ℕ → (Start → Bool) → List Start → Bool
+any_below address p starts = list_any (λ start. leb start.address address && p start) starts
+
+or_both : (a b : Bool) → a ≡ false → b ≡ false → (a || b) ≡ false
+or_both false b is rest = rest
+or_both true b is rest = is
+
+or_first : (a b : Bool) → (a || b) ≡ false → a ≡ false
+or_first false b none = refl
+or_first true b none = none
+
+or_second : (a b : Bool) → (a || b) ≡ false → b ≡ false
+or_second false b none = none
+or_second true b none = absurd (false≢true (sym none))
+
+greater_passes_none : (p : Start → Bool) (start : Start) (o : Option Start) → p start ≡ false → passing p o ≡ false → passing p (greater_start (Some start) o) ≡ false
+unfolding passing
+greater_passes_none p start None one rest = one
+greater_passes_none p start (Some other) one rest =
+    elim (start_less other start) as (λ b. passing p (cond b (Some start) (Some other)) ≡ false) [ true ↦ one | false ↦ rest ]
+
+chosen_passes_none : (address : ℕ) (p : Start → Bool) (starts : List Start) → any_below address p starts ≡ false → passing p (start_below address starts) ≡ false
+unfolding passing any_below
+chosen_passes_none address p [] none = refl
+chosen_passes_none address p (start ∷ rest) none =
+    elim (leb start.address address) as (λ b. ((b && p start) || any_below address p rest) ≡ false → passing p (cond b (greater_start (Some start) (start_below address rest)) (start_below address rest)) ≡ false) [
+      | true ↦ λ none. greater_passes_none p start (start_below address rest) (or_first _ _ none) (chosen_passes_none address p rest (or_second _ _ none))
+      | false ↦ λ none. chosen_passes_none address p rest none
+    ] none
+
+-- a test that both starts fail if the greater one does
+Falls : (Start → Bool) → Type 0
+Falls p = (start : Start) (o : Option Start) → passing p (greater_start (Some start) o) ≡ false → (p start ≡ false) × (passing p o ≡ false)
+
+none_passes_chosen : (address : ℕ) (p : Start → Bool) (starts : List Start) → Falls p → passing p (start_below address starts) ≡ false → any_below address p starts ≡ false
+unfolding passing any_below Falls
+none_passes_chosen address p [] falls none = refl
+none_passes_chosen address p (start ∷ rest) falls none =
+    elim (leb start.address address) as (λ b. passing p (cond b (greater_start (Some start) (start_below address rest)) (start_below address rest)) ≡ false → ((b && p start) || any_below address p rest) ≡ false) [
+      | true ↦ λ none. let both = falls start (start_below address rest) none in or_both _ _ both.0 (none_passes_chosen address p rest falls both.1)
+      | false ↦ λ none. none_passes_chosen address p rest falls none
+    ] none
+
+any_start : Start → Bool
+any_start start = true
+
+falls_any : Falls any_start
+unfolding passing Falls any_start
+falls_any start None none = (none, refl)
+falls_any start (Some other) none =
+    absurd (false≢true (sym none ∙ elim (start_less other start) as (λ b. passing any_start (cond b (Some start) (Some other)) ≡ true) [ true ↦ refl | false ↦ refl ]))
+
+falls_less : (y : Start) → Falls (start_less y)
+unfolding passing Falls
+falls_less y start None none = (none, refl)
+falls_less y start (Some other) none =
+    elim (start_less other start) as (λ b. start_less other start ≡ b → passing (start_less y) (cond b (Some start) (Some other)) ≡ false → (start_less y start ≡ false) × (start_less y other ≡ false)) [
+      | true ↦ λ is none. (none, starts_order.chain y start other none (starts_order.one_way other start is))
+      | false ↦ λ is none. (starts_order.chain y other start none is, none)
+    ] refl none
+
+Alike : List Start → List Start → Type 0
+Alike xs ys = (p : Start → Bool) → list_any p xs ≡ list_any p ys
+
+not_less : (address : ℕ) (xs ys : List Start) (x y : Start) → Alike xs ys → start_below address xs ≡ Some x → start_below address ys ≡ Some y → start_less y x ≡ false
+unfolding passing any_below Alike
+not_less address xs ys x y alike is_x is_y =
+    let in_ys = none_passes_chosen address (start_less y) ys (falls_less y) (ap (passing (start_less y)) is_y ∙ not_self y) in
+    sym (ap (passing (start_less y)) is_x) ∙ chosen_passes_none address (start_less y) xs (alike (λ start. leb start.address address && start_less y start) ∙ in_ys)
+
+none_there : (address : ℕ) (xs ys : List Start) (x : Start) → Alike xs ys → start_below address xs ≡ Some x → start_below address ys ≡ None → ⊥
+unfolding passing any_below Alike any_start
+none_there address xs ys x alike is_x is_y =
+    let in_ys = none_passes_chosen address any_start ys falls_any (ap (passing any_start) is_y) in
+    false≢true (sym (sym (ap (passing any_start) is_x) ∙ chosen_passes_none address any_start xs (alike (λ start. leb start.address address && true) ∙ in_ys)))
+
+same_below : (address : ℕ) (xs ys : List Start) (a b : Option Start) → Alike xs ys → Alike ys xs → start_below address xs ≡ a → start_below address ys ≡ b → a ≡ b
+same_below address xs ys None None alike back is_a is_b = refl
+same_below address xs ys (Some x) None alike back is_a is_b = absurd (none_there address xs ys x alike is_a is_b)
+same_below address xs ys None (Some y) alike back is_a is_b = absurd (none_there address ys xs y back is_b is_a)
+same_below address xs ys (Some x) (Some y) alike back is_a is_b = ap Some (equal_starts x y (not_less address ys xs y x back is_b is_a) (not_less address xs ys x y alike is_a is_b))
+
+start_below_moved : (address : ℕ) (xs ys : List Start) → IsPermutation xs ys → start_below address xs ≡ start_below address ys
+unfolding Alike
+start_below_moved address xs ys moved = same_below address xs ys (start_below address xs) (start_below address ys) (λ p. list_any-IsPermutation p xs ys moved) (λ p. sym (list_any-IsPermutation p xs ys moved)) refl refl
+
+pub marked_moved : (symbols : List Symbol) (xs ys : List Start) → IsPermutation xs ys → MarksFunctions symbols xs → MarksFunctions symbols ys
+marked_moved symbols xs ys moved marked address =
+    let P : Option Start → Type 0 = λ o. Marks symbols o (function_below symbols address) in
+    subst P (start_below_moved address xs ys moved) (marked address)
 
 -- ---- the function below an address, after one more symbol
 later : Symbol → Option Symbol → Option Symbol
@@ -138,111 +285,33 @@ later_start : Start → Option Start → Option Start
 later_start new None = Some new
 later_start new (Some old) = cond (ltb old.address new.address) (Some new) (Some old)
 
-unwrapped_above : (address : ℕ) (start : Start) (rest : List Start) → StartsAscend (start ∷ rest) → start.address ≤ (unwrap_or (start_below address rest) start).address
-unwrapped_above address start [] up = omega arith
-unwrapped_above address start (next ∷ rest) up =
-    elim (ltb address next.address) as (λ b. start.address ≤ (unwrap_or (cond b None (Some (unwrap_or (start_below address rest) next))) start).address) [
-      | true ↦ omega arith
-      | false ↦ (let above = unwrapped_above address next rest up.1 in omega (arith, up.0.0))
-    ]
-
-later_nothing : (new : Start) → later_start new None ≡ Some new
-unfolding later_start
-later_nothing new = refl
-
-above_none : (address : ℕ) (start : Start) (rest : List Start) → address < start.address → start_below address (start ∷ rest) ≡ None
-above_none address start rest less = cond-true _ _ _ (lt-ltb address start.address less)
-
-reaches : (address : ℕ) (start : Start) (rest : List Start) → start.address ≤ address → start_below address (start ∷ rest) ≡ Some (unwrap_or (start_below address rest) start)
-reaches address start rest le = cond-false _ _ _ (le-ltb address start.address le)
-
 -- what one more start changes
 noted : ℕ → Start → Option Start → Option Start
 noted address new o = cond (leb new.address address) (later_start new o) o
 
-noted_low : (address : ℕ) (new : Start) (o : Option Start) → address < new.address → noted address new o ≡ o
+cond_turned : {X : Type 0} (a b : ℕ) (x y : X) → cond (leb a b) x y ≡ cond (ltb b a) y x
+cond_turned a b x y =
+    elim (cases_lt b a) as (λ _. cond (leb a b) x y ≡ cond (ltb b a) y x) [
+      | inl less ↦ cond-false _ _ _ (lt-leb a b less) ∙ sym (cond-true _ _ _ (lt-ltb b a less))
+      | inr le ↦ cond-true _ _ _ (le-leb a b le) ∙ sym (cond-false _ _ _ (le-ltb b a le))
+    ]
+
+greater_mark : (symbols : List Symbol) (mark : Start) (o : Option Start) (symbol : Option Symbol) → mark.place ≡ length symbols → Marks symbols o symbol → greater_start o (Some mark) ≡ later_start mark o
+unfolding later_start less_by
+greater_mark symbols mark None symbol place marks = refl
+greater_mark symbols mark (Some old) None place marks = absurd marks
+greater_mark symbols mark (Some old) (Some symbol) place marks =
+    let within = slice_get_within symbols old.place symbol marks.0 in
+    ap (λ b. cond b (Some old) (Some mark)) (less_by_later mark.address old.address mark.place old.place (omega arith)) ∙ cond_turned mark.address old.address (Some old) (Some mark)
+
+start_below_push : (address : ℕ) (symbols : List Symbol) (starts : List Start) (mark : Start) (symbol : Option Symbol) → mark.place ≡ length symbols → Marks symbols (start_below address starts) symbol → start_below address (starts ++ mark ∷ []) ≡ noted address mark (start_below address starts)
 unfolding noted
-noted_low address new o less = cond-false _ _ _ (lt-leb new.address address less)
-
-noted_high : (address : ℕ) (new : Start) (o : Option Start) → new.address ≤ address → noted address new o ≡ later_start new o
-unfolding noted
-noted_high address new o le = cond-true _ _ _ (le-leb new.address address le)
-
-stays_later : (new old : Start) → new.address ≤ old.address → later_start new (Some old) ≡ Some old
-unfolding later_start
-stays_later new old le = cond-false _ _ _ (le-ltb old.address new.address le)
-
-later_unwrapped : (new start : Start) (o : Option Start) → start.address < new.address → Some (unwrap_or (later_start new o) start) ≡ later_start new (Some (unwrap_or o start))
-unfolding later_start
-later_unwrapped new start None less = sym (cond-true _ _ _ (lt-ltb start.address new.address less))
-later_unwrapped new start (Some old) less =
-    elim (ltb old.address new.address) as (λ b. Some (unwrap_or (cond b (Some new) (Some old)) start) ≡ cond b (Some new) (Some old)) [ true ↦ refl | false ↦ refl ]
-
--- the new start stands before all others
-goes_first : (address : ℕ) (new start : Start) (rest : List Start) → StartsAscend (start ∷ rest) → new.address < start.address → start_below address (new ∷ start ∷ rest) ≡ noted address new (start_below address (start ∷ rest))
-goes_first address new start rest up less =
-    elim (cases_lt address new.address) as (λ _. start_below address (new ∷ start ∷ rest) ≡ noted address new (start_below address (start ∷ rest))) [
-      | inl low ↦ above_none address new (start ∷ rest) low ∙ sym (noted_low address new (start_below address (start ∷ rest)) low ∙ above_none address start rest (omega arith))
-      | inr high ↦ elim (cases_lt address start.address) as (λ _. start_below address (new ∷ start ∷ rest) ≡ noted address new (start_below address (start ∷ rest))) [
-        | inl low ↦
-            reaches address new (start ∷ rest) high ∙ ap (λ o. Some (unwrap_or o new)) (above_none address start rest low)
-            ∙ sym (noted_high address new (start_below address (start ∷ rest)) high ∙ ap (later_start new) (above_none address start rest low) ∙ later_nothing new)
-        | inr reached ↦
-            let e = reaches address start rest reached in
-            let above = unwrapped_above address start rest up in
-            reaches address new (start ∷ rest) high ∙ ap (λ o. Some (unwrap_or o new)) e
-            ∙ sym (noted_high address new (start_below address (start ∷ rest)) high ∙ ap (later_start new) e ∙ stays_later new (unwrap_or (start_below address rest) start) (omega arith))
-      ]
+start_below_push address symbols starts mark symbol place marks =
+    start_below_append address starts (mark ∷ [])
+    ∙ elim (leb mark.address address) as (λ b. greater_start (start_below address starts) (cond b (Some mark) None) ≡ cond b (later_start mark (start_below address starts)) (start_below address starts)) [
+      | true ↦ greater_mark symbols mark (start_below address starts) symbol place marks
+      | false ↦ greater_none (start_below address starts)
     ]
-
--- the new start's address has one
-is_there : (address : ℕ) (new start : Start) (rest : List Start) → StartsAscend (start ∷ rest) → new.address ≡ start.address → start_below address (start ∷ rest) ≡ noted address new (start_below address (start ∷ rest))
-is_there address new start rest up same =
-    elim (cases_lt address new.address) as (λ _. start_below address (start ∷ rest) ≡ noted address new (start_below address (start ∷ rest))) [
-      | inl low ↦ sym (noted_low address new (start_below address (start ∷ rest)) low)
-      | inr high ↦
-          let e = reaches address start rest (omega arith) in
-          let above = unwrapped_above address start rest up in
-          e ∙ sym (noted_high address new (start_below address (start ∷ rest)) high ∙ ap (later_start new) e ∙ stays_later new (unwrap_or (start_below address rest) start) (omega arith))
-    ]
-
--- the new start stands after the first
-goes_later : (address : ℕ) (new start : Start) (below : Option Start) → start.address < new.address → cond (ltb address start.address) None (Some (unwrap_or (noted address new below) start)) ≡ noted address new (cond (ltb address start.address) None (Some (unwrap_or below start)))
-goes_later address new start below less =
-    elim (cases_lt address start.address) as (λ _. cond (ltb address start.address) None (Some (unwrap_or (noted address new below) start)) ≡ noted address new (cond (ltb address start.address) None (Some (unwrap_or below start)))) [
-      | inl low ↦
-          let t = lt-ltb address start.address low in
-          cond-true _ _ _ t ∙ sym (noted_low address new _ (omega arith) ∙ cond-true _ _ _ t)
-      | inr high ↦
-          let f = le-ltb address start.address high in
-          elim (cases_lt address new.address) as (λ _. cond (ltb address start.address) None (Some (unwrap_or (noted address new below) start)) ≡ noted address new (cond (ltb address start.address) None (Some (unwrap_or below start)))) [
-            | inl low ↦ ap (λ o. cond (ltb address start.address) None (Some (unwrap_or o start))) (noted_low address new below low) ∙ sym (noted_low address new _ low)
-            | inr reached ↦
-                cond-false _ _ _ f ∙ ap (λ o. Some (unwrap_or o start)) (noted_high address new below reached)
-                ∙ later_unwrapped new start below less
-                ∙ sym (noted_high address new _ reached ∙ ap (later_start new) (cond-false _ _ _ f))
-          ]
-    ]
-
-start_below-with_start : (address : ℕ) (new : Start) (starts : List Start) → StartsAscend starts → start_below address (with_start new starts) ≡ noted address new (start_below address starts)
-start_below-with_start address new [] up =
-    elim (cases_lt address new.address) as (λ _. start_below address (new ∷ []) ≡ noted address new None) [
-      | inl low ↦ above_none address new [] low ∙ sym (noted_low address new None low)
-      | inr high ↦ reaches address new [] high ∙ sym (noted_high address new None high ∙ later_nothing new)
-    ]
-start_below-with_start address new (start ∷ rest) up =
-    elim (ltb new.address start.address) as (λ b. ltb new.address start.address ≡ b → start_below address (cond b (new ∷ start ∷ rest) (cond (ltb start.address new.address) (start ∷ with_start new rest) (start ∷ rest))) ≡ noted address new (start_below address (start ∷ rest))) [
-      | true ↦ λ low. goes_first address new start rest up (ltb-true new.address start.address low)
-      | false ↦ λ low. elim (ltb start.address new.address) as (λ b. ltb start.address new.address ≡ b → start_below address (cond b (start ∷ with_start new rest) (start ∷ rest)) ≡ noted address new (start_below address (start ∷ rest))) [
-        | true ↦ λ high.
-            ap (λ o. cond (ltb address start.address) None (Some (unwrap_or o start))) (start_below-with_start address new rest up.1)
-            ∙ goes_later address new start (start_below address rest) (ltb-true start.address new.address high)
-        | false ↦ λ high.
-            let a = ltb-false new.address start.address low in
-            let b = ltb-false start.address new.address high in
-            is_there address new start rest up (omega arith)
-      ] refl
-    ] refl
 
 -- ---- the starts stay those of the symbols
 pub slice_get-push : (symbols : List Symbol) (new symbol : Symbol) (k : ℕ) → slice_get symbols k ≡ Some symbol → slice_get (symbols ++ new ∷ []) k ≡ Some symbol
@@ -291,40 +360,54 @@ marks_noted symbols new mark address place same start symbol marks =
     ])
 
 -- a function symbol is added, and its start noted
-pub starts_after_function : (symbols : List Symbol) (starts : List Start) (new : Symbol) (mark : Start) → HasAllStarts symbols starts → new.function ≡ true → mark.place ≡ length symbols → mark.address ≡ new.address → HasAllStarts (symbols ++ new ∷ []) (with_start mark starts)
-starts_after_function symbols starts new mark all function place same = record {
-  ascend = ascend-with_start mark starts all.ascend;
-  marked = λ address.
-      let P : Option Start → Type 0 = λ o. Marks (symbols ++ new ∷ []) o (function_below (symbols ++ new ∷ []) address) in
-      let Q : Option Symbol → Type 0 = λ o. Marks (symbols ++ new ∷ []) (noted address mark (start_below address starts)) o in
-      subst P (sym (start_below-with_start address mark starts all.ascend))
-      (subst Q (sym (function_below-push symbols new address ∙ pushed_function address new (function_below symbols address) function))
-      (marks_noted symbols new mark address place same (start_below address starts) (function_below symbols address) (all.marked address)));
-}
+marked_after_function : (symbols : List Symbol) (starts : List Start) (new : Symbol) (mark : Start) → MarksFunctions symbols starts → new.function ≡ true → mark.place ≡ length symbols → mark.address ≡ new.address → MarksFunctions (symbols ++ new ∷ []) (starts ++ mark ∷ [])
+marked_after_function symbols starts new mark all function place same address =
+    let P : Option Start → Type 0 = λ o. Marks (symbols ++ new ∷ []) o (function_below (symbols ++ new ∷ []) address) in
+    let Q : Option Symbol → Type 0 = λ o. Marks (symbols ++ new ∷ []) (noted address mark (start_below address starts)) o in
+    subst P (sym (start_below_push address symbols starts mark (function_below symbols address) place (all address)))
+    (subst Q (sym (function_below-push symbols new address ∙ pushed_function address new (function_below symbols address) function))
+    (marks_noted symbols new mark address place same (start_below address starts) (function_below symbols address) (all address)))
 
 -- another symbol is added
-pub starts_after_other : (symbols : List Symbol) (starts : List Start) (new : Symbol) → HasAllStarts symbols starts → new.function ≡ false → HasAllStarts (symbols ++ new ∷ []) starts
-starts_after_other symbols starts new all function = record {
-  ascend = all.ascend;
-  marked = λ address.
-      let Q : Option Symbol → Type 0 = λ o. Marks (symbols ++ new ∷ []) (start_below address starts) o in
-      subst Q (sym (function_below-push symbols new address ∙ pushed_other address new (function_below symbols address) function))
-      (marks_more symbols new (start_below address starts) (function_below symbols address) (all.marked address));
-}
+marked_after_other : (symbols : List Symbol) (starts : List Start) (new : Symbol) → MarksFunctions symbols starts → new.function ≡ false → MarksFunctions (symbols ++ new ∷ []) starts
+marked_after_other symbols starts new all function address =
+    let Q : Option Symbol → Type 0 = λ o. Marks (symbols ++ new ∷ []) (start_below address starts) o in
+    subst Q (sym (function_below-push symbols new address ∙ pushed_other address new (function_below symbols address) function))
+    (marks_more symbols new (start_below address starts) (function_below symbols address) (all address))
 
 -- a symbol is added, and its start noted where it is a function
-pub starts_after : (symbols : List Symbol) (starts : List Start) (new : Symbol) (place : ℕ) → HasAllStarts symbols starts → place ≡ length symbols → HasAllStarts (symbols ++ new ∷ []) (starts_with new place starts)
-starts_after symbols starts new place all at_end =
+pub marked_after : (symbols : List Symbol) (starts : List Start) (new : Symbol) (place : ℕ) → MarksFunctions symbols starts → place ≡ length symbols → MarksFunctions (symbols ++ new ∷ []) (starts_with new place starts)
+marked_after symbols starts new place all at_end =
     let mark : Start = record { address = new.address; place = place } in
-    elim new.function as (λ b. new.function ≡ b → HasAllStarts (symbols ++ new ∷ []) (cond b (with_start mark starts) starts)) [
-      | true ↦ λ function. starts_after_function symbols starts new mark all function at_end refl
-      | false ↦ λ function. starts_after_other symbols starts new all function
+    elim new.function as (λ b. new.function ≡ b → MarksFunctions (symbols ++ new ∷ []) (cond b (starts ++ mark ∷ []) starts)) [
+      | true ↦ λ function. marked_after_function symbols starts new mark all function at_end refl
+      | false ↦ λ function. marked_after_other symbols starts new all function
     ] refl
 
+pub starts_after : (symbols : List Symbol) (starts moved : List Start) (new : Symbol) (place : ℕ) → HasAllStarts symbols starts → place ≡ length symbols → IsPermutation (starts_with new place starts) moved → InBlocks start_less moved → HasAllStarts (symbols ++ new ∷ []) moved
+starts_after symbols starts moved new place all at_end more blocks =
+    record { blocks = blocks; marked = marked_moved (symbols ++ new ∷ []) (starts_with new place starts) moved more (marked_after symbols starts new place all.marked at_end) }
+
+pub marked_more : (symbols : List Symbol) (starts more : List Start) (symbol : Symbol) (place : ℕ) → place < length symbols → symbol ≡ get_or symbols place symbol → more ≡ starts_with symbol place starts → MarksFunctions (take place symbols) starts → MarksFunctions (take (place + 1) symbols) more
+marked_more symbols starts more symbol place less is_at is all =
+    let len : place ≡ length (take place symbols) = sym (length-take-le place symbols (omega arith)) in
+    let parts : take (place + 1) symbols ≡ take place symbols ++ symbol ∷ [] = take_more symbols place symbol less ∙ ap (λ x. take place symbols ++ x ∷ []) (sym is_at) in
+    let P : List Symbol → Type 0 = λ xs. MarksFunctions xs more in
+    let Q : List Start → Type 0 = λ xs. MarksFunctions (take place symbols ++ symbol ∷ []) xs in
+    subst P (sym parts) (subst Q (sym is) (marked_after (take place symbols) starts symbol place all len))
+
+pub starts_sorted : (symbols : List Symbol) (held starts sorted : List Start) → held ≡ starts → MarksFunctions symbols starts → IsPermutation held sorted → IsSortedBy start_less sorted → HasAllStarts symbols sorted
+starts_sorted symbols held starts sorted is all same up =
+    let P : List Start → Type 0 = MarksFunctions symbols in
+    record { blocks = in_blocks_sorted start_less sorted up; marked = marked_moved symbols held sorted same (subst P (sym is) all) }
+
 -- no symbols and no starts
-pub starts_of_none : HasAllStarts [] []
+pub marked_none : MarksFunctions [] []
 unfolding function_below
-starts_of_none = record { ascend = tt; marked = λ address. tt }
+marked_none address = tt
+
+pub starts_of_none : HasAllStarts [] []
+starts_of_none = record { blocks = λ end within k d above below. absurd (omega arith); marked = marked_none }
 
 -- what a call leaves that succeeds
 pub when_ok : {T E X : Type 0} (r : Result T E) (held kept left : X) → left ≡ cond (is_ok r) held kept → IsOk r → left ≡ held

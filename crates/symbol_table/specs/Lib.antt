@@ -1,3 +1,5 @@
+pub mod Blocks
+pub mod Bodies
 pub mod Kinds
 pub mod Names
 pub mod Starts

@@ -1,6 +1,6 @@
 -- The symbols' places in order of the symbols' names, as the table keeps them beside its symbols.
-use Rattle.std.specs.Prelude.{◌≡◌, ℕ, Bool, false, List, [], ◌∷◌, map, Option, Some, None, if◌then◌else◌}
-use Rattle.std.specs.List.{slice_get}
+use Rattle.std.specs.Prelude.{ℕ, Bool, List, [], map, Option, Some, None, if◌then◌else◌}
+use Rattle.std.specs.List.{slice_get, filter, filter_map}
 use Rattle.std.specs.List.Sorted.{IsPermutation}
 use Rattle.std.specs.Ordering.{nat_cmp, is_lt, is_le, is_eq}
 use Rattle.std.specs.declared.cmp.Ordering.{Ordering}
@@ -8,6 +8,7 @@ use Rattle.std.specs.Cmp.Lexicographic.{slice_cmp}
 use Rattle.symbol_table.specs.declared.symbols.Symbol.{Symbol}
 use Rattle.symbol_table.specs.declared.kinds.Kind.{Kind}
 use Rattle.symbol_table.specs.Kinds.{is_of_kind}
+use Rattle.symbol_table.specs.Blocks.{InBlocks}
 
 -- the name of a symbol that may be missing
 abbrev pub name_of : Option Symbol → List ℕ
@@ -36,22 +37,20 @@ is_not_after symbols name place = is_le (order_at symbols name place)
 abbrev pub is_named_at : List Symbol → List ℕ → ℕ → Bool
 is_named_at symbols name place = is_eq (order_at symbols name place)
 
--- no symbol of a list comes before a name
-abbrev pub NoneBefore : List ℕ → List (Option Symbol) → Type 0
-NoneBefore name [] = Unit {0}
-NoneBefore name (symbol ∷ rest) = (is_lt (order_of name symbol) ≡ false) × NoneBefore name rest
+-- whether of two places the first one's symbol has the lesser name
+abbrev pub has_lesser_name : List Symbol → ℕ → ℕ → Bool
+has_lesser_name symbols place other = is_before symbols (name_of (slice_get symbols other)) place
 
--- the names ascend
-abbrev pub NamesAscend : List (Option Symbol) → Type 0
-NamesAscend [] = Unit {0}
-NamesAscend (symbol ∷ rest) = NoneBefore (name_of symbol) rest × NamesAscend rest
-
--- the places lead to each symbol once, in order of the names
+-- the places lead to each symbol once, in blocks that are in order of the names
 pub record HasAllNames (symbols : List Symbol) (places : List ℕ) : Type 0 where
-  pub ascend : NamesAscend (reached symbols places)
+  pub blocks : InBlocks (has_lesser_name symbols) places
   pub all : IsPermutation (map Some symbols) (reached symbols places)
 
 -- the address of a symbol, where it is of a kind
 abbrev pub kind_address : Kind → Option Symbol → Option ℕ
 kind_address kind None = None
 kind_address kind (Some symbol) = if is_of_kind kind symbol then Some symbol.address else None
+
+-- the addresses of the symbols of a kind and a name that places lead to, in the places' order
+abbrev pub found_at : List Symbol → Kind → List ℕ → List ℕ → List ℕ
+found_at symbols kind name places = filter_map (λ place. kind_address kind (slice_get symbols place)) (filter (is_named_at symbols name) places)

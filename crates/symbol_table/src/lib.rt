@@ -1,17 +1,22 @@
-//! The symbol table of a running program: which addresses a name has, and which function an address
-//! lies in.
+//! The symbol table of a running program: which addresses a name has, which function an address lies in,
+//! which body of a function is the newest, and what the unknowns of an object come to.
 #![tactic(auto)]
 
 pub mod addresses;
+mod blocks;
+pub mod bodies;
 mod kinds;
 mod names;
 mod starts;
 pub mod symbols;
 pub mod table;
+pub mod values;
 
 pub use addresses::Addresses;
+pub use bodies::Bodies;
 pub use symbols::Symbol;
 pub use table::SymbolTable;
+pub use values::{Solved, Unknown, Values};
 
 #[cfg(test)]
 mod tests;

@@ -1,5 +1,5 @@
 //! The table of symbols.
-ghost use Rattle.std.specs.Prelude.{◌≡◌, ◌+◌, ◌<◌, ◌≤◌, ◌++◌, [], ◌∷◌, length, OnOk, IfOk};
+ghost use Rattle.std.specs.Prelude.{◌≡◌, ◌+◌, ◌-◌, ◌<◌, ◌≤◌, ◌++◌, [], ◌∷◌, length, take, OnOk, IfOk};
 ghost use Rattle.std.specs.Option.{option_copied, option_map};
 ghost use Rattle.std.specs.List.{slice_get};
 ghost use Rattle.ks_base.specs.Gives.{Gives};
@@ -7,8 +7,8 @@ ghost use Rattle.symbol_table.specs.Symbols.{function_addresses, global_addresse
 
 use crate::addresses::Addresses;
 use crate::kinds::{Kind, addresses_of};
-use crate::names::note_name;
-use crate::starts::{Start, last_start, note_symbol};
+use crate::names::{list_names, note_name};
+use crate::starts::{Start, last_start, list_starts, note_symbol};
 use crate::symbols::Symbol;
 use ks_base::{Name, Refusal};
 use std::alloc::{AllocError, Global};
@@ -22,9 +22,9 @@ const NAMED_REACH: u32 = 65_536;
 #[derive(Drop)]
 pub struct SymbolTable {
     symbols: Vec<Symbol>,
-    // where functions begin, by address
+    // where functions begin, in blocks that are in order of the addresses
     starts: Vec<Start>,
-    // the symbols' places, in order of their names
+    // the symbols' places, in blocks that are in order of their names
     places: Vec<usize>,
     spare: usize,
 }
@@ -172,9 +172,21 @@ impl SymbolTable {
         ensures spare { self.new.spare + 1 ≡ self.old.spare }
     {
         note_symbol(&mut self.starts, &symbol, self.symbols.len());
-        note_name(&mut self.places, self.symbols.as_slice(), &symbol);
-        self.spare -= 1;
         let _ = self.symbols.push(symbol);
+        note_name(&mut self.places, self.symbols.as_slice());
+        self.spare -= 1;
+    }
+
+    /// Takes the last `n` symbols away. The spare places stay as many. It takes no memory.
+    pub fn remove_last(&mut self, n: u32)
+        requires { n ≤ length self.old.symbols }
+        ensures symbols { self.new.symbols ≡ take (length self.old.symbols - n) self.old.symbols }
+        ensures spare { self.new.spare ≡ self.old.spare }
+    {
+        let kept = self.symbols.len() - n as usize;
+        self.symbols.truncate(kept);
+        list_starts(&mut self.starts, self.symbols.as_slice());
+        list_names(&mut self.places, self.symbols.as_slice());
     }
 }
 
@@ -184,7 +196,11 @@ fn only_address(alloc: Global, name: &Name, addresses: &[u32]) -> Result<u32, Re
 {
     match addresses {
         [address] => Ok(*address),
-        [low, high, ..] => Err(Refusal::TwoNames(Name::from_slice(alloc, name.as_slice())?, *low, *high)),
+        [low, high, ..] => Err(Refusal::TwoNames(
+            Name::from_slice(alloc, name.as_slice())?,
+            *low,
+            *high,
+        )),
         [] => Err(Refusal::NoSymbol(Name::from_slice(alloc, name.as_slice())?)),
     }
 }
