@@ -111,6 +111,7 @@ impl Code {
             ≡ page.new ++ remaining self.now.contents self.now.end next) }
         ensures grows { IfOk result (λ _. length page.old < length page.new) }
     {
+        // Nothing is done here: the law says what the line of an address is, and that those behind it follow.
         lines_follow_one_another();
         if self.end <= address {
             put_end(page, address)?;
