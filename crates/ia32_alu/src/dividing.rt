@@ -5,18 +5,20 @@ ghost use Rattle.ia32_alu.specs.Products.{divided, quotient};
 
 use crate::settling::fits_as_signed;
 use crate::types::Width;
-use crate::widths::{cut, cut_double, is_wide, signed_double, signed_value, wrap};
+use crate::widths::{cut, cut_double, cut_wide, is_wide, signed_double, signed_value, wrap};
 
 /// The quotient and remainder of unsigned numbers.
+#[tactic(auto, unfolding(crate::specs::Numbers::wrapped))]
 fn divide_unsigned(width: Width, dividend: u64, divisor: u32) -> Option<(u32, u32)>
     requires { divisor ≢ 0 }
     ensures { result ≡ divided false (size width) (pos dividend) (pos divisor) }
 {
     let quotient = dividend / u64::from(divisor);
+    let remainder = dividend % u64::from(divisor);
     if is_wide(width, quotient) {
         None
     } else {
-        Some((quotient as u32, (dividend % u64::from(divisor)) as u32))
+        Some((cut_wide(width, quotient), cut_wide(width, remainder)))
     }
 }
 

@@ -5,7 +5,7 @@ ghost use Rattle.ia32_alu.specs.Products.{product, product_flags};
 
 use crate::settling::fits_as_signed;
 use crate::types::{Flags, Width};
-use crate::widths::{cut, is_wide, signed_value, wrap_double};
+use crate::widths::{cut, cut_double, is_wide, signed_value, wrap_double};
 
 /// Where the product is wide CF and OF are set.
 fn flags_of_product(wide: bool) -> Flags
@@ -31,13 +31,13 @@ fn multiply_signed(width: Width, a: u32, b: u32) -> (u64, Flags)
 }
 
 /// The product of unsigned numbers.
-#[tactic(auto, unfolding(crate::specs::Products::product))]
+#[tactic(auto, unfolding(crate::specs::Products::product, crate::specs::Numbers::wrapped))]
 fn multiply_unsigned(width: Width, a: u32, b: u32) -> (u64, Flags)
     ensures { result ≡ product false (size width) a b }
 {
     let product = u64::from(cut(width, a)) * u64::from(cut(width, b));
     let wide = is_wide(width, product);
-    (product, flags_of_product(wide))
+    (cut_double(width, product), flags_of_product(wide))
 }
 
 /// MUL, or IMUL where `signed`: the product of the operands' lowest bits in twice as many bits, and the flags after it. CF

@@ -1,13 +1,37 @@
 //! Shifts and rotations.
-ghost use Rattle.std.specs.Prelude.{◌≡◌, ◌<◌, ◌==◌};
+ghost use Rattle.std.specs.Prelude.{◌≡◌, ◌<◌, ◌==◌, ◌*◌, ◌^◌, ◌&&◌, nat_lt};
+ghost use Rattle.std.specs.Int.{bit_at};
 ghost use Rattle.ia32_alu.specs.declared.types.Width.TheVariants.{W32};
 ghost use Rattle.ia32_alu.specs.declared.types.Shift.TheVariants.{Rol, Ror};
-ghost use Rattle.ia32_alu.specs.Numbers.{size, wrapped};
+ghost use Rattle.ia32_alu.specs.Numbers.{size, unsigned, wrapped, highest, differ};
 ghost use Rattle.ia32_alu.specs.Shifts.{shifted_left, shifted_right, shifted_right_signed, rotated_left, rotated_right, moved, shift_of};
 
 use crate::settling::flags as flags_of_result;
 use crate::types::{Flags, Shift, Width};
 use crate::widths::{bit_count, cut, cut_wide, is_negative, signed_value, wrap};
+
+/// The operand times a power of two, with nothing lost.
+fn widened(width: Width, a: u32, by: u32) -> u64
+    requires { by < 32 }
+    ensures { result ≡ unsigned (size width) a * 2 ^ by }
+{
+    u64::from(cut(width, a)) << by
+}
+
+/// The bit just above the width, where some bits of the operand are left.
+fn is_carried(width: Width, wide: u64, by: u32) -> bool
+    ensures { result ≡ (nat_lt by (size width) && bit_at wide (size width) == 1) }
+{
+    let bits = bit_count(width);
+    by < bits && (wide >> bits) % 2 == 1
+}
+
+/// After one place the highest bit and the carry differ.
+fn is_turned(width: Width, value: u32, carry: bool, by: u32) -> bool
+    ensures { result ≡ (by == 1 && differ (highest (size width) value) carry) }
+{
+    by == 1 && is_negative(width, value) != carry
+}
 
 /// To the left, filling with zeros.
 #[tactic(auto, unfolding(crate::specs::Shifts::shifted_left))]
@@ -15,10 +39,10 @@ fn shift_left(width: Width, a: u32, by: u32) -> (u32, Flags)
     requires { by < 32 }
     ensures { result ≡ shifted_left (size width) a by }
 {
-    let wide = u64::from(cut(width, a)) << by;
+    let wide = widened(width, a, by);
     let value = cut_wide(width, wide);
-    let carry = by < bit_count(width) && (wide >> bit_count(width)) % 2 == 1;
-    let overflow = by == 1 && is_negative(width, value) != carry;
+    let carry = is_carried(width, wide, by);
+    let overflow = is_turned(width, value, carry, by);
     (value, flags_of_result(width, value, carry, overflow))
 }
 
@@ -63,7 +87,7 @@ fn rotate_left(a: u32, by: u32, flags: Flags) -> (u32, Flags)
 {
     let value = a.rotate_left(by);
     let carry = value % 2 == 1;
-    let overflow = by == 1 && is_negative(Width::W32, value) != carry;
+    let overflow = is_turned(Width::W32, value, carry, by);
     (
         value,
         Flags {

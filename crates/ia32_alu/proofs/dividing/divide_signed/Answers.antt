@@ -1,0 +1,10 @@
+use Rattle.ia32_alu.proofs.Fitting.{divided-too_wide}
+use Rattle.std.proofs.Common.{◌∙◌, sym}
+use Rattle.std.proofs.Common.{rules, ◌≡◌, ◌≢◌, ◌*◌, true, false, ℤ, pos, ℕ, ◌+◌, ◌-◌, ◌<◌, ◌≤◌, length, ◌/◌, ◌%◌, Bool, nat_eq, nat_lt, List, [], ◌∷◌, ◌++◌, slice_index_or, slice_set, bit_and, bit_or, Fits, w8, w32, w64, Bor, MutBor, ◌+ℤ◌, ◌-ℤ◌, ◌*ℤ◌, ◌≤ℤ◌, ◌<ℤ◌, FitsSigned, to_z, of_z}
+use Rattle.ia32_alu.specs.Numbers.{size, unsigned, signed}
+use Rattle.ia32_alu.specs.Products.{divided, quotient}
+use Rattle.ia32_alu.proofs.dividing.divide_signed.Goals as goal
+
+-- src/dividing.rt:28:20
+pub returns-in_err-quotient : goal.returns-in_err-quotient
+returns-in_err-quotient c = c.from_residual.ensures ∙ sym (divided-too_wide c.args.width c.args.dividend c.args.divisor c.ranges.dividend c.ranges.divisor c.requires c.in_err-quotient.ensures)
