@@ -1,12 +1,11 @@
 -- Small facts on numbers of k bits.
-use Rattle.std.proofs.Common.{◌≡◌, refl, ap, to_z, of_z, ◌∙◌, ℕ, ℤ, pos, negsuc, ◌<◌, ◌≤◌, ◌^◌, arith}
+use Rattle.std.proofs.Common.{◌≡◌, ap, to_z, of_z, ℕ, ℤ, pos, negsuc, ◌<◌, ◌≤◌, ◌^◌, arith}
 use Rattle.std.specs.Prelude.{Bool, true, false, FitsSigned, int_div, None, ◌≢◌}
 use Rattle.std.specs.Int.{w64, from_bool, IsNonZero, CanDivide}
 use Rattle.std.proofs.lemmas.Int.{ints, to_z-of_z}
 use Rattle.std.proofs.lemmas.Bool.Decides.{nat_tests}
 use Rattle.ia32_alu.specs.declared.types.Width.{Width}
 use Rattle.ia32_alu.specs.declared.types.Width.TheVariants.{W8, W16, W32}
-use Rattle.ia32_alu.specs.declared.types.Flags.{Flags}
 use Rattle.ia32_alu.specs.Numbers.{size, unsigned, highest, signed, fits_signed}
 use Rattle.ia32_alu.specs.Arithmetic.{settled}
 use Rattle.ia32_alu.specs.Products.{divided}

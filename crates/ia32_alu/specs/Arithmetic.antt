@@ -1,15 +1,14 @@
 -- Sums, differences and bitwise operations: ADD, ADC, SUB, SBB, CMP, NEG, INC, DEC, AND, OR, XOR, TEST and NOT (Intel
 -- SDM volume 2, under these names; the flags are those of volume 1, section 3.4.3.1). Each gives the lowest k bits of a
 -- result, and the flags.
-use Rattle.std.specs.Prelude.{ℕ, ◌-◌, ◌^◌, Bool, true, false, not, ℤ, pos, ◌+ℤ◌, ◌-ℤ◌, bit_and, bit_or, bit_xor}
+use Rattle.std.specs.Prelude.{ℕ, ◌-◌, ◌^◌, Bool, false, not, ℤ, pos, ◌+ℤ◌, ◌-ℤ◌, bit_and, bit_or, bit_xor}
 use Rattle.std.specs.Int.{from_bool}
-use Rattle.ia32_alu.specs.declared.types.Width.{Width}
 use Rattle.ia32_alu.specs.declared.types.Flags.{Flags}
 use Rattle.ia32_alu.specs.declared.types.Binary.{Binary}
 use Rattle.ia32_alu.specs.declared.types.Binary.TheVariants.{Add, Or, Adc, Sbb, And, Sub, Xor, Cmp, Test}
 use Rattle.ia32_alu.specs.declared.types.Unary.{Unary}
 use Rattle.ia32_alu.specs.declared.types.Unary.TheVariants.{Inc, Dec, Not, Neg}
-use Rattle.ia32_alu.specs.Numbers.{size, unsigned, signed, wrapped, fits_unsigned, fits_signed, flags_of}
+use Rattle.ia32_alu.specs.Numbers.{unsigned, signed, wrapped, fits_unsigned, fits_signed, flags_of}
 
 -- The result of one computation, on the operands as unsigned numbers (u) and as signed ones (s). Their lowest k bits
 -- are the same. CF: the unsigned result doesn't fit k bits; OF: the signed one doesn't.

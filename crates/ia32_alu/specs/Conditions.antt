@@ -1,5 +1,5 @@
 -- The conditions of Jcc, SETcc and CMOVcc (Intel SDM volume 1, appendix B).
-use Rattle.std.specs.Prelude.{ℕ, ◌/◌, ◌%◌, Bool, true, false, ◌||◌, not, List, [], ◌∷◌, slice_index_or, ◌==◌, if◌then◌else◌}
+use Rattle.std.specs.Prelude.{ℕ, ◌/◌, ◌%◌, Bool, false, ◌||◌, not, List, [], ◌∷◌, slice_index_or, ◌==◌, if◌then◌else◌}
 use Rattle.ia32_alu.specs.declared.types.Flags.{Flags}
 use Rattle.ia32_alu.specs.Numbers.{differ}
 

@@ -1,5 +1,5 @@
 -- MUL, IMUL, DIV and IDIV (Intel SDM volume 2). What is marked as own the manual leaves undefined.
-use Rattle.std.specs.Prelude.{ℕ, ◌*◌, Bool, true, false, ◌||◌, not, ℤ, pos, ◌*ℤ◌, int_div, int_rem, Option, Some, None, ◌==◌, if◌then◌else◌}
+use Rattle.std.specs.Prelude.{ℕ, ◌*◌, Bool, true, false, not, ℤ, pos, ◌*ℤ◌, int_div, int_rem, Option, Some, None, ◌==◌, if◌then◌else◌}
 use Rattle.ia32_alu.specs.declared.types.Flags.{Flags}
 use Rattle.ia32_alu.specs.Numbers.{unsigned, signed, wrapped, fits_unsigned, fits_signed}
 

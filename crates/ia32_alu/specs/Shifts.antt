@@ -1,6 +1,6 @@
 -- Shifts and rotations: SAL/SAR/SHL/SHR and RCL/RCR/ROL/ROR (Intel SDM volume 2). The count is masked to 5 bits, and 0
 -- changes nothing. What is marked as own the manual leaves undefined.
-use Rattle.std.specs.Prelude.{ℕ, ◌-◌, ◌+◌, ◌*◌, ◌/◌, ◌%◌, ◌^◌, Bool, true, false, ◌&&◌, nat_lt, ◌==◌, if◌then◌else◌}
+use Rattle.std.specs.Prelude.{ℕ, ◌-◌, ◌*◌, ◌/◌, ◌%◌, ◌^◌, Bool, false, ◌&&◌, nat_lt, ◌==◌, if◌then◌else◌}
 use Rattle.std.specs.Int.{w32, int_shr, bit_at, rotate_left, rotate_right}
 use Rattle.ia32_alu.specs.declared.types.Flags.{Flags}
 use Rattle.ia32_alu.specs.declared.types.Shift.{Shift}

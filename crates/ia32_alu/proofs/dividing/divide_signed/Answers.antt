@@ -1,8 +1,5 @@
 use Rattle.ia32_alu.proofs.Fitting.{divided-too_wide}
 use Rattle.std.proofs.Common.{◌∙◌, sym}
-use Rattle.std.proofs.Common.{rules, ◌≡◌, ◌≢◌, ◌*◌, true, false, ℤ, pos, ℕ, ◌+◌, ◌-◌, ◌<◌, ◌≤◌, length, ◌/◌, ◌%◌, Bool, nat_eq, nat_lt, List, [], ◌∷◌, ◌++◌, slice_index_or, slice_set, bit_and, bit_or, Fits, w8, w32, w64, Bor, MutBor, ◌+ℤ◌, ◌-ℤ◌, ◌*ℤ◌, ◌≤ℤ◌, ◌<ℤ◌, FitsSigned, to_z, of_z}
-use Rattle.ia32_alu.specs.Numbers.{size, unsigned, signed}
-use Rattle.ia32_alu.specs.Products.{divided, quotient}
 use Rattle.ia32_alu.proofs.dividing.divide_signed.Goals as goal
 
 -- src/dividing.rt:28:20
