@@ -16,14 +16,14 @@ unfoldable pub settled : ℕ → ℤ → ℤ → ℕ × Flags
 settled k u s = (wrapped k u, flags_of k (wrapped k u) (not (fits_unsigned k u)) (not (fits_signed k s)))
 
 -- a + b and a carry
-unfoldable pub sum : ℕ → ℕ → ℕ → Bool → ℕ × Flags
-sum k a b carry = settled k
+unfoldable pub sum_of : ℕ → ℕ → ℕ → Bool → ℕ × Flags
+sum_of k a b carry = settled k
     ((pos (unsigned k a) +ℤ pos (unsigned k b)) +ℤ pos (from_bool carry))
     ((signed k a +ℤ signed k b) +ℤ pos (from_bool carry))
 
 -- a - b less a borrow
-unfoldable pub difference : ℕ → ℕ → ℕ → Bool → ℕ × Flags
-difference k a b borrow = settled k
+unfoldable pub difference_of : ℕ → ℕ → ℕ → Bool → ℕ × Flags
+difference_of k a b borrow = settled k
     ((pos (unsigned k a) -ℤ pos (unsigned k b)) -ℤ pos (from_bool borrow))
     ((signed k a -ℤ signed k b) -ℤ pos (from_bool borrow))
 
@@ -40,11 +40,11 @@ abbrev pub keeping_carry : Flags → ℕ × Flags → ℕ × Flags
 keeping_carry flags given = (given.0, record given.1 { cf = flags.cf })
 
 abbrev pub binary_of : Binary → ℕ → ℕ → ℕ → Flags → ℕ × Flags
-binary_of Add k a b flags = sum k a b false
-binary_of Adc k a b flags = sum k a b flags.cf
-binary_of Sub k a b flags = difference k a b false
-binary_of Sbb k a b flags = difference k a b flags.cf
-binary_of Cmp k a b flags = compared k a (difference k a b false)
+binary_of Add k a b flags = sum_of k a b false
+binary_of Adc k a b flags = sum_of k a b flags.cf
+binary_of Sub k a b flags = difference_of k a b false
+binary_of Sbb k a b flags = difference_of k a b flags.cf
+binary_of Cmp k a b flags = compared k a (difference_of k a b false)
 binary_of And k a b flags = bitwise bit_and k a b
 binary_of Or k a b flags = bitwise bit_or k a b
 binary_of Xor k a b flags = bitwise bit_xor k a b
@@ -52,7 +52,7 @@ binary_of Test k a b flags = compared k a (bitwise bit_and k a b)
 
 -- NOT turns each bit, and no flag changes
 abbrev pub unary_of : Unary → ℕ → ℕ → Flags → ℕ × Flags
-unary_of Inc k a flags = keeping_carry flags (sum k a 1 false)
-unary_of Dec k a flags = keeping_carry flags (difference k a 1 false)
-unary_of Neg k a flags = difference k 0 a false
+unary_of Inc k a flags = keeping_carry flags (sum_of k a 1 false)
+unary_of Dec k a flags = keeping_carry flags (difference_of k a 1 false)
+unary_of Neg k a flags = difference_of k 0 a false
 unary_of Not k a flags = (2 ^ k - 1 - unsigned k a, flags)

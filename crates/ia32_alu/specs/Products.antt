@@ -18,8 +18,8 @@ abbrev pub product_flags : Bool → Flags
 product_flags wide = record { cf = wide; pf = false; zf = false; sf = false; of = wide }
 
 -- the product of two numbers of k bits in 2 k bits; CF and OF where it doesn't fit k bits
-unfoldable pub product : Bool → ℕ → ℕ → ℕ → ℕ × Flags
-product sign k a b =
+unfoldable pub product_of : Bool → ℕ → ℕ → ℕ → ℕ × Flags
+product_of sign k a b =
     let z : ℤ = number sign k a *ℤ number sign k b in
     (wrapped (2 * k) z, product_flags (not (fits sign k z)))
 
@@ -29,6 +29,6 @@ abbrev pub divided : Bool → ℕ → ℤ → ℤ → Option (ℕ × ℕ)
 divided sign k x y = if not (fits sign k (int_div x y)) then None else Some (wrapped k (int_div x y), wrapped k (int_rem x y))
 
 -- a dividend of 2 k bits by a divisor of k bits
-unfoldable pub quotient : Bool → ℕ → ℕ → ℕ → Option (ℕ × ℕ)
-quotient sign k high_low by =
+unfoldable pub quotient_of : Bool → ℕ → ℕ → ℕ → Option (ℕ × ℕ)
+quotient_of sign k high_low by =
     if unsigned k by == 0 then None else divided sign k (number sign (2 * k) high_low) (number sign k by)

@@ -1,7 +1,7 @@
 //! Products.
-ghost use Rattle.std.specs.Prelude.{◌≡◌, ◌*◌, true, false};
+ghost use Rattle.std.specs.Prelude.{◌≡◌, ◌*◌, true, false, ◌<◌, ◌^◌};
 ghost use Rattle.ia32_alu.specs.Numbers.{size};
-ghost use Rattle.ia32_alu.specs.Products.{product, product_flags};
+ghost use Rattle.ia32_alu.specs.Products.{product_of, product_flags};
 
 use crate::settling::fits_as_signed;
 use crate::types::{Flags, Width};
@@ -21,9 +21,10 @@ fn flags_of_product(wide: bool) -> Flags
 }
 
 /// The product of signed numbers.
-#[tactic(auto, unfolding(crate::specs::Products::product))]
+#[tactic(auto, unfolding(crate::specs::Products::product_of))]
 fn multiply_signed(width: Width, a: u32, b: u32) -> (u64, Flags)
-    ensures { result ≡ product true (size width) a b }
+    ensures value { result ≡ product_of true (size width) a b }
+    ensures small { result.0 < 2 ^ (2 * size width) }
 {
     let product = signed_value(width, a) * signed_value(width, b);
     let wide = !fits_as_signed(width, product);
@@ -31,9 +32,10 @@ fn multiply_signed(width: Width, a: u32, b: u32) -> (u64, Flags)
 }
 
 /// The product of unsigned numbers.
-#[tactic(auto, unfolding(crate::specs::Products::product, crate::specs::Numbers::wrapped))]
+#[tactic(auto, unfolding(crate::specs::Products::product_of, crate::specs::Numbers::wrapped))]
 fn multiply_unsigned(width: Width, a: u32, b: u32) -> (u64, Flags)
-    ensures { result ≡ product false (size width) a b }
+    ensures value { result ≡ product_of false (size width) a b }
+    ensures small { result.0 < 2 ^ (2 * size width) }
 {
     let product = u64::from(cut(width, a)) * u64::from(cut(width, b));
     let wide = is_wide(width, product);
@@ -43,7 +45,8 @@ fn multiply_unsigned(width: Width, a: u32, b: u32) -> (u64, Flags)
 /// MUL, or IMUL where `signed`: the product of the operands' lowest bits in twice as many bits, and the flags after it. CF
 /// and OF are set where the product doesn't fit the operands' width.
 pub fn multiply(signed: bool, width: Width, a: u32, b: u32) -> (u64, Flags)
-    ensures { result ≡ product signed (size width) a b }
+    ensures value { result ≡ product_of signed (size width) a b }
+    ensures small { result.0 < 2 ^ (2 * size width) }
 {
     if signed {
         multiply_signed(width, a, b)

@@ -1,5 +1,5 @@
 //! Operations on two operands and on one.
-ghost use Rattle.std.specs.Prelude.{◌≡◌, ◌^◌, ◌-◌, bit_and, bit_or, bit_xor};
+ghost use Rattle.std.specs.Prelude.{◌≡◌, ◌^◌, ◌-◌, bit_and, bit_or, bit_xor, ◌<◌};
 ghost use Rattle.ia32_alu.specs.Numbers.{size, unsigned};
 ghost use Rattle.ia32_alu.specs.Arithmetic.{bitwise, compared, keeping_carry, binary_of, unary_of};
 
@@ -11,7 +11,8 @@ use crate::widths::cut;
 /// The bitwise and.
 #[tactic(auto, unfolding(crate::specs::Arithmetic::bitwise))]
 fn and(width: Width, a: u32, b: u32) -> (u32, Flags)
-    ensures { result ≡ bitwise bit_and (size width) a b }
+    ensures value { result ≡ bitwise bit_and (size width) a b }
+    ensures small { result.0 < 2 ^ size width }
 {
     let value = cut(width, a) & cut(width, b);
     (value, flags_of_result(width, value, false, false))
@@ -20,7 +21,8 @@ fn and(width: Width, a: u32, b: u32) -> (u32, Flags)
 /// The bitwise or.
 #[tactic(auto, unfolding(crate::specs::Arithmetic::bitwise))]
 fn or(width: Width, a: u32, b: u32) -> (u32, Flags)
-    ensures { result ≡ bitwise bit_or (size width) a b }
+    ensures value { result ≡ bitwise bit_or (size width) a b }
+    ensures small { result.0 < 2 ^ size width }
 {
     let value = cut(width, a) | cut(width, b);
     (value, flags_of_result(width, value, false, false))
@@ -29,7 +31,8 @@ fn or(width: Width, a: u32, b: u32) -> (u32, Flags)
 /// The bitwise exclusive or.
 #[tactic(auto, unfolding(crate::specs::Arithmetic::bitwise))]
 fn exclusive_or(width: Width, a: u32, b: u32) -> (u32, Flags)
-    ensures { result ≡ bitwise bit_xor (size width) a b }
+    ensures value { result ≡ bitwise bit_xor (size width) a b }
+    ensures small { result.0 < 2 ^ size width }
 {
     let value = cut(width, a) ^ cut(width, b);
     (value, flags_of_result(width, value, false, false))
@@ -37,7 +40,8 @@ fn exclusive_or(width: Width, a: u32, b: u32) -> (u32, Flags)
 
 /// The operand's bits turned.
 fn complement(width: Width, a: u32) -> u32
-    ensures { result ≡ 2 ^ size width - 1 - unsigned (size width) a }
+    ensures value { result ≡ 2 ^ size width - 1 - unsigned (size width) a }
+    ensures small { result < 2 ^ size width }
 {
     cut(width, !a)
 }
@@ -59,7 +63,8 @@ fn with_carry_of(flags: Flags, given: (u32, Flags)) -> (u32, Flags)
 /// An operation on two operands: its value, below 2 to the width, and the flags after it. Of the operands the lowest bits
 /// count. CMP and TEST give the first operand. The flags are those before, which ADC and SBB read.
 pub fn binary(op: Binary, width: Width, a: u32, b: u32, flags: Flags) -> (u32, Flags)
-    ensures { result ≡ binary_of op (size width) a b flags }
+    ensures value { result ≡ binary_of op (size width) a b flags }
+    ensures small { result.0 < 2 ^ size width }
 {
     match op {
         Binary::Add => add(width, a, b, false),
@@ -76,7 +81,8 @@ pub fn binary(op: Binary, width: Width, a: u32, b: u32, flags: Flags) -> (u32, F
 
 /// An operation on one operand: its value, below 2 to the width, and the flags after it.
 pub fn unary(op: Unary, width: Width, a: u32, flags: Flags) -> (u32, Flags)
-    ensures { result ≡ unary_of op (size width) a flags }
+    ensures value { result ≡ unary_of op (size width) a flags }
+    ensures small { result.0 < 2 ^ size width }
 {
     match op {
         Unary::Inc => with_carry_of(flags, add(width, a, 1, false)),

@@ -1,5 +1,5 @@
 //! The flags of a result.
-ghost use Rattle.std.specs.Prelude.{◌≡◌, ℤ, pos, neg_ℤ, ◌≤ℤ◌, ◌<ℤ◌, ℕ, ◌-◌, ◌^◌, not};
+ghost use Rattle.std.specs.Prelude.{◌≡◌, ℤ, pos, neg_ℤ, ◌≤ℤ◌, ◌<ℤ◌, ℕ, ◌-◌, ◌^◌, not, ◌<◌};
 ghost use Rattle.ia32_alu.specs.Numbers.{size, fits_unsigned, fits_signed, even_parity, flags_of};
 ghost use Rattle.ia32_alu.specs.Arithmetic.{settled};
 
@@ -47,7 +47,8 @@ pub fn fits_as_signed(width: Width, z: i64) -> bool
 /// The result of one computation, made on the operands as unsigned numbers and as signed ones.
 #[tactic(auto, unfolding(crate::specs::Arithmetic::settled))]
 pub fn settle(width: Width, unsigned: i64, signed: i64) -> (u32, Flags)
-    ensures { result ≡ settled (size width) unsigned signed }
+    ensures value { result ≡ settled (size width) unsigned signed }
+    ensures small { result.0 < 2 ^ size width }
 {
     let value = wrap(width, unsigned);
     let carry = !fits_as_unsigned(width, unsigned);

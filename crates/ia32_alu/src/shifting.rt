@@ -37,7 +37,8 @@ fn is_turned(width: Width, value: u32, carry: bool, by: u32) -> bool
 #[tactic(auto, unfolding(crate::specs::Shifts::shifted_left))]
 fn shift_left(width: Width, a: u32, by: u32) -> (u32, Flags)
     requires { by < 32 }
-    ensures { result ≡ shifted_left (size width) a by }
+    ensures value { result ≡ shifted_left (size width) a by }
+    ensures small { result.0 < 2 ^ size width }
 {
     let wide = widened(width, a, by);
     let value = cut_wide(width, wide);
@@ -51,7 +52,8 @@ fn shift_left(width: Width, a: u32, by: u32) -> (u32, Flags)
 fn shift_right(width: Width, a: u32, by: u32) -> (u32, Flags)
     requires some { 0 < by }
     requires few { by < 32 }
-    ensures { result ≡ shifted_right (size width) a by }
+    ensures value { result ≡ shifted_right (size width) a by }
+    ensures small { result.0 < 2 ^ size width }
 {
     let value = cut(width, a) >> by;
     let carry = by < bit_count(width) && (cut(width, a) >> (by - 1)) % 2 == 1;
@@ -64,7 +66,8 @@ fn shift_right(width: Width, a: u32, by: u32) -> (u32, Flags)
 fn shift_right_signed(width: Width, a: u32, by: u32) -> (u32, Flags)
     requires some { 0 < by }
     requires few { by < 32 }
-    ensures { result ≡ shifted_right_signed (size width) a by }
+    ensures value { result ≡ shifted_right_signed (size width) a by }
+    ensures small { result.0 < 2 ^ size width }
 {
     let number = signed_value(width, a);
     let value = wrap(width, number >> by);
@@ -83,7 +86,8 @@ fn is_odd(z: i64) -> bool
 /// 32 bits turned around to the left.
 #[tactic(auto, unfolding(crate::specs::Shifts::rotated_left))]
 fn rotate_left(a: u32, by: u32, flags: Flags) -> (u32, Flags)
-    ensures { result ≡ rotated_left a by flags }
+    ensures value { result ≡ rotated_left a by flags }
+    ensures small { result.0 < 2 ^ 32 }
 {
     let value = a.rotate_left(by);
     let carry = value % 2 == 1;
@@ -101,7 +105,8 @@ fn rotate_left(a: u32, by: u32, flags: Flags) -> (u32, Flags)
 /// 32 bits turned around to the right.
 #[tactic(auto, unfolding(crate::specs::Shifts::rotated_right))]
 fn rotate_right(a: u32, by: u32, flags: Flags) -> (u32, Flags)
-    ensures { result ≡ rotated_right a by flags }
+    ensures value { result ≡ rotated_right a by flags }
+    ensures small { result.0 < 2 ^ 32 }
 {
     let value = a.rotate_right(by);
     let carry = is_negative(Width::W32, value);
@@ -118,9 +123,12 @@ fn rotate_right(a: u32, by: u32, flags: Flags) -> (u32, Flags)
 
 /// By a count that isn't 0.
 fn move_bits(op: Shift, width: Width, a: u32, by: u32, flags: Flags) -> (u32, Flags)
+    requires left { op ≡ Rol → width ≡ W32 }
+    requires right { op ≡ Ror → width ≡ W32 }
     requires some { 0 < by }
     requires few { by < 32 }
-    ensures { result ≡ moved op (size width) a by flags }
+    ensures value { result ≡ moved op (size width) a by flags }
+    ensures small { result.0 < 2 ^ size width }
 {
     match op {
         Shift::Rol => rotate_left(a, by, flags),
@@ -136,7 +144,8 @@ fn move_bits(op: Shift, width: Width, a: u32, by: u32, flags: Flags) -> (u32, Fl
 pub fn shift(op: Shift, width: Width, a: u32, count: u8, flags: Flags) -> (u32, Flags)
     requires left { op ≡ Rol → width ≡ W32 }
     requires right { op ≡ Ror → width ≡ W32 }
-    ensures { result ≡ shift_of op (size width) a count flags }
+    ensures value { result ≡ shift_of op (size width) a count flags }
+    ensures small { result.0 < 2 ^ size width }
 {
     let by = u32::from(count) % 32;
     if by == 0 {

@@ -18,7 +18,8 @@ pub fn bit_count(width: Width) -> u32
 
 /// The lowest bits, as an unsigned number.
 pub fn cut(width: Width, a: u32) -> u32
-    ensures { result ≡ unsigned (size width) a }
+    ensures value { result ≡ unsigned (size width) a }
+    ensures small { result < 2 ^ size width }
 {
     match width {
         Width::W8 => a % 0x100,
@@ -29,7 +30,8 @@ pub fn cut(width: Width, a: u32) -> u32
 
 /// The lowest bits of a wide number.
 pub fn cut_wide(width: Width, a: u64) -> u32
-    ensures { result ≡ unsigned (size width) a }
+    ensures value { result ≡ unsigned (size width) a }
+    ensures small { result < 2 ^ size width }
 {
     match width {
         Width::W8 => (a % 0x100) as u32,
@@ -40,7 +42,8 @@ pub fn cut_wide(width: Width, a: u64) -> u32
 
 /// Twice the lowest bits of a wide number.
 pub fn cut_double(width: Width, a: u64) -> u64
-    ensures { result ≡ unsigned (2 * size width) a }
+    ensures value { result ≡ unsigned (2 * size width) a }
+    ensures small { result < 2 ^ (2 * size width) }
 {
     match width {
         Width::W8 => a % 0x1_0000,
@@ -124,7 +127,8 @@ pub fn signed_double(width: Width, a: u64) -> i64
 /// The lowest bits of an integer.
 #[tactic(auto, unfolding(crate::specs::Numbers::wrapped))]
 pub fn wrap(width: Width, z: i64) -> u32
-    ensures { result ≡ wrapped (size width) z }
+    ensures value { result ≡ wrapped (size width) z }
+    ensures small { result < 2 ^ size width }
 {
     match width {
         Width::W8 => (z.cast_unsigned() % 0x100) as u32,
@@ -136,7 +140,8 @@ pub fn wrap(width: Width, z: i64) -> u32
 /// Twice the lowest bits of an integer.
 #[tactic(auto, unfolding(crate::specs::Numbers::wrapped))]
 pub fn wrap_double(width: Width, z: i64) -> u64
-    ensures { result ≡ wrapped (2 * size width) z }
+    ensures value { result ≡ wrapped (2 * size width) z }
+    ensures small { result < 2 ^ (2 * size width) }
 {
     match width {
         Width::W8 => z.cast_unsigned() % 0x1_0000,
