@@ -1,5 +1,5 @@
--- Shifts and rotations: SAL/SAR/SHL/SHR and RCL/RCR/ROL/ROR (Intel SDM volume 2). The count is masked to 5 bits, and 0
--- changes nothing. What is marked as own the manual leaves undefined.
+-- Shifts and rotations: SHL, SHR and SAR (Intel SDM volume 2, SAL/SAR/SHL/SHR), ROL and ROR (RCL/RCR/ROL/ROR). The count is
+-- masked to 5 bits, and 0 changes nothing. What is marked as own the manual leaves undefined.
 use Rattle.std.specs.Prelude.{ℕ, ◌-◌, ◌*◌, ◌/◌, ◌%◌, ◌^◌, Bool, false, ◌&&◌, nat_lt, ◌==◌, if◌then◌else◌}
 use Rattle.std.specs.Int.{w32, int_shr, bit_at, rotate_left, rotate_right}
 use Rattle.ia32_alu.specs.declared.types.Flags.{Flags}

@@ -1,7 +1,7 @@
 //! The integer arithmetic of the simulated i386: values and flags, and nothing else. No memory is read or taken.
 //!
 //! What each instruction gives is that of the Intel SDM: volume 1, 3.4.3.1 for the flags, volume 2 for the
-//! instructions. Where the manual leaves a flag undefined, a value of its own is chosen, which `specs/` marks.
+//! instructions. Where the manual leaves a flag undefined it has one value here, which `specs/` marks as own.
 #![tactic(auto)]
 
 mod adding;
