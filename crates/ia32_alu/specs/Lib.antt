@@ -1,0 +1,5 @@
+pub mod Arithmetic
+pub mod Conditions
+pub mod Numbers
+pub mod Products
+pub mod Shifts

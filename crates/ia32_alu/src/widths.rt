@@ -1,0 +1,151 @@
+//! The bits of an operand as a number.
+ghost use Rattle.std.specs.Prelude.{◌≡◌, ◌<◌, ◌≤◌, ◌*◌, ◌^◌, ◌-◌, ℤ, ◌≤ℤ◌, ◌<ℤ◌, neg_ℤ, pos, not};
+ghost use Rattle.ia32_alu.specs.Numbers.{size, unsigned, highest, signed, wrapped, fits_unsigned};
+
+use crate::types::Width;
+
+/// How many bits there are.
+pub fn bit_count(width: Width) -> u32
+    ensures value { result ≡ size width }
+    ensures bound { result ≤ 32 }
+{
+    match width {
+        Width::W8 => 8,
+        Width::W16 => 16,
+        Width::W32 => 32,
+    }
+}
+
+/// The lowest bits, as an unsigned number.
+pub fn cut(width: Width, a: u32) -> u32
+    ensures value { result ≡ unsigned (size width) a }
+    ensures small { result < 2 ^ size width }
+{
+    match width {
+        Width::W8 => a % 0x100,
+        Width::W16 => a % 0x1_0000,
+        Width::W32 => a,
+    }
+}
+
+/// The lowest bits of a wide number.
+pub fn cut_wide(width: Width, a: u64) -> u32
+    ensures value { result ≡ unsigned (size width) a }
+    ensures small { result < 2 ^ size width }
+{
+    match width {
+        Width::W8 => (a % 0x100) as u32,
+        Width::W16 => (a % 0x1_0000) as u32,
+        Width::W32 => (a % 0x1_0000_0000) as u32,
+    }
+}
+
+/// Twice the lowest bits of a wide number.
+pub fn cut_double(width: Width, a: u64) -> u64
+    ensures value { result ≡ unsigned (2 * size width) a }
+    ensures small { result < 2 ^ (2 * size width) }
+{
+    match width {
+        Width::W8 => a % 0x1_0000,
+        Width::W16 => a % 0x1_0000_0000,
+        Width::W32 => a,
+    }
+}
+
+/// The first number that is too large.
+pub fn modulus(width: Width) -> i64
+    ensures { result ≡ pos (2 ^ size width) }
+{
+    match width {
+        Width::W8 => 0x100,
+        Width::W16 => 0x1_0000,
+        Width::W32 => 0x1_0000_0000,
+    }
+}
+
+/// An unsigned number that is too large.
+#[tactic(auto, unfolding(crate::specs::Numbers::fits_unsigned))]
+pub fn is_wide(width: Width, n: u64) -> bool
+    ensures { result ≡ not (fits_unsigned (size width) (pos n)) }
+{
+    match width {
+        Width::W8 => n >= 0x100,
+        Width::W16 => n >= 0x1_0000,
+        Width::W32 => n >= 0x1_0000_0000,
+    }
+}
+
+/// The first signed number that is too large.
+pub fn half(width: Width) -> i64
+    ensures { result ≡ pos (2 ^ (size width - 1)) }
+{
+    match width {
+        Width::W8 => 0x80,
+        Width::W16 => 0x8000,
+        Width::W32 => 0x8000_0000,
+    }
+}
+
+/// The highest bit.
+#[tactic(auto, unfolding(crate::specs::Numbers::highest))]
+pub fn is_negative(width: Width, a: u32) -> bool
+    ensures { result ≡ highest (size width) a }
+{
+    match width {
+        Width::W8 => a % 0x100 >= 0x80,
+        Width::W16 => a % 0x1_0000 >= 0x8000,
+        Width::W32 => a >= 0x8000_0000,
+    }
+}
+
+/// The lowest bits, as a signed number.
+#[tactic(auto, unfolding(crate::specs::Numbers::highest, crate::specs::Numbers::signed))]
+pub fn signed_value(width: Width, a: u32) -> i64
+    ensures value { result ≡ signed (size width) a }
+    ensures low { neg_ℤ (pos 0x8000_0000) ≤ℤ result }
+    ensures high { result <ℤ pos 0x8000_0000 }
+{
+    match width {
+        Width::W8 => i64::from(((a % 0x100) as u8).cast_signed()),
+        Width::W16 => i64::from(((a % 0x1_0000) as u16).cast_signed()),
+        Width::W32 => i64::from(a.cast_signed()),
+    }
+}
+
+/// Twice the lowest bits of a wide number, as a signed number.
+#[tactic(auto, unfolding(crate::specs::Numbers::highest, crate::specs::Numbers::signed))]
+pub fn signed_double(width: Width, a: u64) -> i64
+    ensures { result ≡ signed (2 * size width) a }
+{
+    match width {
+        Width::W8 => i64::from(((a % 0x1_0000) as u16).cast_signed()),
+        Width::W16 => i64::from(((a % 0x1_0000_0000) as u32).cast_signed()),
+        Width::W32 => a.cast_signed(),
+    }
+}
+
+/// The lowest bits of an integer.
+#[tactic(auto, unfolding(crate::specs::Numbers::wrapped))]
+pub fn wrap(width: Width, z: i64) -> u32
+    ensures value { result ≡ wrapped (size width) z }
+    ensures small { result < 2 ^ size width }
+{
+    match width {
+        Width::W8 => (z.cast_unsigned() % 0x100) as u32,
+        Width::W16 => (z.cast_unsigned() % 0x1_0000) as u32,
+        Width::W32 => (z.cast_unsigned() % 0x1_0000_0000) as u32,
+    }
+}
+
+/// Twice the lowest bits of an integer.
+#[tactic(auto, unfolding(crate::specs::Numbers::wrapped))]
+pub fn wrap_double(width: Width, z: i64) -> u64
+    ensures value { result ≡ wrapped (2 * size width) z }
+    ensures small { result < 2 ^ (2 * size width) }
+{
+    match width {
+        Width::W8 => z.cast_unsigned() % 0x1_0000,
+        Width::W16 => z.cast_unsigned() % 0x1_0000_0000,
+        Width::W32 => z.cast_unsigned(),
+    }
+}
