@@ -1,6 +1,5 @@
 //! The forms of a line.
-ghost use Rattle.std.specs.Prelude.{◌≡◌, IfOk, option_map};
-ghost use Rattle.ks_base.specs.Gives.{Gives};
+ghost use Rattle.std.specs.Prelude.{◌≡◌, IfOk, option_map, bytes_eq};
 ghost use Rattle.script_lines.specs.Lines.{words_of};
 ghost use Rattle.script_lines.specs.Forms.{two, spawn_of, step_of, round_robin_of, threads_of, peek_of, command_of, is_comment, asked_in};
 
@@ -92,14 +91,28 @@ fn peek_of(text: &[u8]) -> Option<Command>
 fn command_of(alloc: Global, word: &[u8], text: &[u8]) -> Result<Option<Command>, AllocError>
     ensures { IfOk result (λ command. command ≡ command_of word.now (words_of text.now)) }
 {
-    match word {
-        b"spawn" => spawn_of(alloc, text),
-        b"step" => Ok(step_of(text)),
-        b"rr" => Ok(round_robin_of(text)),
-        b"threads" => Ok(threads_of(text)),
-        b"peek" => Ok(peek_of(text)),
-        _ => Ok(None),
+    if is(word, b"spawn") {
+        return spawn_of(alloc, text);
     }
+    if is(word, b"step") {
+        return Ok(step_of(text));
+    }
+    if is(word, b"rr") {
+        return Ok(round_robin_of(text));
+    }
+    if is(word, b"threads") {
+        return Ok(threads_of(text));
+    }
+    if is(word, b"peek") {
+        return Ok(peek_of(text));
+    }
+    Ok(None)
+}
+
+fn is(word: &[u8], name: &[u8]) -> bool
+    ensures { result ≡ bytes_eq word.now name.now }
+{
+    word == name
 }
 
 // Whether a word begins a comment.

@@ -1,13 +1,13 @@
 //! Reading a script.
-ghost use Rattle.std.specs.Prelude.{◌≡◌};
+ghost use Rattle.std.specs.Prelude.{◌≡◌, ◌++◌, OnOk, option_to_list};
 ghost use Rattle.ks_base.specs.Gives.{Gives};
 ghost use Rattle.script_lines.specs.Script.{script_of};
 
 use crate::forms::asked_in;
 use crate::lines::first_line;
-use crate::types::Script;
+use crate::types::{Command, Script};
 use ks_base::Refusal;
-use std::alloc::Global;
+use std::alloc::{AllocError, Global};
 
 // A script has at most so many lines.
 const MOST_LINES: u32 = 65_536;
@@ -30,12 +30,21 @@ pub fn read_script(alloc: Global, bytes: &[u8]) -> Result<Script, Refusal>
         if number > MOST_LINES {
             return Err(Refusal::BadLine(number));
         }
-        match asked_in(alloc, line)? {
-            Some(Some(command)) => script.push(command)?,
-            Some(None) => {}
-            None => return Err(Refusal::BadLine(number)),
-        }
+        let Some(asked) = asked_in(alloc, line)? else {
+            return Err(Refusal::BadLine(number));
+        };
+        push_asked(&mut script, asked)?;
         rest = after;
     }
     Ok(script)
+}
+
+// Appends what a line asks for.
+fn push_asked(script: &mut Script, asked: Option<Command>) -> Result<(), AllocError>
+    ensures { OnOk result (script.new ≡ script.old ++ option_to_list asked) }
+{
+    match asked {
+        Some(command) => script.push(command),
+        None => Ok(()),
+    }
 }
