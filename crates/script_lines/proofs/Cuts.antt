@@ -108,5 +108,7 @@ starts_full bs n e =
     rw (behind n bs) (long, ap is_space (grind (arith, common_steps)) ∙ full)
 
 pub ruleset line_cuts = (line_found, line_last)
+
 pub ruleset word_cuts = (word_found, word_last)
+
 pub ruleset word_starts = (word_start, no_word, starts_full)

@@ -68,7 +68,7 @@ pub good_line : (before : ℕ) (line : List ℕ) (lines : List (List ℕ)) (said
 good_line before line lines said good few =
     let next = good_after (before + 1) lines in
     let here : good_after before (line ∷ lines) ≡ next + 1 =
-        ap (λ asked. min (65536 - before) (cond (not (is_none asked)) (1 + position_or_len (λ l. is_none (asked_in l)) lines) 0)) good ∙ omega arith in
+    ap (λ asked. min (65536 - before) (cond (not (is_none asked)) (1 + position_or_len (λ l. is_none (asked_in l)) lines) 0)) good ∙ omega arith in
     ap (λ k. cond (nat_lt k (length (line ∷ lines))) (Err (BadLine (before + k + 1))) (Ok (flat_map commands_of (line ∷ lines)))) here
     ∙ ap (λ asked. cond (nat_lt (next + 1) (length (line ∷ lines))) (Err (BadLine (before + (next + 1) + 1))) (Ok (option_to_list (unwrap_or asked None) ++ flat_map commands_of lines))) good
     ∙ ap (λ b. cond b (Err (BadLine (before + (next + 1) + 1))) (Ok (option_to_list said ++ flat_map commands_of lines))) (ap (nat_lt (next + 1)) (let e : length (line ∷ lines) ≡ length lines + 1 = omega arith in e) ∙ shifted next (length lines))

@@ -9,3 +9,6 @@ pub mod types;
 
 pub use reading::read_script;
 pub use types::{Command, Script};
+
+#[cfg(test)]
+mod tests;
