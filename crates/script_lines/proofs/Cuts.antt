@@ -1,7 +1,7 @@
 -- Lines and words, cut at the first place that a search finds.
-use Rattle.std.proofs.Common.{◌≡◌, ◌∙◌, sym, refl, ap, ℕ, suc, ◌+◌, ◌-◌, ◌<◌, ◌≤◌, Bool, true, false, not, cond, List, [], ◌∷◌, length, get_or, take, drop, Option, Some, None, arith}
+use Rattle.std.proofs.Common.{◌≡◌, ◌∙◌, sym, refl, ap, ℕ, suc, ◌+◌, ◌-◌, ◌<◌, Bool, true, false, not, cond, List, [], ◌∷◌, length, get_or, take, drop, Some, None, arith}
 use Rattle.std.specs.Prelude.{filter, slice_index}
-use Rattle.std.specs.List.{All, slice_split, onto_first, position, position_or_len, before_first, after_first}
+use Rattle.std.specs.List.{slice_split, onto_first, position, position_or_len}
 use Rattle.std.proofs.Common.{length-drop, length-take}
 use Rattle.std.proofs.lemmas.Bool.{ltb-true, ltb-false, ne_eqb, not-true}
 use Rattle.std.proofs.lemmas.Grind.{common_steps}

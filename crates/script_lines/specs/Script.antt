@@ -1,6 +1,6 @@
 -- What the bytes of a script ask for, or its first line that isn't in the grammar.
-use Rattle.std.specs.Prelude.{ℕ, ◌+◌, nat_lt, min, Bool, is_none, List, [], ◌∷◌, length, flat_map, if◌then◌else◌}
-use Rattle.std.specs.Prelude.{Option, None, unwrap_or, option_to_list, Result, Ok, Err}
+use Rattle.std.specs.Prelude.{ℕ, ◌+◌, nat_lt, min, is_none, List, length, flat_map, if◌then◌else◌}
+use Rattle.std.specs.Prelude.{None, unwrap_or, option_to_list, Result, Ok, Err}
 use Rattle.std.specs.List.{position_or_len}
 use Rattle.ks_base.specs.declared.refusals.Refusal.{Refusal}
 use Rattle.ks_base.specs.declared.refusals.Refusal.TheVariants.{BadLine}

@@ -18,16 +18,59 @@ const MOST_BYTES: u32 = 4096;
 // How many addresses there are.
 const ADDRESSES: u64 = 1 << 32;
 
-// The two words of a text that has no more and no fewer.
-fn two(text: &[u8]) -> Option<(&[u8], &[u8])>
-    ensures { option_map (λ words. (words.0.now, words.1.now)) result ≡ two (words_of text.now) }
+// What a line asks for: a command, or `Some(None)` for a blank or a comment. `None` where it isn't in
+// the grammar.
+pub(crate) fn asked_in(alloc: Global, line: &[u8]) -> Result<Option<Option<Command>>, AllocError>
+    ensures { IfOk result (λ asked. asked ≡ asked_in line.now) }
 {
-    let (first, rest) = first_word(text)?;
-    let (second, rest) = first_word(rest)?;
-    match first_word(rest) {
-        None => Some((first, second)),
-        Some(_) => None,
+    if !is_plain(line) {
+        return Ok(None);
     }
+    let Some((word, text)) = first_word(line) else {
+        return Ok(Some(None));
+    };
+    if is_comment(word) {
+        return Ok(Some(None));
+    }
+    Ok(command_of(alloc, word, text)?.map(Some))
+}
+
+// Whether a word begins a comment.
+fn is_comment(word: &[u8]) -> bool
+    ensures { result ≡ is_comment word.now }
+{
+    match word {
+        [first, ..] => *first == b'#',
+        [] => false,
+    }
+}
+
+// The command of a first word and the text behind it.
+fn command_of(alloc: Global, word: &[u8], text: &[u8]) -> Result<Option<Command>, AllocError>
+    ensures { IfOk result (λ command. command ≡ command_of word.now (words_of text.now)) }
+{
+    if is(word, b"spawn") {
+        return spawn_of(alloc, text);
+    }
+    if is(word, b"step") {
+        return Ok(step_of(text));
+    }
+    if is(word, b"rr") {
+        return Ok(round_robin_of(text));
+    }
+    if is(word, b"threads") {
+        return Ok(threads_of(text));
+    }
+    if is(word, b"peek") {
+        return Ok(peek_of(text));
+    }
+    Ok(None)
+}
+
+fn is(word: &[u8], name: &[u8]) -> bool
+    ensures { result ≡ bytes_eq word.now name.now }
+{
+    word == name
 }
 
 // `spawn NAME ARG`
@@ -87,57 +130,14 @@ fn peek_of(text: &[u8]) -> Option<Command>
     Some(Command::Peek { address, count })
 }
 
-// The command of a first word and the text behind it.
-fn command_of(alloc: Global, word: &[u8], text: &[u8]) -> Result<Option<Command>, AllocError>
-    ensures { IfOk result (λ command. command ≡ command_of word.now (words_of text.now)) }
+// The two words of a text that has no more and no fewer.
+fn two(text: &[u8]) -> Option<(&[u8], &[u8])>
+    ensures { option_map (λ words. (words.0.now, words.1.now)) result ≡ two (words_of text.now) }
 {
-    if is(word, b"spawn") {
-        return spawn_of(alloc, text);
+    let (first, rest) = first_word(text)?;
+    let (second, rest) = first_word(rest)?;
+    match first_word(rest) {
+        None => Some((first, second)),
+        Some(_) => None,
     }
-    if is(word, b"step") {
-        return Ok(step_of(text));
-    }
-    if is(word, b"rr") {
-        return Ok(round_robin_of(text));
-    }
-    if is(word, b"threads") {
-        return Ok(threads_of(text));
-    }
-    if is(word, b"peek") {
-        return Ok(peek_of(text));
-    }
-    Ok(None)
-}
-
-fn is(word: &[u8], name: &[u8]) -> bool
-    ensures { result ≡ bytes_eq word.now name.now }
-{
-    word == name
-}
-
-// Whether a word begins a comment.
-fn is_comment(word: &[u8]) -> bool
-    ensures { result ≡ is_comment word.now }
-{
-    match word {
-        [first, ..] => *first == b'#',
-        [] => false,
-    }
-}
-
-// What a line asks for: a command, or `Some(None)` for a blank or a comment. `None` where it isn't in
-// the grammar.
-pub(crate) fn asked_in(alloc: Global, line: &[u8]) -> Result<Option<Option<Command>>, AllocError>
-    ensures { IfOk result (λ asked. asked ≡ asked_in line.now) }
-{
-    if !is_plain(line) {
-        return Ok(None);
-    }
-    let Some((word, text)) = first_word(line) else {
-        return Ok(Some(None));
-    };
-    if is_comment(word) {
-        return Ok(Some(None));
-    }
-    Ok(command_of(alloc, word, text)?.map(Some))
 }

@@ -24,10 +24,8 @@ pub(crate) fn first_line(bytes: &[u8]) -> (&[u8], &[u8])
 pub(crate) fn first_word(line: &[u8]) -> Option<(&[u8], &[u8])>
     ensures { MatchOption result (words_of line.now ≡ []) (λ found. words_of line.now ≡ found.0.now ∷ words_of found.1.now) }
 {
-    match find_word(line) {
-        Some(start) => Some(word_at_front(&line[start..])),
-        None => None,
-    }
+    let start = find_word(line)?;
+    Some(word_at_front(&line[start..]))
 }
 
 // The word that a text begins with, and what stands behind it.

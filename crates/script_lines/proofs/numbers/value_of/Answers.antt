@@ -1,4 +1,4 @@
-use Rattle.std.proofs.Common.{rules, arith}
+use Rattle.std.proofs.Common.{arith}
 use Rattle.std.proofs.lemmas.Grind.{common_steps}
 use Rattle.script_lines.proofs.Digits.{one_more, ten_fit}
 use Rattle.script_lines.proofs.numbers.value_of.Goals as goal
