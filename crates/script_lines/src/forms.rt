@@ -1,0 +1,143 @@
+//! The forms of a line.
+ghost use Rattle.std.specs.Prelude.{◌≡◌, IfOk, option_map, bytes_eq};
+ghost use Rattle.script_lines.specs.Lines.{words_of};
+ghost use Rattle.script_lines.specs.Forms.{two, spawn_of, step_of, round_robin_of, threads_of, peek_of, command_of, is_comment, asked_in};
+
+use crate::lines::{first_word, is_plain};
+use crate::numbers::{number_of, number_within};
+use crate::types::Command;
+use ks_base::Name;
+use std::alloc::{AllocError, Global};
+
+// A command runs at most so many instructions.
+const MOST_STEPS: u32 = 16_777_216;
+
+// A command shows at most so many bytes.
+const MOST_BYTES: u32 = 4096;
+
+// How many addresses there are.
+const ADDRESSES: u64 = 1 << 32;
+
+// What a line asks for: a command, or `Some(None)` for a blank or a comment. `None` where it isn't in
+// the grammar.
+pub(crate) fn asked_in(alloc: Global, line: &[u8]) -> Result<Option<Option<Command>>, AllocError>
+    ensures { IfOk result (λ asked. asked ≡ asked_in line.now) }
+{
+    if !is_plain(line) {
+        return Ok(None);
+    }
+    let Some((word, text)) = first_word(line) else {
+        return Ok(Some(None));
+    };
+    if is_comment(word) {
+        return Ok(Some(None));
+    }
+    Ok(command_of(alloc, word, text)?.map(Some))
+}
+
+// Whether a word begins a comment.
+fn is_comment(word: &[u8]) -> bool
+    ensures { result ≡ is_comment word.now }
+{
+    match word {
+        [first, ..] => *first == b'#',
+        [] => false,
+    }
+}
+
+// The command of a first word and the text behind it.
+fn command_of(alloc: Global, word: &[u8], text: &[u8]) -> Result<Option<Command>, AllocError>
+    ensures { IfOk result (λ command. command ≡ command_of word.now (words_of text.now)) }
+{
+    if is(word, b"spawn") {
+        return spawn_of(alloc, text);
+    }
+    if is(word, b"step") {
+        return Ok(step_of(text));
+    }
+    if is(word, b"rr") {
+        return Ok(round_robin_of(text));
+    }
+    if is(word, b"threads") {
+        return Ok(threads_of(text));
+    }
+    if is(word, b"peek") {
+        return Ok(peek_of(text));
+    }
+    Ok(None)
+}
+
+fn is(word: &[u8], name: &[u8]) -> bool
+    ensures { result ≡ bytes_eq word.now name.now }
+{
+    word == name
+}
+
+// `spawn NAME ARG`
+fn spawn_of(alloc: Global, text: &[u8]) -> Result<Option<Command>, AllocError>
+    ensures { IfOk result (λ command. command ≡ spawn_of (words_of text.now)) }
+{
+    let Some((name, argument)) = two(text) else {
+        return Ok(None);
+    };
+    let Some(argument) = number_of(argument) else {
+        return Ok(None);
+    };
+    let name = Name::from_slice(alloc, name)?;
+    Ok(Some(Command::Spawn { name, argument }))
+}
+
+// `step T N`
+fn step_of(text: &[u8]) -> Option<Command>
+    ensures { result ≡ step_of (words_of text.now) }
+{
+    let (thread, steps) = two(text)?;
+    let thread = number_of(thread)?;
+    let steps = number_within(steps, 0, MOST_STEPS)?;
+    Some(Command::Step { thread, steps })
+}
+
+// `rr Q N`
+fn round_robin_of(text: &[u8]) -> Option<Command>
+    ensures { result ≡ round_robin_of (words_of text.now) }
+{
+    let (quantum, steps) = two(text)?;
+    let quantum = number_within(quantum, 1, u32::MAX)?;
+    let steps = number_within(steps, 0, MOST_STEPS)?;
+    Some(Command::RoundRobin { quantum, steps })
+}
+
+// `threads`
+fn threads_of(text: &[u8]) -> Option<Command>
+    ensures { result ≡ threads_of (words_of text.now) }
+{
+    match first_word(text) {
+        None => Some(Command::Threads),
+        Some(_) => None,
+    }
+}
+
+// `peek ADDRESS N`
+fn peek_of(text: &[u8]) -> Option<Command>
+    ensures { result ≡ peek_of (words_of text.now) }
+{
+    let (address, count) = two(text)?;
+    let address = number_of(address)?;
+    let count = number_within(count, 1, MOST_BYTES)?;
+    if u64::from(address) + u64::from(count) > ADDRESSES {
+        return None;
+    }
+    Some(Command::Peek { address, count })
+}
+
+// The two words of a text that has no more and no fewer.
+fn two(text: &[u8]) -> Option<(&[u8], &[u8])>
+    ensures { option_map (λ words. (words.0.now, words.1.now)) result ≡ two (words_of text.now) }
+{
+    let (first, rest) = first_word(text)?;
+    let (second, rest) = first_word(rest)?;
+    match first_word(rest) {
+        None => Some((first, second)),
+        Some(_) => None,
+    }
+}

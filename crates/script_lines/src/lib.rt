@@ -1,0 +1,14 @@
+//! The script of a session: its lines, read into a list of commands.
+#![tactic(auto)]
+
+mod forms;
+mod lines;
+mod numbers;
+pub mod reading;
+pub mod types;
+
+pub use reading::read_script;
+pub use types::{Command, Script};
+
+#[cfg(test)]
+mod tests;

@@ -1,0 +1,40 @@
+//! The commands of a script.
+use ks_base::{ListOf, Name};
+
+/// What one line of a script asks for.
+#[derive(Clone, PartialEq, Eq, Debug, Drop)]
+pub enum Command {
+    /// Make a thread that calls a function.
+    Spawn {
+        /// The function's name.
+        name: Name,
+        /// What it is called with.
+        argument: u32,
+    },
+    /// Run one thread.
+    Step {
+        /// The thread's number.
+        thread: u32,
+        /// How many instructions, at most 16,777,216.
+        steps: u32,
+    },
+    /// Run the threads in turn.
+    RoundRobin {
+        /// How many instructions each turn has, at least 1.
+        quantum: u32,
+        /// How many instructions in all, at most 16,777,216.
+        steps: u32,
+    },
+    /// Show the threads.
+    Threads,
+    /// Show bytes of memory. None of them lies above 0xFFFFFFFF.
+    Peek {
+        /// Where the first lies.
+        address: u32,
+        /// How many, from 1 to 4,096.
+        count: u32,
+    },
+}
+
+/// Commands in order.
+pub type Script = ListOf<Command>;
