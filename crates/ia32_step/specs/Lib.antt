@@ -1,0 +1,9 @@
+pub mod Registers
+pub mod Operands
+pub mod Changes
+pub mod Arithmetic
+pub mod Moves
+pub mod Stack
+pub mod Branches
+pub mod Exec
+pub mod Step

@@ -1,0 +1,393 @@
+//! What an instruction does, and which are not carried out.
+ghost use Rattle.std.specs.Prelude.{◌≡◌};
+ghost use Rattle.ia32_step.specs.Operands.{number_at};
+ghost use Rattle.ia32_step.specs.Exec.{unary_change, change_of, is_full, is_stepped, takes_repeat, refuses_prefixes, traps, is_memory, writes, takes_lock, executed};
+
+use crate::arithmetic::{alter, combine, count_register, counting, shift, stepped_shift, test};
+use crate::branches::{call_by, call_to, jump_by, jump_if, jump_to, return_from};
+use crate::changes::above;
+use crate::moves::{
+    compare_exchange, copy, copy_if, exchange, exchange_and_add, extend_accumulator,
+    load_accumulator, set_by, sign_extend, spread_sign, store_accumulator, take_address,
+    zero_extend,
+};
+use crate::operands::{place_of, source_value};
+use crate::products::{divide, multiply, take_product};
+use crate::stack::{leave, pop, push};
+use crate::types::{Change, Context};
+use ia32_decode::{Arithmetic, Decoded, Instr, Operand, Prefixes, Register, Unary, Width};
+use image_memory::Space;
+use ks_base::Fault;
+
+/// NOT, NEG, MUL, IMUL, DIV and IDIV.
+#[tactic(auto, unfolding(crate::specs::Exec::unary_change))]
+fn unary_change<S: Space>(
+    space: &S,
+    context: Context,
+    operation: Unary,
+    width: Width,
+    operand: Operand,
+) -> Result<Change, Fault>
+    ensures { result ≡ unary_change (number_at (S.contents space.now).pieces) operation width operand context }
+{
+    match operation {
+        Unary::Not => alter(space, context, ia32_alu::Unary::Not, width, operand),
+        Unary::Neg => alter(space, context, ia32_alu::Unary::Neg, width, operand),
+        Unary::Mul => multiply(space, context, false, width, operand),
+        Unary::Imul => multiply(space, context, true, width, operand),
+        Unary::Div => divide(space, context, false, width, operand),
+        Unary::Idiv => divide(space, context, true, width, operand),
+    }
+}
+
+/// What an instruction does to a thread whose pc is the address after it.
+#[tactic(auto, unfolding(crate::specs::Exec::change_of))]
+fn change_of<S: Space>(space: &S, context: Context, instr: Instr) -> Result<Change, Fault>
+    ensures { result ≡ change_of (number_at (S.contents space.now).pieces) instr context }
+{
+    match instr {
+        Instr::Arithmetic {
+            operation,
+            width,
+            destination,
+            source,
+        } => {
+            let source = source_value(space, &context, width, source);
+            combine(space, context, operation, width, destination, source)
+        }
+        Instr::ArithmeticImmediate {
+            operation,
+            width,
+            destination,
+            immediate,
+        } => combine(space, context, operation, width, destination, Ok(immediate)),
+        Instr::CountRegister {
+            operation,
+            width,
+            register,
+        } => alter(
+            space,
+            context,
+            counting(operation),
+            width,
+            Operand::Register(register),
+        ),
+        Instr::CountOperand {
+            operation,
+            width,
+            operand,
+        } => alter(space, context, counting(operation), width, operand),
+        Instr::Unary {
+            operation,
+            width,
+            operand,
+        } => unary_change(space, context, operation, width, operand),
+        Instr::Test { width, left, right } => {
+            let right = context.register(width, right);
+            test(space, context, width, left, right)
+        }
+        Instr::TestAccumulator { width, immediate } => test(
+            space,
+            context,
+            width,
+            Operand::Register(Register::Eax),
+            immediate,
+        ),
+        Instr::TestImmediate {
+            width,
+            operand,
+            immediate,
+        } => test(space, context, width, operand, immediate),
+        Instr::MultiplyImmediate {
+            width,
+            destination,
+            source,
+            immediate,
+        } => take_product(space, context, width, destination, source, immediate),
+        Instr::Multiply {
+            width,
+            destination,
+            source,
+        } => {
+            let own = context.register(width, destination);
+            take_product(space, context, width, destination, source, own)
+        }
+        Instr::ShiftByImmediate {
+            operation,
+            width,
+            operand,
+            count,
+        } => shift(
+            space,
+            context,
+            operation,
+            width,
+            operand,
+            (count % 0x100) as u8,
+        ),
+        Instr::ShiftByOne {
+            operation,
+            width,
+            operand,
+        } => shift(space, context, operation, width, operand, 1),
+        Instr::ShiftByCl {
+            operation,
+            width,
+            operand,
+        } => {
+            let count = count_register(&context);
+            shift(space, context, operation, width, operand, count)
+        }
+        Instr::Move {
+            width,
+            destination,
+            source,
+        } => copy(space, context, width, destination, source),
+        Instr::MoveImmediate {
+            width,
+            destination,
+            immediate,
+        } => {
+            let place = place_of(&context, destination);
+            Ok(context.putting(place, width, immediate))
+        }
+        Instr::MoveToRegister {
+            width,
+            register,
+            immediate,
+        } => Ok(context.with_register(width, register, immediate).goes_on()),
+        Instr::LoadAccumulator { width, address } => {
+            load_accumulator(space, context, width, address)
+        }
+        Instr::StoreAccumulator { width, address } => {
+            Ok(store_accumulator(context, width, address))
+        }
+        Instr::LoadAddress {
+            width,
+            destination,
+            memory,
+        } => Ok(take_address(context, width, destination, memory)),
+        Instr::Exchange {
+            width,
+            operand,
+            register,
+        } => exchange(space, context, width, operand, register),
+        Instr::ExchangeAccumulator { width, register } => exchange(
+            space,
+            context,
+            width,
+            Operand::Register(Register::Eax),
+            register,
+        ),
+        Instr::ExchangeAdd {
+            width,
+            operand,
+            register,
+        } => exchange_and_add(space, context, width, operand, register),
+        Instr::CompareExchange {
+            width,
+            operand,
+            register,
+        } => compare_exchange(space, context, width, operand, register),
+        Instr::MoveIf {
+            condition,
+            width,
+            destination,
+            source,
+        } => copy_if(space, context, condition, width, destination, source),
+        Instr::SetIf { condition, operand } => Ok(set_by(context, condition, operand)),
+        Instr::ZeroExtend {
+            from,
+            width,
+            destination,
+            source,
+        } => zero_extend(space, context, from, width, destination, source),
+        Instr::SignExtend {
+            from,
+            width,
+            destination,
+            source,
+        } => sign_extend(space, context, from, width, destination, source),
+        Instr::ExtendAccumulator { width } => Ok(extend_accumulator(context, width)),
+        Instr::SpreadSign { width } => Ok(spread_sign(context, width)),
+        Instr::PushRegister { register, .. } => push(space, context, Operand::Register(register)),
+        Instr::PushImmediate { immediate, .. } => Ok(context.pushing(immediate)),
+        Instr::PushOperand { operand, .. } => push(space, context, operand),
+        Instr::PopRegister { register, .. } => pop(space, context, Operand::Register(register)),
+        Instr::PopOperand { operand, .. } => pop(space, context, operand),
+        Instr::Leave { .. } => leave(space, context),
+        Instr::JumpIf {
+            condition,
+            relative,
+        } => Ok(jump_if(context, condition, relative)),
+        Instr::Jump { relative } => Ok(jump_by(context, relative)),
+        Instr::JumpOperand { operand, .. } => jump_to(space, context, operand),
+        Instr::Call { relative } => Ok(call_by(context, relative)),
+        Instr::CallOperand { operand, .. } => call_to(space, context, operand),
+        Instr::Return { .. } => return_from(space, context, 0),
+        Instr::ReturnAndRelease { bytes, .. } => return_from(space, context, bytes),
+        Instr::Nop | Instr::EndBranch | Instr::NopOperand { .. } => Ok(context.goes_on()),
+        Instr::Breakpoint | Instr::Undefined => Err(Fault::Trap),
+        Instr::OpcodeOnly { .. }
+        | Instr::Interrupt { .. }
+        | Instr::LoopBranch { .. }
+        | Instr::FloatingPoint { .. }
+        | Instr::SecondOpcodeOnly { .. }
+        | Instr::SecondOperand { .. }
+        | Instr::DoubleShift { .. }
+        | Instr::BitTest { .. }
+        | Instr::CompareExchangeWide { .. } => Err(Fault::Unsupported),
+    }
+}
+
+fn is_full(width: Width) -> bool
+    ensures { result ≡ is_full width }
+{
+    match width {
+        Width::Byte | Width::Word => false,
+        Width::Dword => true,
+    }
+}
+
+/// Whether an instruction is carried out or traps; of all others the length alone is known.
+#[tactic(auto, unfolding(crate::specs::Exec::is_stepped))]
+fn is_stepped(instr: &Instr) -> bool
+    ensures { result ≡ is_stepped instr.now }
+{
+    match *instr {
+        Instr::ShiftByImmediate {
+            operation,
+            width,
+            ..
+        }
+        | Instr::ShiftByOne {
+            operation,
+            width,
+            ..
+        }
+        | Instr::ShiftByCl {
+            operation,
+            width,
+            ..
+        } => stepped_shift(operation, width).is_some(),
+        Instr::PushRegister { width, .. }
+        | Instr::PushImmediate { width, .. }
+        | Instr::PushOperand { width, .. }
+        | Instr::PopRegister { width, .. }
+        | Instr::PopOperand { width, .. }
+        | Instr::Leave { width }
+        | Instr::JumpOperand { width, .. }
+        | Instr::CallOperand { width, .. }
+        | Instr::Return { width }
+        | Instr::ReturnAndRelease { width, .. } => is_full(width),
+        Instr::OpcodeOnly { .. }
+        | Instr::Interrupt { .. }
+        | Instr::LoopBranch { .. }
+        | Instr::FloatingPoint { .. }
+        | Instr::SecondOpcodeOnly { .. }
+        | Instr::SecondOperand { .. }
+        | Instr::DoubleShift { .. }
+        | Instr::BitTest { .. }
+        | Instr::CompareExchangeWide { .. } => false,
+        _ => true,
+    }
+}
+
+/// Whether the prefix F3 may stand before an instruction.
+fn takes_repeat(instr: &Instr) -> bool
+    ensures { result ≡ takes_repeat instr.now }
+{
+    match *instr {
+        Instr::Nop | Instr::Return { .. } | Instr::EndBranch => true,
+        _ => false,
+    }
+}
+
+/// Whether there is a prefix that isn't carried out.
+#[tactic(auto, unfolding(crate::specs::Exec::refuses_prefixes))]
+fn refuses_prefixes(prefixes: &Prefixes, instr: &Instr) -> bool
+    ensures { result ≡ refuses_prefixes prefixes.now instr.now }
+{
+    if prefixes.repeat_not_equal || prefixes.segment_f || prefixes.segment_g {
+        return true;
+    }
+    prefixes.repeat && !takes_repeat(instr)
+}
+
+fn traps(instr: &Instr) -> bool
+    ensures { result ≡ traps instr.now }
+{
+    match *instr {
+        Instr::Breakpoint | Instr::Undefined => true,
+        _ => false,
+    }
+}
+
+fn is_memory(operand: Operand) -> bool
+    ensures { result ≡ is_memory operand }
+{
+    match operand {
+        Operand::Memory(_) => true,
+        Operand::Register(_) => false,
+    }
+}
+
+fn writes(operation: Arithmetic) -> bool
+    ensures { result ≡ writes operation }
+{
+    match operation {
+        Arithmetic::Cmp => false,
+        _ => true,
+    }
+}
+
+/// Whether the prefix F0 may stand before an instruction.
+#[tactic(auto, unfolding(crate::specs::Exec::takes_lock))]
+fn takes_lock(instr: &Instr) -> bool
+    ensures { result ≡ takes_lock instr.now }
+{
+    match *instr {
+        Instr::Arithmetic {
+            operation,
+            destination,
+            ..
+        }
+        | Instr::ArithmeticImmediate {
+            operation,
+            destination,
+            ..
+        } => writes(operation) && is_memory(destination),
+        Instr::Unary {
+            operation: Unary::Not | Unary::Neg,
+            operand,
+            ..
+        }
+        | Instr::CountOperand { operand, .. }
+        | Instr::Exchange { operand, .. }
+        | Instr::CompareExchange { operand, .. }
+        | Instr::ExchangeAdd { operand, .. } => is_memory(operand),
+        _ => false,
+    }
+}
+
+/// What an instruction of a window does, or the first of its faults but those of its writes.
+#[tactic(auto, unfolding(crate::specs::Exec::executed))]
+pub(crate) fn execute<S: Space>(
+    space: &S,
+    context: Context,
+    decoded: &Decoded,
+) -> Result<Change, Fault>
+    ensures { result ≡ executed (number_at (S.contents space.now).pieces) decoded.now context }
+{
+    if !is_stepped(&decoded.instr) || refuses_prefixes(&decoded.prefixes, &decoded.instr) {
+        return Err(Fault::Unsupported);
+    }
+    if traps(&decoded.instr) {
+        return Err(Fault::Trap);
+    }
+    if decoded.prefixes.lock && !takes_lock(&decoded.instr) {
+        return Err(Fault::BadLock);
+    }
+    let next = above(context.pc, decoded.length);
+    change_of(space, context.at_address(next), decoded.instr)
+}

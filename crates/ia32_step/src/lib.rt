@@ -1,0 +1,23 @@
+//! One step of one thread of the simulated i386.
+//!
+//! What an instruction does is that of the Intel SDM, volume 2, for a chosen list of instructions, and one atomic
+//! step: it is worked out whole, with every fault of its reads, before anything is changed, and then it is done or
+//! the thread stops. Nothing here takes memory.
+#![tactic(auto)]
+
+mod arithmetic;
+mod branches;
+mod changes;
+mod exec;
+mod laws;
+mod moves;
+mod operands;
+mod products;
+mod registers;
+mod stack;
+mod step;
+pub mod types;
+
+pub use laws::steps_keep;
+pub use step::step_thread;
+pub use types::{Flow, Outcome, State, Thread};

@@ -1,0 +1,139 @@
+//! Products and quotients.
+ghost use Rattle.std.specs.Prelude.{◌≡◌, ◌<◌, ◌*◌, ◌^◌};
+ghost use Rattle.ia32_step.specs.Operands.{number_at};
+ghost use Rattle.ia32_step.specs.Arithmetic.{bits, upper_register, with_double, double, with_product, multiplied, with_lower_product, product_taken, clear_flags, with_quotient, divided};
+
+use crate::arithmetic::alu_width;
+use crate::operands::operand_value;
+use crate::types::{Change, Context};
+use ia32_alu::Flags;
+use ia32_decode::{Operand, Register, Width};
+use image_memory::Space;
+use ks_base::Fault;
+
+/// What stands above the accumulator: AH, DX or EDX.
+fn upper_register(width: Width) -> Register
+    ensures { result ≡ upper_register width }
+{
+    match width {
+        Width::Byte => Register::Esp,
+        Width::Word | Width::Dword => Register::Edx,
+    }
+}
+
+/// 2 to the number of a width's bits.
+fn radix(width: Width) -> u64
+    ensures { result ≡ 2 ^ bits width }
+{
+    match width {
+        Width::Byte => 0x100,
+        Width::Word => 0x1_0000,
+        Width::Dword => 0x1_0000_0000,
+    }
+}
+
+fn with_double(context: Context, width: Width, number: u64) -> Context
+    requires { number < 2 ^ (2 * bits width) }
+    ensures { result ≡ with_double width number context }
+{
+    let lower = (number % radix(width)) as u32;
+    let upper = (number / radix(width)) as u32;
+    context
+        .with_register(width, Register::Eax, lower)
+        .with_register(width, upper_register(width), upper)
+}
+
+fn double(context: &Context, width: Width) -> u64
+    ensures { result ≡ double context.now width }
+{
+    let upper = context.register(width, upper_register(width));
+    let lower = context.accumulator(width);
+    u64::from(upper) * radix(width) + u64::from(lower)
+}
+
+/// MUL and IMUL with one operand.
+#[tactic(auto, unfolding(crate::specs::Arithmetic::multiplied))]
+pub(crate) fn multiply<S: Space>(
+    space: &S,
+    context: Context,
+    signed: bool,
+    width: Width,
+    operand: Operand,
+) -> Result<Change, Fault>
+    ensures { result ≡ multiplied (number_at (S.contents space.now).pieces) signed width operand context }
+{
+    let b = operand_value(space, &context, width, operand)?;
+    let (product, flags) = ia32_alu::multiply(
+        signed,
+        alu_width(width),
+        context.accumulator(width),
+        b,
+    );
+    Ok(with_double(context.with_flags(flags), width, product).goes_on())
+}
+
+/// IMUL with two or three operands.
+#[tactic(auto, unfolding(crate::specs::Arithmetic::product_taken))]
+pub(crate) fn take_product<S: Space>(
+    space: &S,
+    context: Context,
+    width: Width,
+    register: Register,
+    operand: Operand,
+    b: u32,
+) -> Result<Change, Fault>
+    ensures { result ≡ product_taken (number_at (S.contents space.now).pieces) width register operand b context }
+{
+    let a = operand_value(space, &context, width, operand)?;
+    let (product, flags) = ia32_alu::multiply(true, alu_width(width), a, b);
+    let lower = (product % radix(width)) as u32;
+    Ok(
+        context
+            .with_flags(flags)
+            .with_register(width, register, lower)
+            .goes_on(),
+    )
+}
+
+fn clear_flags() -> Flags
+    ensures { result ≡ clear_flags }
+{
+    Flags {
+        cf: false,
+        pf: false,
+        zf: false,
+        sf: false,
+        of: false,
+    }
+}
+
+fn with_quotient(context: Context, width: Width, both: Option<(u32, u32)>) -> Result<Change, Fault>
+    ensures { result ≡ with_quotient width both context }
+{
+    match both {
+        None => Err(Fault::Divide),
+        Some((quotient, remainder)) => Ok(
+            context
+                .with_flags(clear_flags())
+                .with_register(width, Register::Eax, quotient)
+                .with_register(width, upper_register(width), remainder)
+                .goes_on(),
+        ),
+    }
+}
+
+/// DIV and IDIV.
+#[tactic(auto, unfolding(crate::specs::Arithmetic::divided))]
+pub(crate) fn divide<S: Space>(
+    space: &S,
+    context: Context,
+    signed: bool,
+    width: Width,
+    operand: Operand,
+) -> Result<Change, Fault>
+    ensures { result ≡ divided (number_at (S.contents space.now).pieces) signed width operand context }
+{
+    let by = operand_value(space, &context, width, operand)?;
+    let both = ia32_alu::divide(signed, alu_width(width), double(&context, width), by);
+    with_quotient(context, width, both)
+}

@@ -1,0 +1,126 @@
+//! The registers of a thread at each width.
+ghost use Rattle.std.specs.Prelude.{◌≡◌, ◌<◌, set};
+ghost use Rattle.ia32_step.specs.Registers.{byte_value, register_value, with_lowest_byte, with_second_byte, with_lower_half, with_byte, with_word, with_register, with_flags, accumulator, stack_top, with_stack_top};
+
+use crate::types::Context;
+use ia32_alu::Flags;
+use ia32_decode::{Register, Width};
+
+fn byte_in(registers: &[u32; 8], number: u8) -> u32
+    requires { number < 8 }
+    ensures { result ≡ byte_value registers.now number }
+{
+    if number < 4 {
+        registers[usize::from(number)] % 0x100
+    } else {
+        registers[usize::from(number) - 4] / 0x100 % 0x100
+    }
+}
+
+fn put_lowest_byte(old: u32, value: u32) -> u32
+    ensures { result ≡ with_lowest_byte old value }
+{
+    old / 0x100 * 0x100 + value % 0x100
+}
+
+fn put_second_byte(old: u32, value: u32) -> u32
+    ensures { result ≡ with_second_byte old value }
+{
+    old / 0x1_0000 * 0x1_0000 + value % 0x100 * 0x100 + old % 0x100
+}
+
+fn put_lower_half(old: u32, value: u32) -> u32
+    ensures { result ≡ with_lower_half old value }
+{
+    old / 0x1_0000 * 0x1_0000 + value % 0x1_0000
+}
+
+fn put_byte(registers: [u32; 8], number: u8, value: u32) -> [u32; 8]
+    requires { number < 8 }
+    ensures { result ≡ with_byte registers number value }
+{
+    let mut registers = registers;
+    let at = usize::from(number);
+    if at < 4 {
+        registers[at] = put_lowest_byte(registers[at], value);
+    } else {
+        registers[at - 4] = put_second_byte(registers[at - 4], value);
+    }
+    registers
+}
+
+fn put_word(registers: [u32; 8], number: u8, value: u32) -> [u32; 8]
+    requires { number < 8 }
+    ensures { result ≡ with_word registers number value }
+{
+    let mut registers = registers;
+    let at = usize::from(number);
+    registers[at] = put_lower_half(registers[at], value);
+    registers
+}
+
+fn put_dword(registers: [u32; 8], number: u8, value: u32) -> [u32; 8]
+    requires { number < 8 }
+    ensures { result ≡ set registers number value }
+{
+    let mut registers = registers;
+    registers[usize::from(number)] = value;
+    registers
+}
+
+impl Context {
+    /// What a register holds at a width.
+    #[tactic(auto, unfolding(crate::specs::Registers::register_value))]
+    pub(crate) fn register(&self, width: Width, register: Register) -> u32
+        ensures { result ≡ register_value self.now.registers width register }
+    {
+        let number = register.number();
+        match width {
+            Width::Byte => byte_in(&self.registers, number),
+            Width::Word => self.registers[usize::from(number)] % 0x1_0000,
+            Width::Dword => self.registers[usize::from(number)],
+        }
+    }
+
+    /// The context after a register took a number at a width; the register's bits above stay.
+    #[tactic(auto, unfolding(crate::specs::Registers::registers_with))]
+    pub(crate) fn with_register(self, width: Width, register: Register, value: u32) -> Context
+        ensures { result ≡ with_register width register value self }
+    {
+        let number = register.number();
+        let registers = match width {
+            Width::Byte => put_byte(self.registers, number, value),
+            Width::Word => put_word(self.registers, number, value),
+            Width::Dword => put_dword(self.registers, number, value),
+        };
+        Context { registers, ..self }
+    }
+
+    /// The context with these flags.
+    pub(crate) fn with_flags(self, flags: Flags) -> Context
+        ensures { result ≡ with_flags flags self }
+    {
+        Context { flags, ..self }
+    }
+
+    /// AL, AX or EAX.
+    pub(crate) fn accumulator(&self, width: Width) -> u32
+        ensures { result ≡ accumulator self.now width }
+    {
+        self.register(width, Register::Eax)
+    }
+
+    /// ESP.
+    pub(crate) fn stack_top(&self) -> u32
+        ensures { result ≡ stack_top self.now }
+    {
+        self.register(Width::Dword, Register::Esp)
+    }
+
+    /// The context with this ESP.
+    pub(crate) fn with_stack_top(self, top: u32) -> Context
+        ensures { result ≡ with_stack_top top self }
+    {
+        self.with_register(Width::Dword, Register::Esp, top)
+    }
+}

@@ -1,0 +1,126 @@
+//! One step of a thread.
+ghost use Rattle.std.specs.Prelude.{◌≡◌, Some, None, OnOk, OnErr, MatchResult};
+ghost use Rattle.ia32_step.specs.Registers.{accumulator};
+ghost use Rattle.ia32_step.specs.Step.{left_by, context_of, resumed, stopped, exited, store_fault, after_store, unless_barred, next_change, stepped};
+ghost use Rattle.ia32_decode.specs.declared.types.Width.TheVariants.{Dword};
+ghost use Rattle.ia32_step.specs.declared.types.State.TheVariants.{Running};
+ghost use Rattle.ia32_step.specs.declared.types.Outcome.TheVariants.{Stopped, Exited};
+
+use crate::exec::execute;
+use crate::types::{Change, Context, Outcome, State, Store, Thread};
+use ia32_decode::{Width, decode};
+use image_memory::Space;
+use ks_base::Fault;
+
+impl Thread {
+    /// What the processor holds of the thread.
+    fn context(&self) -> Context
+        ensures { result ≡ context_of self.now }
+    {
+        let registers = self.registers;
+        Context {
+            registers,
+            pc: self.pc,
+            flags: self.flags,
+        }
+    }
+
+    /// The thread with what an instruction leaves in the processor.
+    fn resumed(self, context: Context) -> Thread
+        ensures { result ≡ resumed self context }
+    {
+        let registers = context.registers;
+        Thread {
+            registers,
+            pc: context.pc,
+            flags: context.flags,
+            ..self
+        }
+    }
+}
+
+/// Writes what an instruction leaves for memory, if anything.
+fn write_store<S: Space>(space: &mut S, store: Store) -> Result<(), Fault>
+    ensures ok { OnOk result (S.contents space.new ≡ after_store (S.contents space.old) (Some store)) }
+    ensures err { OnErr result (S.contents space.new ≡ S.contents space.old) }
+    ensures cause { MatchResult result
+        (λ _. store_fault (S.contents space.old) (Some store) ≡ None)
+        (λ f. store_fault (S.contents space.old) (Some store) ≡ Some f) }
+    ensures room { S.room space.new ≡ S.room space.old }
+{
+    match store.width {
+        Width::Byte => space.write(store.address, &[(store.value % 0x100) as u8]),
+        Width::Word => {
+            let number = (store.value % 0x1_0000) as u16;
+            space.write(store.address, &number.to_le_bytes())
+        }
+        Width::Dword => space.write(store.address, &store.value.to_le_bytes()),
+    }
+}
+
+/// Stops a thread.
+fn stop(thread: &mut Thread, fault: Fault) -> Outcome
+    ensures state { thread.new ≡ stopped fault thread.old }
+    ensures outcome { result ≡ Stopped fault }
+{
+    thread.state = State::Stopped(fault);
+    Outcome::Stopped(fault)
+}
+
+/// Ends a thread at the address to which its function returns.
+fn exit(thread: &mut Thread) -> Outcome
+    ensures state { thread.new ≡ exited thread.old }
+    ensures outcome { result ≡ Exited (accumulator (context_of thread.old) Dword) }
+{
+    let value = thread.context().accumulator(Width::Dword);
+    thread.state = State::Exited(value);
+    Outcome::Exited(value)
+}
+
+/// Does what an instruction does, or stops the thread where its number can't be written.
+fn carry_out<S: Space>(space: &mut S, thread: &mut Thread, change: Change) -> Outcome
+    ensures left { left_by (S.contents space.new) thread.new result
+        ≡ unless_barred (store_fault (S.contents space.old) change.store) (S.contents space.old) thread.old change }
+    ensures room { S.room space.new ≡ S.room space.old }
+{
+    if let Some(store) = change.store {
+        if let Err(fault) = write_store(space, store) {
+            return stop(thread, fault);
+        }
+    }
+    *thread = thread.resumed(change.context);
+    Outcome::Moved(change.flow)
+}
+
+/// What the instruction does that is fetched at a thread's pc.
+#[tactic(auto, using(crate::proofs::Windows::window_short), unfolding(crate::specs::Step::next_change))]
+fn next_change<S: Space>(space: &S, thread: &Thread) -> Result<Change, Fault>
+    ensures { result ≡ next_change (S.contents space.now) thread.now }
+{
+    let window = space.window(thread.pc)?;
+    match decode(&window.bytes[..window.length as usize]) {
+        None => Err(Fault::Undecoded),
+        Some(decoded) => execute(space, thread.context(), &decoded),
+    }
+}
+
+/// Carries out the next instruction of a running thread: the one that is fetched at its pc, decoded and executed.
+/// At 0xFFFF0000 nothing is fetched, and the thread ends with EAX. Where the instruction can't be carried out the
+/// thread stops, and nothing but its state changes: by a fault of the fetch, [`Fault::Undecoded`],
+/// [`Fault::Unsupported`], [`Fault::Trap`], [`Fault::BadLock`], the fault of the first byte that can't be read,
+/// [`Fault::Divide`], or that of the first byte that can't be written, the first of these that holds. No byte of
+/// code is read or written as data.
+#[tactic(auto, unfolding(crate::specs::Step::stepped))]
+pub fn step_thread<S: Space>(space: &mut S, thread: &mut Thread) -> Outcome
+    requires running { thread.old.state ≡ Running }
+    ensures left { left_by (S.contents space.new) thread.new result ≡ stepped (S.contents space.old) thread.old }
+    ensures room { S.room space.new ≡ S.room space.old }
+{
+    if thread.pc == 0xFFFF_0000 {
+        return exit(thread);
+    }
+    match next_change(space, thread) {
+        Ok(change) => carry_out(space, thread, change),
+        Err(fault) => stop(thread, fault),
+    }
+}

@@ -1,0 +1,4 @@
+pub mod Program
+pub mod Spawning
+pub mod Stepping
+pub mod Turning

@@ -1,0 +1,82 @@
+-- How a thread is started.
+use Rattle.std.specs.Prelude.{ℕ, ◌+◌, ◌-◌, Bool, false, ◌&&◌, not, nat_le, ◌==◌, if◌then◌else◌, List, [], ◌∷◌, ◌++◌, length, replicate, set, Option, Some, None, Result, Ok, Err}
+use Rattle.std.specs.List.{find, list_any}
+use Rattle.std.specs.Int.{w32, to_le_bytes}
+use Rattle.ks_base.specs.declared.places.Range.{Range}
+use Rattle.ks_base.specs.declared.refusals.Refusal.{Refusal}
+use Rattle.ks_base.specs.declared.refusals.Refusal.TheVariants.{TooManyThreads, NoStack}
+use Rattle.image_memory.specs.declared.types.Kind.{Kind}
+use Rattle.image_memory.specs.declared.types.Kind.TheVariants.{Code, ReadOnly, Writable}
+use Rattle.image_memory.specs.declared.types.Piece.{Piece}
+use Rattle.image_memory.specs.Access.{after_write}
+use Rattle.image_memory.specs.Contents.{piece_range}
+use Rattle.symbol_table.specs.Symbols.{function_named}
+use Rattle.ia32_alu.specs.declared.types.Flags.{Flags}
+use Rattle.ia32_step.specs.declared.types.State.TheVariants.{Running}
+use Rattle.ia32_step.specs.declared.types.Thread.{Thread}
+use Rattle.image_threads.specs.Program.{Program, runs}
+
+abbrev pub is_writable : Kind → Bool
+is_writable Code = false
+is_writable ReadOnly = false
+is_writable Writable = true
+
+abbrev pub are_same : Range → Range → Bool
+are_same a b = (a.low == b.low) && (a.high == b.high)
+
+-- whether a range of addresses is a writable piece
+abbrev pub is_stack : List Piece → Range → Bool
+is_stack pieces range = list_any (λ piece. is_writable piece.kind && are_same (piece_range piece) range) pieces
+
+-- whether a running thread has a stack
+abbrev pub is_taken : List Thread → Range → Bool
+is_taken threads stack = list_any (λ thread. runs thread && are_same thread.stack stack) threads
+
+-- the first stack that no running thread has
+abbrev pub free_stack : List Range → List Thread → Option Range
+free_stack stacks threads = find (λ stack. not (is_taken threads stack)) stacks
+
+-- where ESP points at first: 20 bytes below the stack's end
+abbrev pub first_top : Range → ℕ
+first_top stack = stack.high - 20
+
+-- A stack at first: zeros, and from ESP on the address to which the function returns and its argument.
+abbrev pub first_bytes : Range → ℕ → List ℕ
+first_bytes stack argument =
+    replicate (first_top stack - stack.low) 0
+    ++ to_le_bytes w32 0xFFFF_0000
+    ++ to_le_bytes w32 argument
+    ++ replicate 12 0
+
+abbrev pub no_flags : Flags
+no_flags = record { cf = false; pf = false; zf = false; sf = false; of = false }
+
+-- a thread at first; all registers but ESP are clear
+abbrev pub first_thread : ℕ → Range → ℕ → Thread
+first_thread number stack pc = record {
+  number = number;
+  stack = stack;
+  registers = set (replicate 8 0) 4 (first_top stack);
+  pc = pc;
+  flags = no_flags;
+  state = Running
+}
+
+abbrev pub started_on : Program → ℕ → ℕ → Option Range → Result Program Refusal
+started_on program pc argument None = Err NoStack
+started_on program pc argument (Some stack) =
+    Ok (record program {
+      contents = after_write program.contents stack.low (first_bytes stack argument);
+      threads = program.threads ++ first_thread (length program.threads) stack pc ∷ []
+    })
+
+abbrev pub started_at : Program → ℕ → Result ℕ Refusal → Result Program Refusal
+started_at program argument (Err refusal) = Err refusal
+started_at program argument (Ok pc) =
+    if nat_le 4096 (length program.threads) then Err TooManyThreads
+    else started_on program pc argument (free_stack program.stacks program.threads)
+
+-- The program after a thread was started at the function of a name, or why none is: the name has no function symbol or
+-- several addresses, 4,096 threads were started, or each stack has a running thread.
+unfoldable pub spawned : Program → List ℕ → ℕ → Result Program Refusal
+spawned program name argument = started_at program argument (function_named program.table.symbols name)

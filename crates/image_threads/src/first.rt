@@ -1,0 +1,51 @@
+//! What a thread and its stack are at first.
+ghost use Rattle.std.specs.Prelude.{◌≡◌, ◌≤◌, ◌+◌, IfOk};
+ghost use Rattle.image_threads.specs.Spawning.{are_same, is_taken, free_stack, first_top, first_bytes, first_thread};
+
+use ia32_alu::Flags;
+use ia32_step::{State, Thread};
+use ks_base::Range;
+use std::alloc::{AllocError, Global};
+
+/// The address to which a thread's function returns, and there the thread ends.
+const RETURN_ADDRESS: u32 = 0xFFFF_0000;
+
+/// How many bytes of a stack stand at and above the first ESP.
+const FIRST_FRAME: u32 = 20;
+
+/// The stack's bytes at first: zeros, the return address and the argument.
+pub(crate) fn first_bytes(alloc: Global, stack: Range, argument: u32) -> Result<Vec<u8>, AllocError>
+    requires { stack.low + 20 ≤ stack.high }
+    ensures { IfOk result (λ bytes. bytes.items ≡ first_bytes stack argument) }
+{
+    let below = (stack.high - FIRST_FRAME - stack.low) as usize;
+    let mut bytes = Vec::new(alloc);
+    bytes.resize(below, 0)?;
+    bytes.extend_from_slice(&RETURN_ADDRESS.to_le_bytes())?;
+    bytes.extend_from_slice(&argument.to_le_bytes())?;
+    bytes.extend_from_slice(&[0; 12])?;
+    Ok(bytes)
+}
+
+/// A thread at first: it stands at its function, and all registers but ESP are clear.
+pub(crate) fn first_thread(number: u32, stack: Range, pc: u32) -> Thread
+    requires { 20 ≤ stack.high }
+    ensures { result ≡ first_thread number stack pc }
+{
+    let mut registers = [0; 8];
+    registers[4] = stack.high - FIRST_FRAME;
+    Thread {
+        number,
+        stack,
+        registers,
+        pc,
+        flags: Flags {
+            cf: false,
+            pf: false,
+            zf: false,
+            sf: false,
+            of: false,
+        },
+        state: State::Running,
+    }
+}

@@ -1,0 +1,12 @@
+//! The threads of a running program: how one is started, how one steps, and which steps next in turn.
+#![tactic(auto)]
+
+mod first;
+pub mod machine;
+pub mod turns;
+
+pub use machine::{Machine, Threads};
+pub use turns::Turns;
+
+#[cfg(test)]
+mod tests;
