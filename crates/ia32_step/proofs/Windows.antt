@@ -1,9 +1,9 @@
 -- A window has at most 15 bytes.
-use Rattle.std.proofs.Common.{◌≡◌, ℕ, ◌≤◌, Bool, true, false, if◌then◌else◌, List, [], length, take, Option, Some, None, unwrap_or, Result, Ok, Err, MatchResult, subst, sym, arith, length-take}
+use Rattle.std.proofs.Common.{◌≡◌, ℕ, ◌≤◌, Bool, true, false, if◌then◌else◌, List, [], length, take, Option, Some, None, unwrap_or, Result, Ok, MatchResult, subst, sym, arith, length-take}
 use Rattle.image_memory.specs.Contents.{Contents, spliced_at, fenced_at}
 use Rattle.image_memory.specs.declared.types.Fence.{Fence}
 use Rattle.image_memory.specs.declared.types.Window.{Window}
-use Rattle.image_memory.specs.Fetch.{View, Unmapped, AtHome, Stray, Bytes, met, view_of, view_at, code_from, cut_before, next_fence, window_for, window_at, jump_at}
+use Rattle.image_memory.specs.Fetch.{View, Unmapped, AtHome, Stray, Bytes, view_of, view_at, code_from, cut_before, next_fence, window_for, window_at}
 use Rattle.ks_base.specs.declared.refusals.Fault.{Fault}
 
 abbrev pub IsShort : View → Type 0

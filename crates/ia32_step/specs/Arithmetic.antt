@@ -1,5 +1,5 @@
 -- Integer instructions (Intel SDM volume 2, under their names). The values and flags are those of ia32_alu.
-use Rattle.std.specs.Prelude.{ℕ, ◌+◌, ◌*◌, ◌/◌, ◌%◌, ◌^◌, Bool, true, false, if◌then◌else◌, List, Option, Some, None, Result, Ok, Err}
+use Rattle.std.specs.Prelude.{ℕ, ◌+◌, ◌*◌, ◌/◌, ◌%◌, ◌^◌, Bool, true, false, Option, Some, None, Result, Ok, Err}
 use Rattle.ks_base.specs.declared.refusals.Fault.{Fault}
 use Rattle.ks_base.specs.declared.refusals.Fault.TheVariants.{Divide, Unsupported}
 use Rattle.ia32_alu.specs.declared.types.Flags.{Flags}

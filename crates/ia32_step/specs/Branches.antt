@@ -1,6 +1,6 @@
 -- Jumps, calls and returns (Intel SDM volume 2, JMP, Jcc, CALL and RET). The thread's pc is the address after the
 -- instruction, from which a relative displacement counts.
-use Rattle.std.specs.Prelude.{ℕ, if◌then◌else◌, List, Result, Ok}
+use Rattle.std.specs.Prelude.{ℕ, if◌then◌else◌, Result, Ok}
 use Rattle.ks_base.specs.declared.refusals.Fault.{Fault}
 use Rattle.ia32_decode.specs.declared.types.Width.TheVariants.{Dword}
 use Rattle.ia32_decode.specs.declared.types.Condition.{Condition}

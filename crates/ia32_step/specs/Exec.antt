@@ -1,5 +1,5 @@
 -- What an instruction does, and which are not carried out.
-use Rattle.std.specs.Prelude.{ℕ, ◌+◌, ◌%◌, ◌^◌, Bool, true, false, ◌&&◌, ◌||◌, not, if◌then◌else◌, List, Option, Some, None, is_none, Result, Ok, Err}
+use Rattle.std.specs.Prelude.{◌%◌, Bool, true, false, ◌&&◌, ◌||◌, not, if◌then◌else◌, is_none, Result, Ok, Err}
 use Rattle.ks_base.specs.declared.refusals.Fault.{Fault}
 use Rattle.ks_base.specs.declared.refusals.Fault.TheVariants.{Unsupported, Trap, BadLock}
 use Rattle.ia32_alu.specs.declared.types.Unary.TheVariants as alu

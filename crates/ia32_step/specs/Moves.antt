@@ -1,5 +1,5 @@
 -- Moves, exchanges and extensions (Intel SDM volume 2, under their names). But for CMPXCHG and XADD no flag changes.
-use Rattle.std.specs.Prelude.{ℕ, ◌+◌, ◌-◌, ◌^◌, Bool, if◌then◌else◌, List, Result, Ok}
+use Rattle.std.specs.Prelude.{ℕ, ◌+◌, ◌-◌, ◌^◌, Bool, if◌then◌else◌, Result, Ok}
 use Rattle.std.specs.Int.{from_bool}
 use Rattle.ks_base.specs.declared.refusals.Fault.{Fault}
 use Rattle.ia32_alu.specs.declared.types.Flags.{Flags}

@@ -1,7 +1,6 @@
 -- Pushes and pops (Intel SDM volume 2, PUSH, POP and LEAVE), of 32 bits each.
-use Rattle.std.specs.Prelude.{ℕ, List, Result, Ok}
+use Rattle.std.specs.Prelude.{Result, Ok}
 use Rattle.ks_base.specs.declared.refusals.Fault.{Fault}
-use Rattle.ia32_decode.specs.declared.types.Register.{Register}
 use Rattle.ia32_decode.specs.declared.types.Register.TheVariants.{Ebp}
 use Rattle.ia32_decode.specs.declared.types.Width.TheVariants.{Dword}
 use Rattle.ia32_decode.specs.declared.types.Operand.{Operand}

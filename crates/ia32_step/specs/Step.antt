@@ -13,7 +13,6 @@ use Rattle.ia32_decode.specs.declared.types.Decoded.{Decoded}
 use Rattle.ia32_decode.specs.Decode.{decoded_from}
 use Rattle.ia32_step.specs.declared.types.Thread.{Thread}
 use Rattle.ia32_step.specs.declared.types.Context.{Context}
-use Rattle.ia32_step.specs.declared.types.State.{State}
 use Rattle.ia32_step.specs.declared.types.State.TheVariants as states
 use Rattle.ia32_step.specs.declared.types.Outcome.{Outcome}
 use Rattle.ia32_step.specs.declared.types.Outcome.TheVariants.{Moved, Exited, Stopped}

@@ -68,8 +68,8 @@ pub(crate) fn call_to<S: Space>(
 ) -> Result<Change, Fault>
     ensures { result ≡ called_to (number_at (S.contents space.now).pieces) operand context }
 {
-    let target = operand_value(space, &context, Width::Dword, operand)?;
-    Ok(call(context, target))
+    let callee = operand_value(space, &context, Width::Dword, operand)?;
+    Ok(call(context, callee))
 }
 
 fn returning(context: Context, bytes: u32, target: u32) -> Change

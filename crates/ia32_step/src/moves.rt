@@ -196,9 +196,9 @@ pub(crate) fn copy_if<S: Space>(
 ) -> Result<Change, Fault>
     ensures { result ≡ copied_if (number_at (S.contents space.now).pieces) condition width register source context }
 {
-    let value = operand_value(space, &context, width, source)?;
+    let taken = operand_value(space, &context, width, source)?;
     if holds(condition, context.flags) {
-        Ok(context.with_register(width, register, value).goes_on())
+        Ok(context.with_register(width, register, taken).goes_on())
     } else {
         Ok(context.goes_on())
     }

@@ -6,9 +6,9 @@ use ks_base::{Fault, Range};
 /// Whether a thread runs.
 #[derive(Clone, Copy, PartialEq, Eq, Debug)]
 pub enum State {
-    /// It has a next instruction.
+    /// It goes on at its pc.
     Running,
-    /// It came to the address to which its function returns, with this value in EAX.
+    /// It ended at the address to which its function returns, with this value in EAX.
     Exited(u32),
     /// No instruction stands at its pc, or it can't be carried out.
     Stopped(Fault),

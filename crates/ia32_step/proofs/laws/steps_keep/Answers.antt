@@ -1,4 +1,3 @@
-use Rattle.std.proofs.Common.{◌≡◌}
 use Rattle.ia32_step.proofs.Keeping.{keeps}
 use Rattle.ia32_step.proofs.laws.steps_keep.Goals as goal
 
