@@ -1,5 +1,5 @@
 //! The lines.
-ghost use Rattle.std.specs.Prelude.{◌≡◌, ◌++◌, ◌+◌, ◌≤◌, ◌^◌, OnOk};
+ghost use Rattle.std.specs.Prelude.{◌≡◌, ◌++◌, ◌+◌, ◌≤◌, ◌<◌, ◌^◌, OnOk};
 ghost use Rattle.std.specs.List.{flat_map, range_with_len};
 ghost use Rattle.session_lines.specs.Lines.{spawned_line, stepped_line, turns_line, thread_line, count_line, threads_lines, peeked, peeked_at, peek_line};
 
@@ -113,6 +113,13 @@ fn put_peeked(line: &mut Line, seen: Option<(Kind, u8)>) -> Result<(), AllocErro
     }
 }
 
+fn put_byte_at<S: Space>(line: &mut Line, space: &S, address: u64) -> Result<(), AllocError>
+    requires { address < 2 ^ 32 }
+    ensures { OnOk result (line.new ≡ line.old ++ peeked_at (S.contents space.now).pieces address) }
+{
+    put_peeked(line, space.look(address as u32))
+}
+
 fn put_each_byte<S: Space>(
     line: &mut Line,
     space: &S,
@@ -125,7 +132,7 @@ fn put_each_byte<S: Space>(
 {
     let low = u64::from(address);
     for at in low..low + u64::from(count) {
-        put_peeked(line, space.look(at as u32))?;
+        put_byte_at(line, space, at)?;
     }
     Ok(())
 }
