@@ -1,0 +1,2 @@
+pub mod StackLaws
+pub mod ListLaws
