@@ -121,7 +121,7 @@ stacks_by_shape pieces later ranges same h =
     All-weaker (λ (range : Range). IsTrue (is_stack pieces range)) (λ (range : Range). IsTrue (is_stack later range))
     (λ range there. by_shape later range ∙ ap (list_any (has_shape range)) same ∙ sym (by_shape pieces range) ∙ there) ranges h
 
-found_in : {X : Type 0} (p : X → Bool) (xs : List X) → IfSome (find p xs) (Contains xs)
+pub found_in : {X : Type 0} (p : X → Bool) (xs : List X) → IfSome (find p xs) (Contains xs)
 found_in p [] = tt
 found_in p (x ∷ xs) =
     elim (p x) as (λ b. IfSome (cond b (Some x) (find p xs)) (Contains (x ∷ xs))) [

@@ -10,3 +10,6 @@ pub mod turns;
 pub use machine::Machine;
 pub use stacks::are_stacks;
 pub use turns::Turns;
+
+#[cfg(test)]
+mod tests;

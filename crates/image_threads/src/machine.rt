@@ -6,7 +6,7 @@ ghost use Rattle.ks_base.specs.declared.refusals.Refusal.TheVariants.{Memory};
 ghost use Rattle.ia32_step.specs.declared.types.State.TheVariants.{Running};
 ghost use Rattle.ia32_step.specs.Step.{left_by, shape, stepped};
 ghost use Rattle.image_memory.specs.Access.{after_write};
-ghost use Rattle.image_threads.specs.Program.{running_at, running_numbers};
+ghost use Rattle.image_threads.specs.Program.{AreNumbered, running_at, running_numbers};
 ghost use Rattle.image_threads.specs.Spawning.{is_stack, AreStacks, free_stack, first_bytes, first_thread, spawned};
 ghost use Rattle.image_threads.specs.Stepping.{moved};
 
@@ -62,9 +62,11 @@ impl<S: Space> Machine<S> {
         })
     }
 
-    /// The threads in the order of their numbers.
+    /// The threads in the order of their numbers: no more than 4,096, numbered from 0.
     pub fn threads(&self) -> &[Thread]
-        ensures { result.now ≡ self.now.threads }
+        ensures threads { result.now ≡ self.now.threads }
+        ensures numbered { AreNumbered 0 self.now.threads }
+        ensures few { length self.now.threads ≤ 4096 }
     {
         self.threads.as_slice()
     }

@@ -2,7 +2,7 @@
 ghost use Rattle.std.specs.Prelude.{◌≡◌, ◌<◌, ◌≤◌, ◌++◌, [], ◌∷◌, length, nat_le, set, OnOk, OnErr, IfOk, IsSome, IfSome, Some};
 ghost use Rattle.std.specs.List.{slice_get};
 ghost use Rattle.ia32_step.specs.declared.types.State.TheVariants.{Running};
-ghost use Rattle.image_threads.specs.Program.{running_at, running_numbers, if_running, is_running};
+ghost use Rattle.image_threads.specs.Program.{AreNumbered, running_at, running_numbers, if_running, is_running};
 ghost use Rattle.image_threads.specs.Spawning.{is_taken, first_thread, are_same};
 
 use crate::first::first_thread;
@@ -50,9 +50,11 @@ impl ThreadList {
         *self.threads.allocator()
     }
 
-    /// The threads.
+    /// The threads, numbered from 0.
     pub(crate) fn as_slice(&self) -> &[Thread]
-        ensures { result.now ≡ self.now }
+        ensures threads { result.now ≡ self.now }
+        ensures numbered { AreNumbered 0 self.now }
+        ensures few { length self.now ≤ 4096 }
     {
         self.threads.as_slice()
     }

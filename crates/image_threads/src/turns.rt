@@ -1,7 +1,8 @@
 //! Round robin.
-ghost use Rattle.std.specs.Prelude.{◌≡◌, ◌<◌, ◌≤◌, nat_lt, IsSome, None, Some};
+ghost use Rattle.std.specs.Prelude.{◌≡◌, ◌<◌, ◌≤◌, nat_lt, IsSome, IfSome, None, Some};
 ghost use Rattle.std.specs.Option.{option_map};
 ghost use Rattle.std.specs.List.{slice_get, find};
+ghost use Rattle.image_threads.specs.Program.{running_at};
 ghost use Rattle.image_threads.specs.Turning.{next_turn, after_turn, thread_of, begun, first_turn, turn_after, turn_from};
 
 use crate::machine::Machine;
@@ -47,12 +48,15 @@ impl Turns {
         }
     }
 
-    /// The number of the thread that steps next, and that step is then made; `None` exactly where no step is left or
-    /// no thread runs. It takes no memory.
+    /// The number of the thread that steps next, which runs, and that step is then made; `None` exactly where no step
+    /// is left or no thread runs. It takes no memory.
+    #[tactic(auto, using(crate::proofs::TurnLaws::turn_runs))]
     pub fn next<S: Space>(&mut self, machine: &Machine<S>) -> Option<u32>
         ensures thread { result ≡ option_map thread_of (next_turn self.old machine.now.threads) }
         ensures schedule { self.new ≡ after_turn self.old (next_turn self.old machine.now.threads) }
+        ensures runs { IfSome result (λ number. IsSome (running_at machine.now.threads number)) }
     {
+        let _threads = machine.threads();
         match self.next_turn(machine) {
             Some(turn) => {
                 self.left -= 1;
