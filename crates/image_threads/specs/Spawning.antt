@@ -1,6 +1,6 @@
 -- How a thread is started.
-use Rattle.std.specs.Prelude.{ℕ, ◌+◌, ◌-◌, Bool, false, ◌&&◌, not, nat_le, ◌==◌, if◌then◌else◌, List, [], ◌∷◌, ◌++◌, length, replicate, set, Option, Some, None, Result, Ok, Err}
-use Rattle.std.specs.List.{find, list_any}
+use Rattle.std.specs.Prelude.{ℕ, ◌+◌, ◌-◌, Bool, true, false, IsTrue, ◌&&◌, not, nat_le, ◌==◌, if◌then◌else◌, List, [], ◌∷◌, ◌++◌, length, replicate, set, Option, Some, None, Result, Ok, Err}
+use Rattle.std.specs.List.{find, list_any, All}
 use Rattle.std.specs.Int.{w32, to_le_bytes}
 use Rattle.ks_base.specs.declared.places.Range.{Range}
 use Rattle.ks_base.specs.declared.refusals.Refusal.{Refusal}
@@ -27,6 +27,10 @@ are_same a b = (a.low == b.low) && (a.high == b.high)
 -- whether a range of addresses is a writable piece
 abbrev pub is_stack : List Piece → Range → Bool
 is_stack pieces range = list_any (λ piece. is_writable piece.kind && are_same (piece_range piece) range) pieces
+
+-- each of some ranges of addresses is a writable piece
+abbrev pub AreStacks : List Piece → List Range → Type 0
+AreStacks pieces ranges = All (λ range. IsTrue (is_stack pieces range)) ranges
 
 -- whether a running thread has a stack
 abbrev pub is_taken : List Thread → Range → Bool
@@ -59,7 +63,7 @@ first_thread number stack pc = record {
   registers = set (replicate 8 0) 4 (first_top stack);
   pc = pc;
   flags = no_flags;
-  state = Running
+  state = Running;
 }
 
 abbrev pub started_on : Program → ℕ → ℕ → Option Range → Result Program Refusal
@@ -67,7 +71,7 @@ started_on program pc argument None = Err NoStack
 started_on program pc argument (Some stack) =
     Ok (record program {
       contents = after_write program.contents stack.low (first_bytes stack argument);
-      threads = program.threads ++ first_thread (length program.threads) stack pc ∷ []
+      threads = program.threads ++ first_thread (length program.threads) stack pc ∷ [];
     })
 
 abbrev pub started_at : Program → ℕ → Result ℕ Refusal → Result Program Refusal

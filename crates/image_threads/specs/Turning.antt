@@ -4,11 +4,7 @@ use Rattle.std.specs.Option.{option_map, option_or}
 use Rattle.std.specs.List.{find, slice_get}
 use Rattle.ia32_step.specs.declared.types.Thread.{Thread}
 use Rattle.image_threads.specs.Program.{running_at, running_numbers}
-
--- a thread's turn: its number, and how many steps of the turn it has had
-pub record Turn : Type 0 where
-  pub thread : ℕ
-  pub had : ℕ
+use Rattle.image_threads.specs.declared.turns.Turn.{Turn}
 
 -- how many steps a turn has at most, how many are left in all, and whose turn it is
 pub record Schedule : Type 0 where
@@ -20,12 +16,12 @@ pub record Schedule : Type 0 where
 abbrev pub begun : ℕ → Turn
 begun thread = record { thread = thread; had = 1 }
 
--- the first running thread, and the first after a number; after the last comes the first again
-abbrev pub first_turn : List Thread → Option Turn
-first_turn threads = option_map begun (slice_get (running_numbers threads) 0)
+-- the first of the running threads' numbers, and the first after a number; after the last comes the first again
+abbrev pub first_turn : List ℕ → Option Turn
+first_turn running = option_map begun (slice_get running 0)
 
-abbrev pub turn_after : List Thread → ℕ → Option Turn
-turn_after threads n = option_or (option_map begun (find (nat_lt n) (running_numbers threads))) (first_turn threads)
+abbrev pub turn_after : List ℕ → ℕ → Option Turn
+turn_after running n = option_or (option_map begun (find (nat_lt n) running)) (first_turn running)
 
 -- whether a turn goes on: its thread runs, and has had fewer steps than the quantum
 abbrev pub goes_on : List Thread → ℕ → Turn → Bool
@@ -36,9 +32,9 @@ longer turn = record turn { had = turn.had + 1 }
 
 -- the turn of the next step, after the one before it
 abbrev pub turn_from : List Thread → ℕ → Option Turn → Option Turn
-turn_from threads quantum None = first_turn threads
+turn_from threads quantum None = first_turn (running_numbers threads)
 turn_from threads quantum (Some turn) =
-    if goes_on threads quantum turn then Some (longer turn) else turn_after threads turn.thread
+    if goes_on threads quantum turn then Some (longer turn) else turn_after (running_numbers threads) turn.thread
 
 -- the turn of the next step: none where no step is left or no thread runs
 unfoldable pub next_turn : Schedule → List Thread → Option Turn

@@ -3,9 +3,12 @@
 
 mod first;
 pub mod machine;
+pub mod stacks;
+mod thread_list;
 pub mod turns;
 
-pub use machine::{Machine, Threads};
+pub use machine::Machine;
+pub use stacks::are_stacks;
 pub use turns::Turns;
 
 #[cfg(test)]

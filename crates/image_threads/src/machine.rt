@@ -1,27 +1,25 @@
 //! A program that runs: its memory, its symbols, its stacks and its threads.
-ghost use Rattle.std.specs.Prelude.{◌≡◌, ◌≢◌, ◌≤◌, ◌+◌, ℕ, [], length, IfOk, IsTrue, MatchResult, Ok, Err, Some, MatchOption, None};
+ghost use Rattle.std.specs.Prelude.{◌≡◌, ◌≢◌, ◌<◌, ◌≤◌, ◌+◌, ◌-◌, ◌++◌, [], ◌∷◌, length, map, IfOk, OnOk, OnErr, IfSome, IsTrue, Contains, MatchResult, Ok, Err};
 ghost use Rattle.std.specs.List.{All};
-ghost use Rattle.std.specs.Option.{option_copied};
+ghost use Rattle.std.specs.Borrow.{Lends, sem};
 ghost use Rattle.ks_base.specs.declared.refusals.Refusal.TheVariants.{Memory};
-ghost use Rattle.image_memory.specs.Contents.{IsValid};
-ghost use Rattle.image_threads.specs.Program.{Program, is_running, runs, running_at, running_numbers, AreNumbered};
-ghost use Rattle.image_threads.specs.Spawning.{is_stack, is_taken, free_stack, first_bytes, spawned};
+ghost use Rattle.ia32_step.specs.declared.types.State.TheVariants.{Running};
+ghost use Rattle.ia32_step.specs.Step.{left_by, shape, stepped};
+ghost use Rattle.image_memory.specs.Access.{after_write};
+ghost use Rattle.image_threads.specs.Program.{AreNumbered, running_at, running_numbers};
+ghost use Rattle.image_threads.specs.Spawning.{is_stack, AreStacks, free_stack, first_bytes, first_thread, spawned};
 ghost use Rattle.image_threads.specs.Stepping.{moved};
 
-use crate::first::{first_bytes, first_thread};
-use ia32_step::{Outcome, State, Thread, step_thread};
+use crate::first::first_bytes;
+use crate::stacks::fill_stack;
+use crate::thread_list::ThreadList;
+use ia32_step::{Outcome, Thread, step_thread, steps_keep};
 use image_file::Image;
 use image_memory::Space;
-use ks_base::{ListOf, Name, Range, Ranges, Refusal};
+use ks_base::{Name, Range, Ranges, Refusal};
 use std::alloc::{AllocError, Global};
 use std::marker::Model;
 use symbol_table::SymbolTable;
-
-/// Threads in the order of their numbers.
-pub type Threads = ListOf<Thread>;
-
-/// How many threads may be started in all.
-const MOST_THREADS: usize = 4_096;
 
 /// A program that runs, over a memory. Its threads are numbered from 0 in the order in which they were started.
 #[derive(Drop)]
@@ -29,24 +27,25 @@ pub struct Machine<S: Space> {
     space: S,
     symbols: SymbolTable,
     stacks: Ranges,
-    threads: Threads,
-    // the numbers of the threads that run, ascending: no more than there are stacks
-    running: Vec<u32>,
+    threads: ThreadList,
 }
 
 impl<S: Space> Model for Machine<S> {
-    ghost use Rattle.std.specs.Prelude.{◌≡◌, ◌≤◌, ◌+◌, length};
+    ghost use Rattle.std.specs.Prelude.{◌≤◌, ◌+◌};
     ghost use Rattle.std.specs.List.{All};
-    ghost use Rattle.image_threads.specs.Program.{Program, running_numbers, AreNumbered};
+    ghost use Rattle.image_threads.specs.Program.{Program};
 
     ghost Value = { Program };
 
     ghost view = { λ m. record { contents = S.contents m.space; room = S.room m.space; table = m.symbols; stacks = m.stacks; threads = m.threads } };
 
-    ghost invariant = { λ m. AreNumbered 0 m.threads × ((m.running.items ≡ running_numbers m.threads) × ((length m.threads ≤ 4096) × All (λ stack. stack.low + 32 ≤ stack.high) m.stacks)) };
+    ghost invariant = { λ m. All (λ stack. stack.low + 32 ≤ stack.high) m.stacks };
 }
 
 impl<S: Space> Machine<S> {
+    ghost use Rattle.image_threads.specs.contracts.machine.Machine.{the_row};
+    ghost use Rattle.symbol_table.specs.contracts.table.SymbolTable.{the_row as symbols_row};
+
     /// The program of an image over a memory, with no thread. `Err` comes for want of memory alone.
     ///
     /// The memory is to hold the image's regions and its stacks, these as writable pieces of zeros.
@@ -59,16 +58,17 @@ impl<S: Space> Machine<S> {
             space,
             symbols: image.symbols,
             stacks: image.stacks,
-            threads: ListOf::new(alloc),
-            running: Vec::new(alloc),
+            threads: ThreadList::new(alloc),
         })
     }
 
-    /// The threads in the order of their numbers.
-    pub fn threads(&self) -> &Threads
-        ensures { result.now ≡ self.now.threads }
+    /// The threads in the order of their numbers: no more than 4,096, numbered from 0.
+    pub fn threads(&self) -> &[Thread]
+        ensures threads { result.now ≡ self.now.threads }
+        ensures numbered { AreNumbered 0 self.now.threads }
+        ensures few { length self.now.threads ≤ 4096 }
     {
-        &self.threads
+        self.threads.as_slice()
     }
 
     /// The memory.
@@ -79,6 +79,15 @@ impl<S: Space> Machine<S> {
         &self.space
     }
 
+    /// The memory, to be changed. All else stays.
+    pub fn space_mut(&mut self) -> &mut S
+        ensures* changed { sem 𝓛 (Lends (the_row S.row S.Space) S.row self.entry result (λ w. record self.old { contents = S.contents w; room = S.room w })) }
+        ensures contents { S.contents result.now ≡ self.old.contents }
+        ensures room { S.room result.now ≡ self.old.room }
+    {
+        &mut self.space
+    }
+
     /// The symbols.
     pub fn symbols(&self) -> &SymbolTable
         ensures { result.now ≡ self.now.table }
@@ -86,29 +95,53 @@ impl<S: Space> Machine<S> {
         &self.symbols
     }
 
+    /// The symbols, to be changed. All else stays.
+    pub fn symbols_mut(&mut self) -> &mut SymbolTable
+        ensures* changed { sem 𝓛 (Lends (the_row S.row S.Space) symbols_row self.entry result (λ w. record self.old { table = w })) }
+        ensures table { result.now ≡ self.old.table }
+    {
+        &mut self.symbols
+    }
+
     /// The numbers of the running threads, ascending.
     pub(crate) fn running(&self) -> &[u32]
         ensures { result.now ≡ running_numbers self.now.threads }
     {
-        self.running.as_slice()
+        self.threads.running()
     }
 
     /// The running thread of a number.
     pub(crate) fn running_at(&self, number: u32) -> Option<Thread>
         ensures { result ≡ running_at self.now.threads number }
     {
-        let thread = *self.threads.get(number as usize)?;
-        match thread.state {
-            State::Running => Some(thread),
-            State::Exited(_) | State::Stopped(_) => None,
-        }
+        self.threads.running_at(number)
     }
 
     /// The first stack that no running thread has.
     fn free_stack(&self) -> Option<Range>
-        ensures { result ≡ free_stack self.now.stacks self.now.threads }
+        ensures first { result ≡ free_stack self.now.stacks self.now.threads }
+        ensures listed { IfSome result (Contains self.now.stacks) }
+        ensures tall { IfSome result (λ stack. stack.low + 32 ≤ stack.high) }
     {
-        todo
+        free_among(self.stacks.as_slice(), &self.threads)
+    }
+
+    /// Starts a thread at an address on a stack, and answers its number. For want of memory all is as before.
+    fn start(&mut self, pc: u32, stack: Range, argument: u32) -> Result<u32, AllocError>
+        requires few { length self.old.threads < 4096 }
+        requires tall { stack.low + 32 ≤ stack.high }
+        requires writable { IsTrue (is_stack self.old.contents.pieces stack) }
+        ensures started { OnOk result (self.new ≡ record self.old {
+          contents = after_write self.old.contents stack.low (first_bytes stack argument);
+          threads = self.old.threads ++ first_thread (length self.old.threads) stack pc ∷ [];
+        }) }
+        ensures number { IfOk result (λ number. number ≡ length self.old.threads) }
+        ensures refused { OnErr result (self.new ≡ self.old) }
+    {
+        let bytes = first_bytes(self.threads.alloc(), stack, argument)?;
+        let number = self.threads.push(stack, pc)?;
+        fill_stack(&mut self.space, stack, bytes.as_slice());
+        Ok(number)
     }
 
     /// Starts a thread at the function of a name, and answers its number. It has the first stack that no running
@@ -117,25 +150,60 @@ impl<S: Space> Machine<S> {
     /// function symbol has the name, then [`Refusal::TwoNames`] where several addresses have, [`Refusal::TooManyThreads`]
     /// where 4,096 threads were started, [`Refusal::NoStack`] where each stack has a running thread, and
     /// [`Refusal::Memory`] for want of memory alone; all is then as before.
+    #[tactic(auto, unfolding(crate::specs::Spawning::spawned))]
     pub fn spawn(&mut self, name: &Name, argument: u32) -> Result<u32, Refusal>
-        requires { All (λ stack. IsTrue (is_stack self.old.contents.pieces stack)) self.old.stacks }
+        requires { AreStacks self.old.contents.pieces self.old.stacks }
         ensures started { MatchResult result
             (λ number. spawned self.old name.now argument ≡ Ok self.new)
             (λ refusal. refusal ≢ Memory → spawned self.old name.now argument ≡ Err refusal) }
         ensures number { IfOk result (λ number. number ≡ length self.old.threads) }
         ensures refused { OnErr result (self.new ≡ self.old) }
+        ensures stacks { AreStacks self.new.contents.pieces self.new.stacks }
     {
-        todo
+        let pc = self.symbols.function_named(name)?;
+        if self.threads.is_full() {
+            return Err(Refusal::TooManyThreads);
+        }
+        match self.free_stack() {
+            Some(stack) => Ok(self.start(pc, stack, argument)?),
+            None => Err(Refusal::NoStack),
+        }
     }
 
     /// Steps the running thread of a number, and answers what the step came to. [`Refusal::NoThread`] comes exactly
     /// where no running thread has the number, and all is then as before. It takes no memory.
+    #[tactic(auto, unfolding(crate::specs::Stepping::moved))]
     pub fn step(&mut self, thread: u32) -> Result<Outcome, Refusal>
         ensures moved { MatchResult result
             (λ outcome. moved self.old thread ≡ Ok (self.new, outcome))
             (λ refusal. moved self.old thread ≡ Err refusal) }
         ensures refused { OnErr result (self.new ≡ self.old) }
+        ensures stacks { AreStacks self.old.contents.pieces self.old.stacks → AreStacks self.new.contents.pieces self.new.stacks }
     {
-        todo
+        let Some(mut running) = self.threads.running_at(thread) else {
+            return Err(Refusal::NoThread(thread));
+        };
+        let outcome = step_numbered(&mut self.space, &mut running);
+        self.threads.put(running);
+        Ok(outcome)
     }
+}
+
+/// The first of some stacks that no running thread has.
+fn free_among(stacks: &[Range], threads: &ThreadList) -> Option<Range>
+    ensures { result ≡ free_stack stacks.now threads.now }
+{
+    stacks.iter().copied().find(|stack| !threads.has(*stack))
+}
+
+/// Steps a running thread, which keeps its number.
+fn step_numbered<S: Space>(space: &mut S, thread: &mut Thread) -> Outcome
+    requires running { thread.old.state ≡ Running }
+    ensures left { left_by (S.contents space.new) thread.new result ≡ stepped (S.contents space.old) thread.old }
+    ensures room { S.room space.new ≡ S.room space.old }
+    ensures number { thread.new.number ≡ thread.old.number }
+    ensures shapes { map shape (S.contents space.new).pieces ≡ map shape (S.contents space.old).pieces }
+{
+    steps_keep();
+    step_thread(space, thread)
 }

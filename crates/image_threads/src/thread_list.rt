@@ -1,0 +1,162 @@
+//! The threads of a program in the order of their numbers.
+ghost use Rattle.std.specs.Prelude.{◌≡◌, ◌<◌, ◌≤◌, ◌++◌, [], ◌∷◌, length, nat_le, set, OnOk, OnErr, IfOk, IsSome, IfSome, Some};
+ghost use Rattle.std.specs.List.{slice_get};
+ghost use Rattle.ia32_step.specs.declared.types.State.TheVariants.{Running};
+ghost use Rattle.image_threads.specs.Program.{AreNumbered, running_at, running_numbers, if_running, is_running};
+ghost use Rattle.image_threads.specs.Spawning.{is_taken, first_thread, are_same};
+
+use crate::first::first_thread;
+use ia32_step::{State, Thread};
+use ks_base::Range;
+use std::alloc::{AllocError, Global};
+use std::marker::Model;
+
+/// How many threads may be started in all.
+const MOST_THREADS: usize = 4_096;
+
+/// The threads that were started, numbered from 0: no more than 4,096. A clause sees them as their list.
+#[derive(Drop)]
+pub(crate) struct ThreadList {
+    threads: Vec<Thread>,
+    // the numbers of the threads that run, ascending: no more than there are stacks
+    running: Vec<u32>,
+}
+
+impl Model for ThreadList {
+    ghost use Rattle.std.specs.Prelude.{◌≡◌, ◌≤◌, List, length};
+    ghost use Rattle.ia32_step.specs.declared.types.Thread.{Thread};
+    ghost use Rattle.image_threads.specs.Program.{running_numbers, AreNumbered};
+
+    ghost Value = { List Thread };
+
+    ghost view = { λ l. l.threads.items };
+
+    ghost invariant = { λ l. AreNumbered 0 l.threads.items × ((l.running.items ≡ running_numbers l.threads.items) × (length l.threads.items ≤ 4096)) };
+}
+
+impl ThreadList {
+    /// No threads.
+    pub(crate) fn new(alloc: Global) -> Self
+        ensures { result ≡ [] }
+    {
+        ThreadList {
+            threads: Vec::new(alloc),
+            running: Vec::new(alloc),
+        }
+    }
+
+    /// The allocator that the list was made with.
+    pub(crate) fn alloc(&self) -> Global {
+        *self.threads.allocator()
+    }
+
+    /// The threads, numbered from 0.
+    pub(crate) fn as_slice(&self) -> &[Thread]
+        ensures threads { result.now ≡ self.now }
+        ensures numbered { AreNumbered 0 self.now }
+        ensures few { length self.now ≤ 4096 }
+    {
+        self.threads.as_slice()
+    }
+
+    /// The numbers of the running threads, ascending.
+    pub(crate) fn running(&self) -> &[u32]
+        ensures { result.now ≡ running_numbers self.now }
+    {
+        self.running.as_slice()
+    }
+
+    /// The running thread of a number.
+    pub(crate) fn running_at(&self, number: u32) -> Option<Thread>
+        ensures thread { result ≡ running_at self.now number }
+        ensures number { IfSome result (λ thread. thread.number ≡ number) }
+        ensures running { IfSome result (λ thread. thread.state ≡ Running) }
+    {
+        let thread = self.at(number)?;
+        if_running(thread)
+    }
+
+    /// The thread of a number.
+    fn at(&self, number: u32) -> Option<Thread>
+        ensures thread { result ≡ slice_get self.now number }
+        ensures number { IfSome result (λ thread. thread.number ≡ number) }
+    {
+        thread_at(self.threads.as_slice(), number)
+    }
+
+    /// Whether no more threads may be started.
+    pub(crate) fn is_full(&self) -> bool
+        ensures { result ≡ nat_le 4096 (length self.now) }
+    {
+        self.threads.len() >= MOST_THREADS
+    }
+
+    /// Whether a running thread has a stack.
+    pub(crate) fn has(&self, stack: Range) -> bool
+        ensures { result ≡ is_taken self.now stack }
+    {
+        self.threads.iter().any(|thread| is_running(thread.state) && are_same(thread.stack, stack))
+    }
+
+    /// Starts a thread, and answers its number. For want of memory all is as before.
+    pub(crate) fn push(&mut self, stack: Range, pc: u32) -> Result<u32, AllocError>
+        requires few { length self.old < 4096 }
+        requires tall { 20 ≤ stack.high }
+        ensures ok { OnOk result (self.new ≡ self.old ++ first_thread (length self.old) stack pc ∷ []) }
+        ensures number { IfOk result (λ number. number ≡ length self.old) }
+        ensures err { OnErr result (self.new ≡ self.old) }
+    {
+        let number = self.threads.len() as u32;
+        self.running.push(number)?;
+        if self.threads.push(first_thread(number, stack, pc)).is_err() {
+            self.running.pop();
+            return Err(AllocError);
+        }
+        Ok(number)
+    }
+
+    /// Puts a thread in the place of the running thread of its number. It takes no memory.
+    pub(crate) fn put(&mut self, thread: Thread)
+        requires { IsSome (running_at self.old thread.number) }
+        ensures { self.new ≡ set self.old thread.number thread }
+    {
+        let number = thread.number;
+        self.threads[number as usize] = thread;
+        if !is_running(thread.state) {
+            self.running.retain(|other| *other != number);
+        }
+    }
+}
+
+fn thread_at(threads: &[Thread], number: u32) -> Option<Thread>
+    ensures { result ≡ slice_get threads.now number }
+{
+    threads.get(number as usize).copied()
+}
+
+/// A thread where it runs.
+fn if_running(thread: Thread) -> Option<Thread>
+    ensures thread { result ≡ if_running (Some thread) }
+    ensures same { IfSome result (λ other. other ≡ thread) }
+    ensures running { IfSome result (λ other. other.state ≡ Running) }
+{
+    match thread.state {
+        State::Running => Some(thread),
+        State::Exited(_) | State::Stopped(_) => None,
+    }
+}
+
+fn is_running(state: State) -> bool
+    ensures { result ≡ is_running state }
+{
+    match state {
+        State::Running => true,
+        State::Exited(_) | State::Stopped(_) => false,
+    }
+}
+
+fn are_same(a: Range, b: Range) -> bool
+    ensures { result ≡ are_same a b }
+{
+    a.low == b.low && a.high == b.high
+}
