@@ -1,9 +1,9 @@
 //! Threads of a small program: how they start, step, end and take turns, and what is refused.
-ghost use Rattle.std.specs.Prelude.{◌≤◌, IfOk, OnOk, OnErr};
+ghost use Rattle.std.specs.Prelude.{◌≤◌, IfOk};
 ghost use Rattle.image_threads.specs.Spawning.{AreStacks};
 
 use crate::{Machine, Turns, are_stacks};
-use ia32_step::{Flow, Outcome, State};
+use ia32_step::{Flow, Outcome, Thread};
 use image_file::{Image, read_image};
 use image_memory::{FlatSpace, Kind, Piece, Pieces, Space, are_placed};
 use ks_base::{Bytes, Name, Refusal};
@@ -30,12 +30,14 @@ const STACK: [u8; 8] = [0, 0x20, 0x40, 0, 0, 0x30, 0x40, 0];
 
 const STACK_COUNT: usize = 12;
 
-// The image with two stacks.
-fn two_stacks(alloc: Global) -> Result<Vec<u8>, AllocError> {
+// The image's bytes, with one stack or with both.
+fn image_bytes(alloc: Global, both: bool) -> Result<Vec<u8>, AllocError> {
     let mut bytes = Vec::from_slice(alloc, &IMAGE)?;
-    bytes.extend_from_slice(&STACK)?;
-    if let Some(count) = bytes.get_mut(STACK_COUNT) {
-        *count = 2;
+    if both {
+        bytes.extend_from_slice(&STACK)?;
+        if let Some(count) = bytes.get_mut(STACK_COUNT) {
+            *count = 2;
+        }
     }
     Ok(bytes)
 }
@@ -55,10 +57,11 @@ fn pieces_of(alloc: Global, image: &Image) -> Result<Pieces, AllocError> {
     Ok(pieces)
 }
 
-fn machine_of(rt: &impl Abort, alloc: Global, bytes: &[u8]) -> Result<Machine<FlatSpace>, Refusal>
+fn machine_of(rt: &impl Abort, alloc: Global, both: bool) -> Result<Machine<FlatSpace>, Refusal>
     ensures { IfOk result (λ machine. AreStacks machine.contents.pieces machine.stacks) }
 {
-    let image = read_image(alloc, bytes)?;
+    let bytes = image_bytes(alloc, both)?;
+    let image = read_image(alloc, bytes.as_slice())?;
     let pieces = pieces_of(alloc, &image)?;
     assert!(rt; are_placed(&pieces));
     assert!(rt; are_stacks(&pieces, &image.stacks));
@@ -66,26 +69,79 @@ fn machine_of(rt: &impl Abort, alloc: Global, bytes: &[u8]) -> Result<Machine<Fl
     Ok(Machine::new(alloc, image, space)?)
 }
 
-#[test]
-fn one_thread_to_its_end(rt: HostRuntime) -> Result<(), Fail> {
-    let alloc = rt.alloc();
-    let main = Name::from_slice(alloc, b"main")?;
-    let mut machine = machine_of(&rt, alloc, &IMAGE)?;
-    assert_eq!(rt; machine.spawn(&main, 7)?, 0);
-    let thread = *machine.threads().first().ok_or("no thread")?;
-    assert_eq!(rt;
-        (thread.number, thread.pc, thread.registers),
-        (0, 0x0010_0010, [0, 0, 0, 0, 0x0040_0FEC, 0, 0, 0])
-    );
+fn spawned(machine: &mut Machine<FlatSpace>, alloc: Global, name: &[u8]) -> Result<u32, Refusal>
+    requires { AreStacks machine.old.contents.pieces machine.old.stacks }
+    ensures { AreStacks machine.new.contents.pieces machine.new.stacks }
+{
+    let name = Name::from_slice(alloc, name)?;
+    machine.spawn(&name, 7)
+}
+
+// The number of the thread that is started, if one is.
+fn starts(machine: &mut Machine<FlatSpace>, alloc: Global, name: &[u8]) -> Option<u32>
+    requires { AreStacks machine.old.contents.pieces machine.old.stacks }
+    ensures { AreStacks machine.new.contents.pieces machine.new.stacks }
+{
+    spawned(machine, alloc, name).ok()
+}
+
+fn is_refused(
+    machine: &mut Machine<FlatSpace>,
+    alloc: Global,
+    name: &[u8],
+    refusal: Refusal,
+) -> bool
+    requires { AreStacks machine.old.contents.pieces machine.old.stacks }
+    ensures { AreStacks machine.new.contents.pieces machine.new.stacks }
+{
+    spawned(machine, alloc, name).err() == Some(refusal)
+}
+
+fn is_at_main(thread: &Thread) -> bool {
+    let registers = thread.registers;
+    thread.number == 0
+        && thread.pc == 0x0010_0010
+        && registers == [0, 0, 0, 0, 0x0040_0FEC, 0, 0, 0]
+}
+
+fn first_frame(machine: &Machine<FlatSpace>) -> [u8; 20] {
     let mut frame = [0xFF; 20];
-    assert!(rt; machine.space().read(0x0040_0FEC, &mut frame).is_ok());
-    assert_eq!(rt;
-        frame,
-        [
-            0, 0, 0xFF, 0xFF, 7, 0, 0, 0, 0, 0, 0, 0, 0, 0, 0, 0, 0, 0, 0, 0
-        ]
+    let _ = machine.space().read(0x0040_0FEC, &mut frame);
+    frame
+}
+
+#[test]
+fn first_thread(rt: HostRuntime) -> Result<(), Fail> {
+    let alloc = rt.alloc();
+    let mut machine = machine_of(&rt, alloc, false)?;
+    assert!(rt; spawned(&mut machine, alloc, b"main") == Ok(0));
+    assert!(rt; is_at_main(machine.threads().first().ok_or("no thread")?));
+    assert!(rt;
+        first_frame(&machine)
+            == [
+                0, 0, 0xFF, 0xFF, 7, 0, 0, 0, 0, 0, 0, 0, 0, 0, 0, 0, 0, 0, 0, 0
+            ]
     );
-    assert!(rt; machine.spawn(&main, 0) == Err(Refusal::NoStack));
+    Ok(())
+}
+
+// What the steps of thread 0 come to until none is made.
+fn outcomes(alloc: Global, machine: &mut Machine<FlatSpace>) -> Result<Vec<Outcome>, AllocError> {
+    let mut outcomes = Vec::new(alloc);
+    for _ in 0..100 {
+        let Ok(outcome) = machine.step(0) else {
+            break;
+        };
+        outcomes.push(outcome)?;
+    }
+    Ok(outcomes)
+}
+
+#[test]
+fn steps_to_the_end(rt: HostRuntime) -> Result<(), Fail> {
+    let alloc = rt.alloc();
+    let mut machine = machine_of(&rt, alloc, false)?;
+    assert!(rt; spawned(&mut machine, alloc, b"main") == Ok(0));
     let steps = [
         Outcome::Moved(Flow::Call),
         Outcome::Moved(Flow::Plain),
@@ -93,47 +149,49 @@ fn one_thread_to_its_end(rt: HostRuntime) -> Result<(), Fail> {
         Outcome::Moved(Flow::Return),
         Outcome::Exited(1),
     ];
-    for outcome in steps {
-        assert!(rt; machine.step(0) == Ok(outcome));
-    }
-    assert!(rt; machine.step(0) == Err(Refusal::NoThread(0)));
+    assert!(rt; outcomes(alloc, &mut machine)?.as_slice() == steps.as_slice());
     assert!(rt; machine.step(7) == Err(Refusal::NoThread(7)));
     Ok(())
+}
+
+// A step of thread 0.
+fn step_first(machine: &mut Machine<FlatSpace>)
+    requires { AreStacks machine.old.contents.pieces machine.old.stacks }
+    ensures { AreStacks machine.new.contents.pieces machine.new.stacks }
+{
+    let _ = machine.step(0).ok();
 }
 
 #[test]
 fn stack_of_an_ended_thread(rt: HostRuntime) -> Result<(), Fail> {
     let alloc = rt.alloc();
-    let main = Name::from_slice(alloc, b"main")?;
-    let f = Name::from_slice(alloc, b"f")?;
-    let nope = Name::from_slice(alloc, b"nope")?;
-    let mut machine = machine_of(&rt, alloc, &IMAGE)?;
-    assert_eq!(rt; machine.spawn(&f, 0)?, 0);
-    assert!(rt; machine.step(0) == Ok(Outcome::Moved(Flow::Plain)));
-    assert!(rt; machine.step(0) == Ok(Outcome::Moved(Flow::Return)));
-    assert!(rt; machine.spawn(&main, 0) == Err(Refusal::NoStack));
-    assert!(rt; machine.step(0) == Ok(Outcome::Exited(1)));
-    assert!(rt; machine.spawn(&nope, 0) == Err(Refusal::NoSymbol(nope)));
-    assert_eq!(rt; machine.spawn(&main, 0)?, 1);
-    let states = machine.threads();
-    assert_eq!(rt; states.len(), 2);
-    assert_eq!(rt;
-        (states[0].state, states[1].state),
-        (State::Exited(1), State::Running)
-    );
+    let mut machine = machine_of(&rt, alloc, false)?;
+    assert!(rt; starts(&mut machine, alloc, b"f") == Some(0));
+    assert!(rt; is_refused(&mut machine, alloc, b"main", Refusal::NoStack));
+    let nope = Refusal::NoSymbol(Name::from_slice(alloc, b"nope")?);
+    assert!(rt; is_refused(&mut machine, alloc, b"nope", nope));
+    step_first(&mut machine);
+    step_first(&mut machine);
+    step_first(&mut machine);
+    assert!(rt; starts(&mut machine, alloc, b"main") == Some(1));
     Ok(())
 }
 
-// The numbers of the threads in the order in which they step.
-fn order(
-    alloc: Global,
-    machine: &mut Machine<FlatSpace>,
-    quantum: u32,
-    steps: u32,
-) -> Result<Vec<u32>, Refusal>
+// The numbers of two threads in the order in which they step.
+fn order(rt: &impl Abort, alloc: Global, quantum: u32, steps: u32) -> Result<Vec<u32>, Refusal>
     requires { 1 ≤ quantum }
 {
-    let mut turns = Turns::new(quantum, steps);
+    let mut machine = machine_of(rt, alloc, true)?;
+    spawned(&mut machine, alloc, b"main")?;
+    spawned(&mut machine, alloc, b"main")?;
+    in_turn(alloc, &mut machine, Turns::new(quantum, steps))
+}
+
+fn in_turn(
+    alloc: Global,
+    machine: &mut Machine<FlatSpace>,
+    mut turns: Turns,
+) -> Result<Vec<u32>, Refusal> {
     let mut order = Vec::new(alloc);
     for _ in 0..100 {
         let Some(thread) = turns.next(machine) else {
@@ -145,31 +203,12 @@ fn order(
     Ok(order)
 }
 
-fn in_turn(
-    rt: &impl Abort,
-    alloc: Global,
-    quantum: u32,
-    steps: u32,
-    want: &[u32],
-) -> Result<(), Fail>
-    requires { 1 ≤ quantum }
-{
-    let main = Name::from_slice(alloc, b"main")?;
-    let mut machine = machine_of(rt, alloc, two_stacks(alloc)?.as_slice())?;
-    assert_eq!(rt; machine.spawn(&main, 0)?, 0);
-    assert_eq!(rt; machine.spawn(&main, 0)?, 1);
-    assert_eq!(rt;
-        order(alloc, &mut machine, quantum, steps)?.as_slice(),
-        want
-    );
-    Ok(())
-}
-
 #[test]
 fn round_robin(rt: HostRuntime) -> Result<(), Fail> {
     let alloc = rt.alloc();
-    in_turn(&rt, alloc, 1, 50, &[0, 1, 0, 1, 0, 1, 0, 1, 0, 1])?;
-    in_turn(&rt, alloc, 2, 50, &[0, 0, 1, 1, 0, 0, 1, 1, 0, 1])?;
-    in_turn(&rt, alloc, 3, 4, &[0, 0, 0, 1])?;
-    in_turn(&rt, alloc, 1, 0, &[])
+    assert!(rt; order(&rt, alloc, 1, 50)?.as_slice() == [0, 1, 0, 1, 0, 1, 0, 1, 0, 1].as_slice());
+    assert!(rt; order(&rt, alloc, 2, 50)?.as_slice() == [0, 0, 1, 1, 0, 0, 1, 1, 0, 1].as_slice());
+    assert!(rt; order(&rt, alloc, 3, 4)?.as_slice() == [0, 0, 0, 1].as_slice());
+    assert!(rt; order(&rt, alloc, 1, 0)?.is_empty());
+    Ok(())
 }

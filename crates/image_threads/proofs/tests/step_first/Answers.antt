@@ -1,0 +1,4 @@
+use Rattle.image_threads.proofs.tests.step_first.Goals as goal
+
+pub returns : goal.returns
+returns c = c.step.ensures.stacks c.requires
