@@ -1,0 +1,3 @@
+pub mod CallTable
+pub mod Replies
+pub mod Session
