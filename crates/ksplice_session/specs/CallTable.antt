@@ -1,8 +1,8 @@
 -- The abstract machine that never patches code. A table says where the newest version of a function begins, and a thread that comes
 -- to the function's home goes on at that base; the text of each version stays as it is.
-use Rattle.std.specs.Prelude.{ℕ, ◌-◌, nat_lt, ◌==◌, if◌then◌else◌, List, [], ◌∷◌, map, set, take, replicate, Bool, false, Option, Some, None, Result, Ok, Err}
+use Rattle.std.specs.Prelude.{ℕ, ◌-◌, nat_lt, ◌==◌, if◌then◌else◌, List, [], ◌∷◌, map, set, take, replicate, false, Option, Some, None, Result, Ok, Err}
 use Rattle.std.specs.Option.{option_and_then}
-use Rattle.std.specs.List.{find, slice_get}
+use Rattle.std.specs.List.{find, last_or}
 use Rattle.ks_base.specs.declared.places.Range.{Range}
 use Rattle.ks_base.specs.declared.refusals.Fault.TheVariants as faults
 use Rattle.ks_base.specs.declared.refusals.Refusal.{Refusal}
@@ -16,9 +16,7 @@ use Rattle.symbol_table.specs.declared.symbols.Symbol.{Symbol}
 use Rattle.ia32_decode.specs.Decode.{decoded_from}
 use Rattle.ia32_step.specs.declared.types.Thread.{Thread}
 use Rattle.ia32_step.specs.declared.types.Flow.TheVariants.{Plain}
-use Rattle.ia32_step.specs.declared.types.Outcome.{Outcome}
 use Rattle.ia32_step.specs.declared.types.Outcome.TheVariants.{Moved}
-use Rattle.ia32_step.specs.Operands.{number_at}
 use Rattle.ia32_step.specs.Step.{Left, left_by, context_of, stops, exits, done, change_by}
 use Rattle.image_threads.specs.Program.{Program, running_at}
 use Rattle.image_threads.specs.Spawning.{spawned}
@@ -40,7 +38,7 @@ pub record CallTable : Type 0 where
 
 -- where the newest version of the function at a home begins, where it was replaced
 abbrev pub newest : List Row → ℕ → Option ℕ
-newest table pc = option_and_then (λ row. last row.bases) (find (λ row. row.home == pc) table)
+newest table pc = option_and_then (λ row. last_or None row.bases) (find (λ row. row.home == pc) table)
 
 -- what a thread meets at an address
 pub data Met : Type 0 where
@@ -102,7 +100,7 @@ program_of k = record {
   room = record { ranges = []; fences = 0 };
   table = record { symbols = k.symbols; spare = 0 };
   stacks = k.stacks;
-  threads = k.threads
+  threads = k.threads;
 }
 
 abbrev pub with_program : CallTable → Program → CallTable
@@ -139,7 +137,7 @@ first_table image = record {
   retired = [];
   symbols = image.symbols;
   stacks = image.stacks;
-  threads = []
+  threads = [];
 }
 
 -- a program in which nothing was replaced, as the machine
@@ -150,5 +148,5 @@ table_of program = record {
   retired = [];
   symbols = program.table.symbols;
   stacks = program.stacks;
-  threads = program.threads
+  threads = program.threads;
 }

@@ -1,3 +1,2 @@
 pub mod CallTable
-pub mod Replies
-pub mod Session
+pub mod Running
