@@ -1,0 +1,3 @@
+pub mod MemoryLaws
+pub mod TableLaws
+pub mod RunLaws
