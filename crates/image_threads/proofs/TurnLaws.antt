@@ -1,5 +1,5 @@
 -- Why the thread whose turn it is runs.
-use Rattle.std.proofs.Common.{◌≡◌, ℕ, zero, suc, ◌+◌, ◌-◌, ◌≤◌, Bool, true, false, ◌&&◌, ◌==◌, nat_lt, cond, List, [], ◌∷◌, map, if◌then◌else◌, IsSome, IfSome, Contains, is_some, Option, Some, None, refl, arith}
+use Rattle.std.proofs.Common.{◌≡◌, ℕ, suc, ◌-◌, ◌≤◌, true, false, ◌&&◌, ◌==◌, nat_lt, cond, List, [], ◌∷◌, map, if◌then◌else◌, IsSome, IfSome, Contains, is_some, Option, Some, None, refl, arith}
 use Rattle.std.specs.Option.{option_map, option_or}
 use Rattle.std.specs.List.{All, filter, find}
 use Rattle.std.proofs.lemmas.List.Elements.{All-nil, All-cons, All-head, All-weaker, All-contains}

@@ -1,5 +1,5 @@
 -- How a thread is started.
-use Rattle.std.specs.Prelude.{ℕ, ◌+◌, ◌-◌, Bool, true, false, IsTrue, ◌&&◌, not, nat_le, ◌==◌, if◌then◌else◌, List, [], ◌∷◌, ◌++◌, length, replicate, set, Option, Some, None, Result, Ok, Err}
+use Rattle.std.specs.Prelude.{ℕ, ◌-◌, Bool, true, false, IsTrue, ◌&&◌, not, nat_le, ◌==◌, if◌then◌else◌, List, [], ◌∷◌, ◌++◌, length, replicate, set, Option, Some, None, Result, Ok, Err}
 use Rattle.std.specs.List.{find, list_any, All}
 use Rattle.std.specs.Int.{w32, to_le_bytes}
 use Rattle.ks_base.specs.declared.places.Range.{Range}
