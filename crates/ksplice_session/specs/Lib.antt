@@ -1,2 +1,4 @@
 pub mod CallTable
 pub mod Running
+pub mod Replies
+pub mod Answers

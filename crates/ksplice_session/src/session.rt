@@ -1,5 +1,6 @@
 //! What a session holds, and what a script's lines do to it.
 ghost use Rattle.std.specs.Prelude.{◌≡◌, ◌≢◌, ◌≤◌, Ok, Err, IfOk, OnErr, MatchResult, length, is_some, true, false, if◌then◌else◌};
+ghost use Rattle.std.specs.List.{slice_get};
 ghost use Rattle.ks_base.specs.declared.refusals.Refusal.TheVariants.{Memory};
 ghost use Rattle.image_file.specs.Seen.{contents_of};
 ghost use Rattle.image_threads.specs.Turning.{after_turn};
@@ -7,13 +8,15 @@ ghost use Rattle.ksplice_session.specs.CallTable.{first_table, table_moved, tabl
 ghost use Rattle.ksplice_session.specs.Running.{runs_at, run_thread, turn_in, thread_in, run_turns, first_schedule};
 
 use crate::memory::all_pieces;
+use ia32_step::{State, Thread};
 use image_file::Image;
 use image_file::laws::image_keeps_rules;
-use image_memory::FlatSpace;
+use image_memory::{FlatSpace, Space};
 use image_threads::{Machine, Turns};
 use ks_base::{Name, Refusal};
 use std::alloc::{AllocError, Global};
 use std::marker::Model;
+use symbol_table::SymbolTable;
 
 /// A program that runs. A clause sees it as the machine that never patches code.
 #[derive(Drop)]
@@ -58,6 +61,44 @@ impl Session {
         self.machine.spawn(name, argument)
     }
 
+    /// The threads in the order of their numbers, from 0 on.
+    pub fn threads(&self) -> &[Thread]
+        ensures { result.now ≡ self.now.threads }
+    {
+        self.machine.threads()
+    }
+
+    /// The thread of a number.
+    pub(crate) fn thread(&self, number: u32) -> Option<Thread>
+        ensures { result ≡ slice_get self.now.threads number }
+    {
+        self.threads().get(number as usize).copied()
+    }
+
+    /// Whether a running thread has a number.
+    pub(crate) fn runs(&self, number: u32) -> bool
+        ensures { result ≡ runs_at self.now number }
+    {
+        match self.thread(number) {
+            Some(thread) => matches!(thread.state, State::Running),
+            None => false,
+        }
+    }
+
+    /// The symbols.
+    pub(crate) fn symbols(&self) -> &SymbolTable
+        ensures { result.now.symbols ≡ self.now.symbols }
+    {
+        self.machine.symbols()
+    }
+
+    /// The memory.
+    pub(crate) fn space(&self) -> &FlatSpace
+        ensures { (⟦<FlatSpace as Space>⟧.contents result.now).pieces ≡ self.now.pieces }
+    {
+        self.machine.space()
+    }
+
     /// A step of the running thread of a number, and whether there is one. It takes no memory.
     fn step(&mut self, thread: u32) -> bool
         ensures runs { result ≡ runs_at self.old thread }
@@ -99,9 +140,9 @@ impl Session {
         ensures { record { machine = self.new; made = result } ≡ run_turns self.old (first_schedule quantum steps) steps }
     {
         let mut turns = Turns::new(quantum, steps);
-        for made in 0..steps {
+        for done in 0..steps {
             if !self.turn(&mut turns) {
-                return made;
+                return done;
             }
         }
         steps

@@ -1,0 +1,20 @@
+//! What a line of a script comes to.
+use ks_base::Line;
+
+/// The answer to a line.
+#[derive(Drop)]
+pub struct Answer {
+    /// The reply.
+    pub line: Line,
+    /// Whether the reply is a refusal.
+    pub refused: bool,
+}
+
+/// When memory ran out.
+#[derive(Clone, Copy, PartialEq, Eq, Debug)]
+pub enum Shortage {
+    /// Before the line was run: all is as before.
+    BeforeLine,
+    /// When it had been run, before its reply, which isn't empty, was written.
+    AfterLine,
+}
