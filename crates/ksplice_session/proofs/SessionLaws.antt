@@ -1,5 +1,5 @@
 -- Lines of a script one after another.
-use Rattle.std.proofs.Common.{◌≡◌, ◌≢◌, ℕ, zero, suc, ◌+◌, ◌<◌, Bool, true, false, ◌||◌, if◌then◌else◌, List, [], ◌∷◌, ◌++◌, length, get_or, take, drop, Option, Some, None, Result, Ok, Err, OnOk, OnErr, refl, sym, ◌∙◌, ap, subst, append_assoc, arith, ◌⊎◌, inl, inr}
+use Rattle.std.proofs.Common.{◌≡◌, ℕ, zero, suc, ◌+◌, ◌<◌, Bool, true, false, ◌||◌, List, [], ◌∷◌, ◌++◌, length, get_or, take, drop, Option, Some, None, Result, Ok, Err, OnOk, OnErr, refl, sym, ◌∙◌, ap, subst, append_assoc, arith, inl, inr}
 use Rattle.ks_io.specs.Outside.{grown}
 use Rattle.ks_io.specs.Fronts.{grown-append}
 use Rattle.ks_io.specs.declared.types.SinkFault.{SinkFault}
@@ -14,8 +14,8 @@ use Rattle.ksplice_session.specs.CallTable.{CallTable}
 use Rattle.ksplice_session.specs.Replies.{Answered, answered}
 use Rattle.ksplice_session.specs.Answers.{given, Answers}
 use Rattle.ksplice_session.specs.Parts.{TookPart}
-use Rattle.ksplice_session.specs.LineEnds.{IsCut, LineEnds, line_end, LinesEnd}
-use Rattle.ksplice_session.specs.Session.{after, replies, some_refused, Stopped, Ends, AllDone, AllRun, SinkStopped, MemoryBefore, MemoryAfter}
+use Rattle.ksplice_session.specs.LineEnds.{IsCut, LineEnds, line_end}
+use Rattle.ksplice_session.specs.Session.{after, replies, some_refused, Stopped, Ends, SinkStopped, MemoryBefore, MemoryAfter}
 
 after_append : (k : CallTable) (xs ys : List Command) → after k (xs ++ ys) ≡ after (after k xs) ys
 unfolding after
