@@ -2,3 +2,4 @@ pub mod MemoryLaws
 pub mod TableLaws
 pub mod RunLaws
 pub mod AnswerLaws
+pub mod SessionLaws

@@ -14,9 +14,6 @@ ended k made = record { machine = k; made = made }
 one_later : (m : ℕ) (run : Run) → later m (one_more run) ≡ later (m + 1) run
 one_later m run = ap (ended run.machine) (omega arith)
 
-pub first_later : (run : Run) → later 0 run ≡ run
-first_later run = ap (ended run.machine) (omega arith)
-
 -- behind a step that was made
 pub thread_goes_on : (k : CallTable) (thread made steps : ℕ) → made < steps → runs_at k thread ≡ true
     → later (made + 1) (run_thread (table_moved k thread) thread (steps - (made + 1))) ≡ later made (run_thread k thread (steps - made))

@@ -2,3 +2,6 @@ pub mod CallTable
 pub mod Running
 pub mod Replies
 pub mod Answers
+pub mod Parts
+pub mod Session
+pub mod LineEnds

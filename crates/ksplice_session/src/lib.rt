@@ -3,12 +3,15 @@
 
 pub mod answers;
 mod memory;
+pub mod running;
 pub mod session;
 pub mod types;
+mod writing;
 
 pub use answers::answer;
+pub use running::run_session;
 pub use session::Session;
-pub use types::{Answer, Shortage};
+pub use types::{Answer, SessionEnd, Shortage};
 
 #[cfg(test)]
 mod tests;

@@ -1,4 +1,4 @@
-//! What a line of a script comes to.
+//! What a line of a script comes to, and how a session ends.
 use ks_base::Line;
 
 /// The answer to a line.
@@ -17,4 +17,19 @@ pub enum Shortage {
     BeforeLine,
     /// When it had been run, before its reply, which isn't empty, was written.
     AfterLine,
+}
+
+/// How a session ends.
+#[derive(Clone, Copy, PartialEq, Eq, Debug)]
+pub enum SessionEnd {
+    /// All lines were run, and none was refused.
+    Done,
+    /// All lines were run, and at least one was refused.
+    SomeRefused,
+    /// A file could not be loaded.
+    FileEnd,
+    /// The sink failed.
+    SinkEnd,
+    /// Memory ran out.
+    MemoryEnd,
 }
