@@ -1,12 +1,25 @@
 -- Laws of what a sink has taken: pieces add up, and so do fronts of them.
 use Rattle.std.specs.Prelude.{◌≡◌, ℕ, Option, Some, None, List, [], ◌++◌, refl}
 use Rattle.std.proofs.Common.{sym, ◌∙◌, ap, append_assoc, append-nil}
-use Rattle.ks_io.specs.Outside.{grown, TookFront}
+use Rattle.ks_io.specs.Outside.{grown, TookFront, TookPart}
 
 -- taking two pieces is taking both as one
 pub grown-append : (old : Option (List ℕ)) (first second : List ℕ) → grown (grown old first) second ≡ grown old (first ++ second)
 grown-append None first second = refl
 grown-append (Some taken) first second = ap (λ bytes. Some bytes) (append_assoc taken first second)
+
+-- taking nothing leaves what was taken
+pub grown-nothing : (old : Option (List ℕ)) → grown old [] ≡ old
+grown-nothing None = refl
+grown-nothing (Some taken) = ap (λ bytes. Some bytes) (append-nil taken)
+
+-- where nothing was taken, a front of whatever was to come was
+pub nothing_taken : (old : Option (List ℕ)) (piece : List ℕ) → TookFront old piece old
+nothing_taken old piece = record { front = []; rest = piece; splits = refl; taken = sym (grown-nothing old) }
+
+-- a part is a front
+pub front_of_part : (old new : Option (List ℕ)) (piece : List ℕ) → TookPart old piece new → TookFront old piece new
+front_of_part old new piece part = record { front = part.front; rest = part.rest; splits = part.splits; taken = part.taken }
 
 -- the whole piece is a front of it
 pub TookFront-whole : {old new : Option (List ℕ)} (piece : List ℕ) → new ≡ grown old piece → TookFront old piece new

@@ -1,6 +1,6 @@
 -- What the outside is to this program: files that may be told, bytes that a sink may show as taken, and
 -- counts of what went wrong, by which an answer that isn't Ok is known to have its cause outside.
-use Rattle.std.specs.Prelude.{◌≡◌, ℕ, ◌+◌, ◌-◌, ◌^◌, ◌≤◌, ◌<◌, min, Option, Some, None, IsSomeAnd, List, ◌++◌, length}
+use Rattle.std.specs.Prelude.{◌≡◌, ◌≢◌, ℕ, ◌+◌, ◌-◌, ◌^◌, ◌≤◌, ◌<◌, min, Option, Some, None, IsSomeAnd, List, [], ◌++◌, length}
 
 -- how often a load found no file, a file longer than its limit, and a fault of the outside
 pub record Counts : Type 0 where
@@ -42,4 +42,12 @@ pub record TookFront (old : Option (List ℕ)) (piece : List ℕ) (new : Option 
   pub front : List ℕ
   pub rest : List ℕ
   pub splits : front ++ rest ≡ piece
+  pub taken : new ≡ grown old front
+
+-- of a piece some front was taken, maybe none of it, and not all
+pub record TookPart (old : Option (List ℕ)) (piece : List ℕ) (new : Option (List ℕ)) : Type 0 where
+  pub front : List ℕ
+  pub rest : List ℕ
+  pub splits : front ++ rest ≡ piece
+  pub cut : rest ≢ []
   pub taken : new ≡ grown old front

@@ -7,7 +7,7 @@ use Rattle.ksplice_cli.specs.Answer.{ComesOut, answer_of, refused_answer}
 use Rattle.ksplice_cli.specs.Reply.{code_reply, code_answer, reply_answer}
 use Rattle.ksplice_cli.specs.Words.{Code}
 use Rattle.ksplice_cli.specs.Calls.{Held, found_file, image_limit, AfterLoad, OneComesOut, Answered, NoMemory, LoadEnds, Answers, CountsTellOf}
-use Rattle.ksplice_cli.proofs.Diffs.{carried_over, ended_load}
+use Rattle.ksplice_cli.proofs.BothLoads.{carried_over, ended_load}
 use Rattle.ksplice_cli.proofs.Replies.{is_memory}
 
 -- the load ends the call

@@ -1,6 +1,5 @@
-pub mod Untaken
 pub mod Loads
-pub mod Diffs
+pub mod BothLoads
 pub mod Listings
 pub mod Replies
 pub mod Codes

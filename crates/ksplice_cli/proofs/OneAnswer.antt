@@ -10,8 +10,8 @@ use Rattle.ksplice_cli.specs.Answer.{Answer}
 use Rattle.ksplice_cli.specs.Difference.{listing}
 use Rattle.ksplice_cli.specs.Reply.{both_sections, IsDifference, IsReply, reply_answer}
 use Rattle.ksplice_cli.specs.Reply.IsDifference.{Unread, NoneExtracted, Lists}
-use Rattle.ksplice_cli.specs.Words.{Asked, Diff, Code}
-use Rattle.ksplice_cli.specs.Calls.{Found, Held, NotHeld, AfterLoad, IsAnswer, found_file, object_limit, image_limit}
+use Rattle.ksplice_cli.specs.Words.{Asked, Diff, Code, Run}
+use Rattle.ksplice_cli.specs.Calls.{Found, Held, NotHeld, AfterLoad, IsAnswer, found_file, object_limit, image_limit, script_limit}
 
 -- two objects have one extract or one refusal
 abbrev HasOneExtract : Type 0
@@ -69,3 +69,7 @@ one_answer law files failing (Some (Diff pre post)) one other is is' =
     one other is is'
 one_answer law files failing (Some (Code image name)) one other is is' =
     one_after_load (failing == 1) (found_file image_limit (files image)) image _ (λ bytes one other is is'. is ∙ sym is') one other is is'
+one_answer law files failing (Some (Run image script)) one other is is' =
+    one_after_load (failing == 1) (found_file image_limit (files image)) image _
+    (λ bytes. one_after_load (failing == 2) (found_file script_limit (files script)) script _ (λ lines one other is is'. is ∙ sym is'))
+    one other is is'

@@ -46,7 +46,7 @@ pub refusal_comes_out : (pre post : List ℕ) (refusal : Refusal) (old new : Opt
 refusal_comes_out pre post refusal old new status = comes_out_by pre post refusal old new status (is_memory refusal)
 
 -- the usage line comes out, where the words have no reading
-pub usage_comes_out : (output : List ℕ) (old new : Option (List ℕ)) (status : ℕ) → output ≡ codes "usage: ksplice diff PRE POST | code IMAGE NAME\n"
+pub usage_comes_out : (output : List ℕ) (old new : Option (List ℕ)) (status : ℕ) → output ≡ codes "usage: ksplice diff PRE POST | code IMAGE NAME | run IMAGE SCRIPT\n"
     → ComesOut (answer_of output 2) old new status → ComesOut usage_answer old new status
 usage_comes_out output old new status e out = subst (λ (x : List ℕ). ComesOut (answer_of x 2) old new status) e out
 

@@ -6,8 +6,8 @@ use Rattle.ks_io.specs.Answered.{ShowsIn}
 use Rattle.ks_io.specs.declared.types.FileFault.{FileFault}
 use Rattle.ks_io.specs.declared.types.FileFault.TheVariants.{Missing, TooLong, Failed, Memory}
 use Rattle.ksplice_cli.specs.Answer.{Answer, usage_answer, file_answer, file_line, fault_text, ComesOut}
-use Rattle.ksplice_cli.specs.Reply.{IsReply, code_answer}
-use Rattle.ksplice_cli.specs.Words.{Asked, Diff, Code}
+use Rattle.ksplice_cli.specs.Reply.{IsReply, code_answer, run_answer}
+use Rattle.ksplice_cli.specs.Words.{Asked, Diff, Code, Run}
 
 -- what a load finds where the files are told: the file's bytes, or why there are none
 pub data Found : Type 0 where
@@ -18,12 +18,15 @@ abbrev pub found_file : ℕ → Option (List ℕ) → Found
 found_file limit None = NotHeld Missing
 found_file limit (Some bytes) = if nat_le (length bytes) limit then Held bytes else NotHeld TooLong
 
--- the most bytes that an object file may have, and an image file
+-- the most bytes that an object file may have, an image file, and a script
 abbrev pub object_limit : ℕ
 object_limit = 8388608
 
 abbrev pub image_limit : ℕ
 image_limit = 33554432
+
+abbrev pub script_limit : ℕ
+script_limit = 1048576
 
 -- the answers of a load, given those of what comes after it; a load that the outside fails ends the call whatever the
 -- file is
@@ -31,6 +34,12 @@ abbrev pub AfterLoad : Bool → Found → List ℕ → (List ℕ → Answer → 
 AfterLoad true found name rest answer = answer ≡ file_answer name Failed
 AfterLoad false (Held bytes) name rest answer = rest bytes answer
 AfterLoad false (NotHeld fault) name rest answer = answer ≡ file_answer name fault
+
+-- The answers of two loads one after the other, given those of what comes after both; `failing` is the number of the load that
+-- the outside fails, 0 where none does.
+abbrev pub AfterBoth : ℕ → Found → List ℕ → Found → List ℕ → (List ℕ → List ℕ → Answer → Type 0) → Answer → Type 0
+AfterBoth failing first first_name second second_name rest =
+    AfterLoad (failing == 1) first first_name (λ bytes. AfterLoad (failing == 2) second second_name (rest bytes))
 
 -- One of these answers comes out; or memory ran out before there was one, and nothing came out.
 pub data OneComesOut (IsOne : Answer → Type 0) (old new : Option (List ℕ)) (status : ℕ) : Type 0 where
@@ -44,6 +53,17 @@ pub record LoadEnds (found : Found) (name : List ℕ) (before now : Counts) (old
   pub caused : failed ≡ true → Rose before.faults now.faults
   pub answer : OneComesOut (AfterLoad failed found name (λ bytes answer. ⊥)) old new status
 
+-- What comes out is one of the answers for some failing load, by its number; one fails only where the count of faults rose.
+pub record AnswersBy (IsOne : ℕ → Answer → Type 0) (before now : Counts) (old new : Option (List ℕ)) (status : ℕ) : Type 0 where
+  pub failing : ℕ
+  pub caused : failing ≢ 0 → Rose before.faults now.faults
+  pub answer : OneComesOut (IsOne failing) old new status
+
+-- Where the files are told, what comes out of two loads of which one ends the call.
+abbrev pub BothEnd : Found → List ℕ → Found → List ℕ → Counts → Counts → Option (List ℕ) → Option (List ℕ) → ℕ → Type 0
+BothEnd first first_name second second_name =
+    AnswersBy (λ failing. AfterBoth failing first first_name second second_name (λ bytes other answer. ⊥))
+
 -- What came out is the line of the file of this name, and what was wrong with the file shows in its count.
 pub record EndsWithFile (name : List ℕ) (before now : Counts) (old new : Option (List ℕ)) : Type 0 where
   pub fault : FileFault
@@ -51,42 +71,52 @@ pub record EndsWithFile (name : List ℕ) (before now : Counts) (old new : Optio
   pub fault_of_file : fault ≢ Memory
   pub line : new ≡ grown old (file_line name (fault_text fault))
 
--- The answers to `diff` over told files, `failing` being the number of the load that the outside fails, 0 where none
--- does. Both objects are loaded before the first is read.
+-- What came out is the line of a file of one of these names.
+pub record EndsWithOneFile (IsNamed : List ℕ → Type 0) (before now : Counts) (old new : Option (List ℕ)) : Type 0 where
+  pub name : List ℕ
+  pub named : IsNamed name
+  pub ends : EndsWithFile name before now old new
+
+-- The answers to `diff` over told files. Both objects are loaded before the first is read.
 abbrev pub IsDiffAnswer : (List ℕ → Option (List ℕ)) → ℕ → List ℕ → List ℕ → Answer → Type 0
 IsDiffAnswer files failing pre post =
-    AfterLoad (failing == 1) (found_file object_limit (files pre)) pre
-    (λ old. AfterLoad (failing == 2) (found_file object_limit (files post)) post (IsReply old))
+    AfterBoth failing (found_file object_limit (files pre)) pre (found_file object_limit (files post)) post IsReply
 
 -- the answers to `code` over told files
 abbrev pub IsCodeAnswer : (List ℕ → Option (List ℕ)) → ℕ → List ℕ → List ℕ → Answer → Type 0
 IsCodeAnswer files failing image name =
     AfterLoad (failing == 1) (found_file image_limit (files image)) image (λ bytes answer. answer ≡ code_answer bytes name)
 
+-- The answers to `run` over told files. Image and script are loaded before the image is read.
+abbrev pub IsRunAnswer : (List ℕ → Option (List ℕ)) → ℕ → List ℕ → List ℕ → Answer → Type 0
+IsRunAnswer files failing image script =
+    AfterBoth failing (found_file image_limit (files image)) image (found_file script_limit (files script)) script
+    (λ bytes lines answer. answer ≡ run_answer bytes lines)
+
 -- the answers to what the words ask for
 abbrev pub IsAnswer : (List ℕ → Option (List ℕ)) → ℕ → Option Asked → Answer → Type 0
 IsAnswer files failing None answer = answer ≡ usage_answer
 IsAnswer files failing (Some (Diff pre post)) answer = IsDiffAnswer files failing pre post answer
 IsAnswer files failing (Some (Code image name)) answer = IsCodeAnswer files failing image name answer
+IsAnswer files failing (Some (Run image script)) answer = IsRunAnswer files failing image script answer
 
--- Where the files are told, what comes out is an answer for some failing load; one fails only where the count of faults
--- rose.
-pub record Answers (asked : Option Asked) (files : List ℕ → Option (List ℕ)) (before now : Counts) (old new : Option (List ℕ)) (status : ℕ) : Type 0 where
-  pub failing : ℕ
-  pub caused : failing ≢ 0 → Rose before.faults now.faults
-  pub answer : OneComesOut (IsAnswer files failing asked) old new status
+-- Where the files are told, what comes out is an answer to what the words ask for.
+abbrev pub Answers : Option Asked → (List ℕ → Option (List ℕ)) → Counts → Counts → Option (List ℕ) → Option (List ℕ) → ℕ → Type 0
+Answers asked files = AnswersBy (λ failing. IsAnswer files failing asked)
 
 -- a name that the call was given for a file
 abbrev pub NamesFile : Option Asked → List ℕ → Type 0
 NamesFile None name = ⊥
 NamesFile (Some (Diff pre post)) name = (name ≡ pre) ⊎ (name ≡ post)
 NamesFile (Some (Code image function)) name = name ≡ image
+NamesFile (Some (Run image script)) name = (name ≡ image) ⊎ (name ≡ script)
 
 -- one of the files that the call was given is so, by its limit and its name
 abbrev pub NamesOne : Option Asked → (ℕ → List ℕ → Type 0) → Type 0
 NamesOne None P = ⊥
 NamesOne (Some (Diff pre post)) P = P object_limit pre ⊎ P object_limit post
 NamesOne (Some (Code image name)) P = P image_limit image
+NamesOne (Some (Run image script)) P = P image_limit image ⊎ P script_limit script
 
 -- Where the files are told, the counts rise only for a file that the call was given: absences for one that isn't there,
 -- excesses for one that is longer than its limit.
@@ -96,10 +126,15 @@ CountsTellOf asked files before now =
     × (before.excesses < now.excesses → NamesOne asked (λ limit name. IsLonger limit (files name)))
 
 -- What came out is the line of a file that the call was given.
-pub record EndsWithSomeFile (asked : Option Asked) (before now : Counts) (old new : Option (List ℕ)) : Type 0 where
-  pub name : List ℕ
-  pub named : NamesFile asked name
-  pub ends : EndsWithFile name before now old new
+abbrev pub EndsWithSomeFile : Option Asked → Counts → Counts → Option (List ℕ) → Option (List ℕ) → Type 0
+EndsWithSomeFile asked = EndsWithOneFile (NamesFile asked)
+
+-- What the counts tell of two loads one after the other: absences rose only where one of the files isn't there, excesses only
+-- where one is longer than its limit.
+abbrev pub BothTell : Option (List ℕ) → ℕ → Option (List ℕ) → ℕ → Counts → Counts → Type 0
+BothTell first first_limit second second_limit before now =
+    (before.absences < now.absences → (first ≡ None) ⊎ (second ≡ None))
+    × (before.excesses < now.excesses → IsLonger first_limit first ⊎ IsLonger second_limit second)
 
 -- What came out is the reply for some two files within the limit.
 pub record ComparesSome (old new : Option (List ℕ)) (status : ℕ) : Type 0 where
@@ -117,11 +152,20 @@ pub record ListsSome (name : List ℕ) (old new : Option (List ℕ)) (status : �
   pub fits : length bytes ≤ image_limit
   pub comes_out : ComesOut (code_answer bytes name) old new status
 
+-- What came out is the reply of a session for some image file and some script within their limits.
+pub record RunsSome (old new : Option (List ℕ)) (status : ℕ) : Type 0 where
+  pub bytes : List ℕ
+  pub lines : List ℕ
+  pub bytes_fit : length bytes ≤ image_limit
+  pub lines_fit : length lines ≤ script_limit
+  pub comes_out : ComesOut (run_answer bytes lines) old new status
+
 -- What came out is the reply to what the words ask for, for some files.
 abbrev pub RepliesSome : Option Asked → Option (List ℕ) → Option (List ℕ) → ℕ → Type 0
 RepliesSome None old new status = ⊥
 RepliesSome (Some (Diff pre post)) old new status = ComparesSome old new status
 RepliesSome (Some (Code image name)) old new status = ListsSome name old new status
+RepliesSome (Some (Run image script)) old new status = RunsSome old new status
 
 -- the statuses with which a call ends whose file isn't loaded, that has its reply, whose words have a reading; and all
 abbrev pub ends_load : ℕ → Bool

@@ -1,6 +1,6 @@
--- The replies: to `diff` the difference of two object files, to `code` the instructions of one function of an image, or
--- why there are none.
-use Rattle.std.specs.Prelude.{◌≡◌, ℕ, List, Option, Some, None, Result, Ok, Err}
+-- The replies: to `diff` the difference of two object files, to `code` the instructions of one function of an image, to `run`
+-- those of a session; or why there are none.
+use Rattle.std.specs.Prelude.{◌≡◌, ℕ, if◌then◌else◌, List, Option, Some, None, Result, Ok, Err}
 use Rattle.ks_base.specs.declared.refusals.Refusal.{Refusal}
 use Rattle.elf32_object.specs.declared.types.ObjectFault.{ObjectFault}
 use Rattle.elf32_object.specs.Rules.{object_fault}
@@ -11,6 +11,10 @@ use Rattle.extract_post.specs.declared.types.Extract.{Extract}
 use Rattle.extract_post.specs.Extract.{Extracts}
 use Rattle.image_file.specs.Reading.{Contents, image_of}
 use Rattle.code_listing.specs.Listing.{code_of}
+use Rattle.script_lines.specs.declared.types.Command.{Command}
+use Rattle.script_lines.specs.Script.{script_of}
+use Rattle.ksplice_session.specs.CallTable.{CallTable, first_table}
+use Rattle.ksplice_session.specs.Session.{replies, some_refused}
 use Rattle.ksplice_cli.specs.Answer.{Answer, refused_answer, answer_of}
 use Rattle.ksplice_cli.specs.Difference.{listing}
 
@@ -71,3 +75,28 @@ code_reply bytes name = code_of_read (image_of bytes) name
 
 abbrev pub code_answer : List ℕ → List ℕ → Answer
 code_answer bytes name = reply_answer (code_reply bytes name)
+
+-- the machine of an image at its start, and the lines of a script
+abbrev pub with_lines : CallTable → Result (List Command) Refusal → Result (CallTable × List Command) Refusal
+with_lines machine (Err refusal) = Err refusal
+with_lines machine (Ok lines) = Ok (machine, lines)
+
+abbrev pub session_of_read : Result Contents Refusal → Result (List Command) Refusal → Result (CallTable × List Command) Refusal
+session_of_read (Err refusal) script = Err refusal
+session_of_read (Ok image) script = with_lines (first_table image) script
+
+-- the session of an image file and a script file; what is wrong with the image comes before what is wrong with the script
+unfoldable pub session_of : List ℕ → List ℕ → Result (CallTable × List Command) Refusal
+session_of image script = session_of_read (image_of image) (script_of script)
+
+-- the replies to the lines; the status says whether one of them is a refusal
+abbrev pub lines_answer : CallTable → List Command → Answer
+lines_answer machine lines = answer_of (replies machine lines) (if some_refused machine lines then 3 else 0)
+
+abbrev pub session_answer : Result (CallTable × List Command) Refusal → Answer
+session_answer (Err refusal) = refused_answer refusal
+session_answer (Ok session) = lines_answer session.0 session.1
+
+-- the answer to `run` where both files are loaded
+abbrev pub run_answer : List ℕ → List ℕ → Answer
+run_answer image script = session_answer (session_of image script)

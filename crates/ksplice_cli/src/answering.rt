@@ -11,12 +11,13 @@ use crate::command::Command;
 use crate::diffing::diff;
 use crate::image_code::code;
 use crate::saying::say;
+use crate::session_run::run;
 use crate::status::Status;
 use crate::words::read_words;
 use ks_io::{Files, Sink};
 use std::alloc::Global;
 
-const USAGE: &str = "usage: ksplice diff PRE POST | code IMAGE NAME\n";
+const USAGE: &str = "usage: ksplice diff PRE POST | code IMAGE NAME | run IMAGE SCRIPT\n";
 
 // Carries out what the words ask for.
 fn carry_out<F: Files, O: Sink>(
@@ -47,6 +48,7 @@ fn carry_out<F: Files, O: Sink>(
     match command {
         Command::Diff { pre, post } => diff(alloc, pre, post, files, out),
         Command::Code { image, name } => code(alloc, image, name, files, out),
+        Command::Run { image, script } => run(alloc, image, script, files, out),
     }
 }
 
@@ -55,13 +57,13 @@ fn carry_out<F: Files, O: Sink>(
 ///
 /// - 0: the command was carried out, and its reply is the output.
 /// - 2: the words have no reading. The output is the usage line.
-/// - 3: the command was refused. The output is the refusal's line.
+/// - 3: the command was refused, or a line of the script. The output is the refusal's line, or the replies to all lines.
 /// - 4: a file that a word names is missing, longer than its limit, or could not be read, each of which shows in
 ///   its count. The output is the file's line.
 /// - 5: the sink failed, which shows in its count. It has taken a front of the output.
 /// - 6: memory ran out. The sink has taken a front of the output.
-/// - 7: the image isn't in its form. The output is the refusal's line.
-#[tactic(auto, using(crate::proofs::Diffs::none_tells))]
+/// - 7: the image or the script isn't in its form, and nothing of the script has run. The output is the refusal's line.
+#[tactic(auto, using(crate::proofs::BothLoads::none_tells))]
 pub fn ksplice<F: Files, O: Sink>(
     alloc: Global,
     words: &[String],

@@ -7,4 +7,6 @@ pub enum Command<'a> {
     Diff { pre: &'a str, post: &'a str },
     /// `code IMAGE NAME`: the instructions of one function of an image, by the names of both.
     Code { image: &'a str, name: &'a str },
+    /// `run IMAGE SCRIPT`: a session, by the names of the image and of the script.
+    Run { image: &'a str, script: &'a str },
 }

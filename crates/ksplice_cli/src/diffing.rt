@@ -6,17 +6,14 @@ ghost use Rattle.ksplice_cli.specs.Reply.{IsReply};
 ghost use Rattle.ksplice_cli.specs.Words.{Diff};
 
 use crate::comparing::compare;
-use crate::loading::load_or_end;
+use crate::loading::{OBJECT_LIMIT, Wanted, load_both};
 use crate::saying::{refuse, say};
 use crate::status::Status;
 use ks_io::{Files, Sink};
 use std::alloc::Global;
 
-/// The most bytes that an object file may have.
-const OBJECT_LIMIT: u32 = 8_388_608;
-
 // Writes the reply of a comparison, or its refusal.
-#[tactic(auto, using(crate::proofs::Untaken::nothing_taken))]
+#[tactic(auto, using(ks_io::specs::Fronts::nothing_taken))]
 fn print_difference<O: Sink>(alloc: Global, pre: &[u8], post: &[u8], out: &mut O) -> Status
     ensures status { ends_reply result.code ≡ true }
     ensures answer { OneComesOut (IsReply pre.now post.now) (O.taken out.old) (O.taken out.new) result.code }
@@ -58,13 +55,16 @@ pub fn diff<F: Files, O: Sink>(
     ensures never_falls { O.faults out.old ≤ O.faults out.new }
     ensures quiet_kept { O.quiet out.old → O.quiet out.new }
 {
-    let old = match load_or_end(alloc, pre, OBJECT_LIMIT, files, out) {
-        Ok(bytes) => bytes,
-        Err(status) => return status,
+    let first = Wanted {
+        name: pre,
+        limit: OBJECT_LIMIT,
     };
-    let new = match load_or_end(alloc, post, OBJECT_LIMIT, files, out) {
-        Ok(bytes) => bytes,
-        Err(status) => return status,
+    let second = Wanted {
+        name: post,
+        limit: OBJECT_LIMIT,
     };
-    print_difference(alloc, old.as_slice(), new.as_slice(), out)
+    match load_both(alloc, first, second, files, out) {
+        Ok((old, new)) => print_difference(alloc, old.as_slice(), new.as_slice(), out),
+        Err(status) => status,
+    }
 }

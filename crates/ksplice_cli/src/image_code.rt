@@ -7,7 +7,7 @@ ghost use Rattle.ksplice_cli.specs.Calls.{Answers, CountsTellOf, EndsWithSomeFil
 ghost use Rattle.ksplice_cli.specs.Reply.{code_reply, code_answer};
 ghost use Rattle.ksplice_cli.specs.Words.{Code};
 
-use crate::loading::load_or_end;
+use crate::loading::{IMAGE_LIMIT, load_or_end};
 use crate::saying::refuse;
 use crate::status::Status;
 use code_listing::{Listing, list_code};
@@ -15,9 +15,6 @@ use image_file::read_image;
 use ks_base::{Name, Refusal};
 use ks_io::{Files, Sink, SinkFault, write_all};
 use std::alloc::Global;
-
-/// The most bytes that an image file may have.
-const IMAGE_LIMIT: u32 = 33_554_432;
 
 /// Loads the image, and then writes the instructions of the function of the name.
 pub fn code<F: Files, O: Sink>(
@@ -53,7 +50,7 @@ pub fn code<F: Files, O: Sink>(
 }
 
 // Writes the instructions of a function of an image, or why there are none.
-#[tactic(auto, using(crate::proofs::Untaken::nothing_taken))]
+#[tactic(auto, using(ks_io::specs::Fronts::nothing_taken))]
 fn print_code<O: Sink>(alloc: Global, bytes: &[u8], name: &str, out: &mut O) -> Status
     ensures status { ends_reply result.code ≡ true }
     ensures answer { OneComesOut (λ answer. answer ≡ code_answer bytes.now name.now) (O.taken out.old) (O.taken out.new) result.code }
@@ -95,7 +92,7 @@ fn print_listing<O: Sink>(alloc: Global, listing: &mut Listing, out: &mut O) -> 
 }
 
 // Writes the next page of a listing; the status, where the listing ends with it.
-#[tactic(auto, using(crate::proofs::Untaken::nothing_taken, crate::proofs::Pages::page_came_out))]
+#[tactic(auto, using(ks_io::specs::Fronts::nothing_taken, ks_io::specs::Fronts::front_of_part, crate::proofs::Pages::page_came_out))]
 fn print_page<O: Sink>(alloc: Global, listing: &mut Listing, out: &mut O) -> Option<Status>
     ensures status { IfSome result (λ status. ends_reply status.code ≡ true) }
     ensures last { IfSome result (λ status. ComesOut (answer_of listing.old 0) (O.taken out.old) (O.taken out.new) status.code) }

@@ -11,6 +11,7 @@ mod listing;
 mod loading;
 pub mod real;
 mod saying;
+mod session_run;
 pub mod status;
 mod verb;
 mod verbs;

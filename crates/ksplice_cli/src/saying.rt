@@ -11,6 +11,7 @@ use ks_io::{FileFault, Sink, SinkFault, write_all};
 use std::alloc::{AllocError, Global};
 
 /// Writes the output and ends with the status; with another one where the sink doesn't take the output.
+#[tactic(auto, using(ks_io::specs::Fronts::front_of_part))]
 pub fn say<O: Sink>(out: &mut O, output: &[u8], status: Status) -> Status
     requires { (status.code == 5 || status.code == 6) ≡ false }
     ensures answer { ComesOut (answer_of output.now status.code) (O.taken out.old) (O.taken out.new) result.code }
@@ -28,7 +29,7 @@ pub fn say<O: Sink>(out: &mut O, output: &[u8], status: Status) -> Status
 }
 
 /// Ends the call with a refusal's line. Want of memory has none.
-#[tactic(auto, using(crate::proofs::Untaken::nothing_taken))]
+#[tactic(auto, using(ks_io::specs::Fronts::nothing_taken))]
 pub fn refuse<O: Sink>(alloc: Global, refusal: &Refusal, out: &mut O) -> Status
     ensures status { ends_reply result.code ≡ true }
     ensures answer { refusal.now ≢ Refusal.Memory → ComesOut (refused_answer refusal.now) (O.taken out.old) (O.taken out.new) result.code }
@@ -61,7 +62,7 @@ fn status_of(refusal: &Refusal) -> Status
 
 /// Ends the call with the line of a file that was not loaded, and why. A file that memory was wanting for has
 /// no line.
-#[tactic(auto, using(crate::proofs::Untaken::nothing_taken))]
+#[tactic(auto, using(ks_io::specs::Fronts::nothing_taken))]
 pub fn end_with_file<O: Sink>(alloc: Global, name: &str, fault: FileFault, out: &mut O) -> Status
     ensures answer { ComesOut (file_answer name.now fault) (O.taken out.old) (O.taken out.new) result.code }
     ensures memory { fault ≡ FileFault.Memory → (result.code ≡ 6) × (O.taken out.new ≡ O.taken out.old) }
@@ -79,7 +80,7 @@ pub fn end_with_file<O: Sink>(alloc: Global, name: &str, fault: FileFault, out: 
     }
 }
 
-#[tactic(auto, using(crate::proofs::Untaken::nothing_taken))]
+#[tactic(auto, using(ks_io::specs::Fronts::nothing_taken))]
 fn say_file<O: Sink>(alloc: Global, name: &str, fault: &str, out: &mut O) -> Status
     ensures answer { ComesOut (answer_of (file_line name.now fault.now) 4) (O.taken out.old) (O.taken out.new) result.code }
     ensures status { ends_load result.code ≡ true }

@@ -12,6 +12,20 @@ use std::process::Abort;
 use std::test::Fail;
 use updates::{A_TEXT, DATA, WORK_ALONE, WORK_AND_COLD};
 
+const USAGE: &str = "usage: ksplice diff PRE POST | code IMAGE NAME | run IMAGE SCRIPT\n";
+
+/// A script with one reply of each kind, and its replies.
+const SCRIPT: &str = "# a thread\nspawn main 7\nstep 0 2\nthreads\n\nrr 1 9\npeek 0x00100000 2\n";
+
+const REPLIES: &str = "\
+spawned 0 0x00100010 main+0x0
+stepped 0 2 running 0x00100005 f+0x5
+thread 0 running 0x00100005 f+0x5
+threads 1
+rr 3
+0x00100000: b8 01
+";
+
 /// Where the one function's constant stands, and its name.
 const CONSTANT: usize = 53;
 
@@ -53,10 +67,15 @@ fn answer(
     files.put("empty", &[])?;
     files.put("program", &PROGRAM)?;
     files.put("cut", b"KIM1")?;
+    put_scripts(&mut files)?;
     put_updates(&mut files)?;
     if words.iter().any(|word| *word == "long name") {
         let long = vec![in alloc; 0u8; 8_388_609]?;
         files.put("long name", long.as_slice())?;
+    }
+    if words.iter().any(|word| *word == "long script") {
+        let long = vec![in alloc; b'#'; 1_048_577]?;
+        files.put("long script", long.as_slice())?;
     }
     let mut all = Vec::new(alloc);
     for word in words {
@@ -65,6 +84,14 @@ fn answer(
     let mut out = MemorySink::new(alloc, writes, most);
     let status = ksplice(alloc, all.as_slice(), &mut files, &mut out);
     Ok((Vec::from_slice(alloc, out.taken())?, status.code))
+}
+
+/// The scripts.
+fn put_scripts(files: &mut MemoryFiles) -> Result<(), Fail> {
+    files.put("script", SCRIPT.as_bytes())?;
+    files.put("refused", b"spawn nope 0\nstep 7 1\nspawn f 0\nspawn f 0")?;
+    files.put("jump", b"threads\njump\n")?;
+    Ok(())
 }
 
 /// The files of objects with references and data.
@@ -84,7 +111,6 @@ fn put_updates(files: &mut MemoryFiles) -> Result<(), Fail> {
 
 #[test]
 fn answers(rt: HostRuntime) -> Result<(), Fail> {
-    let usage = "usage: ksplice diff PRE POST | code IMAGE NAME\n";
     let calls: [(&[&str], &str, u8); 22] = [
         (&["diff", "one", "two"], "changed f\n", 0),
         (&["diff", "renamed", "two"], "changed \\x07\n", 0),
@@ -106,12 +132,12 @@ fn answers(rt: HostRuntime) -> Result<(), Fail> {
             "file long\\x20name too long\n",
             4,
         ),
-        (&["diff", "one"], usage, 2),
-        (&["diff", "one", "two", "one"], usage, 2),
-        (&["diff", "-one", "two"], usage, 2),
-        (&["Diff", "one", "two"], usage, 2),
-        (&["run", "one", "two"], usage, 2),
-        (&[], usage, 2),
+        (&["diff", "one"], USAGE, 2),
+        (&["diff", "one", "two", "one"], USAGE, 2),
+        (&["diff", "-one", "two"], USAGE, 2),
+        (&["Diff", "one", "two"], USAGE, 2),
+        (&["match", "one", "two"], USAGE, 2),
+        (&[], USAGE, 2),
     ];
     compare_answers(&rt, rt.alloc(), &calls)
 }
@@ -146,7 +172,6 @@ fn updates_with_references_and_data(rt: HostRuntime) -> Result<(), Fail> {
 
 #[test]
 fn code_of_an_image(rt: HostRuntime) -> Result<(), Fail> {
-    let usage = "usage: ksplice diff PRE POST | code IMAGE NAME\n";
     let calls: [(&[&str], &str, u8); 9] = [
         (&["code", "program", "f"], LISTING, 0),
         (
@@ -166,9 +191,43 @@ fn code_of_an_image(rt: HostRuntime) -> Result<(), Fail> {
         ),
         (&["code", "f", "program"], "file f missing\n", 4),
         (&["diff", "program", "one"], "refused 1 not elf\n", 3),
-        (&["code", "program"], usage, 2),
-        (&["code", "program", "f", "main"], usage, 2),
-        (&["code", "program", "-f"], usage, 2),
+        (&["code", "program"], USAGE, 2),
+        (&["code", "program", "f", "main"], USAGE, 2),
+        (&["code", "program", "-f"], USAGE, 2),
+    ];
+    compare_answers(&rt, rt.alloc(), &calls)
+}
+
+#[test]
+fn sessions(rt: HostRuntime) -> Result<(), Fail> {
+    let calls: [(&[&str], &str, u8); 11] = [
+        (&["run", "program", "script"], REPLIES, 0),
+        (&["run", "program", "empty"], "", 0),
+        (
+            &["run", "program", "refused"],
+            "refused 31 no symbol nope\nrefused 30 no thread 7\nspawned 0 0x00100000 f+0x0\nrefused 32 no stack\n",
+            3,
+        ),
+        (&["run", "program", "jump"], "refused 29 bad line 2\n", 7),
+        (
+            &["run", "cut", "jump"],
+            "refused 28 bad image at 4 short\n",
+            7,
+        ),
+        (
+            &["run", "script", "program"],
+            "refused 28 bad image at 0 magic\n",
+            7,
+        ),
+        (&["run", "cut", "none"], "file none missing\n", 4),
+        (&["run", "none", "script"], "file none missing\n", 4),
+        (
+            &["run", "program", "long script"],
+            "file long\\x20script too long\n",
+            4,
+        ),
+        (&["run", "program"], USAGE, 2),
+        (&["run", "program", "script", "script"], USAGE, 2),
     ];
     compare_answers(&rt, rt.alloc(), &calls)
 }
@@ -192,7 +251,8 @@ fn faults_of_the_outside(rt: HostRuntime) -> Result<(), Fail> {
     let alloc = rt.alloc();
     let diff: [&str; 3] = ["diff", "one", "two"];
     let code: [&str; 3] = ["code", "program", "f"];
-    let calls: [(&[&str], &[u64], &[u64], usize, &str, u8); 10] = [
+    let run: [&str; 3] = ["run", "program", "script"];
+    let calls: [(&[&str], &[u64], &[u64], usize, &str, u8); 15] = [
         (&diff, &[1], &[], 100, "file one failed\n", 4),
         (&diff, &[2], &[], 100, "file two failed\n", 4),
         (&diff, &[3], &[], 100, "changed f\n", 0),
@@ -203,6 +263,11 @@ fn faults_of_the_outside(rt: HostRuntime) -> Result<(), Fail> {
         (&code, &[2], &[], 1, LISTING, 0),
         (&code, &[], &[3], 5, "0x00100000", 5),
         (&code, &[], &[], 0, "", 5),
+        (&run, &[1], &[], 100, "file program failed\n", 4),
+        (&run, &[2], &[], 100, "file script failed\n", 4),
+        (&run, &[3], &[], 1, REPLIES, 0),
+        (&run, &[], &[2], 100, "spawned 0 0x00100010 main+0x0\n", 5),
+        (&run, &[], &[3], 5, "spawned 0 ", 5),
     ];
     for (words, loads, writes, most, output, status) in calls {
         let failing = (
@@ -225,7 +290,8 @@ fn faults_of_the_outside(rt: HostRuntime) -> Result<(), Fail> {
 #[test]
 fn want_of_memory(rt: HostRuntime) -> Result<(), Fail> {
     let alloc = rt.alloc();
-    let calls: [(&[&str], &str, u8); 5] = [
+    let calls: [(&[&str], &str, u8); 6] = [
+        (&["run", "program", "script"], REPLIES, 0),
         (&["code", "program", "f"], LISTING, 0),
         (&["diff", "one", "two"], "changed f\n", 0),
         (

@@ -1,7 +1,7 @@
 -- Lines of a script one after another.
 use Rattle.std.proofs.Common.{◌≡◌, ℕ, zero, suc, ◌+◌, ◌<◌, Bool, true, false, ◌||◌, List, [], ◌∷◌, ◌++◌, length, get_or, take, drop, Option, Some, None, Result, Ok, Err, OnOk, OnErr, refl, sym, ◌∙◌, ap, subst, append_assoc, arith, inl, inr}
-use Rattle.ks_io.specs.Outside.{grown}
-use Rattle.ks_io.specs.Fronts.{grown-append}
+use Rattle.ks_io.specs.Outside.{grown, TookFront, TookPart}
+use Rattle.ks_io.specs.Fronts.{grown-append, grown-nothing, nothing_taken, front_of_part, TookFront-whole, TookFront-after, TookFront-before}
 use Rattle.ks_io.specs.declared.types.SinkFault.{SinkFault}
 use Rattle.ks_io.specs.declared.types.SinkFault.TheVariants.{SinkFailed, Memory}
 use Rattle.script_lines.specs.declared.types.Command.{Command}
@@ -13,9 +13,8 @@ use Rattle.ksplice_session.specs.declared.types.SessionEnd.TheVariants.{Done, So
 use Rattle.ksplice_session.specs.CallTable.{CallTable}
 use Rattle.ksplice_session.specs.Replies.{Answered, answered}
 use Rattle.ksplice_session.specs.Answers.{given, Answers}
-use Rattle.ksplice_session.specs.Parts.{TookPart}
 use Rattle.ksplice_session.specs.LineEnds.{IsCut, LineEnds, line_end}
-use Rattle.ksplice_session.specs.Session.{after, replies, some_refused, Stopped, Ends, SinkStopped, MemoryBefore, MemoryAfter}
+use Rattle.ksplice_session.specs.Session.{after, replies, some_refused, Stopped, CutShort, Ends, AllDone, AllRun, SinkStopped, MemoryBefore, MemoryAfter}
 
 after_append : (k : CallTable) (xs ys : List Command) → after k (xs ++ ys) ≡ after (after k xs) ys
 unfolding after
@@ -60,10 +59,6 @@ refused_one : (k : CallTable) (x : Command) → some_refused k (x ∷ []) ≡ (a
 unfolding some_refused
 refused_one k x = or_false (answered k x).refused
 
-grown_none : (old : Option (List ℕ)) → grown old [] ≡ old
-grown_none None = refl
-grown_none (Some taken) = ap (λ (t : List ℕ). Some t) (append_nil taken)
-
 -- lines that were run
 pub record HaveRun (k : CallTable) (done : List Command) (old : Option (List ℕ)) (now : CallTable) (new : Option (List ℕ)) (refused : Bool) : Type 0 where
   pub machine : now ≡ after k done
@@ -72,7 +67,7 @@ pub record HaveRun (k : CallTable) (done : List Command) (old : Option (List ℕ
 
 pub none_run : (k : CallTable) (old : Option (List ℕ)) → HaveRun k [] old k old false
 unfolding after replies some_refused
-none_run k old = record { machine = refl; taken = sym (grown_none old); marked = refl }
+none_run k old = record { machine = refl; taken = sym (grown-nothing old); marked = refl }
 
 -- one more line
 pub one_run : (k : CallTable) (done : List Command) (line : Command) (old : Option (List ℕ)) (now now' : CallTable) (new new' : Option (List ℕ)) (refused more : Bool)
@@ -132,7 +127,7 @@ pub line_short : (k now : CallTable) (command : Command) (old : Option (List ℕ
     → LineEnds k command old old now (Err MemoryEnd)
 line_short k now command old BeforeLine h = inl (refl, h)
 line_short k now command old AfterLine h =
-    inr (record { front = []; rest = (answered k command).reply; splits = refl; cut = h.1; taken = sym (grown_none old) }, h.0)
+    inr (record { front = []; rest = (answered k command).reply; splits = refl; cut = h.1; taken = sym (grown-nothing old) }, h.0)
 
 pub sink_failed : (w : Result (Unit {0}) SinkFault) (refused : Bool) → line_end w refused ≡ Err SinkEnd → w ≡ Err SinkFailed
 sink_failed (Ok u) refused h = cc
@@ -146,3 +141,34 @@ whole_at (y ∷ ys) zero x l is = ap (λ (z : Command). z ∷ ys) is
 whole_at (y ∷ ys) (suc i) x l is =
     let e : suc i + 1 ≡ suc (i + 1) = omega arith in
     ap (λ (n : ℕ). (y ∷ take i ys) ++ x ∷ drop n (y ∷ ys)) e ∙ ap (λ (l : List Command). y ∷ l) (whole_at ys i x (omega arith) is)
+
+-- the replies of all lines are those before a line, that line's, and those behind it
+replies_split : (k : CallTable) (script : List Command) (s : Stopped script)
+    → replies k script ≡ replies k s.before ++ ((answered (after k s.before) s.line).reply ++ replies (answered (after k s.before) s.line).machine s.behind)
+unfolding replies
+replies_split k script s = ap (replies k) (sym s.whole) ∙ replies_append k s.before (s.line ∷ s.behind)
+
+-- a front of what comes after the replies of some lines is a front of all
+front_behind : (k : CallTable) (script : List Command) (s : Stopped script) (old new : Option (List ℕ))
+    → TookFront (grown old (replies k s.before)) ((answered (after k s.before) s.line).reply ++ replies (answered (after k s.before) s.line).machine s.behind) new
+    → TookFront old (replies k script) new
+front_behind k script s old new took =
+    subst (λ (bytes : List ℕ). TookFront old bytes new) (sym (replies_split k script s))
+    (TookFront-after (replies k s.before) ((answered (after k s.before) s.line).reply ++ replies (answered (after k s.before) s.line).machine s.behind) refl took)
+
+cut_front : (k : CallTable) (script : List Command) (s : Stopped script) (old new : Option (List ℕ)) → CutShort k s.before s.line old new → TookFront old (replies k script) new
+cut_front k script s old new cut =
+    front_behind k script s old new
+    (TookFront-before (answered (after k s.before) s.line).reply (replies (answered (after k s.before) s.line).machine s.behind)
+    (front_of_part (grown old (replies k s.before)) new (answered (after k s.before) s.line).reply cut))
+
+-- however a session ends, a front of the replies has come out
+pub ends_front : (k : CallTable) (script : List Command) (old new : Option (List ℕ)) (now : CallTable) (end : SessionEnd) → Ends k script old new now end → TookFront old (replies k script) new
+ends_front k script old new now _ (AllDone none out is) = TookFront-whole (replies k script) out
+ends_front k script old new now _ (AllRun some out is) = TookFront-whole (replies k script) out
+ends_front k script old new now _ (SinkStopped s cut is) = cut_front k script s old new cut
+ends_front k script old new now _ (MemoryBefore s out is) =
+    front_behind k script s old new
+    (subst (λ (t : Option (List ℕ)). TookFront (grown old (replies k s.before)) ((answered (after k s.before) s.line).reply ++ replies (answered (after k s.before) s.line).machine s.behind) t) (sym out)
+    (nothing_taken (grown old (replies k s.before)) ((answered (after k s.before) s.line).reply ++ replies (answered (after k s.before) s.line).machine s.behind)))
+ends_front k script old new now _ (MemoryAfter s cut is) = cut_front k script s old new cut

@@ -1,20 +1,11 @@
 -- What running a line of a script comes to.
-use Rattle.std.specs.Prelude.{◌≡◌, ◌≢◌, ◌≤◌, ◌+◌, ◌^◌, [], Result, Ok, Err}
+use Rattle.std.specs.Prelude.{◌≡◌, ◌≢◌, [], Result, Ok, Err}
 use Rattle.script_lines.specs.declared.types.Command.{Command}
-use Rattle.script_lines.specs.declared.types.Command.TheVariants.{Spawn, Step, RoundRobin, Threads, Peek}
 use Rattle.ksplice_session.specs.declared.types.Answer.{Answer}
 use Rattle.ksplice_session.specs.declared.types.Shortage.{Shortage}
 use Rattle.ksplice_session.specs.declared.types.Shortage.TheVariants.{BeforeLine, AfterLine}
 use Rattle.ksplice_session.specs.CallTable.{CallTable}
 use Rattle.ksplice_session.specs.Replies.{Answered, answered}
-
--- the bounds that the grammar of scripts keeps
-abbrev pub IsAllowed : Command → Type 0
-IsAllowed (Spawn name argument) = Unit {0}
-IsAllowed (Step thread steps) = Unit {0}
-IsAllowed (RoundRobin quantum steps) = 1 ≤ quantum
-IsAllowed Threads = Unit {0}
-IsAllowed (Peek address count) = address + count ≤ 2 ^ 32
 
 abbrev pub given : CallTable → Answer → Answered
 given now answer = record { machine = now; reply = answer.line; refused = answer.refused }

@@ -2,6 +2,5 @@ pub mod CallTable
 pub mod Running
 pub mod Replies
 pub mod Answers
-pub mod Parts
 pub mod Session
 pub mod LineEnds

@@ -1,6 +1,6 @@
 -- What comes of one line of a script.
 use Rattle.std.specs.Prelude.{◌≡◌, ℕ, Bool, List, Option, Result, Ok, Err, ◌⊎◌}
-use Rattle.ks_io.specs.Outside.{grown}
+use Rattle.ks_io.specs.Outside.{grown, TookPart}
 use Rattle.ks_io.specs.declared.types.SinkFault.{SinkFault}
 use Rattle.ks_io.specs.declared.types.SinkFault.TheVariants.{SinkFailed, Memory}
 use Rattle.script_lines.specs.declared.types.Command.{Command}
@@ -8,7 +8,6 @@ use Rattle.ksplice_session.specs.declared.types.SessionEnd.{SessionEnd}
 use Rattle.ksplice_session.specs.declared.types.SessionEnd.TheVariants.{Done, SomeRefused, FileEnd, SinkEnd, MemoryEnd}
 use Rattle.ksplice_session.specs.CallTable.{CallTable}
 use Rattle.ksplice_session.specs.Replies.{answered}
-use Rattle.ksplice_session.specs.Parts.{TookPart}
 use Rattle.ksplice_session.specs.Session.{after, replies, some_refused, Ends}
 
 -- the line was run, and its reply wasn't wholly written

@@ -1,12 +1,11 @@
 -- What a session does: the lines of a script one after another, and how it ends.
 use Rattle.std.specs.Prelude.{◌≡◌, ℕ, Bool, true, false, ◌||◌, List, [], ◌∷◌, ◌++◌, Option}
-use Rattle.ks_io.specs.Outside.{grown}
+use Rattle.ks_io.specs.Outside.{grown, TookPart}
 use Rattle.script_lines.specs.declared.types.Command.{Command}
 use Rattle.ksplice_session.specs.declared.types.SessionEnd.{SessionEnd}
 use Rattle.ksplice_session.specs.declared.types.SessionEnd.TheVariants.{Done, SomeRefused, SinkEnd, MemoryEnd}
 use Rattle.ksplice_session.specs.CallTable.{CallTable}
 use Rattle.ksplice_session.specs.Replies.{answered}
-use Rattle.ksplice_session.specs.Parts.{TookPart}
 
 -- the machine after lines
 unfoldable pub after : CallTable → List Command → CallTable

@@ -7,7 +7,8 @@ ghost use Rattle.session_lines.specs.Lines.{spawned_line, stepped_line, turns_li
 ghost use Rattle.script_lines.specs.declared.types.Command.TheVariants.{Spawn, Step, RoundRobin, Threads, Peek};
 ghost use Rattle.ksplice_session.specs.declared.types.Shortage.TheVariants.{BeforeLine, AfterLine};
 ghost use Rattle.ksplice_session.specs.Replies.{shown_thread};
-ghost use Rattle.ksplice_session.specs.Answers.{IsAllowed, Answers};
+ghost use Rattle.script_lines.specs.Allowed.{IsAllowed};
+ghost use Rattle.ksplice_session.specs.Answers.{Answers};
 
 use crate::session::Session;
 use crate::types::{Answer, Shortage};

@@ -6,7 +6,6 @@ mod memory;
 pub mod running;
 pub mod session;
 pub mod types;
-mod writing;
 
 pub use answers::answer;
 pub use running::run_session;

@@ -1,16 +1,15 @@
 //! Running a script.
 ghost use Rattle.std.specs.Prelude.{◌≡◌, ◌≢◌, ◌≤◌, Err, IsErrOf};
 ghost use Rattle.std.specs.List.{All};
-ghost use Rattle.ks_io.specs.Outside.{Rose};
-ghost use Rattle.ksplice_session.specs.Answers.{IsAllowed};
+ghost use Rattle.ks_io.specs.Outside.{Rose, TookFront};
+ghost use Rattle.script_lines.specs.Allowed.{IsAllowed};
 ghost use Rattle.ksplice_session.specs.LineEnds.{LineEnds, line_end, LinesEnd};
-ghost use Rattle.ksplice_session.specs.Session.{Ends};
+ghost use Rattle.ksplice_session.specs.Session.{Ends, replies};
 
 use crate::answers::answer;
 use crate::session::Session;
 use crate::types::SessionEnd;
-use crate::writing::write_reply;
-use ks_io::{Sink, SinkFault};
+use ks_io::{Sink, SinkFault, write_all};
 use script_lines::{Command, Script};
 use std::alloc::Global;
 
@@ -24,6 +23,8 @@ pub fn run_session<O: Sink>(
 ) -> SessionEnd
     requires { All IsAllowed script.now }
     ensures ends { Ends session.old script.now (O.taken out.old) (O.taken out.new) session.new result }
+    // However it ends, no more than a front of the replies has come out.
+    ensures front { TookFront (O.taken out.old) (replies session.old script.now) (O.taken out.new) }
     ensures sink { result ≡ SessionEnd.SinkEnd → Rose (O.faults out.old) (O.faults out.new) }
     ensures never_falls { O.faults out.old ≤ O.faults out.new }
     ensures quiet_kept { O.quiet out.old → O.quiet out.new }
@@ -74,7 +75,7 @@ fn run_line<O: Sink>(
     ensures quiet_answer { O.quiet out.old → result ≢ Err SessionEnd.SinkEnd }
 {
     match answer(alloc, session, command) {
-        Ok(answer) => line_end(write_reply(out, answer.line.bytes()), answer.refused),
+        Ok(answer) => line_end(write_all(out, answer.line.bytes()), answer.refused),
         Err(_) => Err(SessionEnd::MemoryEnd),
     }
 }

@@ -7,12 +7,12 @@ use Rattle.ksplice_session.proofs.running.run_line.Goals as goal
 pub returns-in-Ok-clause-ends : goal.returns-in-Ok-clause-ends
 returns-in-Ok-clause-ends g c =
     let old = g.O.Sink.taken c.args.out.now in
-    let new = g.O.Sink.taken c.write_reply.new.out in
+    let new = g.O.Sink.taken c.write_all.new.out in
     let P : Result Bool SessionEnd → Type 0 = λ r. LineEnds c.args.session.now c.args.command.now (g.O.Sink.taken c.args.out.now)
-    (g.O.Sink.taken c.write_reply.new.out) c.answer.new.session r in
+    (g.O.Sink.taken c.write_all.new.out) c.answer.new.session r in
     subst P (sym c.line_end.ensures)
-    (line_answered c.args.session.now c.answer.new.session c.args.command.now c.in-Ok.answer old new c.write_reply.result c.in-Ok.ensures
-    (rw c.bytes.ensures at c.write_reply.ensures.ok) (rw c.bytes.ensures at c.write_reply.ensures.part))
+    (line_answered c.args.session.now c.answer.new.session c.args.command.now c.in-Ok.answer old new c.write_all.result c.in-Ok.ensures
+    (rw c.bytes.ensures at c.write_all.ensures.ok) (rw c.bytes.ensures at c.write_all.ensures.part))
 
 pub returns-in-Err-clause-ends : goal.returns-in-Err-clause-ends
 returns-in-Err-clause-ends g c =
