@@ -1,0 +1,105 @@
+-- Each command of a script keeps the bounds of its line's form.
+use Rattle.std.proofs.Common.{◌≡◌, refl, ℕ, ◌+◌, ◌^◌, ◌≤◌, Bool, true, false, ◌&&◌, List, [], ◌∷◌, length, Option, Some, None, cond, arith}
+use Rattle.std.specs.Prelude.{nat_le, nat_lt, codes, bytes_eq, IfSome, All, flat_map, option_map, option_to_list, unwrap_or, Ok, Err}
+use Rattle.std.proofs.lemmas.Bool.Decides.{nat_tests}
+use Rattle.std.proofs.lemmas.List.Elements.{All-nil, All-cons, All-append, All-same}
+use Rattle.ks_base.specs.declared.refusals.Refusal.TheVariants.{BadLine}
+use Rattle.script_lines.specs.declared.types.Command.{Command}
+use Rattle.script_lines.specs.declared.types.Command.TheVariants.{Peek}
+use Rattle.script_lines.specs.Lines.{words_of, is_plain, lines_of}
+use Rattle.script_lines.specs.Numbers.{when, number_of}
+use Rattle.script_lines.specs.Forms.{◌>>=◌, number_within, two, spawn_of, step_of, round_robin_of, threads_of, peek_of, command_of, is_comment, asked_by, asked_in}
+use Rattle.script_lines.specs.Script.{commands_of, lines_before_bad, script_of}
+use Rattle.script_lines.specs.Allowed.{IsAllowed}
+
+-- what is made of a value of which Q holds
+made : {A B : Type 0} (Q : A → Type 0) (P : B → Type 0) (found : Option A) (make : A → Option B) → IfSome found Q → ((x : A) → Q x → IfSome (make x) P) → IfSome (found >>= make) P
+made Q P (Some x) make q p = p x q
+made Q P None make q p = tt
+
+-- what is made of any value
+made_of_any : {A B : Type 0} (P : B → Type 0) (found : Option A) (make : A → Option B) → ((x : A) → IfSome (make x) P) → IfSome (found >>= make) P
+made_of_any P (Some x) make p = p x
+made_of_any P None make p = tt
+
+-- what a test lets through
+tested : {A : Type 0} (P : A → Type 0) (holds : Bool) (x : A) → (holds ≡ true → P x) → IfSome (when holds x) P
+tested P true x p = p refl
+tested P false x p = tt
+
+-- one of two
+chosen : {A : Type 0} (P : A → Type 0) (test : Bool) (x y : Option A) → IfSome x P → IfSome y P → IfSome (cond test x y) P
+chosen P true x y p q = p
+chosen P false x y p q = q
+
+-- a number that is taken lies in its bounds
+within : (low high : ℕ) (word : List ℕ) → IfSome (number_within low high word) (λ n. (low ≤ n) × (n ≤ high))
+within low high word =
+    let P : ℕ → Type 0 = λ n. (low ≤ n) × (n ≤ high) in
+    made_of_any P (number_of word) _ (λ n. tested P (nat_le low n && nat_le n high) n (λ e. grind (arith, nat_tests)))
+
+spawn_allowed : (words : List (List ℕ)) → IfSome (spawn_of words) IsAllowed
+spawn_allowed words = made_of_any IsAllowed (two words) _ (λ given. made_of_any IsAllowed (number_of given.1) _ (λ argument. tt))
+
+step_allowed : (words : List (List ℕ)) → IfSome (step_of words) IsAllowed
+step_allowed words =
+    made_of_any IsAllowed (two words) _
+    (λ given. made_of_any IsAllowed (number_of given.0) _
+    (λ thread. made _ IsAllowed (number_within 0 16777216 given.1) _ (within 0 16777216 given.1) (λ steps h. h.1)))
+
+round_robin_allowed : (words : List (List ℕ)) → IfSome (round_robin_of words) IsAllowed
+round_robin_allowed words =
+    made_of_any IsAllowed (two words) _
+    (λ given. made _ IsAllowed (number_within 1 4294967295 given.0) _ (within 1 4294967295 given.0)
+    (λ quantum some. made _ IsAllowed (number_within 0 16777216 given.1) _ (within 0 16777216 given.1) (λ steps h. (some.0, h.1))))
+
+threads_allowed : (words : List (List ℕ)) → IfSome (threads_of words) IsAllowed
+threads_allowed [] = tt
+threads_allowed (word ∷ words) = tt
+
+peek_allowed : (words : List (List ℕ)) → IfSome (peek_of words) IsAllowed
+peek_allowed words =
+    made_of_any IsAllowed (two words) _
+    (λ given. made_of_any IsAllowed (number_of given.0) _
+    (λ address. made _ IsAllowed (number_within 1 4096 given.1) _ (within 1 4096 given.1)
+    (λ count h. tested IsAllowed (nat_le (address + count) (2 ^ 32)) (Peek address count) (λ e. (h.0, h.1, grind (arith, nat_tests))))))
+
+command_allowed : (word : List ℕ) (words : List (List ℕ)) → IfSome (command_of word words) IsAllowed
+command_allowed word words =
+    chosen IsAllowed (bytes_eq word (codes "spawn")) _ _ (spawn_allowed words)
+    (chosen IsAllowed (bytes_eq word (codes "step")) _ _ (step_allowed words)
+    (chosen IsAllowed (bytes_eq word (codes "rr")) _ _ (round_robin_allowed words)
+    (chosen IsAllowed (bytes_eq word (codes "threads")) _ _ (threads_allowed words)
+    (chosen IsAllowed (bytes_eq word (codes "peek")) _ _ (peek_allowed words) tt))))
+
+-- of what a line asks for, the command, if there is one, keeps the bounds
+abbrev Keeps : Option Command → Type 0
+Keeps said = IfSome said IsAllowed
+
+wrapped : (command : Option Command) → Keeps command → IfSome (option_map Some command) Keeps
+wrapped (Some command) p = p
+wrapped None p = tt
+
+asked_allowed : (words : List (List ℕ)) → IfSome (asked_by words) Keeps
+asked_allowed [] = tt
+asked_allowed (word ∷ words) = chosen Keeps (is_comment word) _ _ tt (wrapped (command_of word words) (command_allowed word words))
+
+listed : (found : Option (Option Command)) → IfSome found Keeps → All IsAllowed (option_to_list (unwrap_or found None))
+listed (Some (Some command)) p = All-cons IsAllowed command [] p (All-nil IsAllowed)
+listed (Some None) p = All-nil IsAllowed
+listed None p = All-nil IsAllowed
+
+of_lines : (lines : List (List ℕ)) → All IsAllowed (flat_map commands_of lines)
+of_lines [] = All-nil IsAllowed
+of_lines (line ∷ lines) =
+    All-append IsAllowed (commands_of line) (flat_map commands_of lines)
+    (listed (asked_in line) (chosen Keeps (is_plain line) _ _ (asked_allowed (words_of line)) tt))
+    (of_lines lines)
+
+pub all_allowed : (bytes : List ℕ) (script : List Command) → script_of bytes ≡ Ok script → All IsAllowed script
+unfolding script_of
+all_allowed bytes script e = by (nat_lt (lines_before_bad (lines_of bytes)) (length (lines_of bytes))) e
+  where
+    by : (b : Bool) → cond b (Err (BadLine (lines_before_bad (lines_of bytes) + 1))) (Ok (flat_map commands_of (lines_of bytes))) ≡ Ok script → All IsAllowed script
+    by true e = absurd cc
+    by false e = let same : script ≡ flat_map commands_of (lines_of bytes) = cc in All-same IsAllowed script _ same (of_lines (lines_of bytes))

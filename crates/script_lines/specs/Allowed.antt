@@ -1,0 +1,12 @@
+-- The bounds of a command's numbers.
+use Rattle.std.specs.Prelude.{◌≤◌, ◌+◌, ◌^◌}
+use Rattle.script_lines.specs.declared.types.Command.{Command}
+use Rattle.script_lines.specs.declared.types.Command.TheVariants.{Spawn, Step, RoundRobin, Threads, Peek}
+
+-- the bounds that the grammar of scripts keeps, beside those of a number of 32 bits
+abbrev pub IsAllowed : Command → Type 0
+IsAllowed (Spawn name argument) = Unit {0}
+IsAllowed (Step thread steps) = steps ≤ 16777216
+IsAllowed (RoundRobin quantum steps) = (1 ≤ quantum) × (steps ≤ 16777216)
+IsAllowed Threads = Unit {0}
+IsAllowed (Peek address count) = (1 ≤ count) × (count ≤ 4096) × (address + count ≤ 2 ^ 32)
