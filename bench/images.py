@@ -1,4 +1,4 @@
-"""Makes the images that `bench/code` times: an encoder of images, and a maker a case.
+"""Makes the images that `bench/code` times: an encoder of images, which `bench/step` has, too, and a maker a case.
 
 A maker takes a part of the limits (0.5 or 1.0). It answers the image's bytes, the name that `ksplice code` is asked for, the
 output's first and last line, and the bytes of code that are listed.
@@ -8,7 +8,7 @@ import struct
 
 REGIONS, SYMBOLS, STACKS, MEMORY, FILE = 1_024, 65_536, 64, 16_777_216, 33_554_432
 FUNCTION_BYTES = 1_048_576
-CODE, FUNCTION, GLOBAL = 1, 1, 1
+CODE, WRITABLE, FUNCTION, GLOBAL = 1, 3, 1, 1
 BASE = 0x00100000
 
 # what a compiler's code is made of: MOV, ADD, CMP, TEST, LEA, short and near jumps, PUSH, POP, CALL, a padding LEA
@@ -17,13 +17,17 @@ MIXED = bytes.fromhex(
 )
 
 
-def encode(regions, symbols):
-    """The image of regions (base, bytes) and function symbols (address, name)."""
-    out = [b"KIM1", struct.pack("<5I", len(regions), len(symbols), 0, 0, 0)]
-    for base, content in regions:
-        out += [struct.pack("<3I", CODE, base, len(content)), content]
+def encode(regions, symbols, writable=(), stacks=()):
+    """The image of regions of code (base, bytes), function symbols (address, name), writable regions above the code, and stacks
+    (low, high)."""
+    out = [b"KIM1", struct.pack("<5I", len(regions) + len(writable), len(symbols), len(stacks), 0, 0)]
+    for kind, listed in ((CODE, regions), (WRITABLE, writable)):
+        for base, content in listed:
+            out += [struct.pack("<3I", kind, base, len(content)), content]
     for address, name in symbols:
         out += [struct.pack("<4I", address, FUNCTION, GLOBAL, len(name)), name]
+    for low, high in stacks:
+        out.append(struct.pack("<2I", low, high))
     return b"".join(out)
 
 

@@ -8,7 +8,7 @@ use Rattle.ksplice_cli.specs.Reply.{code_reply, code_answer, reply_answer}
 use Rattle.ksplice_cli.specs.Words.{Code}
 use Rattle.ksplice_cli.specs.Calls.{Held, found_file, image_limit, AfterLoad, OneComesOut, Answered, NoMemory, LoadEnds, Answers, CountsTellOf}
 use Rattle.ksplice_cli.proofs.BothLoads.{carried_over, ended_load}
-use Rattle.ksplice_cli.proofs.Replies.{is_memory}
+use Rattle.ksplice_cli.proofs.Replies.{refusal_is_one}
 
 -- the load ends the call
 failed_load : (failed : Bool) (files : List ℕ → Option (List ℕ)) (image name : List ℕ) (before now : Counts) (old new : Option (List ℕ)) (status : ℕ)
@@ -54,15 +54,9 @@ pub code_comes_out : (bytes name lines : List ℕ) (old new : Option (List ℕ))
     → ComesOut (answer_of lines 0) old new status → OneComesOut (λ answer. answer ≡ code_answer bytes name) old new status
 code_comes_out bytes name lines old new status reply out = Answered (answer_of lines 0) (ap reply_answer (sym reply)) out
 
--- why there is none comes out, where it isn't want of memory
-refused_by : (bytes name : List ℕ) (refusal : Refusal) (old new : Option (List ℕ)) (status : ℕ) → (refusal ≡ Memory) ⊎ (refusal ≢ Memory)
-    → (refusal ≢ Memory → code_reply bytes name ≡ Err refusal) → (refusal ≢ Memory → ComesOut (refused_answer refusal) old new status) → (refusal ≡ Memory → (status ≡ 6) × (new ≡ old))
-    → OneComesOut (λ answer. answer ≡ code_answer bytes name) old new status
-refused_by bytes name refusal old new status (inl e) reply out memory = let m = memory e in NoMemory m.0 m.1
-refused_by bytes name refusal old new status (inr ample) reply out memory =
-    Answered (refused_answer refusal) (ap reply_answer (sym (reply ample))) (out ample)
-
+-- why there is none comes out
 pub refused_code_comes_out : (bytes name : List ℕ) (refusal : Refusal) (old new : Option (List ℕ)) (status : ℕ)
     → (refusal ≢ Memory → code_reply bytes name ≡ Err refusal) → (refusal ≢ Memory → ComesOut (refused_answer refusal) old new status) → (refusal ≡ Memory → (status ≡ 6) × (new ≡ old))
     → OneComesOut (λ answer. answer ≡ code_answer bytes name) old new status
-refused_code_comes_out bytes name refusal old new status = refused_by bytes name refusal old new status (is_memory refusal)
+refused_code_comes_out bytes name refusal old new status reply =
+    refusal_is_one (λ answer. answer ≡ code_answer bytes name) refusal old new status (λ ample. ap reply_answer (sym (reply ample)))

@@ -5,3 +5,4 @@ pub mod Replies
 pub mod Codes
 pub mod Pages
 pub mod OneAnswer
+pub mod Sessions

@@ -5,7 +5,7 @@ use Rattle.ks_base.specs.declared.refusals.Refusal.TheVariants.{Memory}
 use Rattle.ks_io.specs.Outside.{Counts}
 use Rattle.i386_reloc.specs.declared.types.NormalSection.{NormalSection}
 use Rattle.extract_post.specs.Extract.{Extracts}
-use Rattle.ksplice_cli.specs.Answer.{ComesOut, answer_of, refused_answer, usage_answer}
+use Rattle.ksplice_cli.specs.Answer.{Answer, ComesOut, answer_of, refused_answer, usage_answer}
 use Rattle.ksplice_cli.specs.Reply.{IsDifference, NoneExtracted, Lists, Listed, IsReply, both_sections}
 use Rattle.ksplice_cli.specs.Words.{Asked}
 use Rattle.ksplice_cli.specs.Calls.{OneComesOut, Answered, NoMemory, Answers}
@@ -29,21 +29,27 @@ lines_come_out pre post lines output old new status difference e out =
     Answered (answer_of lines 0) (record { reply = Ok lines; difference = difference; told = refl }) (subst (λ (x : List ℕ). ComesOut (answer_of x 0) old new status) e out)
 
 -- a refusal comes out, where it isn't want of memory
-pub is_memory : (refusal : Refusal) → (refusal ≡ Memory) ⊎ (refusal ≢ Memory)
+is_memory : (refusal : Refusal) → (refusal ≡ Memory) ⊎ (refusal ≢ Memory)
 is_memory Memory = inl refl
 is_memory other = inr (λ e. cc)
 
-comes_out_by : (pre post : List ℕ) (refusal : Refusal) (old new : Option (List ℕ)) (status : ℕ) → (refusal ≡ Memory) ⊎ (refusal ≢ Memory)
-    → (refusal ≢ Memory → IsDifference pre post (Err refusal)) → (refusal ≢ Memory → ComesOut (refused_answer refusal) old new status) → (refusal ≡ Memory → (status ≡ 6) × (new ≡ old))
-    → OneComesOut (IsReply pre post) old new status
-comes_out_by pre post refusal old new status (inl e) difference out memory = let m = memory e in NoMemory m.0 m.1
-comes_out_by pre post refusal old new status (inr ample) difference out memory =
-    Answered (refused_answer refusal) (record { reply = Err refusal; difference = difference ample; told = refl }) (out ample)
+refusal_by : (IsOne : Answer → Type 0) (refusal : Refusal) (old new : Option (List ℕ)) (status : ℕ) → (refusal ≡ Memory) ⊎ (refusal ≢ Memory)
+    → (refusal ≢ Memory → IsOne (refused_answer refusal)) → (refusal ≢ Memory → ComesOut (refused_answer refusal) old new status) → (refusal ≡ Memory → (status ≡ 6) × (new ≡ old))
+    → OneComesOut IsOne old new status
+refusal_by IsOne refusal old new status (inl e) one out memory = let m = memory e in NoMemory m.0 m.1
+refusal_by IsOne refusal old new status (inr ample) one out memory = Answered (refused_answer refusal) (one ample) (out ample)
 
+pub refusal_is_one : (IsOne : Answer → Type 0) (refusal : Refusal) (old new : Option (List ℕ)) (status : ℕ)
+    → (refusal ≢ Memory → IsOne (refused_answer refusal)) → (refusal ≢ Memory → ComesOut (refused_answer refusal) old new status) → (refusal ≡ Memory → (status ≡ 6) × (new ≡ old))
+    → OneComesOut IsOne old new status
+refusal_is_one IsOne refusal old new status = refusal_by IsOne refusal old new status (is_memory refusal)
+
+-- why there is no difference comes out
 pub refusal_comes_out : (pre post : List ℕ) (refusal : Refusal) (old new : Option (List ℕ)) (status : ℕ)
     → (refusal ≢ Memory → IsDifference pre post (Err refusal)) → (refusal ≢ Memory → ComesOut (refused_answer refusal) old new status) → (refusal ≡ Memory → (status ≡ 6) × (new ≡ old))
     → OneComesOut (IsReply pre post) old new status
-refusal_comes_out pre post refusal old new status = comes_out_by pre post refusal old new status (is_memory refusal)
+refusal_comes_out pre post refusal old new status difference =
+    refusal_is_one (IsReply pre post) refusal old new status (λ ample. record { reply = Err refusal; difference = difference ample; told = refl })
 
 -- the usage line comes out, where the words have no reading
 pub usage_comes_out : (output : List ℕ) (old new : Option (List ℕ)) (status : ℕ) → output ≡ codes "usage: ksplice diff PRE POST | code IMAGE NAME | run IMAGE SCRIPT\n"

@@ -9,7 +9,7 @@ returns-in-Ok-clause-answers g c = λ told is_told.
     both_held (found_file object_limit (told c.args.pre.now)) c.args.pre.now (found_file object_limit (told c.args.post.now)) c.args.post.now IsReply _ _
     (g.F.Files.counts c.args.files.now) (g.F.Files.counts c.load_both.new.files)
     (g.O.Sink.taken c.args.out.now) (g.O.Sink.taken c.load_both.new.out) (g.O.Sink.taken c.print_difference.new.out) c.print_difference.result.code
-    held.0 held.1 c.in-Ok.ensures.untouched (rw (c.as_slice.ensures.value, c.as_slice-2.ensures.value) at c.print_difference.ensures.answer)
+    held.0 held.1 c.in-Ok.ensures.untouched (rw (c.as_slice.ensures.value, c.as_slice-in-Ok.ensures.value) at c.print_difference.ensures.answer)
 
 pub returns-in-Err-clause-answers : goal.returns-in-Err-clause-answers
 returns-in-Err-clause-answers g c = λ told is_told.
