@@ -1,5 +1,5 @@
 -- Why a stack is taken exactly where the thread of one of the running numbers has it.
-use Rattle.std.proofs.Common.{◌≡◌, ℕ, zero, suc, ◌+◌, Bool, true, false, ◌&&◌, ◌||◌, cond, List, [], ◌∷◌, map, Option, Some, None, refl, sym, ◌∙◌, ap, arith}
+use Rattle.std.proofs.Common.{◌≡◌, ℕ, zero, suc, ◌+◌, true, false, ◌&&◌, ◌||◌, cond, List, [], ◌∷◌, map, refl, arith}
 use Rattle.std.specs.List.{filter, list_any, slice_get}
 use Rattle.ks_base.specs.declared.places.Range.{Range}
 use Rattle.ia32_step.specs.declared.types.Thread.{Thread}

@@ -138,7 +138,9 @@ fn thread_at(threads: &[Thread], number: u32) -> Option<Thread>
 fn any_has(threads: &[Thread], numbers: &[u32], stack: Range) -> bool
     ensures { result ≡ list_any (has_stack threads.now stack) numbers.now }
 {
-    numbers.iter().any(|number| has_stack(threads, *number, stack))
+    numbers
+        .iter()
+        .any(|number| has_stack(threads, *number, stack))
 }
 
 /// Whether the thread of a number has a stack.
