@@ -130,7 +130,7 @@ fn first_thread(rt: HostRuntime) -> Result<(), Fail> {
 fn outcomes(alloc: Global, machine: &mut Machine<FlatSpace>) -> Result<Vec<Outcome>, AllocError> {
     let mut outcomes = Vec::new(alloc);
     for _ in 0..100 {
-        let Ok(outcome) = machine.step(0) else {
+        let Some(outcome) = machine.step(0).ok() else {
             break;
         };
         outcomes.push(outcome)?;
@@ -263,21 +263,23 @@ fn order(rt: &impl Abort, alloc: Global, quantum: u32, steps: u32) -> Result<Vec
     let mut machine = machine_of(rt, alloc, true)?;
     spawned(&mut machine, alloc, b"main")?;
     spawned(&mut machine, alloc, b"main")?;
-    in_turn(alloc, &mut machine, Turns::new(quantum, steps))
+    Ok(in_turn(alloc, &mut machine, Turns::new(quantum, steps))?)
 }
 
 fn in_turn(
     alloc: Global,
     machine: &mut Machine<FlatSpace>,
     mut turns: Turns,
-) -> Result<Vec<u32>, Refusal> {
+) -> Result<Vec<u32>, AllocError> {
     let mut order = Vec::new(alloc);
     for _ in 0..100 {
         let Some(thread) = turns.next(machine) else {
             break;
         };
-        order.push(thread).map_err(AllocError::from)?;
-        machine.step(thread)?;
+        order.push(thread)?;
+        if machine.step(thread).ok().is_none() {
+            break;
+        }
     }
     Ok(order)
 }
