@@ -1,3 +1,4 @@
 pub mod StackLaws
 pub mod ListLaws
+pub mod TakenLaws
 pub mod TurnLaws

@@ -1,6 +1,7 @@
 -- How a thread is started.
 use Rattle.std.specs.Prelude.{ℕ, ◌-◌, Bool, true, false, IsTrue, ◌&&◌, not, nat_le, ◌==◌, if◌then◌else◌, List, [], ◌∷◌, ◌++◌, length, replicate, set, Option, Some, None, Result, Ok, Err}
-use Rattle.std.specs.List.{find, list_any, All}
+use Rattle.std.specs.Option.{option_map, unwrap_or}
+use Rattle.std.specs.List.{find, list_any, slice_get, All}
 use Rattle.std.specs.Int.{w32, to_le_bytes}
 use Rattle.ks_base.specs.declared.places.Range.{Range}
 use Rattle.ks_base.specs.declared.refusals.Refusal.{Refusal}
@@ -35,6 +36,10 @@ AreStacks pieces ranges = All (λ range. IsTrue (is_stack pieces range)) ranges
 -- whether a running thread has a stack
 abbrev pub is_taken : List Thread → Range → Bool
 is_taken threads stack = list_any (λ thread. runs thread && are_same thread.stack stack) threads
+
+-- whether the thread of a number has a stack
+abbrev pub has_stack : List Thread → Range → ℕ → Bool
+has_stack threads stack n = unwrap_or (option_map (λ thread. are_same thread.stack stack) (slice_get threads n)) false
 
 -- the first stack that no running thread has
 abbrev pub free_stack : List Range → List Thread → Option Range

@@ -10,6 +10,7 @@ use ks_base::{Bytes, Name, Refusal};
 use std::alloc::{AllocError, Global};
 use std::process::Abort;
 use std::test::Fail;
+use symbol_table::Symbol;
 
 // `f` gives 1, and `main` calls it and returns. One stack.
 const IMAGE: [u8; 113] = [
@@ -129,7 +130,7 @@ fn first_thread(rt: HostRuntime) -> Result<(), Fail> {
 fn outcomes(alloc: Global, machine: &mut Machine<FlatSpace>) -> Result<Vec<Outcome>, AllocError> {
     let mut outcomes = Vec::new(alloc);
     for _ in 0..100 {
-        let Ok(outcome) = machine.step(0) else {
+        let Some(outcome) = machine.step(0).ok() else {
             break;
         };
         outcomes.push(outcome)?;
@@ -154,12 +155,23 @@ fn steps_to_the_end(rt: HostRuntime) -> Result<(), Fail> {
     Ok(())
 }
 
-// A step of thread 0.
-fn step_first(machine: &mut Machine<FlatSpace>)
+fn step_of(machine: &mut Machine<FlatSpace>, thread: u32)
     requires { AreStacks machine.old.contents.pieces machine.old.stacks }
     ensures { AreStacks machine.new.contents.pieces machine.new.stacks }
 {
-    let _ = machine.step(0).ok();
+    let _ = machine.step(thread).ok();
+}
+
+// Starts `f` and steps it to its end.
+fn runs_once(machine: &mut Machine<FlatSpace>, alloc: Global, number: u32) -> bool
+    requires { AreStacks machine.old.contents.pieces machine.old.stacks }
+    ensures { AreStacks machine.new.contents.pieces machine.new.stacks }
+{
+    let started = starts(machine, alloc, b"f");
+    step_of(machine, number);
+    step_of(machine, number);
+    step_of(machine, number);
+    started == Some(number)
 }
 
 #[test]
@@ -170,10 +182,77 @@ fn stack_of_an_ended_thread(rt: HostRuntime) -> Result<(), Fail> {
     assert!(rt; is_refused(&mut machine, alloc, b"main", Refusal::NoStack));
     let nope = Refusal::NoSymbol(Name::from_slice(alloc, b"nope")?);
     assert!(rt; is_refused(&mut machine, alloc, b"nope", nope));
-    step_first(&mut machine);
-    step_first(&mut machine);
-    step_first(&mut machine);
+    step_of(&mut machine, 0);
+    step_of(&mut machine, 0);
+    step_of(&mut machine, 0);
     assert!(rt; starts(&mut machine, alloc, b"main") == Some(1));
+    Ok(())
+}
+
+fn runs_as_often(machine: &mut Machine<FlatSpace>, alloc: Global, count: u32) -> bool
+    requires { AreStacks machine.old.contents.pieces machine.old.stacks }
+    ensures { AreStacks machine.new.contents.pieces machine.new.stacks }
+{
+    for number in 0..count {
+        if !runs_once(machine, alloc, number) {
+            return false;
+        }
+    }
+    true
+}
+
+#[test]
+fn too_many_threads(rt: HostRuntime) -> Result<(), Fail> {
+    let alloc = rt.alloc();
+    let mut machine = machine_of(&rt, alloc, false)?;
+    assert!(rt; runs_as_often(&mut machine, alloc, 4_096));
+    assert!(rt; is_refused(&mut machine, alloc, b"f", Refusal::TooManyThreads));
+    Ok(())
+}
+
+fn add_function(
+    machine: &mut Machine<FlatSpace>,
+    name: Name,
+    address: u32,
+) -> Result<(), AllocError>
+    requires { AreStacks machine.old.contents.pieces machine.old.stacks }
+    ensures { AreStacks machine.new.contents.pieces machine.new.stacks }
+{
+    let symbols = machine.symbols_mut();
+    symbols.reserve(1)?;
+    symbols.add(Symbol {
+        address,
+        function: true,
+        global: true,
+        name,
+    });
+    Ok(())
+}
+
+#[test]
+fn added_symbols(rt: HostRuntime) -> Result<(), Fail> {
+    let alloc = rt.alloc();
+    let mut machine = machine_of(&rt, alloc, true)?;
+    add_function(&mut machine, Name::from_slice(alloc, b"g")?, 0x0010_0010)?;
+    assert!(rt; starts(&mut machine, alloc, b"g") == Some(0));
+    assert!(rt; is_at_main(machine.threads().first().ok_or("no thread")?));
+    add_function(&mut machine, Name::from_slice(alloc, b"f")?, 0x0010_0010)?;
+    let two = Refusal::TwoNames(Name::from_slice(alloc, b"f")?, 0x0010_0000, 0x0010_0010);
+    assert!(rt; is_refused(&mut machine, alloc, b"f", two));
+    Ok(())
+}
+
+// Bytes of the stack's top, written into the memory and read again.
+fn written(machine: &mut Machine<FlatSpace>, bytes: &[u8; 20]) -> [u8; 20] {
+    let _ = machine.space_mut().write(0x0040_0FEC, bytes);
+    first_frame(machine)
+}
+
+#[test]
+fn changed_memory(rt: HostRuntime) -> Result<(), Fail> {
+    let mut machine = machine_of(&rt, rt.alloc(), false)?;
+    let bytes = [9; 20];
+    assert!(rt; written(&mut machine, &bytes) == bytes);
     Ok(())
 }
 
@@ -184,21 +263,23 @@ fn order(rt: &impl Abort, alloc: Global, quantum: u32, steps: u32) -> Result<Vec
     let mut machine = machine_of(rt, alloc, true)?;
     spawned(&mut machine, alloc, b"main")?;
     spawned(&mut machine, alloc, b"main")?;
-    in_turn(alloc, &mut machine, Turns::new(quantum, steps))
+    Ok(in_turn(alloc, &mut machine, Turns::new(quantum, steps))?)
 }
 
 fn in_turn(
     alloc: Global,
     machine: &mut Machine<FlatSpace>,
     mut turns: Turns,
-) -> Result<Vec<u32>, Refusal> {
+) -> Result<Vec<u32>, AllocError> {
     let mut order = Vec::new(alloc);
     for _ in 0..100 {
         let Some(thread) = turns.next(machine) else {
             break;
         };
-        order.push(thread).map_err(AllocError::from)?;
-        machine.step(thread)?;
+        order.push(thread)?;
+        if machine.step(thread).ok().is_none() {
+            break;
+        }
     }
     Ok(order)
 }

@@ -1,9 +1,9 @@
 //! The threads of a program in the order of their numbers.
 ghost use Rattle.std.specs.Prelude.{◌≡◌, ◌<◌, ◌≤◌, ◌++◌, [], ◌∷◌, length, nat_le, set, OnOk, OnErr, IfOk, IsSome, IfSome, Some};
-ghost use Rattle.std.specs.List.{slice_get};
+ghost use Rattle.std.specs.List.{slice_get, list_any};
 ghost use Rattle.ia32_step.specs.declared.types.State.TheVariants.{Running};
 ghost use Rattle.image_threads.specs.Program.{AreNumbered, running_at, running_numbers, if_running, is_running};
-ghost use Rattle.image_threads.specs.Spawning.{is_taken, first_thread, are_same};
+ghost use Rattle.image_threads.specs.Spawning.{is_taken, has_stack, first_thread, are_same};
 
 use crate::first::first_thread;
 use ia32_step::{State, Thread};
@@ -95,7 +95,7 @@ impl ThreadList {
     pub(crate) fn has(&self, stack: Range) -> bool
         ensures { result ≡ is_taken self.now stack }
     {
-        self.threads.iter().any(|thread| is_running(thread.state) && are_same(thread.stack, stack))
+        any_has(self.threads.as_slice(), self.running.as_slice(), stack)
     }
 
     /// Starts a thread, and answers its number. For want of memory all is as before.
@@ -132,6 +132,25 @@ fn thread_at(threads: &[Thread], number: u32) -> Option<Thread>
     ensures { result ≡ slice_get threads.now number }
 {
     threads.get(number as usize).copied()
+}
+
+/// Whether the thread of one of some numbers has a stack.
+fn any_has(threads: &[Thread], numbers: &[u32], stack: Range) -> bool
+    ensures { result ≡ list_any (has_stack threads.now stack) numbers.now }
+{
+    numbers
+        .iter()
+        .any(|number| has_stack(threads, *number, stack))
+}
+
+/// Whether the thread of a number has a stack.
+fn has_stack(threads: &[Thread], number: u32, stack: Range) -> bool
+    ensures { result ≡ has_stack threads.now stack number }
+{
+    match thread_at(threads, number) {
+        Some(thread) => are_same(thread.stack, stack),
+        None => false,
+    }
 }
 
 /// A thread where it runs.
