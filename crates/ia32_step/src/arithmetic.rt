@@ -1,14 +1,18 @@
 //! Sums, differences, bitwise operations and shifts.
-ghost use Rattle.std.specs.Prelude.{◌≡◌, Some};
+ghost use Rattle.std.specs.Prelude.{◌≡◌, ◌%◌, Some, Ok};
 ghost use Rattle.ia32_alu.specs.declared.types.Shift.TheVariants.{Rol, Ror};
 ghost use Rattle.ia32_decode.specs.declared.types.Width.TheVariants.{Dword};
-ghost use Rattle.ia32_step.specs.Operands.{number_at};
+ghost use Rattle.ia32_alu.specs.Arithmetic.{binary_of};
+ghost use Rattle.ia32_decode.specs.declared.types.Register.TheVariants.{Eax};
+ghost use Rattle.ia32_decode.specs.declared.types.Operand.TheVariants as operands;
+ghost use Rattle.ia32_step.specs.Registers.{register_value};
+ghost use Rattle.ia32_step.specs.Operands.{number_at, source_value};
 ghost use Rattle.ia32_step.specs.Arithmetic.{alu_width, bits, binary_operation, settled, combined, tested, unary_counting, altered, stepped_shift, full_rotation, shifted_by, shifted, count_register};
 
-use crate::operands::{operand_value, place_of};
+use crate::operands::{operand_value, place_of, source_value, value_at};
 use crate::types::{Change, Context, Place};
 use ia32_alu::Flags;
-use ia32_decode::{Arithmetic, Counting, Operand, Register, Shift, Width};
+use ia32_decode::{Arithmetic, Counting, Operand, Register, Shift, Source, Width};
 use image_memory::Space;
 use ks_base::Fault;
 
@@ -38,14 +42,15 @@ fn binary_operation(operation: Arithmetic) -> ia32_alu::Binary
     }
 }
 
+/// What comes of two numbers goes to a place, but CMP sets the flags alone.
 fn settle(
-    context: Context,
+    context: &Context,
     operation: Arithmetic,
     width: Width,
     place: Place,
     result_of: (u32, Flags),
 ) -> Change
-    ensures { result ≡ settled operation width place result_of context }
+    ensures { result ≡ settled operation width place result_of context.now }
 {
     let (value, flags) = result_of;
     match operation {
@@ -54,20 +59,17 @@ fn settle(
     }
 }
 
-/// ADD, OR, ADC, SBB, AND, SUB, XOR and CMP of an operand and another number.
-#[tactic(auto, unfolding(crate::specs::Arithmetic::combined))]
-pub(crate) fn combine<S: Space>(
-    space: &S,
-    context: Context,
+/// ADD, OR, ADC, SBB, AND, SUB, XOR and CMP of two numbers, of which the first stands at a place.
+fn work_out(
+    context: &Context,
     operation: Arithmetic,
     width: Width,
-    operand: Operand,
-    source: Result<u32, Fault>,
-) -> Result<Change, Fault>
-    ensures { result ≡ combined (number_at (S.contents space.now).pieces) operation width operand source context }
+    place: Place,
+    a: u32,
+    b: u32,
+) -> Change
+    ensures { result ≡ settled operation width place (binary_of (binary_operation operation) (bits width) a b context.now.flags) context.now }
 {
-    let a = operand_value(space, &context, width, operand)?;
-    let b = source?;
     let result_of = ia32_alu::binary(
         binary_operation(operation),
         alu_width(width),
@@ -75,22 +77,56 @@ pub(crate) fn combine<S: Space>(
         b,
         context.flags,
     );
-    let place = place_of(&context, operand);
-    Ok(settle(context, operation, width, place, result_of))
+    settle(context, operation, width, place, result_of)
+}
+
+/// ADD, OR, ADC, SBB, AND, SUB, XOR and CMP of two operands.
+#[tactic(auto, unfolding(crate::specs::Arithmetic::combined))]
+pub(crate) fn combine<S: Space>(
+    space: &S,
+    context: &Context,
+    operation: Arithmetic,
+    width: Width,
+    operand: &Operand,
+    source: &Source,
+) -> Result<Change, Fault>
+    ensures { result ≡ combined (number_at (S.contents space.now).pieces) operation width operand.now (source_value (number_at (S.contents space.now).pieces) context.now width source.now) context.now }
+{
+    let place = place_of(context, operand);
+    let a = value_at(space, context, width, place)?;
+    let b = source_value(space, context, width, source)?;
+    Ok(work_out(context, operation, width, place, a, b))
+}
+
+/// ADD, OR, ADC, SBB, AND, SUB, XOR and CMP of an operand and an immediate.
+#[tactic(auto, unfolding(crate::specs::Arithmetic::combined))]
+pub(crate) fn combine_immediate<S: Space>(
+    space: &S,
+    context: &Context,
+    operation: Arithmetic,
+    width: Width,
+    operand: &Operand,
+    immediate: u32,
+) -> Result<Change, Fault>
+    ensures { result ≡ combined (number_at (S.contents space.now).pieces) operation width operand.now (Ok immediate) context.now }
+{
+    let place = place_of(context, operand);
+    let a = value_at(space, context, width, place)?;
+    Ok(work_out(context, operation, width, place, a, immediate))
 }
 
 /// TEST of an operand and another number.
 #[tactic(auto, unfolding(crate::specs::Arithmetic::tested))]
 pub(crate) fn test<S: Space>(
     space: &S,
-    context: Context,
+    context: &Context,
     width: Width,
-    operand: Operand,
+    operand: &Operand,
     b: u32,
 ) -> Result<Change, Fault>
-    ensures { result ≡ tested (number_at (S.contents space.now).pieces) width operand b context }
+    ensures { result ≡ tested (number_at (S.contents space.now).pieces) width operand.now b context.now }
 {
-    let a = operand_value(space, &context, width, operand)?;
+    let a = operand_value(space, context, width, operand)?;
     let (_, flags) = ia32_alu::binary(
         ia32_alu::Binary::Test,
         alu_width(width),
@@ -101,8 +137,44 @@ pub(crate) fn test<S: Space>(
     Ok(context.with_flags(flags).goes_on())
 }
 
-/// INC or DEC.
-pub(crate) fn counting(operation: Counting) -> ia32_alu::Unary
+/// TEST of an operand and a register.
+pub(crate) fn test_register<S: Space>(
+    space: &S,
+    context: &Context,
+    width: Width,
+    operand: &Operand,
+    register: Register,
+) -> Result<Change, Fault>
+    ensures { result ≡ tested (number_at (S.contents space.now).pieces) width operand.now (register_value context.now.registers width register) context.now }
+{
+    test(
+        space,
+        context,
+        width,
+        operand,
+        context.register(width, register),
+    )
+}
+
+/// TEST of the accumulator and an immediate.
+pub(crate) fn test_accumulator<S: Space>(
+    space: &S,
+    context: &Context,
+    width: Width,
+    immediate: u32,
+) -> Result<Change, Fault>
+    ensures { result ≡ tested (number_at (S.contents space.now).pieces) width (operands.Register Eax) immediate context.now }
+{
+    test(
+        space,
+        context,
+        width,
+        &Operand::Register(Register::Eax),
+        immediate,
+    )
+}
+
+fn counting(operation: Counting) -> ia32_alu::Unary
     ensures { result ≡ unary_counting operation }
 {
     match operation {
@@ -115,17 +187,49 @@ pub(crate) fn counting(operation: Counting) -> ia32_alu::Unary
 #[tactic(auto, unfolding(crate::specs::Arithmetic::altered))]
 pub(crate) fn alter<S: Space>(
     space: &S,
-    context: Context,
+    context: &Context,
     operation: ia32_alu::Unary,
     width: Width,
-    operand: Operand,
+    operand: &Operand,
 ) -> Result<Change, Fault>
-    ensures { result ≡ altered (number_at (S.contents space.now).pieces) operation width operand context }
+    ensures { result ≡ altered (number_at (S.contents space.now).pieces) operation width operand.now context.now }
 {
-    let a = operand_value(space, &context, width, operand)?;
-    let place = place_of(&context, operand);
+    let place = place_of(context, operand);
+    let a = value_at(space, context, width, place)?;
     let (value, flags) = ia32_alu::unary(operation, alu_width(width), a, context.flags);
     Ok(context.with_flags(flags).putting(place, width, value))
+}
+
+/// INC or DEC of an operand.
+pub(crate) fn count<S: Space>(
+    space: &S,
+    context: &Context,
+    operation: Counting,
+    width: Width,
+    operand: &Operand,
+) -> Result<Change, Fault>
+    ensures { result ≡ altered (number_at (S.contents space.now).pieces) (unary_counting operation) width operand.now context.now }
+{
+    alter(space, context, counting(operation), width, operand)
+}
+
+/// INC or DEC of a register.
+pub(crate) fn count_in_register<S: Space>(
+    space: &S,
+    context: &Context,
+    operation: Counting,
+    width: Width,
+    register: Register,
+) -> Result<Change, Fault>
+    ensures { result ≡ altered (number_at (S.contents space.now).pieces) (unary_counting operation) width (operands.Register register) context.now }
+{
+    count(
+        space,
+        context,
+        operation,
+        width,
+        &Operand::Register(register),
+    )
 }
 
 fn rotation(operation: ia32_alu::Shift, width: Width) -> Option<ia32_alu::Shift>
@@ -153,18 +257,18 @@ pub(crate) fn stepped_shift(operation: Shift, width: Width) -> Option<ia32_alu::
 
 fn shift_by<S: Space>(
     space: &S,
-    context: Context,
+    context: &Context,
     operation: ia32_alu::Shift,
     width: Width,
-    operand: Operand,
+    operand: &Operand,
     count: u8,
 ) -> Result<Change, Fault>
     requires left { operation ≡ Rol → width ≡ Dword }
     requires right { operation ≡ Ror → width ≡ Dword }
-    ensures { result ≡ shifted_by (number_at (S.contents space.now).pieces) (Some operation) width operand count context }
+    ensures { result ≡ shifted_by (number_at (S.contents space.now).pieces) (Some operation) width operand.now count context.now }
 {
-    let a = operand_value(space, &context, width, operand)?;
-    let place = place_of(&context, operand);
+    let place = place_of(context, operand);
+    let a = value_at(space, context, width, place)?;
     let (value, flags) = ia32_alu::shift(operation, alu_width(width), a, count, context.flags);
     Ok(context.with_flags(flags).putting(place, width, value))
 }
@@ -173,13 +277,13 @@ fn shift_by<S: Space>(
 #[tactic(auto, unfolding(crate::specs::Arithmetic::shifted))]
 pub(crate) fn shift<S: Space>(
     space: &S,
-    context: Context,
+    context: &Context,
     operation: Shift,
     width: Width,
-    operand: Operand,
+    operand: &Operand,
     count: u8,
 ) -> Result<Change, Fault>
-    ensures { result ≡ shifted (number_at (S.contents space.now).pieces) operation width operand count context }
+    ensures { result ≡ shifted (number_at (S.contents space.now).pieces) operation width operand.now count context.now }
 {
     match stepped_shift(operation, width) {
         None => Err(Fault::Unsupported),
@@ -189,8 +293,49 @@ pub(crate) fn shift<S: Space>(
 
 /// CL.
 #[tactic(auto, unfolding(crate::specs::Registers::register_value))]
-pub(crate) fn count_register(context: &Context) -> u8
+fn count_register(context: &Context) -> u8
     ensures { result ≡ count_register context.now }
 {
     (context.register(Width::Dword, Register::Ecx) % 0x100) as u8
+}
+
+/// A shift or rotate by the lowest byte of an immediate.
+pub(crate) fn shift_by_immediate<S: Space>(
+    space: &S,
+    context: &Context,
+    operation: Shift,
+    width: Width,
+    operand: &Operand,
+    count: u32,
+) -> Result<Change, Fault>
+    ensures { result ≡ shifted (number_at (S.contents space.now).pieces) operation width operand.now (count % 0x100) context.now }
+{
+    shift(
+        space,
+        context,
+        operation,
+        width,
+        operand,
+        (count % 0x100) as u8,
+    )
+}
+
+/// A shift or rotate by CL.
+pub(crate) fn shift_by_cl<S: Space>(
+    space: &S,
+    context: &Context,
+    operation: Shift,
+    width: Width,
+    operand: &Operand,
+) -> Result<Change, Fault>
+    ensures { result ≡ shifted (number_at (S.contents space.now).pieces) operation width operand.now (count_register context.now) context.now }
+{
+    shift(
+        space,
+        context,
+        operation,
+        width,
+        operand,
+        count_register(context),
+    )
 }

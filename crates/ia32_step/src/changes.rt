@@ -1,5 +1,5 @@
 //! What instructions are made of.
-ghost use Rattle.std.specs.Prelude.{◌≡◌};
+ghost use Rattle.std.specs.Prelude.{◌≡◌, Ok};
 ghost use Rattle.ia32_step.specs.Operands.{number_at};
 ghost use Rattle.ia32_step.specs.Changes.{goes_on, storing, putting, at_address, above, below, pushing, popped, raised};
 
@@ -25,22 +25,22 @@ fn below(address: u32, bytes: u32) -> u32
 
 impl Context {
     /// The thread goes on so, and nothing is written.
-    pub(crate) fn goes_on(self) -> Change
-        ensures { result ≡ goes_on self }
+    pub(crate) fn goes_on(&self) -> Change
+        ensures { result ≡ goes_on self.now }
     {
         Change {
-            context: self,
+            context: *self,
             flow: Flow::Plain,
             store: None,
         }
     }
 
     /// A number is written to memory.
-    pub(crate) fn storing(self, address: u32, width: Width, value: u32) -> Change
-        ensures { result ≡ storing address width value self }
+    pub(crate) fn storing(&self, address: u32, width: Width, value: u32) -> Change
+        ensures { result ≡ storing address width value self.now }
     {
         Change {
-            context: self,
+            context: *self,
             flow: Flow::Plain,
             store: Some(Store {
                 address,
@@ -51,8 +51,8 @@ impl Context {
     }
 
     /// A place takes a number.
-    pub(crate) fn putting(self, place: Place, width: Width, value: u32) -> Change
-        ensures { result ≡ putting place width value self }
+    pub(crate) fn putting(&self, place: Place, width: Width, value: u32) -> Change
+        ensures { result ≡ putting place width value self.now }
     {
         match place {
             Place::InRegister(register) => self.with_register(width, register, value).goes_on(),
@@ -61,15 +61,15 @@ impl Context {
     }
 
     /// The thread goes on elsewhere.
-    pub(crate) fn at_address(self, pc: u32) -> Context
-        ensures { result ≡ at_address pc self }
+    pub(crate) fn at_address(&self, pc: u32) -> Context
+        ensures { result ≡ at_address pc self.now }
     {
-        Context { pc, ..self }
+        Context { pc, ..*self }
     }
 
     /// A dword is pushed.
-    pub(crate) fn pushing(self, value: u32) -> Change
-        ensures { result ≡ pushing value self }
+    pub(crate) fn pushing(&self, value: u32) -> Change
+        ensures { result ≡ pushing value self.now }
     {
         let top = below(self.stack_top(), 4);
         self.with_stack_top(top).storing(top, Width::Dword, value)
@@ -83,10 +83,17 @@ impl Context {
     }
 
     /// The context after a pop and a number of further bytes.
-    pub(crate) fn raised(self, bytes: u32) -> Context
-        ensures { result ≡ raised bytes self }
+    pub(crate) fn raised(&self, bytes: u32) -> Context
+        ensures { result ≡ raised bytes self.now }
     {
         let top = above(above(self.stack_top(), 4), bytes);
         self.with_stack_top(top)
     }
+}
+
+/// The thread goes on at the next instruction, and nothing else happens.
+pub(crate) fn go_on(context: &Context) -> Result<Change, Fault>
+    ensures { result ≡ Ok (goes_on context.now) }
+{
+    Ok(context.goes_on())
 }

@@ -3,19 +3,21 @@ ghost use Rattle.std.specs.Prelude.{◌≡◌};
 ghost use Rattle.ia32_step.specs.Operands.{number_at};
 ghost use Rattle.ia32_step.specs.Exec.{unary_change, change_of, is_full, is_stepped, takes_repeat, refuses_prefixes, traps, is_memory, writes, takes_lock, executed};
 
-use crate::arithmetic::{alter, combine, count_register, counting, shift, stepped_shift, test};
-use crate::branches::{call_by, call_to, jump_by, jump_if, jump_to, return_from};
-use crate::changes::above;
-use crate::moves::{
-    compare_exchange, copy, copy_if, exchange, exchange_and_add, extend_accumulator,
-    load_accumulator, set_by, sign_extend, spread_sign, store_accumulator, take_address,
-    zero_extend,
+use crate::arithmetic::{
+    alter, combine, combine_immediate, count, count_in_register, shift, shift_by_cl,
+    shift_by_immediate, stepped_shift, test, test_accumulator, test_register,
 };
-use crate::operands::{place_of, source_value};
-use crate::products::{divide, multiply, take_product};
-use crate::stack::{leave, pop, push};
+use crate::branches::{call_by, call_to, jump_by, jump_if, jump_to, return_from};
+use crate::changes::{above, go_on};
+use crate::moves::{
+    compare_exchange, copy, copy_if, exchange, exchange_accumulator, exchange_and_add,
+    extend_accumulator, load_accumulator, load_immediate, put_immediate, set_by, sign_extend,
+    spread_sign, store_accumulator, take_address, zero_extend,
+};
+use crate::products::{divide, multiply, multiply_register, take_product};
+use crate::stack::{leave, pop, pop_register, push, push_immediate, push_register};
 use crate::types::{Change, Context};
-use ia32_decode::{Arithmetic, Decoded, Instr, Operand, Prefixes, Register, Unary, Width};
+use ia32_decode::{Arithmetic, Decoded, Instr, Operand, Prefixes, Unary, Width};
 use image_memory::Space;
 use ks_base::Fault;
 
@@ -23,12 +25,12 @@ use ks_base::Fault;
 #[tactic(auto, unfolding(crate::specs::Exec::unary_change))]
 fn unary_change<S: Space>(
     space: &S,
-    context: Context,
+    context: &Context,
     operation: Unary,
     width: Width,
-    operand: Operand,
+    operand: &Operand,
 ) -> Result<Change, Fault>
-    ensures { result ≡ unary_change (number_at (S.contents space.now).pieces) operation width operand context }
+    ensures { result ≡ unary_change (number_at (S.contents space.now).pieces) operation width operand.now context.now }
 {
     match operation {
         Unary::Not => alter(space, context, ia32_alu::Unary::Not, width, operand),
@@ -41,9 +43,9 @@ fn unary_change<S: Space>(
 }
 
 /// What an instruction does to a thread whose pc is the address after it.
-#[tactic(auto, unfolding(crate::specs::Exec::change_of))]
-fn change_of<S: Space>(space: &S, context: Context, instr: Instr) -> Result<Change, Fault>
-    ensures { result ≡ change_of (number_at (S.contents space.now).pieces) instr context }
+#[tactic(auto, unfolding(crate::specs::Exec::change_of, crate::specs::Stack::pushed, crate::specs::Operands::value_at))]
+fn change_of<S: Space>(space: &S, context: &Context, instr: &Instr) -> Result<Change, Fault>
+    ensures { result ≡ change_of (number_at (S.contents space.now).pieces) instr.now context.now }
 {
     match instr {
         Instr::Arithmetic {
@@ -51,182 +53,146 @@ fn change_of<S: Space>(space: &S, context: Context, instr: Instr) -> Result<Chan
             width,
             destination,
             source,
-        } => {
-            let source = source_value(space, &context, width, source);
-            combine(space, context, operation, width, destination, source)
-        }
+        } => combine(space, context, *operation, *width, destination, source),
         Instr::ArithmeticImmediate {
             operation,
             width,
             destination,
             immediate,
-        } => combine(space, context, operation, width, destination, Ok(immediate)),
+        } => combine_immediate(space, context, *operation, *width, destination, *immediate),
         Instr::CountRegister {
             operation,
             width,
             register,
-        } => alter(
-            space,
-            context,
-            counting(operation),
-            width,
-            Operand::Register(register),
-        ),
+        } => count_in_register(space, context, *operation, *width, *register),
         Instr::CountOperand {
             operation,
             width,
             operand,
-        } => alter(space, context, counting(operation), width, operand),
+        } => count(space, context, *operation, *width, operand),
         Instr::Unary {
             operation,
             width,
             operand,
-        } => unary_change(space, context, operation, width, operand),
-        Instr::Test { width, left, right } => {
-            let right = context.register(width, right);
-            test(space, context, width, left, right)
+        } => unary_change(space, context, *operation, *width, operand),
+        Instr::Test { width, left, right } => test_register(space, context, *width, left, *right),
+        Instr::TestAccumulator { width, immediate } => {
+            test_accumulator(space, context, *width, *immediate)
         }
-        Instr::TestAccumulator { width, immediate } => test(
-            space,
-            context,
-            width,
-            Operand::Register(Register::Eax),
-            immediate,
-        ),
         Instr::TestImmediate {
             width,
             operand,
             immediate,
-        } => test(space, context, width, operand, immediate),
+        } => test(space, context, *width, operand, *immediate),
         Instr::MultiplyImmediate {
             width,
             destination,
             source,
             immediate,
-        } => take_product(space, context, width, destination, source, immediate),
+        } => take_product(space, context, *width, *destination, source, *immediate),
         Instr::Multiply {
             width,
             destination,
             source,
-        } => {
-            let own = context.register(width, destination);
-            take_product(space, context, width, destination, source, own)
-        }
+        } => multiply_register(space, context, *width, *destination, source),
         Instr::ShiftByImmediate {
             operation,
             width,
             operand,
             count,
-        } => shift(
-            space,
-            context,
-            operation,
-            width,
-            operand,
-            (count % 0x100) as u8,
-        ),
+        } => shift_by_immediate(space, context, *operation, *width, operand, *count),
         Instr::ShiftByOne {
             operation,
             width,
             operand,
-        } => shift(space, context, operation, width, operand, 1),
+        } => shift(space, context, *operation, *width, operand, 1),
         Instr::ShiftByCl {
             operation,
             width,
             operand,
-        } => {
-            let count = count_register(&context);
-            shift(space, context, operation, width, operand, count)
-        }
+        } => shift_by_cl(space, context, *operation, *width, operand),
         Instr::Move {
             width,
             destination,
             source,
-        } => copy(space, context, width, destination, source),
+        } => copy(space, context, *width, destination, source),
         Instr::MoveImmediate {
             width,
             destination,
             immediate,
-        } => {
-            let place = place_of(&context, destination);
-            Ok(context.putting(place, width, immediate))
-        }
+        } => put_immediate(context, *width, destination, *immediate),
         Instr::MoveToRegister {
             width,
             register,
             immediate,
-        } => Ok(context.with_register(width, register, immediate).goes_on()),
+        } => load_immediate(context, *width, *register, *immediate),
         Instr::LoadAccumulator { width, address } => {
-            load_accumulator(space, context, width, address)
+            load_accumulator(space, context, *width, *address)
         }
         Instr::StoreAccumulator { width, address } => {
-            Ok(store_accumulator(context, width, address))
+            store_accumulator(context, *width, *address)
         }
         Instr::LoadAddress {
             width,
             destination,
             memory,
-        } => Ok(take_address(context, width, destination, memory)),
+        } => take_address(context, *width, *destination, memory),
         Instr::Exchange {
             width,
             operand,
             register,
-        } => exchange(space, context, width, operand, register),
-        Instr::ExchangeAccumulator { width, register } => exchange(
-            space,
-            context,
-            width,
-            Operand::Register(Register::Eax),
-            register,
-        ),
+        } => exchange(space, context, *width, operand, *register),
+        Instr::ExchangeAccumulator { width, register } => {
+            exchange_accumulator(space, context, *width, *register)
+        }
         Instr::ExchangeAdd {
             width,
             operand,
             register,
-        } => exchange_and_add(space, context, width, operand, register),
+        } => exchange_and_add(space, context, *width, operand, *register),
         Instr::CompareExchange {
             width,
             operand,
             register,
-        } => compare_exchange(space, context, width, operand, register),
+        } => compare_exchange(space, context, *width, operand, *register),
         Instr::MoveIf {
             condition,
             width,
             destination,
             source,
-        } => copy_if(space, context, condition, width, destination, source),
-        Instr::SetIf { condition, operand } => Ok(set_by(context, condition, operand)),
+        } => copy_if(space, context, *condition, *width, *destination, source),
+        Instr::SetIf { condition, operand } => set_by(context, *condition, operand),
         Instr::ZeroExtend {
             from,
             width,
             destination,
             source,
-        } => zero_extend(space, context, from, width, destination, source),
+        } => zero_extend(space, context, *from, *width, *destination, source),
         Instr::SignExtend {
             from,
             width,
             destination,
             source,
-        } => sign_extend(space, context, from, width, destination, source),
-        Instr::ExtendAccumulator { width } => Ok(extend_accumulator(context, width)),
-        Instr::SpreadSign { width } => Ok(spread_sign(context, width)),
-        Instr::PushRegister { register, .. } => push(space, context, Operand::Register(register)),
-        Instr::PushImmediate { immediate, .. } => Ok(context.pushing(immediate)),
+        } => sign_extend(space, context, *from, *width, *destination, source),
+        Instr::ExtendAccumulator { width } => extend_accumulator(context, *width),
+        Instr::SpreadSign { width } => spread_sign(context, *width),
+        Instr::PushRegister { register, .. } => push_register(context, *register),
+        Instr::PushImmediate { immediate, .. } => push_immediate(context, *immediate),
         Instr::PushOperand { operand, .. } => push(space, context, operand),
-        Instr::PopRegister { register, .. } => pop(space, context, Operand::Register(register)),
+        Instr::PopRegister { register, .. } => pop_register(space, context, *register),
         Instr::PopOperand { operand, .. } => pop(space, context, operand),
         Instr::Leave { .. } => leave(space, context),
         Instr::JumpIf {
             condition,
             relative,
-        } => Ok(jump_if(context, condition, relative)),
-        Instr::Jump { relative } => Ok(jump_by(context, relative)),
+        } => jump_if(context, *condition, *relative),
+        Instr::Jump { relative } => jump_by(context, *relative),
         Instr::JumpOperand { operand, .. } => jump_to(space, context, operand),
-        Instr::Call { relative } => Ok(call_by(context, relative)),
+        Instr::Call { relative } => call_by(context, *relative),
         Instr::CallOperand { operand, .. } => call_to(space, context, operand),
         Instr::Return { .. } => return_from(space, context, 0),
-        Instr::ReturnAndRelease { bytes, .. } => return_from(space, context, bytes),
-        Instr::Nop | Instr::EndBranch | Instr::NopOperand { .. } => Ok(context.goes_on()),
+        Instr::ReturnAndRelease { bytes, .. } => return_from(space, context, *bytes),
+        Instr::Nop | Instr::EndBranch | Instr::NopOperand { .. } => go_on(context),
         Instr::Breakpoint | Instr::Undefined => Err(Fault::Trap),
         Instr::OpcodeOnly { .. }
         | Instr::Interrupt { .. }
@@ -374,10 +340,10 @@ fn takes_lock(instr: &Instr) -> bool
 #[tactic(auto, unfolding(crate::specs::Exec::executed))]
 pub(crate) fn execute<S: Space>(
     space: &S,
-    context: Context,
+    context: &Context,
     decoded: &Decoded,
 ) -> Result<Change, Fault>
-    ensures { result ≡ executed (number_at (S.contents space.now).pieces) decoded.now context }
+    ensures { result ≡ executed (number_at (S.contents space.now).pieces) decoded.now context.now }
 {
     if !is_stepped(&decoded.instr) || refuses_prefixes(&decoded.prefixes, &decoded.instr) {
         return Err(Fault::Unsupported);
@@ -389,5 +355,5 @@ pub(crate) fn execute<S: Space>(
         return Err(Fault::BadLock);
     }
     let next = above(context.pc, decoded.length);
-    change_of(space, context.at_address(next), decoded.instr)
+    change_of(space, &context.at_address(next), &decoded.instr)
 }

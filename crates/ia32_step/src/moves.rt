@@ -1,12 +1,16 @@
 //! Moves, exchanges and extensions.
-ghost use Rattle.std.specs.Prelude.{◌≡◌, ◌<◌, ◌-◌, ◌^◌};
+ghost use Rattle.std.specs.Prelude.{◌≡◌, ◌<◌, ◌-◌, ◌^◌, Ok};
 ghost use Rattle.ia32_alu.specs.Numbers.{highest, unsigned};
-ghost use Rattle.ia32_step.specs.Operands.{number_at};
+ghost use Rattle.ia32_decode.specs.declared.types.Register.TheVariants.{Eax};
+ghost use Rattle.ia32_decode.specs.declared.types.Operand.TheVariants as operands;
+ghost use Rattle.ia32_step.specs.Registers.{with_register};
+ghost use Rattle.ia32_step.specs.Changes.{goes_on, putting};
+ghost use Rattle.ia32_step.specs.Operands.{number_at, place_of};
 ghost use Rattle.ia32_step.specs.Arithmetic.{bits};
 ghost use Rattle.ia32_step.specs.Moves.{copied, accumulator_loaded, accumulator_stored, address_taken, exchanged, exchanged_and_added, compared_and_exchanged, compare_exchanged, condition_number, holds, copied_if, set_by, sign_extended, zero_extended_to, sign_extended_to, half, accumulator_extended, sign_spread};
 
 use crate::arithmetic::alu_width;
-use crate::operands::{address_of, number_at, operand_value, place_of};
+use crate::operands::{address_of, number_at, operand_value, place_of, value_at};
 use crate::types::{Change, Context, Place};
 use ia32_alu::{Binary, Flags};
 use ia32_decode::{Condition, Memory, Operand, Register, Width};
@@ -17,66 +21,96 @@ use ks_base::Fault;
 #[tactic(auto, unfolding(crate::specs::Moves::copied))]
 pub(crate) fn copy<S: Space>(
     space: &S,
-    context: Context,
+    context: &Context,
     width: Width,
-    destination: Operand,
-    source: Operand,
+    destination: &Operand,
+    source: &Operand,
 ) -> Result<Change, Fault>
-    ensures { result ≡ copied (number_at (S.contents space.now).pieces) width destination source context }
+    ensures { result ≡ copied (number_at (S.contents space.now).pieces) width destination.now source.now context.now }
 {
-    let value = operand_value(space, &context, width, source)?;
-    let place = place_of(&context, destination);
+    let value = operand_value(space, context, width, source)?;
+    let place = place_of(context, destination);
     Ok(context.putting(place, width, value))
+}
+
+/// MOV of an immediate to an operand.
+pub(crate) fn put_immediate(
+    context: &Context,
+    width: Width,
+    destination: &Operand,
+    immediate: u32,
+) -> Result<Change, Fault>
+    ensures { result ≡ Ok (putting (place_of context.now.registers destination.now) width immediate context.now) }
+{
+    Ok(context.putting(place_of(context, destination), width, immediate))
+}
+
+/// MOV of an immediate to a register.
+pub(crate) fn load_immediate(
+    context: &Context,
+    width: Width,
+    register: Register,
+    immediate: u32,
+) -> Result<Change, Fault>
+    ensures { result ≡ Ok (goes_on (with_register width register immediate context.now)) }
+{
+    Ok(context.with_register(width, register, immediate).goes_on())
 }
 
 /// MOV to the accumulator from an address.
 #[tactic(auto, unfolding(crate::specs::Moves::accumulator_loaded))]
 pub(crate) fn load_accumulator<S: Space>(
     space: &S,
-    context: Context,
+    context: &Context,
     width: Width,
     address: u32,
 ) -> Result<Change, Fault>
-    ensures { result ≡ accumulator_loaded (number_at (S.contents space.now).pieces) width address context }
+    ensures { result ≡ accumulator_loaded (number_at (S.contents space.now).pieces) width address context.now }
 {
     let value = number_at(space, width, address)?;
     Ok(context.with_register(width, Register::Eax, value).goes_on())
 }
 
 /// MOV from the accumulator to an address.
-pub(crate) fn store_accumulator(context: Context, width: Width, address: u32) -> Change
-    ensures { result ≡ accumulator_stored width address context }
+pub(crate) fn store_accumulator(
+    context: &Context,
+    width: Width,
+    address: u32,
+) -> Result<Change, Fault>
+    ensures { result ≡ Ok (accumulator_stored width address context.now) }
 {
-    context.storing(address, width, context.accumulator(width))
+    Ok(context.storing(address, width, context.accumulator(width)))
 }
 
 /// LEA.
 pub(crate) fn take_address(
-    context: Context,
+    context: &Context,
     width: Width,
     register: Register,
-    memory: Memory,
-) -> Change
-    ensures { result ≡ address_taken width register memory context }
+    memory: &Memory,
+) -> Result<Change, Fault>
+    ensures { result ≡ Ok (address_taken width register memory.now context.now) }
 {
-    context
-        .with_register(width, register, address_of(&context, memory))
-        .goes_on()
+    Ok(
+        context
+            .with_register(width, register, address_of(context, memory))
+            .goes_on(),
+    )
 }
 
 /// XCHG.
 #[tactic(auto, unfolding(crate::specs::Moves::exchanged))]
 pub(crate) fn exchange<S: Space>(
     space: &S,
-    context: Context,
+    context: &Context,
     width: Width,
-    operand: Operand,
+    operand: &Operand,
     register: Register,
 ) -> Result<Change, Fault>
-    ensures { result ≡ exchanged (number_at (S.contents space.now).pieces) width operand register context }
+    ensures { result ≡ exchanged (number_at (S.contents space.now).pieces) width operand.now register context.now }
 {
-    let value = operand_value(space, &context, width, operand)?;
-    let place = place_of(&context, operand);
+    let place = place_of(context, operand);
+    let value = value_at(space, context, width, place)?;
     let own = context.register(width, register);
     Ok(
         context
@@ -85,19 +119,37 @@ pub(crate) fn exchange<S: Space>(
     )
 }
 
+/// XCHG of the accumulator and a register.
+pub(crate) fn exchange_accumulator<S: Space>(
+    space: &S,
+    context: &Context,
+    width: Width,
+    register: Register,
+) -> Result<Change, Fault>
+    ensures { result ≡ exchanged (number_at (S.contents space.now).pieces) width (operands.Register Eax) register context.now }
+{
+    exchange(
+        space,
+        context,
+        width,
+        &Operand::Register(Register::Eax),
+        register,
+    )
+}
+
 /// XADD.
 #[tactic(auto, unfolding(crate::specs::Moves::exchanged_and_added))]
 pub(crate) fn exchange_and_add<S: Space>(
     space: &S,
-    context: Context,
+    context: &Context,
     width: Width,
-    operand: Operand,
+    operand: &Operand,
     register: Register,
 ) -> Result<Change, Fault>
-    ensures { result ≡ exchanged_and_added (number_at (S.contents space.now).pieces) width operand register context }
+    ensures { result ≡ exchanged_and_added (number_at (S.contents space.now).pieces) width operand.now register context.now }
 {
-    let a = operand_value(space, &context, width, operand)?;
-    let place = place_of(&context, operand);
+    let place = place_of(context, operand);
+    let a = value_at(space, context, width, place)?;
     let b = context.register(width, register);
     let (sum, flags) = ia32_alu::binary(Binary::Add, alu_width(width), a, b, context.flags);
     Ok(
@@ -109,14 +161,14 @@ pub(crate) fn exchange_and_add<S: Space>(
 }
 
 fn compared_and_exchanged(
-    context: Context,
+    context: &Context,
     place: Place,
     width: Width,
     a: u32,
     value: u32,
     compared: (u32, Flags),
 ) -> Change
-    ensures { result ≡ compared_and_exchanged place width a value compared context }
+    ensures { result ≡ compared_and_exchanged place width a value compared context.now }
 {
     let (_, flags) = compared;
     if flags.zf {
@@ -133,15 +185,15 @@ fn compared_and_exchanged(
 #[tactic(auto, unfolding(crate::specs::Moves::compare_exchanged))]
 pub(crate) fn compare_exchange<S: Space>(
     space: &S,
-    context: Context,
+    context: &Context,
     width: Width,
-    operand: Operand,
+    operand: &Operand,
     register: Register,
 ) -> Result<Change, Fault>
-    ensures { result ≡ compare_exchanged (number_at (S.contents space.now).pieces) width operand register context }
+    ensures { result ≡ compare_exchanged (number_at (S.contents space.now).pieces) width operand.now register context.now }
 {
-    let a = operand_value(space, &context, width, operand)?;
-    let place = place_of(&context, operand);
+    let place = place_of(context, operand);
+    let a = value_at(space, context, width, place)?;
     let value = context.register(width, register);
     let compared = ia32_alu::binary(
         Binary::Cmp,
@@ -188,15 +240,15 @@ pub(crate) fn holds(condition: Condition, flags: Flags) -> bool
 #[tactic(auto, unfolding(crate::specs::Moves::copied_if))]
 pub(crate) fn copy_if<S: Space>(
     space: &S,
-    context: Context,
+    context: &Context,
     condition: Condition,
     width: Width,
     register: Register,
-    source: Operand,
+    source: &Operand,
 ) -> Result<Change, Fault>
-    ensures { result ≡ copied_if (number_at (S.contents space.now).pieces) condition width register source context }
+    ensures { result ≡ copied_if (number_at (S.contents space.now).pieces) condition width register source.now context.now }
 {
-    let taken = operand_value(space, &context, width, source)?;
+    let taken = operand_value(space, context, width, source)?;
     if holds(condition, context.flags) {
         Ok(context.with_register(width, register, taken).goes_on())
     } else {
@@ -205,12 +257,16 @@ pub(crate) fn copy_if<S: Space>(
 }
 
 /// SETcc.
-pub(crate) fn set_by(context: Context, condition: Condition, operand: Operand) -> Change
-    ensures { result ≡ set_by condition operand context }
+pub(crate) fn set_by(
+    context: &Context,
+    condition: Condition,
+    operand: &Operand,
+) -> Result<Change, Fault>
+    ensures { result ≡ Ok (set_by condition operand.now context.now) }
 {
-    let place = place_of(&context, operand);
+    let place = place_of(context, operand);
     let bit = u32::from(holds(condition, context.flags));
-    context.putting(place, Width::Byte, bit)
+    Ok(context.putting(place, Width::Byte, bit))
 }
 
 #[tactic(auto, unfolding(ia32_alu::specs::Numbers::highest))]
@@ -262,15 +318,15 @@ fn sign_extended(width: Width, value: u32) -> u32
 #[tactic(auto, unfolding(crate::specs::Moves::zero_extended_to))]
 pub(crate) fn zero_extend<S: Space>(
     space: &S,
-    context: Context,
+    context: &Context,
     from: Width,
     width: Width,
     register: Register,
-    source: Operand,
+    source: &Operand,
 ) -> Result<Change, Fault>
-    ensures { result ≡ zero_extended_to (number_at (S.contents space.now).pieces) from width register source context }
+    ensures { result ≡ zero_extended_to (number_at (S.contents space.now).pieces) from width register source.now context.now }
 {
-    let value = operand_value(space, &context, from, source)?;
+    let value = operand_value(space, context, from, source)?;
     Ok(context.with_register(width, register, value).goes_on())
 }
 
@@ -278,15 +334,15 @@ pub(crate) fn zero_extend<S: Space>(
 #[tactic(auto, unfolding(crate::specs::Moves::sign_extended_to))]
 pub(crate) fn sign_extend<S: Space>(
     space: &S,
-    context: Context,
+    context: &Context,
     from: Width,
     width: Width,
     register: Register,
-    source: Operand,
+    source: &Operand,
 ) -> Result<Change, Fault>
-    ensures { result ≡ sign_extended_to (number_at (S.contents space.now).pieces) from width register source context }
+    ensures { result ≡ sign_extended_to (number_at (S.contents space.now).pieces) from width register source.now context.now }
 {
-    let value = operand_value(space, &context, from, source)?;
+    let value = operand_value(space, context, from, source)?;
     Ok(
         context
             .with_register(width, register, sign_extended(from, value))
@@ -304,24 +360,25 @@ fn half(width: Width) -> Width
 }
 
 /// CBW and CWDE.
-pub(crate) fn extend_accumulator(context: Context, width: Width) -> Change
-    ensures { result ≡ accumulator_extended width context }
+pub(crate) fn extend_accumulator(context: &Context, width: Width) -> Result<Change, Fault>
+    ensures { result ≡ Ok (accumulator_extended width context.now) }
 {
     let lower = context.accumulator(half(width));
-    context
-        .with_register(width, Register::Eax, sign_extended(half(width), lower))
-        .goes_on()
+    Ok(
+        context
+            .with_register(width, Register::Eax, sign_extended(half(width), lower))
+            .goes_on(),
+    )
 }
 
 /// CWD and CDQ.
-pub(crate) fn spread_sign(context: Context, width: Width) -> Change
-    ensures { result ≡ sign_spread width context }
+pub(crate) fn spread_sign(context: &Context, width: Width) -> Result<Change, Fault>
+    ensures { result ≡ Ok (sign_spread width context.now) }
 {
-    if is_negative(width, context.accumulator(width)) {
-        context
-            .with_register(width, Register::Edx, 0xFFFF_FFFF)
-            .goes_on()
+    let sign = if is_negative(width, context.accumulator(width)) {
+        0xFFFF_FFFF
     } else {
-        context.with_register(width, Register::Edx, 0).goes_on()
-    }
+        0
+    };
+    Ok(context.with_register(width, Register::Edx, sign).goes_on())
 }

@@ -30,8 +30,8 @@ fn index_part(context: &Context, index: Option<Index>) -> u64
 
 /// The address that a place in memory has: the sum of its parts, modulo 2^32.
 #[tactic(auto, unfolding(crate::specs::Operands::address_of))]
-pub(crate) fn address_of(context: &Context, memory: Memory) -> u32
-    ensures { result ≡ address_of context.now.registers memory }
+pub(crate) fn address_of(context: &Context, memory: &Memory) -> u32
+    ensures { result ≡ address_of context.now.registers memory.now }
 {
     let index = (index_part(context, memory.index) % 0x1_0000_0000) as u32;
     base_part(context, memory.base)
@@ -40,11 +40,11 @@ pub(crate) fn address_of(context: &Context, memory: Memory) -> u32
 }
 
 /// Where an operand stands.
-pub(crate) fn place_of(context: &Context, operand: Operand) -> Place
-    ensures { result ≡ place_of context.now.registers operand }
+pub(crate) fn place_of(context: &Context, operand: &Operand) -> Place
+    ensures { result ≡ place_of context.now.registers operand.now }
 {
     match operand {
-        Operand::Register(register) => Place::InRegister(register),
+        Operand::Register(register) => Place::InRegister(*register),
         Operand::Memory(memory) => Place::InMemory(address_of(context, memory)),
     }
 }
@@ -108,9 +108,9 @@ pub(crate) fn operand_value<S: Space>(
     space: &S,
     context: &Context,
     width: Width,
-    operand: Operand,
+    operand: &Operand,
 ) -> Result<u32, Fault>
-    ensures { result ≡ operand_value (number_at (S.contents space.now).pieces) context.now width operand }
+    ensures { result ≡ operand_value (number_at (S.contents space.now).pieces) context.now width operand.now }
 {
     value_at(space, context, width, place_of(context, operand))
 }
@@ -120,12 +120,12 @@ pub(crate) fn source_value<S: Space>(
     space: &S,
     context: &Context,
     width: Width,
-    source: Source,
+    source: &Source,
 ) -> Result<u32, Fault>
-    ensures { result ≡ source_value (number_at (S.contents space.now).pieces) context.now width source }
+    ensures { result ≡ source_value (number_at (S.contents space.now).pieces) context.now width source.now }
 {
     match source {
         Source::Operand(operand) => operand_value(space, context, width, operand),
-        Source::Immediate(number) => Ok(number),
+        Source::Immediate(number) => Ok(*number),
     }
 }

@@ -1,5 +1,6 @@
 //! Products and quotients.
 ghost use Rattle.std.specs.Prelude.{◌≡◌, ◌<◌, ◌*◌, ◌^◌};
+ghost use Rattle.ia32_step.specs.Registers.{register_value};
 ghost use Rattle.ia32_step.specs.Operands.{number_at};
 ghost use Rattle.ia32_step.specs.Arithmetic.{bits, upper_register, with_double, double, with_product, multiplied, with_lower_product, product_taken, clear_flags, with_quotient, divided};
 
@@ -32,9 +33,9 @@ fn radix(width: Width) -> u64
     }
 }
 
-fn with_double(context: Context, width: Width, number: u64) -> Context
+fn with_double(context: &Context, width: Width, number: u64) -> Context
     requires { number < 2 ^ (2 * bits width) }
-    ensures { result ≡ with_double width number context }
+    ensures { result ≡ with_double width number context.now }
 {
     let lower = (number % radix(width)) as u32;
     let upper = (number / radix(width)) as u32;
@@ -55,36 +56,36 @@ fn double(context: &Context, width: Width) -> u64
 #[tactic(auto, unfolding(crate::specs::Arithmetic::multiplied))]
 pub(crate) fn multiply<S: Space>(
     space: &S,
-    context: Context,
+    context: &Context,
     signed: bool,
     width: Width,
-    operand: Operand,
+    operand: &Operand,
 ) -> Result<Change, Fault>
-    ensures { result ≡ multiplied (number_at (S.contents space.now).pieces) signed width operand context }
+    ensures { result ≡ multiplied (number_at (S.contents space.now).pieces) signed width operand.now context.now }
 {
-    let b = operand_value(space, &context, width, operand)?;
+    let b = operand_value(space, context, width, operand)?;
     let (product, flags) = ia32_alu::multiply(
         signed,
         alu_width(width),
         context.accumulator(width),
         b,
     );
-    Ok(with_double(context.with_flags(flags), width, product).goes_on())
+    Ok(with_double(&context.with_flags(flags), width, product).goes_on())
 }
 
 /// IMUL with two or three operands.
 #[tactic(auto, unfolding(crate::specs::Arithmetic::product_taken))]
 pub(crate) fn take_product<S: Space>(
     space: &S,
-    context: Context,
+    context: &Context,
     width: Width,
     register: Register,
-    operand: Operand,
+    operand: &Operand,
     b: u32,
 ) -> Result<Change, Fault>
-    ensures { result ≡ product_taken (number_at (S.contents space.now).pieces) width register operand b context }
+    ensures { result ≡ product_taken (number_at (S.contents space.now).pieces) width register operand.now b context.now }
 {
-    let a = operand_value(space, &context, width, operand)?;
+    let a = operand_value(space, context, width, operand)?;
     let (product, flags) = ia32_alu::multiply(true, alu_width(width), a, b);
     let lower = (product % radix(width)) as u32;
     Ok(
@@ -93,6 +94,20 @@ pub(crate) fn take_product<S: Space>(
             .with_register(width, register, lower)
             .goes_on(),
     )
+}
+
+/// IMUL of a register by an operand.
+pub(crate) fn multiply_register<S: Space>(
+    space: &S,
+    context: &Context,
+    width: Width,
+    register: Register,
+    operand: &Operand,
+) -> Result<Change, Fault>
+    ensures { result ≡ product_taken (number_at (S.contents space.now).pieces) width register operand.now (register_value context.now.registers width register) context.now }
+{
+    let own = context.register(width, register);
+    take_product(space, context, width, register, operand, own)
 }
 
 fn clear_flags() -> Flags
@@ -107,8 +122,8 @@ fn clear_flags() -> Flags
     }
 }
 
-fn with_quotient(context: Context, width: Width, both: Option<(u32, u32)>) -> Result<Change, Fault>
-    ensures { result ≡ with_quotient width both context }
+fn with_quotient(context: &Context, width: Width, both: Option<(u32, u32)>) -> Result<Change, Fault>
+    ensures { result ≡ with_quotient width both context.now }
 {
     match both {
         None => Err(Fault::Divide),
@@ -126,14 +141,14 @@ fn with_quotient(context: Context, width: Width, both: Option<(u32, u32)>) -> Re
 #[tactic(auto, unfolding(crate::specs::Arithmetic::divided))]
 pub(crate) fn divide<S: Space>(
     space: &S,
-    context: Context,
+    context: &Context,
     signed: bool,
     width: Width,
-    operand: Operand,
+    operand: &Operand,
 ) -> Result<Change, Fault>
-    ensures { result ≡ divided (number_at (S.contents space.now).pieces) signed width operand context }
+    ensures { result ≡ divided (number_at (S.contents space.now).pieces) signed width operand.now context.now }
 {
-    let by = operand_value(space, &context, width, operand)?;
-    let both = ia32_alu::divide(signed, alu_width(width), double(&context, width), by);
+    let by = operand_value(space, context, width, operand)?;
+    let both = ia32_alu::divide(signed, alu_width(width), double(context, width), by);
     with_quotient(context, width, both)
 }

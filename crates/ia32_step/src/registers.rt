@@ -1,5 +1,5 @@
 //! The registers of a thread at each width.
-ghost use Rattle.std.specs.Prelude.{◌≡◌, ◌<◌, set};
+ghost use Rattle.std.specs.Prelude.{◌≡◌, ◌<◌};
 ghost use Rattle.ia32_step.specs.Registers.{byte_value, register_value, with_lowest_byte, with_second_byte, with_lower_half, with_byte, with_word, with_register, with_flags, accumulator, stack_top, with_stack_top};
 
 use crate::types::Context;
@@ -35,37 +35,24 @@ fn put_lower_half(old: u32, value: u32) -> u32
     old / 0x1_0000 * 0x1_0000 + value % 0x1_0000
 }
 
-fn put_byte(registers: [u32; 8], number: u8, value: u32) -> [u32; 8]
+fn put_byte(registers: &mut [u32; 8], number: u8, value: u32)
     requires { number < 8 }
-    ensures { result ≡ with_byte registers number value }
+    ensures { registers.new ≡ with_byte registers.old number value }
 {
-    let mut registers = registers;
     let at = usize::from(number);
     if at < 4 {
         registers[at] = put_lowest_byte(registers[at], value);
     } else {
         registers[at - 4] = put_second_byte(registers[at - 4], value);
     }
-    registers
 }
 
-fn put_word(registers: [u32; 8], number: u8, value: u32) -> [u32; 8]
+fn put_word(registers: &mut [u32; 8], number: u8, value: u32)
     requires { number < 8 }
-    ensures { result ≡ with_word registers number value }
+    ensures { registers.new ≡ with_word registers.old number value }
 {
-    let mut registers = registers;
     let at = usize::from(number);
     registers[at] = put_lower_half(registers[at], value);
-    registers
-}
-
-fn put_dword(registers: [u32; 8], number: u8, value: u32) -> [u32; 8]
-    requires { number < 8 }
-    ensures { result ≡ set registers number value }
-{
-    let mut registers = registers;
-    registers[usize::from(number)] = value;
-    registers
 }
 
 impl Context {
@@ -82,25 +69,33 @@ impl Context {
         }
     }
 
-    /// The context after a register took a number at a width; the register's bits above stay.
+    /// A register takes a number at a width; its bits above stay.
     #[tactic(auto, unfolding(crate::specs::Registers::registers_with))]
-    pub(crate) fn with_register(self, width: Width, register: Register, value: u32) -> Context
-        ensures { result ≡ with_register width register value self }
+    pub(crate) fn put_register(&mut self, width: Width, register: Register, value: u32)
+        ensures { self.new ≡ with_register width register value self.old }
     {
         let number = register.number();
-        let registers = match width {
-            Width::Byte => put_byte(self.registers, number, value),
-            Width::Word => put_word(self.registers, number, value),
-            Width::Dword => put_dword(self.registers, number, value),
-        };
-        Context { registers, ..self }
+        match width {
+            Width::Byte => put_byte(&mut self.registers, number, value),
+            Width::Word => put_word(&mut self.registers, number, value),
+            Width::Dword => self.registers[usize::from(number)] = value,
+        }
+    }
+
+    /// The context after a register took a number at a width.
+    pub(crate) fn with_register(&self, width: Width, register: Register, value: u32) -> Context
+        ensures { result ≡ with_register width register value self.now }
+    {
+        let mut context = *self;
+        context.put_register(width, register, value);
+        context
     }
 
     /// The context with these flags.
-    pub(crate) fn with_flags(self, flags: Flags) -> Context
-        ensures { result ≡ with_flags flags self }
+    pub(crate) fn with_flags(&self, flags: Flags) -> Context
+        ensures { result ≡ with_flags flags self.now }
     {
-        Context { flags, ..self }
+        Context { flags, ..*self }
     }
 
     /// AL, AX or EAX.
@@ -118,8 +113,8 @@ impl Context {
     }
 
     /// The context with this ESP.
-    pub(crate) fn with_stack_top(self, top: u32) -> Context
-        ensures { result ≡ with_stack_top top self }
+    pub(crate) fn with_stack_top(&self, top: u32) -> Context
+        ensures { result ≡ with_stack_top top self.now }
     {
         self.with_register(Width::Dword, Register::Esp, top)
     }

@@ -25,27 +25,23 @@ impl Thread {
         }
     }
 
-    /// The thread with what an instruction leaves in the processor.
-    fn resumed(self, context: Context) -> Thread
-        ensures { result ≡ resumed self context }
+    /// The thread takes what an instruction leaves in the processor.
+    fn resume(&mut self, context: &Context)
+        ensures { self.new ≡ resumed self.old context.now }
     {
-        let registers = context.registers;
-        Thread {
-            registers,
-            pc: context.pc,
-            flags: context.flags,
-            ..self
-        }
+        self.registers = context.registers;
+        self.pc = context.pc;
+        self.flags = context.flags;
     }
 }
 
 /// Writes what an instruction leaves for memory, if anything.
-fn write_store<S: Space>(space: &mut S, store: Store) -> Result<(), Fault>
-    ensures ok { OnOk result (S.contents space.new ≡ after_store (S.contents space.old) (Some store)) }
+fn write_store<S: Space>(space: &mut S, store: &Store) -> Result<(), Fault>
+    ensures ok { OnOk result (S.contents space.new ≡ after_store (S.contents space.old) (Some store.now)) }
     ensures err { OnErr result (S.contents space.new ≡ S.contents space.old) }
     ensures cause { MatchResult result
-        (λ _. store_fault (S.contents space.old) (Some store) ≡ None)
-        (λ f. store_fault (S.contents space.old) (Some store) ≡ Some f) }
+        (λ _. store_fault (S.contents space.old) (Some store.now) ≡ None)
+        (λ f. store_fault (S.contents space.old) (Some store.now) ≡ Some f) }
     ensures room { S.room space.new ≡ S.room space.old }
 {
     match store.width {
@@ -78,17 +74,17 @@ fn exit(thread: &mut Thread) -> Outcome
 }
 
 /// Does what an instruction does, or stops the thread where its number can't be written.
-fn carry_out<S: Space>(space: &mut S, thread: &mut Thread, change: Change) -> Outcome
+fn carry_out<S: Space>(space: &mut S, thread: &mut Thread, change: &Change) -> Outcome
     ensures left { left_by (S.contents space.new) thread.new result
-        ≡ unless_barred (store_fault (S.contents space.old) change.store) (S.contents space.old) thread.old change }
+        ≡ unless_barred (store_fault (S.contents space.old) change.now.store) (S.contents space.old) thread.old change.now }
     ensures room { S.room space.new ≡ S.room space.old }
 {
-    if let Some(store) = change.store {
+    if let Some(store) = &change.store {
         if let Err(fault) = write_store(space, store) {
             return stop(thread, fault);
         }
     }
-    *thread = thread.resumed(change.context);
+    thread.resume(&change.context);
     Outcome::Moved(change.flow)
 }
 
@@ -98,9 +94,9 @@ fn next_change<S: Space>(space: &S, thread: &Thread) -> Result<Change, Fault>
     ensures { result ≡ next_change (S.contents space.now) thread.now }
 {
     let window = space.window(thread.pc)?;
-    match decode(&window.bytes[..window.length as usize]) {
+    match &decode(&window.bytes[..window.length as usize]) {
         None => Err(Fault::Undecoded),
-        Some(decoded) => execute(space, thread.context(), &decoded),
+        Some(decoded) => execute(space, &thread.context(), decoded),
     }
 }
 
@@ -119,8 +115,8 @@ pub fn step_thread<S: Space>(space: &mut S, thread: &mut Thread) -> Outcome
     if thread.pc == 0xFFFF_0000 {
         return exit(thread);
     }
-    match next_change(space, thread) {
+    match &next_change(space, thread) {
         Ok(change) => carry_out(space, thread, change),
-        Err(fault) => stop(thread, fault),
+        Err(fault) => stop(thread, *fault),
     }
 }
