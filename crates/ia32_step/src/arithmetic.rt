@@ -1,5 +1,5 @@
 //! Sums, differences, bitwise operations and shifts.
-ghost use Rattle.std.specs.Prelude.{◌≡◌, ◌%◌, Some, Ok};
+ghost use Rattle.std.specs.Prelude.{◌≡◌, ◌%◌, Some, Ok, Err, MatchResult};
 ghost use Rattle.ia32_alu.specs.declared.types.Shift.TheVariants.{Rol, Ror};
 ghost use Rattle.ia32_decode.specs.declared.types.Width.TheVariants.{Dword};
 ghost use Rattle.ia32_alu.specs.Arithmetic.{binary_of};
@@ -10,7 +10,7 @@ ghost use Rattle.ia32_step.specs.Operands.{number_at, source_value};
 ghost use Rattle.ia32_step.specs.Arithmetic.{alu_width, bits, binary_operation, settled, combined, tested, unary_counting, altered, stepped_shift, full_rotation, shifted_by, shifted, count_register};
 
 use crate::operands::{operand_value, place_of, source_value, value_at};
-use crate::types::{Change, Context, Place};
+use crate::types::{Context, Effect, Place};
 use ia32_alu::Flags;
 use ia32_decode::{Arithmetic, Counting, Operand, Register, Shift, Source, Width};
 use image_memory::Space;
@@ -44,31 +44,32 @@ fn binary_operation(operation: Arithmetic) -> ia32_alu::Binary
 
 /// What comes of two numbers goes to a place, but CMP sets the flags alone.
 fn settle(
-    context: &Context,
+    context: &mut Context,
     operation: Arithmetic,
     width: Width,
     place: Place,
     result_of: (u32, Flags),
-) -> Change
-    ensures { result ≡ settled operation width place result_of context.now }
+) -> Effect
+    ensures { record { context = context.new; flow = result.flow; store = result.store } ≡ settled operation width place result_of context.old }
 {
     let (value, flags) = result_of;
+    context.flags = flags;
     match operation {
-        Arithmetic::Cmp => context.with_flags(flags).goes_on(),
-        _ => context.with_flags(flags).putting(place, width, value),
+        Arithmetic::Cmp => Effect::plain(),
+        _ => context.put(place, width, value),
     }
 }
 
 /// ADD, OR, ADC, SBB, AND, SUB, XOR and CMP of two numbers, of which the first stands at a place.
 fn work_out(
-    context: &Context,
+    context: &mut Context,
     operation: Arithmetic,
     width: Width,
     place: Place,
     a: u32,
     b: u32,
-) -> Change
-    ensures { result ≡ settled operation width place (binary_of (binary_operation operation) (bits width) a b context.now.flags) context.now }
+) -> Effect
+    ensures { record { context = context.new; flow = result.flow; store = result.store } ≡ settled operation width place (binary_of (binary_operation operation) (bits width) a b context.old.flags) context.old }
 {
     let result_of = ia32_alu::binary(
         binary_operation(operation),
@@ -84,13 +85,15 @@ fn work_out(
 #[tactic(auto, unfolding(crate::specs::Arithmetic::combined))]
 pub(crate) fn combine<S: Space>(
     space: &S,
-    context: &Context,
+    context: &mut Context,
     operation: Arithmetic,
     width: Width,
     operand: &Operand,
     source: &Source,
-) -> Result<Change, Fault>
-    ensures { result ≡ combined (number_at (S.contents space.now).pieces) operation width operand.now (source_value (number_at (S.contents space.now).pieces) context.now width source.now) context.now }
+) -> Result<Effect, Fault>
+    ensures { MatchResult result
+        (λ effect. Ok (record { context = context.new; flow = effect.flow; store = effect.store }) ≡ combined (number_at (S.contents space.now).pieces) operation width operand.now (source_value (number_at (S.contents space.now).pieces) context.old width source.now) context.old)
+        (λ fault. Err fault ≡ combined (number_at (S.contents space.now).pieces) operation width operand.now (source_value (number_at (S.contents space.now).pieces) context.old width source.now) context.old) }
 {
     let place = place_of(context, operand);
     let a = value_at(space, context, width, place)?;
@@ -102,13 +105,15 @@ pub(crate) fn combine<S: Space>(
 #[tactic(auto, unfolding(crate::specs::Arithmetic::combined))]
 pub(crate) fn combine_immediate<S: Space>(
     space: &S,
-    context: &Context,
+    context: &mut Context,
     operation: Arithmetic,
     width: Width,
     operand: &Operand,
     immediate: u32,
-) -> Result<Change, Fault>
-    ensures { result ≡ combined (number_at (S.contents space.now).pieces) operation width operand.now (Ok immediate) context.now }
+) -> Result<Effect, Fault>
+    ensures { MatchResult result
+        (λ effect. Ok (record { context = context.new; flow = effect.flow; store = effect.store }) ≡ combined (number_at (S.contents space.now).pieces) operation width operand.now (Ok immediate) context.old)
+        (λ fault. Err fault ≡ combined (number_at (S.contents space.now).pieces) operation width operand.now (Ok immediate) context.old) }
 {
     let place = place_of(context, operand);
     let a = value_at(space, context, width, place)?;
@@ -119,12 +124,14 @@ pub(crate) fn combine_immediate<S: Space>(
 #[tactic(auto, unfolding(crate::specs::Arithmetic::tested))]
 pub(crate) fn test<S: Space>(
     space: &S,
-    context: &Context,
+    context: &mut Context,
     width: Width,
     operand: &Operand,
     b: u32,
-) -> Result<Change, Fault>
-    ensures { result ≡ tested (number_at (S.contents space.now).pieces) width operand.now b context.now }
+) -> Result<Effect, Fault>
+    ensures { MatchResult result
+        (λ effect. Ok (record { context = context.new; flow = effect.flow; store = effect.store }) ≡ tested (number_at (S.contents space.now).pieces) width operand.now b context.old)
+        (λ fault. Err fault ≡ tested (number_at (S.contents space.now).pieces) width operand.now b context.old) }
 {
     let a = operand_value(space, context, width, operand)?;
     let (_, flags) = ia32_alu::binary(
@@ -134,36 +141,36 @@ pub(crate) fn test<S: Space>(
         b,
         context.flags,
     );
-    Ok(context.with_flags(flags).goes_on())
+    context.flags = flags;
+    Ok(Effect::plain())
 }
 
 /// TEST of an operand and a register.
 pub(crate) fn test_register<S: Space>(
     space: &S,
-    context: &Context,
+    context: &mut Context,
     width: Width,
     operand: &Operand,
     register: Register,
-) -> Result<Change, Fault>
-    ensures { result ≡ tested (number_at (S.contents space.now).pieces) width operand.now (register_value context.now.registers width register) context.now }
+) -> Result<Effect, Fault>
+    ensures { MatchResult result
+        (λ effect. Ok (record { context = context.new; flow = effect.flow; store = effect.store }) ≡ tested (number_at (S.contents space.now).pieces) width operand.now (register_value context.old.registers width register) context.old)
+        (λ fault. Err fault ≡ tested (number_at (S.contents space.now).pieces) width operand.now (register_value context.old.registers width register) context.old) }
 {
-    test(
-        space,
-        context,
-        width,
-        operand,
-        context.register(width, register),
-    )
+    let own = context.register(width, register);
+    test(space, context, width, operand, own)
 }
 
 /// TEST of the accumulator and an immediate.
 pub(crate) fn test_accumulator<S: Space>(
     space: &S,
-    context: &Context,
+    context: &mut Context,
     width: Width,
     immediate: u32,
-) -> Result<Change, Fault>
-    ensures { result ≡ tested (number_at (S.contents space.now).pieces) width (operands.Register Eax) immediate context.now }
+) -> Result<Effect, Fault>
+    ensures { MatchResult result
+        (λ effect. Ok (record { context = context.new; flow = effect.flow; store = effect.store }) ≡ tested (number_at (S.contents space.now).pieces) width (operands.Register Eax) immediate context.old)
+        (λ fault. Err fault ≡ tested (number_at (S.contents space.now).pieces) width (operands.Register Eax) immediate context.old) }
 {
     test(
         space,
@@ -187,28 +194,33 @@ fn counting(operation: Counting) -> ia32_alu::Unary
 #[tactic(auto, unfolding(crate::specs::Arithmetic::altered))]
 pub(crate) fn alter<S: Space>(
     space: &S,
-    context: &Context,
+    context: &mut Context,
     operation: ia32_alu::Unary,
     width: Width,
     operand: &Operand,
-) -> Result<Change, Fault>
-    ensures { result ≡ altered (number_at (S.contents space.now).pieces) operation width operand.now context.now }
+) -> Result<Effect, Fault>
+    ensures { MatchResult result
+        (λ effect. Ok (record { context = context.new; flow = effect.flow; store = effect.store }) ≡ altered (number_at (S.contents space.now).pieces) operation width operand.now context.old)
+        (λ fault. Err fault ≡ altered (number_at (S.contents space.now).pieces) operation width operand.now context.old) }
 {
     let place = place_of(context, operand);
     let a = value_at(space, context, width, place)?;
     let (value, flags) = ia32_alu::unary(operation, alu_width(width), a, context.flags);
-    Ok(context.with_flags(flags).putting(place, width, value))
+    context.flags = flags;
+    Ok(context.put(place, width, value))
 }
 
 /// INC or DEC of an operand.
 pub(crate) fn count<S: Space>(
     space: &S,
-    context: &Context,
+    context: &mut Context,
     operation: Counting,
     width: Width,
     operand: &Operand,
-) -> Result<Change, Fault>
-    ensures { result ≡ altered (number_at (S.contents space.now).pieces) (unary_counting operation) width operand.now context.now }
+) -> Result<Effect, Fault>
+    ensures { MatchResult result
+        (λ effect. Ok (record { context = context.new; flow = effect.flow; store = effect.store }) ≡ altered (number_at (S.contents space.now).pieces) (unary_counting operation) width operand.now context.old)
+        (λ fault. Err fault ≡ altered (number_at (S.contents space.now).pieces) (unary_counting operation) width operand.now context.old) }
 {
     alter(space, context, counting(operation), width, operand)
 }
@@ -216,12 +228,14 @@ pub(crate) fn count<S: Space>(
 /// INC or DEC of a register.
 pub(crate) fn count_in_register<S: Space>(
     space: &S,
-    context: &Context,
+    context: &mut Context,
     operation: Counting,
     width: Width,
     register: Register,
-) -> Result<Change, Fault>
-    ensures { result ≡ altered (number_at (S.contents space.now).pieces) (unary_counting operation) width (operands.Register register) context.now }
+) -> Result<Effect, Fault>
+    ensures { MatchResult result
+        (λ effect. Ok (record { context = context.new; flow = effect.flow; store = effect.store }) ≡ altered (number_at (S.contents space.now).pieces) (unary_counting operation) width (operands.Register register) context.old)
+        (λ fault. Err fault ≡ altered (number_at (S.contents space.now).pieces) (unary_counting operation) width (operands.Register register) context.old) }
 {
     count(
         space,
@@ -257,33 +271,38 @@ pub(crate) fn stepped_shift(operation: Shift, width: Width) -> Option<ia32_alu::
 
 fn shift_by<S: Space>(
     space: &S,
-    context: &Context,
+    context: &mut Context,
     operation: ia32_alu::Shift,
     width: Width,
     operand: &Operand,
     count: u8,
-) -> Result<Change, Fault>
+) -> Result<Effect, Fault>
     requires left { operation ≡ Rol → width ≡ Dword }
     requires right { operation ≡ Ror → width ≡ Dword }
-    ensures { result ≡ shifted_by (number_at (S.contents space.now).pieces) (Some operation) width operand.now count context.now }
+    ensures { MatchResult result
+        (λ effect. Ok (record { context = context.new; flow = effect.flow; store = effect.store }) ≡ shifted_by (number_at (S.contents space.now).pieces) (Some operation) width operand.now count context.old)
+        (λ fault. Err fault ≡ shifted_by (number_at (S.contents space.now).pieces) (Some operation) width operand.now count context.old) }
 {
     let place = place_of(context, operand);
     let a = value_at(space, context, width, place)?;
     let (value, flags) = ia32_alu::shift(operation, alu_width(width), a, count, context.flags);
-    Ok(context.with_flags(flags).putting(place, width, value))
+    context.flags = flags;
+    Ok(context.put(place, width, value))
 }
 
 /// A shift or rotate by a count.
 #[tactic(auto, unfolding(crate::specs::Arithmetic::shifted))]
 pub(crate) fn shift<S: Space>(
     space: &S,
-    context: &Context,
+    context: &mut Context,
     operation: Shift,
     width: Width,
     operand: &Operand,
     count: u8,
-) -> Result<Change, Fault>
-    ensures { result ≡ shifted (number_at (S.contents space.now).pieces) operation width operand.now count context.now }
+) -> Result<Effect, Fault>
+    ensures { MatchResult result
+        (λ effect. Ok (record { context = context.new; flow = effect.flow; store = effect.store }) ≡ shifted (number_at (S.contents space.now).pieces) operation width operand.now count context.old)
+        (λ fault. Err fault ≡ shifted (number_at (S.contents space.now).pieces) operation width operand.now count context.old) }
 {
     match stepped_shift(operation, width) {
         None => Err(Fault::Unsupported),
@@ -302,13 +321,15 @@ fn count_register(context: &Context) -> u8
 /// A shift or rotate by the lowest byte of an immediate.
 pub(crate) fn shift_by_immediate<S: Space>(
     space: &S,
-    context: &Context,
+    context: &mut Context,
     operation: Shift,
     width: Width,
     operand: &Operand,
     count: u32,
-) -> Result<Change, Fault>
-    ensures { result ≡ shifted (number_at (S.contents space.now).pieces) operation width operand.now (count % 0x100) context.now }
+) -> Result<Effect, Fault>
+    ensures { MatchResult result
+        (λ effect. Ok (record { context = context.new; flow = effect.flow; store = effect.store }) ≡ shifted (number_at (S.contents space.now).pieces) operation width operand.now (count % 0x100) context.old)
+        (λ fault. Err fault ≡ shifted (number_at (S.contents space.now).pieces) operation width operand.now (count % 0x100) context.old) }
 {
     shift(
         space,
@@ -323,19 +344,15 @@ pub(crate) fn shift_by_immediate<S: Space>(
 /// A shift or rotate by CL.
 pub(crate) fn shift_by_cl<S: Space>(
     space: &S,
-    context: &Context,
+    context: &mut Context,
     operation: Shift,
     width: Width,
     operand: &Operand,
-) -> Result<Change, Fault>
-    ensures { result ≡ shifted (number_at (S.contents space.now).pieces) operation width operand.now (count_register context.now) context.now }
+) -> Result<Effect, Fault>
+    ensures { MatchResult result
+        (λ effect. Ok (record { context = context.new; flow = effect.flow; store = effect.store }) ≡ shifted (number_at (S.contents space.now).pieces) operation width operand.now (count_register context.old) context.old)
+        (λ fault. Err fault ≡ shifted (number_at (S.contents space.now).pieces) operation width operand.now (count_register context.old) context.old) }
 {
-    shift(
-        space,
-        context,
-        operation,
-        width,
-        operand,
-        count_register(context),
-    )
+    let count = count_register(context);
+    shift(space, context, operation, width, operand, count)
 }

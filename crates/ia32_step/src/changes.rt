@@ -1,10 +1,13 @@
 //! What instructions are made of.
-ghost use Rattle.std.specs.Prelude.{◌≡◌, Ok};
+ghost use Rattle.std.specs.Prelude.{◌≡◌, Some, None, Ok, Err, Result, MatchResult};
+ghost use Rattle.ks_base.specs.declared.refusals.Fault.{Fault};
+ghost use Rattle.ia32_step.specs.declared.types.Change.{Change};
+ghost use Rattle.ia32_step.specs.declared.types.Flow.TheVariants.{Plain};
 ghost use Rattle.ia32_step.specs.Operands.{number_at};
-ghost use Rattle.ia32_step.specs.Changes.{goes_on, storing, putting, at_address, above, below, pushing, popped, raised};
+ghost use Rattle.ia32_step.specs.Changes.{goes_on, putting, above, below, pushing, popped, raised};
 
 use crate::operands::number_at;
-use crate::types::{Change, Context, Flow, Place, Store};
+use crate::types::{Context, Effect, Flow, Place, Store};
 use ia32_decode::Width;
 use image_memory::Space;
 use ks_base::Fault;
@@ -23,24 +26,22 @@ fn below(address: u32, bytes: u32) -> u32
     address.wrapping_sub(bytes)
 }
 
-impl Context {
-    /// The thread goes on so, and nothing is written.
-    pub(crate) fn goes_on(&self) -> Change
-        ensures { result ≡ goes_on self.now }
+impl Effect {
+    /// The thread goes on, and nothing is written.
+    pub(crate) fn plain() -> Effect
+        ensures { result ≡ record { flow = Plain; store = None } }
     {
-        Change {
-            context: *self,
+        Effect {
             flow: Flow::Plain,
             store: None,
         }
     }
 
-    /// A number is written to memory.
-    pub(crate) fn storing(&self, address: u32, width: Width, value: u32) -> Change
-        ensures { result ≡ storing address width value self.now }
+    /// The thread goes on, and a number is written to memory.
+    pub(crate) fn storing(address: u32, width: Width, value: u32) -> Effect
+        ensures { result ≡ record { flow = Plain; store = Some (record { address = address; width = width; value = value }) } }
     {
-        Change {
-            context: *self,
+        Effect {
             flow: Flow::Plain,
             store: Some(Store {
                 address,
@@ -49,30 +50,29 @@ impl Context {
             }),
         }
     }
+}
 
+impl Context {
     /// A place takes a number.
-    pub(crate) fn putting(&self, place: Place, width: Width, value: u32) -> Change
-        ensures { result ≡ putting place width value self.now }
+    pub(crate) fn put(&mut self, place: Place, width: Width, value: u32) -> Effect
+        ensures { record { context = self.new; flow = result.flow; store = result.store } ≡ putting place width value self.old }
     {
         match place {
-            Place::InRegister(register) => self.with_register(width, register, value).goes_on(),
-            Place::InMemory(address) => self.storing(address, width, value),
+            Place::InRegister(register) => {
+                self.put_register(width, register, value);
+                Effect::plain()
+            }
+            Place::InMemory(address) => Effect::storing(address, width, value),
         }
     }
 
-    /// The thread goes on elsewhere.
-    pub(crate) fn at_address(&self, pc: u32) -> Context
-        ensures { result ≡ at_address pc self.now }
-    {
-        Context { pc, ..*self }
-    }
-
     /// A dword is pushed.
-    pub(crate) fn pushing(&self, value: u32) -> Change
-        ensures { result ≡ pushing value self.now }
+    pub(crate) fn push(&mut self, value: u32) -> Effect
+        ensures { record { context = self.new; flow = result.flow; store = result.store } ≡ pushing value self.old }
     {
         let top = below(self.stack_top(), 4);
-        self.with_stack_top(top).storing(top, Width::Dword, value)
+        self.put_stack_top(top);
+        Effect::storing(top, Width::Dword, value)
     }
 
     /// The dword on top of the stack.
@@ -82,18 +82,20 @@ impl Context {
         number_at(space, Width::Dword, self.stack_top())
     }
 
-    /// The context after a pop and a number of further bytes.
-    pub(crate) fn raised(&self, bytes: u32) -> Context
-        ensures { result ≡ raised bytes self.now }
+    /// ESP rises as after a pop, and by a number of further bytes.
+    pub(crate) fn raise(&mut self, bytes: u32)
+        ensures { self.new ≡ raised bytes self.old }
     {
         let top = above(above(self.stack_top(), 4), bytes);
-        self.with_stack_top(top)
+        self.put_stack_top(top);
     }
 }
 
 /// The thread goes on at the next instruction, and nothing else happens.
-pub(crate) fn go_on(context: &Context) -> Result<Change, Fault>
-    ensures { result ≡ Ok (goes_on context.now) }
+pub(crate) fn go_on(context: &mut Context) -> Result<Effect, Fault>
+    ensures { MatchResult result
+        (λ effect. ◌≡◌ {A = Result Change Fault} (Ok (record { context = context.new; flow = effect.flow; store = effect.store })) (Ok (goes_on context.old)))
+        (λ fault. Err fault ≡ Ok (goes_on context.old)) }
 {
-    Ok(context.goes_on())
+    Ok(Effect::plain())
 }

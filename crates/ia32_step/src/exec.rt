@@ -1,5 +1,5 @@
 //! What an instruction does, and which are not carried out.
-ghost use Rattle.std.specs.Prelude.{◌≡◌};
+ghost use Rattle.std.specs.Prelude.{◌≡◌, Ok, Err, MatchResult};
 ghost use Rattle.ia32_step.specs.Operands.{number_at};
 ghost use Rattle.ia32_step.specs.Exec.{unary_change, change_of, is_full, is_stepped, takes_repeat, refuses_prefixes, traps, is_memory, writes, takes_lock, executed};
 
@@ -16,7 +16,7 @@ use crate::moves::{
 };
 use crate::products::{divide, multiply, multiply_register, take_product};
 use crate::stack::{leave, pop, pop_register, push, push_immediate, push_register};
-use crate::types::{Change, Context};
+use crate::types::{Context, Effect};
 use ia32_decode::{Arithmetic, Decoded, Instr, Operand, Prefixes, Unary, Width};
 use image_memory::Space;
 use ks_base::Fault;
@@ -25,12 +25,14 @@ use ks_base::Fault;
 #[tactic(auto, unfolding(crate::specs::Exec::unary_change))]
 fn unary_change<S: Space>(
     space: &S,
-    context: &Context,
+    context: &mut Context,
     operation: Unary,
     width: Width,
     operand: &Operand,
-) -> Result<Change, Fault>
-    ensures { result ≡ unary_change (number_at (S.contents space.now).pieces) operation width operand.now context.now }
+) -> Result<Effect, Fault>
+    ensures { MatchResult result
+        (λ effect. Ok (record { context = context.new; flow = effect.flow; store = effect.store }) ≡ unary_change (number_at (S.contents space.now).pieces) operation width operand.now context.old)
+        (λ fault. Err fault ≡ unary_change (number_at (S.contents space.now).pieces) operation width operand.now context.old) }
 {
     match operation {
         Unary::Not => alter(space, context, ia32_alu::Unary::Not, width, operand),
@@ -44,8 +46,10 @@ fn unary_change<S: Space>(
 
 /// What an instruction does to a thread whose pc is the address after it.
 #[tactic(auto, unfolding(crate::specs::Exec::change_of, crate::specs::Stack::pushed, crate::specs::Operands::value_at))]
-fn change_of<S: Space>(space: &S, context: &Context, instr: &Instr) -> Result<Change, Fault>
-    ensures { result ≡ change_of (number_at (S.contents space.now).pieces) instr.now context.now }
+fn change_of<S: Space>(space: &S, context: &mut Context, instr: &Instr) -> Result<Effect, Fault>
+    ensures { MatchResult result
+        (λ effect. Ok (record { context = context.new; flow = effect.flow; store = effect.store }) ≡ change_of (number_at (S.contents space.now).pieces) instr.now context.old)
+        (λ fault. Err fault ≡ change_of (number_at (S.contents space.now).pieces) instr.now context.old) }
 {
     match instr {
         Instr::Arithmetic {
@@ -340,10 +344,12 @@ fn takes_lock(instr: &Instr) -> bool
 #[tactic(auto, unfolding(crate::specs::Exec::executed))]
 pub(crate) fn execute<S: Space>(
     space: &S,
-    context: &Context,
+    context: &mut Context,
     decoded: &Decoded,
-) -> Result<Change, Fault>
-    ensures { result ≡ executed (number_at (S.contents space.now).pieces) decoded.now context.now }
+) -> Result<Effect, Fault>
+    ensures { MatchResult result
+        (λ effect. Ok (record { context = context.new; flow = effect.flow; store = effect.store }) ≡ executed (number_at (S.contents space.now).pieces) decoded.now context.old)
+        (λ fault. Err fault ≡ executed (number_at (S.contents space.now).pieces) decoded.now context.old) }
 {
     if !is_stepped(&decoded.instr) || refuses_prefixes(&decoded.prefixes, &decoded.instr) {
         return Err(Fault::Unsupported);
@@ -354,6 +360,6 @@ pub(crate) fn execute<S: Space>(
     if decoded.prefixes.lock && !takes_lock(&decoded.instr) {
         return Err(Fault::BadLock);
     }
-    let next = above(context.pc, decoded.length);
-    change_of(space, &context.at_address(next), &decoded.instr)
+    context.pc = above(context.pc, decoded.length);
+    change_of(space, context, &decoded.instr)
 }

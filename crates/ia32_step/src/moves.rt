@@ -1,5 +1,7 @@
 //! Moves, exchanges and extensions.
-ghost use Rattle.std.specs.Prelude.{◌≡◌, ◌<◌, ◌-◌, ◌^◌, Ok};
+ghost use Rattle.std.specs.Prelude.{◌≡◌, ◌<◌, ◌-◌, ◌^◌, Ok, Err, Result, MatchResult};
+ghost use Rattle.ks_base.specs.declared.refusals.Fault.{Fault};
+ghost use Rattle.ia32_step.specs.declared.types.Change.{Change};
 ghost use Rattle.ia32_alu.specs.Numbers.{highest, unsigned};
 ghost use Rattle.ia32_decode.specs.declared.types.Register.TheVariants.{Eax};
 ghost use Rattle.ia32_decode.specs.declared.types.Operand.TheVariants as operands;
@@ -11,7 +13,7 @@ ghost use Rattle.ia32_step.specs.Moves.{copied, accumulator_loaded, accumulator_
 
 use crate::arithmetic::alu_width;
 use crate::operands::{address_of, number_at, operand_value, place_of, value_at};
-use crate::types::{Change, Context, Place};
+use crate::types::{Context, Effect, Place};
 use ia32_alu::{Binary, Flags};
 use ia32_decode::{Condition, Memory, Operand, Register, Width};
 use image_memory::Space;
@@ -21,112 +23,126 @@ use ks_base::Fault;
 #[tactic(auto, unfolding(crate::specs::Moves::copied))]
 pub(crate) fn copy<S: Space>(
     space: &S,
-    context: &Context,
+    context: &mut Context,
     width: Width,
     destination: &Operand,
     source: &Operand,
-) -> Result<Change, Fault>
-    ensures { result ≡ copied (number_at (S.contents space.now).pieces) width destination.now source.now context.now }
+) -> Result<Effect, Fault>
+    ensures { MatchResult result
+        (λ effect. Ok (record { context = context.new; flow = effect.flow; store = effect.store }) ≡ copied (number_at (S.contents space.now).pieces) width destination.now source.now context.old)
+        (λ fault. Err fault ≡ copied (number_at (S.contents space.now).pieces) width destination.now source.now context.old) }
 {
     let value = operand_value(space, context, width, source)?;
     let place = place_of(context, destination);
-    Ok(context.putting(place, width, value))
+    Ok(context.put(place, width, value))
 }
 
 /// MOV of an immediate to an operand.
 pub(crate) fn put_immediate(
-    context: &Context,
+    context: &mut Context,
     width: Width,
     destination: &Operand,
     immediate: u32,
-) -> Result<Change, Fault>
-    ensures { result ≡ Ok (putting (place_of context.now.registers destination.now) width immediate context.now) }
+) -> Result<Effect, Fault>
+    ensures { MatchResult result
+        (λ effect. ◌≡◌ {A = Result Change Fault} (Ok (record { context = context.new; flow = effect.flow; store = effect.store })) (Ok (putting (place_of context.old.registers destination.now) width immediate context.old)))
+        (λ fault. Err fault ≡ Ok (putting (place_of context.old.registers destination.now) width immediate context.old)) }
 {
-    Ok(context.putting(place_of(context, destination), width, immediate))
+    let place = place_of(context, destination);
+    Ok(context.put(place, width, immediate))
 }
 
 /// MOV of an immediate to a register.
 pub(crate) fn load_immediate(
-    context: &Context,
+    context: &mut Context,
     width: Width,
     register: Register,
     immediate: u32,
-) -> Result<Change, Fault>
-    ensures { result ≡ Ok (goes_on (with_register width register immediate context.now)) }
+) -> Result<Effect, Fault>
+    ensures { MatchResult result
+        (λ effect. ◌≡◌ {A = Result Change Fault} (Ok (record { context = context.new; flow = effect.flow; store = effect.store })) (Ok (goes_on (with_register width register immediate context.old))))
+        (λ fault. Err fault ≡ Ok (goes_on (with_register width register immediate context.old))) }
 {
-    Ok(context.with_register(width, register, immediate).goes_on())
+    context.put_register(width, register, immediate);
+    Ok(Effect::plain())
 }
 
 /// MOV to the accumulator from an address.
 #[tactic(auto, unfolding(crate::specs::Moves::accumulator_loaded))]
 pub(crate) fn load_accumulator<S: Space>(
     space: &S,
-    context: &Context,
+    context: &mut Context,
     width: Width,
     address: u32,
-) -> Result<Change, Fault>
-    ensures { result ≡ accumulator_loaded (number_at (S.contents space.now).pieces) width address context.now }
+) -> Result<Effect, Fault>
+    ensures { MatchResult result
+        (λ effect. Ok (record { context = context.new; flow = effect.flow; store = effect.store }) ≡ accumulator_loaded (number_at (S.contents space.now).pieces) width address context.old)
+        (λ fault. Err fault ≡ accumulator_loaded (number_at (S.contents space.now).pieces) width address context.old) }
 {
     let value = number_at(space, width, address)?;
-    Ok(context.with_register(width, Register::Eax, value).goes_on())
+    context.put_register(width, Register::Eax, value);
+    Ok(Effect::plain())
 }
 
 /// MOV from the accumulator to an address.
 pub(crate) fn store_accumulator(
-    context: &Context,
+    context: &mut Context,
     width: Width,
     address: u32,
-) -> Result<Change, Fault>
-    ensures { result ≡ Ok (accumulator_stored width address context.now) }
+) -> Result<Effect, Fault>
+    ensures { MatchResult result
+        (λ effect. ◌≡◌ {A = Result Change Fault} (Ok (record { context = context.new; flow = effect.flow; store = effect.store })) (Ok (accumulator_stored width address context.old)))
+        (λ fault. Err fault ≡ Ok (accumulator_stored width address context.old)) }
 {
-    Ok(context.storing(address, width, context.accumulator(width)))
+    Ok(Effect::storing(address, width, context.accumulator(width)))
 }
 
 /// LEA.
 pub(crate) fn take_address(
-    context: &Context,
+    context: &mut Context,
     width: Width,
     register: Register,
     memory: &Memory,
-) -> Result<Change, Fault>
-    ensures { result ≡ Ok (address_taken width register memory.now context.now) }
+) -> Result<Effect, Fault>
+    ensures { MatchResult result
+        (λ effect. ◌≡◌ {A = Result Change Fault} (Ok (record { context = context.new; flow = effect.flow; store = effect.store })) (Ok (address_taken width register memory.now context.old)))
+        (λ fault. Err fault ≡ Ok (address_taken width register memory.now context.old)) }
 {
-    Ok(
-        context
-            .with_register(width, register, address_of(context, memory))
-            .goes_on(),
-    )
+    let address = address_of(context, memory);
+    context.put_register(width, register, address);
+    Ok(Effect::plain())
 }
 
 /// XCHG.
 #[tactic(auto, unfolding(crate::specs::Moves::exchanged))]
 pub(crate) fn exchange<S: Space>(
     space: &S,
-    context: &Context,
+    context: &mut Context,
     width: Width,
     operand: &Operand,
     register: Register,
-) -> Result<Change, Fault>
-    ensures { result ≡ exchanged (number_at (S.contents space.now).pieces) width operand.now register context.now }
+) -> Result<Effect, Fault>
+    ensures { MatchResult result
+        (λ effect. Ok (record { context = context.new; flow = effect.flow; store = effect.store }) ≡ exchanged (number_at (S.contents space.now).pieces) width operand.now register context.old)
+        (λ fault. Err fault ≡ exchanged (number_at (S.contents space.now).pieces) width operand.now register context.old) }
 {
     let place = place_of(context, operand);
     let value = value_at(space, context, width, place)?;
     let own = context.register(width, register);
-    Ok(
-        context
-            .with_register(width, register, value)
-            .putting(place, width, own),
-    )
+    context.put_register(width, register, value);
+    Ok(context.put(place, width, own))
 }
 
 /// XCHG of the accumulator and a register.
 pub(crate) fn exchange_accumulator<S: Space>(
     space: &S,
-    context: &Context,
+    context: &mut Context,
     width: Width,
     register: Register,
-) -> Result<Change, Fault>
-    ensures { result ≡ exchanged (number_at (S.contents space.now).pieces) width (operands.Register Eax) register context.now }
+) -> Result<Effect, Fault>
+    ensures { MatchResult result
+        (λ effect. Ok (record { context = context.new; flow = effect.flow; store = effect.store }) ≡ exchanged (number_at (S.contents space.now).pieces) width (operands.Register Eax) register context.old)
+        (λ fault. Err fault ≡ exchanged (number_at (S.contents space.now).pieces) width (operands.Register Eax) register context.old) }
 {
     exchange(
         space,
@@ -141,43 +157,41 @@ pub(crate) fn exchange_accumulator<S: Space>(
 #[tactic(auto, unfolding(crate::specs::Moves::exchanged_and_added))]
 pub(crate) fn exchange_and_add<S: Space>(
     space: &S,
-    context: &Context,
+    context: &mut Context,
     width: Width,
     operand: &Operand,
     register: Register,
-) -> Result<Change, Fault>
-    ensures { result ≡ exchanged_and_added (number_at (S.contents space.now).pieces) width operand.now register context.now }
+) -> Result<Effect, Fault>
+    ensures { MatchResult result
+        (λ effect. Ok (record { context = context.new; flow = effect.flow; store = effect.store }) ≡ exchanged_and_added (number_at (S.contents space.now).pieces) width operand.now register context.old)
+        (λ fault. Err fault ≡ exchanged_and_added (number_at (S.contents space.now).pieces) width operand.now register context.old) }
 {
     let place = place_of(context, operand);
     let a = value_at(space, context, width, place)?;
     let b = context.register(width, register);
     let (sum, flags) = ia32_alu::binary(Binary::Add, alu_width(width), a, b, context.flags);
-    Ok(
-        context
-            .with_flags(flags)
-            .with_register(width, register, a)
-            .putting(place, width, sum),
-    )
+    context.flags = flags;
+    context.put_register(width, register, a);
+    Ok(context.put(place, width, sum))
 }
 
-fn compared_and_exchanged(
-    context: &Context,
+fn settle_comparison(
+    context: &mut Context,
     place: Place,
     width: Width,
     a: u32,
     value: u32,
     compared: (u32, Flags),
-) -> Change
-    ensures { result ≡ compared_and_exchanged place width a value compared context.now }
+) -> Effect
+    ensures { record { context = context.new; flow = result.flow; store = result.store } ≡ compared_and_exchanged place width a value compared context.old }
 {
     let (_, flags) = compared;
+    context.flags = flags;
     if flags.zf {
-        context.with_flags(flags).putting(place, width, value)
+        context.put(place, width, value)
     } else {
-        context
-            .with_flags(flags)
-            .with_register(width, Register::Eax, a)
-            .putting(place, width, a)
+        context.put_register(width, Register::Eax, a);
+        context.put(place, width, a)
     }
 }
 
@@ -185,12 +199,14 @@ fn compared_and_exchanged(
 #[tactic(auto, unfolding(crate::specs::Moves::compare_exchanged))]
 pub(crate) fn compare_exchange<S: Space>(
     space: &S,
-    context: &Context,
+    context: &mut Context,
     width: Width,
     operand: &Operand,
     register: Register,
-) -> Result<Change, Fault>
-    ensures { result ≡ compare_exchanged (number_at (S.contents space.now).pieces) width operand.now register context.now }
+) -> Result<Effect, Fault>
+    ensures { MatchResult result
+        (λ effect. Ok (record { context = context.new; flow = effect.flow; store = effect.store }) ≡ compare_exchanged (number_at (S.contents space.now).pieces) width operand.now register context.old)
+        (λ fault. Err fault ≡ compare_exchanged (number_at (S.contents space.now).pieces) width operand.now register context.old) }
 {
     let place = place_of(context, operand);
     let a = value_at(space, context, width, place)?;
@@ -202,7 +218,7 @@ pub(crate) fn compare_exchange<S: Space>(
         a,
         context.flags,
     );
-    Ok(compared_and_exchanged(context, place, width, a, value, compared))
+    Ok(settle_comparison(context, place, width, a, value, compared))
 }
 
 fn condition_number(condition: Condition) -> u8
@@ -240,33 +256,36 @@ pub(crate) fn holds(condition: Condition, flags: Flags) -> bool
 #[tactic(auto, unfolding(crate::specs::Moves::copied_if))]
 pub(crate) fn copy_if<S: Space>(
     space: &S,
-    context: &Context,
+    context: &mut Context,
     condition: Condition,
     width: Width,
     register: Register,
     source: &Operand,
-) -> Result<Change, Fault>
-    ensures { result ≡ copied_if (number_at (S.contents space.now).pieces) condition width register source.now context.now }
+) -> Result<Effect, Fault>
+    ensures { MatchResult result
+        (λ effect. Ok (record { context = context.new; flow = effect.flow; store = effect.store }) ≡ copied_if (number_at (S.contents space.now).pieces) condition width register source.now context.old)
+        (λ fault. Err fault ≡ copied_if (number_at (S.contents space.now).pieces) condition width register source.now context.old) }
 {
     let taken = operand_value(space, context, width, source)?;
     if holds(condition, context.flags) {
-        Ok(context.with_register(width, register, taken).goes_on())
-    } else {
-        Ok(context.goes_on())
+        context.put_register(width, register, taken);
     }
+    Ok(Effect::plain())
 }
 
 /// SETcc.
 pub(crate) fn set_by(
-    context: &Context,
+    context: &mut Context,
     condition: Condition,
     operand: &Operand,
-) -> Result<Change, Fault>
-    ensures { result ≡ Ok (set_by condition operand.now context.now) }
+) -> Result<Effect, Fault>
+    ensures { MatchResult result
+        (λ effect. ◌≡◌ {A = Result Change Fault} (Ok (record { context = context.new; flow = effect.flow; store = effect.store })) (Ok (set_by condition operand.now context.old)))
+        (λ fault. Err fault ≡ Ok (set_by condition operand.now context.old)) }
 {
     let place = place_of(context, operand);
     let bit = u32::from(holds(condition, context.flags));
-    Ok(context.putting(place, Width::Byte, bit))
+    Ok(context.put(place, Width::Byte, bit))
 }
 
 #[tactic(auto, unfolding(ia32_alu::specs::Numbers::highest))]
@@ -318,36 +337,38 @@ fn sign_extended(width: Width, value: u32) -> u32
 #[tactic(auto, unfolding(crate::specs::Moves::zero_extended_to))]
 pub(crate) fn zero_extend<S: Space>(
     space: &S,
-    context: &Context,
+    context: &mut Context,
     from: Width,
     width: Width,
     register: Register,
     source: &Operand,
-) -> Result<Change, Fault>
-    ensures { result ≡ zero_extended_to (number_at (S.contents space.now).pieces) from width register source.now context.now }
+) -> Result<Effect, Fault>
+    ensures { MatchResult result
+        (λ effect. Ok (record { context = context.new; flow = effect.flow; store = effect.store }) ≡ zero_extended_to (number_at (S.contents space.now).pieces) from width register source.now context.old)
+        (λ fault. Err fault ≡ zero_extended_to (number_at (S.contents space.now).pieces) from width register source.now context.old) }
 {
     let value = operand_value(space, context, from, source)?;
-    Ok(context.with_register(width, register, value).goes_on())
+    context.put_register(width, register, value);
+    Ok(Effect::plain())
 }
 
 /// MOVSX.
 #[tactic(auto, unfolding(crate::specs::Moves::sign_extended_to))]
 pub(crate) fn sign_extend<S: Space>(
     space: &S,
-    context: &Context,
+    context: &mut Context,
     from: Width,
     width: Width,
     register: Register,
     source: &Operand,
-) -> Result<Change, Fault>
-    ensures { result ≡ sign_extended_to (number_at (S.contents space.now).pieces) from width register source.now context.now }
+) -> Result<Effect, Fault>
+    ensures { MatchResult result
+        (λ effect. Ok (record { context = context.new; flow = effect.flow; store = effect.store }) ≡ sign_extended_to (number_at (S.contents space.now).pieces) from width register source.now context.old)
+        (λ fault. Err fault ≡ sign_extended_to (number_at (S.contents space.now).pieces) from width register source.now context.old) }
 {
     let value = operand_value(space, context, from, source)?;
-    Ok(
-        context
-            .with_register(width, register, sign_extended(from, value))
-            .goes_on(),
-    )
+    context.put_register(width, register, sign_extended(from, value));
+    Ok(Effect::plain())
 }
 
 fn half(width: Width) -> Width
@@ -360,25 +381,27 @@ fn half(width: Width) -> Width
 }
 
 /// CBW and CWDE.
-pub(crate) fn extend_accumulator(context: &Context, width: Width) -> Result<Change, Fault>
-    ensures { result ≡ Ok (accumulator_extended width context.now) }
+pub(crate) fn extend_accumulator(context: &mut Context, width: Width) -> Result<Effect, Fault>
+    ensures { MatchResult result
+        (λ effect. ◌≡◌ {A = Result Change Fault} (Ok (record { context = context.new; flow = effect.flow; store = effect.store })) (Ok (accumulator_extended width context.old)))
+        (λ fault. Err fault ≡ Ok (accumulator_extended width context.old)) }
 {
     let lower = context.accumulator(half(width));
-    Ok(
-        context
-            .with_register(width, Register::Eax, sign_extended(half(width), lower))
-            .goes_on(),
-    )
+    context.put_register(width, Register::Eax, sign_extended(half(width), lower));
+    Ok(Effect::plain())
 }
 
 /// CWD and CDQ.
-pub(crate) fn spread_sign(context: &Context, width: Width) -> Result<Change, Fault>
-    ensures { result ≡ Ok (sign_spread width context.now) }
+pub(crate) fn spread_sign(context: &mut Context, width: Width) -> Result<Effect, Fault>
+    ensures { MatchResult result
+        (λ effect. ◌≡◌ {A = Result Change Fault} (Ok (record { context = context.new; flow = effect.flow; store = effect.store })) (Ok (sign_spread width context.old)))
+        (λ fault. Err fault ≡ Ok (sign_spread width context.old)) }
 {
     let sign = if is_negative(width, context.accumulator(width)) {
         0xFFFF_FFFF
     } else {
         0
     };
-    Ok(context.with_register(width, Register::Edx, sign).goes_on())
+    context.put_register(width, Register::Edx, sign);
+    Ok(Effect::plain())
 }

@@ -1,12 +1,12 @@
 //! Products and quotients.
-ghost use Rattle.std.specs.Prelude.{◌≡◌, ◌<◌, ◌*◌, ◌^◌};
+ghost use Rattle.std.specs.Prelude.{◌≡◌, ◌<◌, ◌*◌, ◌^◌, Ok, Err, MatchResult};
 ghost use Rattle.ia32_step.specs.Registers.{register_value};
 ghost use Rattle.ia32_step.specs.Operands.{number_at};
 ghost use Rattle.ia32_step.specs.Arithmetic.{bits, upper_register, with_double, double, with_product, multiplied, with_lower_product, product_taken, clear_flags, with_quotient, divided};
 
 use crate::arithmetic::alu_width;
 use crate::operands::operand_value;
-use crate::types::{Change, Context};
+use crate::types::{Context, Effect};
 use ia32_alu::Flags;
 use ia32_decode::{Operand, Register, Width};
 use image_memory::Space;
@@ -33,15 +33,14 @@ fn radix(width: Width) -> u64
     }
 }
 
-fn with_double(context: &Context, width: Width, number: u64) -> Context
+fn put_double(context: &mut Context, width: Width, number: u64)
     requires { number < 2 ^ (2 * bits width) }
-    ensures { result ≡ with_double width number context.now }
+    ensures { context.new ≡ with_double width number context.old }
 {
     let lower = (number % radix(width)) as u32;
     let upper = (number / radix(width)) as u32;
-    context
-        .with_register(width, Register::Eax, lower)
-        .with_register(width, upper_register(width), upper)
+    context.put_register(width, Register::Eax, lower);
+    context.put_register(width, upper_register(width), upper);
 }
 
 fn double(context: &Context, width: Width) -> u64
@@ -56,12 +55,14 @@ fn double(context: &Context, width: Width) -> u64
 #[tactic(auto, unfolding(crate::specs::Arithmetic::multiplied))]
 pub(crate) fn multiply<S: Space>(
     space: &S,
-    context: &Context,
+    context: &mut Context,
     signed: bool,
     width: Width,
     operand: &Operand,
-) -> Result<Change, Fault>
-    ensures { result ≡ multiplied (number_at (S.contents space.now).pieces) signed width operand.now context.now }
+) -> Result<Effect, Fault>
+    ensures { MatchResult result
+        (λ effect. Ok (record { context = context.new; flow = effect.flow; store = effect.store }) ≡ multiplied (number_at (S.contents space.now).pieces) signed width operand.now context.old)
+        (λ fault. Err fault ≡ multiplied (number_at (S.contents space.now).pieces) signed width operand.now context.old) }
 {
     let b = operand_value(space, context, width, operand)?;
     let (product, flags) = ia32_alu::multiply(
@@ -70,41 +71,44 @@ pub(crate) fn multiply<S: Space>(
         context.accumulator(width),
         b,
     );
-    Ok(with_double(&context.with_flags(flags), width, product).goes_on())
+    context.flags = flags;
+    put_double(context, width, product);
+    Ok(Effect::plain())
 }
 
 /// IMUL with two or three operands.
 #[tactic(auto, unfolding(crate::specs::Arithmetic::product_taken))]
 pub(crate) fn take_product<S: Space>(
     space: &S,
-    context: &Context,
+    context: &mut Context,
     width: Width,
     register: Register,
     operand: &Operand,
     b: u32,
-) -> Result<Change, Fault>
-    ensures { result ≡ product_taken (number_at (S.contents space.now).pieces) width register operand.now b context.now }
+) -> Result<Effect, Fault>
+    ensures { MatchResult result
+        (λ effect. Ok (record { context = context.new; flow = effect.flow; store = effect.store }) ≡ product_taken (number_at (S.contents space.now).pieces) width register operand.now b context.old)
+        (λ fault. Err fault ≡ product_taken (number_at (S.contents space.now).pieces) width register operand.now b context.old) }
 {
     let a = operand_value(space, context, width, operand)?;
     let (product, flags) = ia32_alu::multiply(true, alu_width(width), a, b);
     let lower = (product % radix(width)) as u32;
-    Ok(
-        context
-            .with_flags(flags)
-            .with_register(width, register, lower)
-            .goes_on(),
-    )
+    context.flags = flags;
+    context.put_register(width, register, lower);
+    Ok(Effect::plain())
 }
 
 /// IMUL of a register by an operand.
 pub(crate) fn multiply_register<S: Space>(
     space: &S,
-    context: &Context,
+    context: &mut Context,
     width: Width,
     register: Register,
     operand: &Operand,
-) -> Result<Change, Fault>
-    ensures { result ≡ product_taken (number_at (S.contents space.now).pieces) width register operand.now (register_value context.now.registers width register) context.now }
+) -> Result<Effect, Fault>
+    ensures { MatchResult result
+        (λ effect. Ok (record { context = context.new; flow = effect.flow; store = effect.store }) ≡ product_taken (number_at (S.contents space.now).pieces) width register operand.now (register_value context.old.registers width register) context.old)
+        (λ fault. Err fault ≡ product_taken (number_at (S.contents space.now).pieces) width register operand.now (register_value context.old.registers width register) context.old) }
 {
     let own = context.register(width, register);
     take_product(space, context, width, register, operand, own)
@@ -122,18 +126,23 @@ fn clear_flags() -> Flags
     }
 }
 
-fn with_quotient(context: &Context, width: Width, both: Option<(u32, u32)>) -> Result<Change, Fault>
-    ensures { result ≡ with_quotient width both context.now }
+fn settle_quotient(
+    context: &mut Context,
+    width: Width,
+    both: Option<(u32, u32)>,
+) -> Result<Effect, Fault>
+    ensures { MatchResult result
+        (λ effect. Ok (record { context = context.new; flow = effect.flow; store = effect.store }) ≡ with_quotient width both context.old)
+        (λ fault. Err fault ≡ with_quotient width both context.old) }
 {
     match both {
         None => Err(Fault::Divide),
-        Some((quotient, remainder)) => Ok(
-            context
-                .with_flags(clear_flags())
-                .with_register(width, Register::Eax, quotient)
-                .with_register(width, upper_register(width), remainder)
-                .goes_on(),
-        ),
+        Some((quotient, remainder)) => {
+            context.flags = clear_flags();
+            context.put_register(width, Register::Eax, quotient);
+            context.put_register(width, upper_register(width), remainder);
+            Ok(Effect::plain())
+        }
     }
 }
 
@@ -141,14 +150,16 @@ fn with_quotient(context: &Context, width: Width, both: Option<(u32, u32)>) -> R
 #[tactic(auto, unfolding(crate::specs::Arithmetic::divided))]
 pub(crate) fn divide<S: Space>(
     space: &S,
-    context: &Context,
+    context: &mut Context,
     signed: bool,
     width: Width,
     operand: &Operand,
-) -> Result<Change, Fault>
-    ensures { result ≡ divided (number_at (S.contents space.now).pieces) signed width operand.now context.now }
+) -> Result<Effect, Fault>
+    ensures { MatchResult result
+        (λ effect. Ok (record { context = context.new; flow = effect.flow; store = effect.store }) ≡ divided (number_at (S.contents space.now).pieces) signed width operand.now context.old)
+        (λ fault. Err fault ≡ divided (number_at (S.contents space.now).pieces) signed width operand.now context.old) }
 {
     let by = operand_value(space, context, width, operand)?;
     let both = ia32_alu::divide(signed, alu_width(width), double(context, width), by);
-    with_quotient(context, width, both)
+    settle_quotient(context, width, both)
 }

@@ -1,9 +1,8 @@
 //! The registers of a thread at each width.
 ghost use Rattle.std.specs.Prelude.{◌≡◌, ◌<◌};
-ghost use Rattle.ia32_step.specs.Registers.{byte_value, register_value, with_lowest_byte, with_second_byte, with_lower_half, with_byte, with_word, with_register, with_flags, accumulator, stack_top, with_stack_top};
+ghost use Rattle.ia32_step.specs.Registers.{byte_value, register_value, with_lowest_byte, with_second_byte, with_lower_half, with_byte, with_word, with_register, accumulator, stack_top, with_stack_top};
 
 use crate::types::Context;
-use ia32_alu::Flags;
 use ia32_decode::{Register, Width};
 
 fn byte_in(registers: &[u32; 8], number: u8) -> u32
@@ -82,22 +81,6 @@ impl Context {
         }
     }
 
-    /// The context after a register took a number at a width.
-    pub(crate) fn with_register(&self, width: Width, register: Register, value: u32) -> Context
-        ensures { result ≡ with_register width register value self.now }
-    {
-        let mut context = *self;
-        context.put_register(width, register, value);
-        context
-    }
-
-    /// The context with these flags.
-    pub(crate) fn with_flags(&self, flags: Flags) -> Context
-        ensures { result ≡ with_flags flags self.now }
-    {
-        Context { flags, ..*self }
-    }
-
     /// AL, AX or EAX.
     pub(crate) fn accumulator(&self, width: Width) -> u32
         ensures { result ≡ accumulator self.now width }
@@ -112,10 +95,10 @@ impl Context {
         self.register(Width::Dword, Register::Esp)
     }
 
-    /// The context with this ESP.
-    pub(crate) fn with_stack_top(&self, top: u32) -> Context
-        ensures { result ≡ with_stack_top top self.now }
+    /// ESP takes an address.
+    pub(crate) fn put_stack_top(&mut self, top: u32)
+        ensures { self.new ≡ with_stack_top top self.old }
     {
-        self.with_register(Width::Dword, Register::Esp, top)
+        self.put_register(Width::Dword, Register::Esp, top);
     }
 }

@@ -1,5 +1,5 @@
 //! One step of a thread.
-ghost use Rattle.std.specs.Prelude.{◌≡◌, Some, None, OnOk, OnErr, MatchResult};
+ghost use Rattle.std.specs.Prelude.{◌≡◌, Some, None, Ok, Err, OnOk, OnErr, MatchResult};
 ghost use Rattle.ia32_step.specs.Registers.{accumulator};
 ghost use Rattle.ia32_step.specs.Step.{left_by, context_of, resumed, stopped, exited, store_fault, after_store, unless_barred, next_change, stepped};
 ghost use Rattle.ia32_decode.specs.declared.types.Width.TheVariants.{Dword};
@@ -7,7 +7,7 @@ ghost use Rattle.ia32_step.specs.declared.types.State.TheVariants.{Running};
 ghost use Rattle.ia32_step.specs.declared.types.Outcome.TheVariants.{Stopped, Exited};
 
 use crate::exec::execute;
-use crate::types::{Change, Context, Outcome, State, Store, Thread};
+use crate::types::{Context, Effect, Outcome, State, Store, Thread};
 use ia32_decode::{Width, decode};
 use image_memory::Space;
 use ks_base::Fault;
@@ -74,29 +74,39 @@ fn exit(thread: &mut Thread) -> Outcome
 }
 
 /// Does what an instruction does, or stops the thread where its number can't be written.
-fn carry_out<S: Space>(space: &mut S, thread: &mut Thread, change: &Change) -> Outcome
+fn carry_out<S: Space>(
+    space: &mut S,
+    thread: &mut Thread,
+    context: &Context,
+    effect: &Effect,
+) -> Outcome
     ensures left { left_by (S.contents space.new) thread.new result
-        ≡ unless_barred (store_fault (S.contents space.old) change.now.store) (S.contents space.old) thread.old change.now }
+        ≡ unless_barred (store_fault (S.contents space.old) effect.now.store) (S.contents space.old) thread.old
+        (record { context = context.now; flow = effect.now.flow; store = effect.now.store }) }
     ensures room { S.room space.new ≡ S.room space.old }
 {
-    if let Some(store) = &change.store {
+    if let Some(store) = &effect.store {
         if let Err(fault) = write_store(space, store) {
             return stop(thread, fault);
         }
     }
-    thread.resume(&change.context);
-    Outcome::Moved(change.flow)
+    thread.resume(context);
+    Outcome::Moved(effect.flow)
 }
 
-/// What the instruction does that is fetched at a thread's pc.
+/// What the instruction does that is fetched at a thread's pc, in what the processor holds of the thread.
 #[tactic(auto, using(crate::proofs::Windows::window_short), unfolding(crate::specs::Step::next_change))]
-fn next_change<S: Space>(space: &S, thread: &Thread) -> Result<Change, Fault>
-    ensures { result ≡ next_change (S.contents space.now) thread.now }
+fn do_next<S: Space>(space: &S, thread: &Thread, context: &mut Context) -> Result<Effect, Fault>
+    requires { context.old ≡ context_of thread.now }
+    ensures { MatchResult result
+        (λ effect. Ok (record { context = context.new; flow = effect.flow; store = effect.store }) ≡ next_change (S.contents space.now) thread.now)
+        (λ fault. Err fault ≡ next_change (S.contents space.now) thread.now) }
 {
     let window = space.window(thread.pc)?;
-    match &decode(&window.bytes[..window.length as usize]) {
+    let decoded = decode(&window.bytes[..window.length as usize]);
+    match &decoded {
         None => Err(Fault::Undecoded),
-        Some(decoded) => execute(space, &thread.context(), decoded),
+        Some(decoded) => execute(space, context, decoded),
     }
 }
 
@@ -115,8 +125,9 @@ pub fn step_thread<S: Space>(space: &mut S, thread: &mut Thread) -> Outcome
     if thread.pc == 0xFFFF_0000 {
         return exit(thread);
     }
-    match &next_change(space, thread) {
-        Ok(change) => carry_out(space, thread, change),
-        Err(fault) => stop(thread, *fault),
+    let mut context = thread.context();
+    match do_next(space, thread, &mut context) {
+        Ok(effect) => carry_out(space, thread, &context, &effect),
+        Err(fault) => stop(thread, fault),
     }
 }
