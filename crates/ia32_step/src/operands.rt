@@ -40,6 +40,7 @@ pub(crate) fn address_of(context: &Context, memory: &Memory) -> u32
 }
 
 /// Where an operand stands.
+#[inline(always)]
 pub(crate) fn place_of(context: &Context, operand: &Operand) -> Place
     ensures { result ≡ place_of context.now.registers operand.now }
 {
@@ -77,6 +78,7 @@ fn dword_at<S: Space>(space: &S, address: u32) -> Result<u32, Fault>
 }
 
 /// The number in memory at an address, or the fault of its first byte that can't be read.
+#[inline(never)]
 pub(crate) fn number_at<S: Space>(space: &S, width: Width, address: u32) -> Result<u32, Fault>
     ensures { result ≡ number_at (S.contents space.now).pieces width address }
 {
@@ -88,6 +90,7 @@ pub(crate) fn number_at<S: Space>(space: &S, width: Width, address: u32) -> Resu
 }
 
 /// What stands at a place.
+#[inline(always)]
 #[tactic(auto, unfolding(crate::specs::Operands::value_at))]
 pub(crate) fn value_at<S: Space>(
     space: &S,
@@ -104,6 +107,7 @@ pub(crate) fn value_at<S: Space>(
 }
 
 /// What an operand holds.
+#[inline(always)]
 pub(crate) fn operand_value<S: Space>(
     space: &S,
     context: &Context,

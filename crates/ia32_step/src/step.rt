@@ -1,14 +1,14 @@
 //! One step of a thread.
 ghost use Rattle.std.specs.Prelude.{◌≡◌, Some, None, Ok, Err, OnOk, OnErr, MatchResult};
 ghost use Rattle.ia32_step.specs.Registers.{accumulator};
-ghost use Rattle.ia32_step.specs.Step.{left_by, context_of, resumed, stopped, exited, store_fault, after_store, unless_barred, next_change, stepped};
+ghost use Rattle.ia32_step.specs.Step.{left_by, context_of, resumed, stopped, exited, store_fault, after_store, unless_barred, change_by, next_change, stepped};
 ghost use Rattle.ia32_decode.specs.declared.types.Width.TheVariants.{Dword};
 ghost use Rattle.ia32_step.specs.declared.types.State.TheVariants.{Running};
 ghost use Rattle.ia32_step.specs.declared.types.Outcome.TheVariants.{Stopped, Exited};
 
 use crate::exec::execute;
 use crate::types::{Context, Effect, Outcome, State, Store, Thread};
-use ia32_decode::{Width, decode};
+use ia32_decode::{Decoded, Width, decode};
 use image_memory::Space;
 use ks_base::Fault;
 
@@ -94,6 +94,22 @@ fn carry_out<S: Space>(
     Outcome::Moved(effect.flow)
 }
 
+/// What a decoded instruction does, if there is one.
+fn do_decoded<S: Space>(
+    space: &S,
+    context: &mut Context,
+    decoded: &Option<Decoded>,
+) -> Result<Effect, Fault>
+    ensures { MatchResult result
+        (λ effect. Ok (record { context = context.new; flow = effect.flow; store = effect.store }) ≡ change_by (S.contents space.now).pieces context.old decoded.now)
+        (λ fault. Err fault ≡ change_by (S.contents space.now).pieces context.old decoded.now) }
+{
+    match decoded {
+        None => Err(Fault::Undecoded),
+        Some(decoded) => execute(space, context, decoded),
+    }
+}
+
 /// What the instruction does that is fetched at a thread's pc, in what the processor holds of the thread.
 #[tactic(auto, using(crate::proofs::Windows::window_short), unfolding(crate::specs::Step::next_change))]
 fn do_next<S: Space>(space: &S, thread: &Thread, context: &mut Context) -> Result<Effect, Fault>
@@ -103,11 +119,11 @@ fn do_next<S: Space>(space: &S, thread: &Thread, context: &mut Context) -> Resul
         (λ fault. Err fault ≡ next_change (S.contents space.now) thread.now) }
 {
     let window = space.window(thread.pc)?;
-    let decoded = decode(&window.bytes[..window.length as usize]);
-    match &decoded {
-        None => Err(Fault::Undecoded),
-        Some(decoded) => execute(space, context, decoded),
-    }
+    do_decoded(
+        space,
+        context,
+        &decode(&window.bytes[..window.length as usize]),
+    )
 }
 
 /// Carries out the next instruction of a running thread: the one that is fetched at its pc, decoded and executed.
