@@ -1,5 +1,5 @@
 //! The front of an instruction: its prefixes and its opcode.
-ghost use Rattle.std.specs.Prelude.{◌≡◌, ◌≤◌, ◌<◌, ◌+◌, ◌*◌, ◌^◌, length, take, not, IfSome};
+ghost use Rattle.std.specs.Prelude.{◌≡◌, ◌≤◌, ◌<◌, ◌+◌, ◌*◌, ◌^◌, length, take, not, [], IfSome};
 ghost use Rattle.std.specs.List.{position};
 ghost use Rattle.ia32_decode.specs.Encoding.{byte_in, word_in, dword_in, is_prefix, prefix_count, has_byte, prefixes_of, head_after, head_of};
 
@@ -89,6 +89,8 @@ fn has(bytes: &[u8], byte: u8) -> bool
 }
 
 /// The prefixes that some bytes are.
+#[cold]
+#[inline(never)]
 #[tactic(auto, unfolding(crate::specs::Encoding::prefixes_of))]
 fn prefixes(front: &[u8], count: u32) -> Prefixes
     ensures { result ≡ prefixes_of front.now count }
@@ -105,6 +107,40 @@ fn prefixes(front: &[u8], count: u32) -> Prefixes
         data_segment: has(front, 0x3E),
         segment_f: has(front, 0x64),
         segment_g: has(front, 0x65),
+    }
+}
+
+/// What no bytes are.
+#[tactic(auto, unfolding(crate::specs::Encoding::prefixes_of))]
+fn no_prefixes() -> Prefixes
+    ensures { result ≡ prefixes_of [] 0 }
+{
+    Prefixes {
+        count: 0,
+        operand_size: false,
+        lock: false,
+        repeat_not_equal: false,
+        repeat: false,
+        extra_segment: false,
+        code_segment: false,
+        stack_segment: false,
+        data_segment: false,
+        segment_f: false,
+        segment_g: false,
+    }
+}
+
+/// The prefixes that the first bytes are. Most instructions have none, and ten looks at no bytes would take longer
+/// than all else here.
+fn first_prefixes(window: &[u8], count: usize) -> Prefixes
+    requires inside { count ≤ length window.now }
+    requires few { count ≤ 15 }
+    ensures { result ≡ prefixes_of (take count window.now) count }
+{
+    if count == 0 {
+        no_prefixes()
+    } else {
+        prefixes(&window[..count], count as u32)
     }
 }
 
@@ -139,6 +175,5 @@ pub fn read_head(window: &[u8]) -> Head
     ensures bound { result.end ≤ 17 }
 {
     let count = count_prefixes(window);
-    let front = &window[..count];
-    opcode_after(window, prefixes(front, count as u32), count as u32)
+    opcode_after(window, first_prefixes(window, count), count as u32)
 }

@@ -125,8 +125,8 @@ fn counting_operation(digit: u8) -> Counting
 
 /// The instruction of F6 or F7.
 #[tactic(auto, unfolding(crate::specs::Instructions::unary_of))]
-fn unary_at(parts: Parts) -> Instr
-    ensures { result ≡ unary_of parts }
+fn unary_at(parts: &Parts) -> Instr
+    ensures { result ≡ unary_of parts.now }
 {
     if parts.digit == 0 {
         Instr::TestImmediate {
@@ -145,8 +145,8 @@ fn unary_at(parts: Parts) -> Instr
 
 /// The instruction of FE.
 #[tactic(auto, unfolding(crate::specs::Instructions::counting_operand_of))]
-fn counting_at(parts: Parts) -> Instr
-    ensures { result ≡ counting_operand_of parts }
+fn counting_at(parts: &Parts) -> Instr
+    ensures { result ≡ counting_operand_of parts.now }
 {
     Instr::CountOperand {
         operation: counting_operation(parts.digit),
@@ -157,8 +157,8 @@ fn counting_at(parts: Parts) -> Instr
 
 /// The instruction of FF.
 #[tactic(auto, unfolding(crate::specs::Instructions::group_five_of))]
-fn group_five_at(parts: Parts) -> Instr
-    ensures { result ≡ group_five_of parts }
+fn group_five_at(parts: &Parts) -> Instr
+    ensures { result ≡ group_five_of parts.now }
 {
     if parts.digit == 2 {
         Instr::CallOperand {
@@ -182,8 +182,8 @@ fn group_five_at(parts: Parts) -> Instr
 
 /// The instruction of a line, by one arm for each line of the opcode table.
 #[tactic(auto, unfolding(crate::specs::Instructions::instr_of))]
-pub fn build(line: Line, parts: Parts) -> Instr
-    ensures { result ≡ instr_of line parts }
+pub fn build(line: Line, parts: &Parts) -> Instr
+    ensures { result ≡ instr_of line parts.now }
 {
     let register = Register::from_number(parts.digit);
     let low_register = Register::from_number(parts.opcode);
