@@ -149,6 +149,7 @@ fn operand(modrm: u8, memory: Memory) -> Operand
 }
 
 /// What a ModRM byte says, with the byte after it, and a displacement at an offset.
+#[inline(always)]
 #[tactic(auto, unfolding(crate::specs::Encoding::addressing_with))]
 fn addressing_parts(window: &[u8], modrm: u8, sib: u8, at: u32) -> Addressing
     requires { at ≤ 30 }
@@ -172,6 +173,7 @@ fn addressing_parts(window: &[u8], modrm: u8, sib: u8, at: u32) -> Addressing
 }
 
 /// The ModRM byte at an offset, with its SIB byte and displacement.
+#[inline(always)]
 pub fn addressing_at(window: &[u8], at: u32) -> Addressing
     requires { at ≤ 20 }
     ensures value { result ≡ addressing_of window.now at }

@@ -3,10 +3,12 @@ ghost use Rattle.std.specs.Prelude.{◌≡◌, ◌≤◌, ◌<◌, ◌+◌, ◌&
 ghost use Rattle.ia32_decode.specs.declared.types.Decoded.{Decoded};
 ghost use Rattle.ia32_decode.specs.Encoding.{head_of};
 ghost use Rattle.ia32_decode.specs.Table.{shape_of, digit_allowed};
-ghost use Rattle.ia32_decode.specs.Decode.{front_of, opcode_end_of, form_addressing, form_accepts, number_in, value_in, fields_of, assembled, read_front, decoded_from, Spells};
+ghost use Rattle.ia32_decode.specs.Decode.{front_of, opcode_end_of, form_addressing, form_accepts, number_in, value_in, fields_of, read_front, decoded_from, Spells};
 
 use crate::addressing::{Addressing, absent_addressing, addressing_at, field, sign_extended};
-use crate::heads::{Head, byte_at, dword_at, read_head, word_at};
+use crate::heads::{
+    Head, begins_with_prefix, byte_at, dword_at, plain_head, read_head, word_at,
+};
 use crate::instructions::{Parts, build};
 use crate::layouts::{allows, shape_at, trailing_width, width};
 use crate::opcode_table::{Follows, Form, Line, Shape, line_at};
@@ -144,23 +146,28 @@ fn fields(follows: Follows, end: u32, addressing: &Addressing, width: u32) -> Fi
     }
 }
 
-/// The instruction of a line whose number at the end has `count` bytes.
-#[tactic(auto, unfolding(crate::specs::Decode::assembled))]
-fn assemble(
-    line: Line,
-    shape: Shape,
-    window: &[u8],
-    head: &Head,
-    addressing: &Addressing,
-    width: Width,
-    count: u32,
-) -> Decoded
-    requires shape { shape ≡ shape_of line }
-    requires at { addressing.now.end ≤ 24 }
-    requires head { head.now.end ≤ 17 }
-    requires count { count ≤ 4 }
-    ensures { result ≡ assembled line window.now head.now addressing.now width count }
+/// The instruction that a head begins, of at most 15 bytes. It is made last and in one place, once it is known to
+/// be whole: it is large, and each function that handed it on would copy it. For the same reason it stands in each
+/// of its two callers: where there is no prefix, that settles many of its tests.
+#[inline(always)]
+#[tactic(auto, unfolding(crate::specs::Decode::read_front, crate::specs::Decode::read_line, crate::specs::Decode::read_with, crate::specs::Decode::assembled))]
+fn read_after(window: &[u8], head: &Head) -> Option<Decoded>
+    requires head { head.now ≡ head_of window.now }
+    requires end { head.now.end ≤ 17 }
+    ensures { result ≡ read_front window.now }
 {
+    let line = line_at(head.escaped, head.opcode);
+    let shape = shape_at(line);
+    let end = opcode_end(shape.form, head.end);
+    let addressing = addressing(shape.form, window, end);
+    if !takes(shape, window, head, &addressing) {
+        return None;
+    }
+    let width = width(shape.sizing, head.opcode, head.prefixes.operand_size);
+    let count = trailing_width(shape.follows, width, addressing.digit);
+    if (addressing.end + count) as usize > window.len() {
+        return None;
+    }
     let parts = Parts {
         opcode: head.opcode,
         width,
@@ -169,40 +176,27 @@ fn assemble(
         memory: addressing.memory,
         value: trailing_value(shape.follows, window, addressing.end, count),
     };
-    let end = opcode_end(shape.form, head.end);
-    Decoded {
+    Some(Decoded {
         length: addressing.end + count,
         instr: build(line, &parts),
-        fields: fields(shape.follows, end, addressing, count),
+        fields: fields(shape.follows, end, &addressing, count),
         prefixes: head.prefixes,
-    }
+    })
 }
 
-/// The instruction at the front of at most 15 bytes. It is made last and in one place, once it is known to be
-/// whole: it is large, and each function that handed it on would copy it.
-#[tactic(auto, unfolding(crate::specs::Decode::read_front, crate::specs::Decode::read_line, crate::specs::Decode::read_with, crate::specs::Decode::assembled))]
-fn decode_front(window: &[u8]) -> Option<Decoded>
+/// The instruction at the front of at most 15 bytes, which begin with a prefix.
+#[cold]
+#[inline(never)]
+fn decode_prefixed(window: &[u8]) -> Option<Decoded>
     requires { length window.now ≤ 15 }
     ensures { result ≡ read_front window.now }
 {
-    let head = read_head(window);
-    let line = line_at(head.escaped, head.opcode);
-    let shape = shape_at(line);
-    let at = opcode_end(shape.form, head.end);
-    let addressing = addressing(shape.form, window, at);
-    if !takes(shape, window, &head, &addressing) {
-        return None;
-    }
-    let width = width(shape.sizing, head.opcode, head.prefixes.operand_size);
-    let count = trailing_width(shape.follows, width, addressing.digit);
-    if (addressing.end + count) as usize > window.len() {
-        return None;
-    }
-    Some(assemble(line, shape, window, &head, &addressing, width, count))
+    read_after(window, &read_head(window))
 }
 
 /// The instruction that a front of the window spells, `None` exactly where no line of the opcode table spells
 /// one in at most 15 bytes. It takes no memory.
+#[inline(never)]
 pub fn decode(window: &[u8]) -> Option<Decoded>
     ensures exact { result ≡ decoded_from window.now }
     ensures found { IfSome result (λ decoded. Spells window.now decoded) }
@@ -211,5 +205,10 @@ pub fn decode(window: &[u8]) -> Option<Decoded>
     ensures short { IfSome result (λ decoded. decoded.length ≤ 15) }
     ensures within { IfSome result (λ decoded. decoded.length ≤ length window.now) }
 {
-    decode_front(front(window))
+    let front = front(window);
+    if begins_with_prefix(front) {
+        decode_prefixed(front)
+    } else {
+        read_after(front, &plain_head(front))
+    }
 }

@@ -1,5 +1,5 @@
 //! The front of an instruction: its prefixes and its opcode.
-ghost use Rattle.std.specs.Prelude.{◌≡◌, ◌≤◌, ◌<◌, ◌+◌, ◌*◌, ◌^◌, length, take, not, [], IfSome};
+ghost use Rattle.std.specs.Prelude.{◌≡◌, ◌≤◌, ◌<◌, ◌+◌, ◌*◌, ◌^◌, length, take, not, [], false, IfSome};
 ghost use Rattle.std.specs.List.{position};
 ghost use Rattle.ia32_decode.specs.Encoding.{byte_in, word_in, dword_in, is_prefix, prefix_count, has_byte, prefixes_of, head_after, head_of};
 
@@ -89,8 +89,6 @@ fn has(bytes: &[u8], byte: u8) -> bool
 }
 
 /// The prefixes that some bytes are.
-#[cold]
-#[inline(never)]
 #[tactic(auto, unfolding(crate::specs::Encoding::prefixes_of))]
 fn prefixes(front: &[u8], count: u32) -> Prefixes
     ensures { result ≡ prefixes_of front.now count }
@@ -130,20 +128,6 @@ fn no_prefixes() -> Prefixes
     }
 }
 
-/// The prefixes that the first bytes are. Most instructions have none, and ten looks at no bytes would take longer
-/// than all else here.
-fn first_prefixes(window: &[u8], count: usize) -> Prefixes
-    requires inside { count ≤ length window.now }
-    requires few { count ≤ 15 }
-    ensures { result ≡ prefixes_of (take count window.now) count }
-{
-    if count == 0 {
-        no_prefixes()
-    } else {
-        prefixes(&window[..count], count as u32)
-    }
-}
-
 /// The opcode that follows the prefixes, which are so many bytes.
 #[tactic(auto, unfolding(crate::specs::Encoding::head_after))]
 fn opcode_after(window: &[u8], prefixes: Prefixes, n: u32) -> Head
@@ -175,5 +159,24 @@ pub fn read_head(window: &[u8]) -> Head
     ensures bound { result.end ≤ 17 }
 {
     let count = count_prefixes(window);
-    opcode_after(window, first_prefixes(window, count), count as u32)
+    let front = &window[..count];
+    opcode_after(window, prefixes(front, count as u32), count as u32)
+}
+
+/// Whether a window begins with a prefix.
+pub fn begins_with_prefix(window: &[u8]) -> bool
+    ensures { result ≡ is_prefix (byte_in window.now 0) }
+{
+    is_prefix_byte(byte_at(window, 0))
+}
+
+/// The opcode at the front of a window that doesn't begin with a prefix. Most don't, and ten looks for prefixes
+/// among no bytes would take longer than all else here.
+#[tactic(auto, using(crate::proofs::PlainHead::head_of_plain))]
+pub fn plain_head(window: &[u8]) -> Head
+    requires { is_prefix (byte_in window.now 0) ≡ false }
+    ensures value { result ≡ head_of window.now }
+    ensures bound { result.end ≤ 17 }
+{
+    opcode_after(window, no_prefixes(), 0)
 }

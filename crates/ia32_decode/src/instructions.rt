@@ -124,6 +124,7 @@ fn counting_operation(digit: u8) -> Counting
 }
 
 /// The instruction of F6 or F7.
+#[inline(always)]
 #[tactic(auto, unfolding(crate::specs::Instructions::unary_of))]
 fn unary_at(parts: &Parts) -> Instr
     ensures { result ≡ unary_of parts.now }
@@ -144,6 +145,7 @@ fn unary_at(parts: &Parts) -> Instr
 }
 
 /// The instruction of FE.
+#[inline(always)]
 #[tactic(auto, unfolding(crate::specs::Instructions::counting_operand_of))]
 fn counting_at(parts: &Parts) -> Instr
     ensures { result ≡ counting_operand_of parts.now }
@@ -156,6 +158,7 @@ fn counting_at(parts: &Parts) -> Instr
 }
 
 /// The instruction of FF.
+#[inline(always)]
 #[tactic(auto, unfolding(crate::specs::Instructions::group_five_of))]
 fn group_five_at(parts: &Parts) -> Instr
     ensures { result ≡ group_five_of parts.now }
@@ -181,6 +184,7 @@ fn group_five_at(parts: &Parts) -> Instr
 }
 
 /// The instruction of a line, by one arm for each line of the opcode table.
+#[inline(always)]
 #[tactic(auto, unfolding(crate::specs::Instructions::instr_of))]
 pub fn build(line: Line, parts: &Parts) -> Instr
     ensures { result ≡ instr_of line parts.now }
