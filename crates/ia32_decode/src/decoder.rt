@@ -43,6 +43,7 @@ fn opcode_end(form: Form, end: u32) -> u32
 }
 
 /// What the ModRM byte says, where the form has one.
+#[inline(always)]
 fn addressing(form: Form, window: &[u8], at: u32) -> Addressing
     requires { at ≤ 18 }
     ensures value { result ≡ form_addressing form window.now at }

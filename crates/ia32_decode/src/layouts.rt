@@ -18,6 +18,7 @@ fn laid_out(form: Form, sizing: Sizing, digits: Digits, follows: Follows) -> Sha
 }
 
 /// How a line is laid out.
+#[inline(always)]
 #[tactic(auto, unfolding(crate::specs::Table::row))]
 pub fn shape_at(line: Line) -> Shape
     ensures { result ≡ shape_of line }
