@@ -208,8 +208,9 @@ pub fn decode(window: &[u8]) -> Option<Decoded>
 {
     let front = front(window);
     if begins_with_prefix(front) {
-        decode_prefixed(front)
-    } else {
-        read_after(front, &plain_head(front))
+        // in a variable of its own, so that the usual way needs none for its result
+        let decoded = decode_prefixed(front);
+        return decoded;
     }
+    read_after(front, &plain_head(front))
 }
