@@ -148,8 +148,8 @@ fn fields(follows: Follows, end: u32, addressing: &Addressing, width: u32) -> Fi
 }
 
 /// The instruction that a head begins, of at most 15 bytes. It is made last and in one place, once it is known to
-/// be whole: it is large, and each function that handed it on would copy it. For the same reason it stands in each
-/// of its two callers: where there is no prefix, that settles many of its tests.
+/// be whole: it is large, and each function that handed it on would copy it. It stands in place at both
+/// calls: where there is no prefix, that settles many of its tests.
 #[inline(always)]
 #[tactic(auto, unfolding(crate::specs::Decode::read_front, crate::specs::Decode::read_line, crate::specs::Decode::read_with, crate::specs::Decode::assembled))]
 fn read_after(window: &[u8], head: &Head) -> Option<Decoded>
@@ -185,16 +185,6 @@ fn read_after(window: &[u8], head: &Head) -> Option<Decoded>
     })
 }
 
-/// The instruction at the front of at most 15 bytes, which begin with a prefix.
-#[cold]
-#[inline(never)]
-fn decode_prefixed(window: &[u8]) -> Option<Decoded>
-    requires { length window.now ≤ 15 }
-    ensures { result ≡ read_front window.now }
-{
-    read_after(window, &read_head(window))
-}
-
 /// The instruction that a front of the window spells, `None` exactly where no line of the opcode table spells
 /// one in at most 15 bytes. It takes no memory.
 #[inline(never)]
@@ -208,9 +198,7 @@ pub fn decode(window: &[u8]) -> Option<Decoded>
 {
     let front = front(window);
     if begins_with_prefix(front) {
-        // in a variable of its own, so that the usual way needs none for its result
-        let decoded = decode_prefixed(front);
-        return decoded;
+        return read_after(front, &read_head(front));
     }
     read_after(front, &plain_head(front))
 }

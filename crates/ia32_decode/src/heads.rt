@@ -153,6 +153,8 @@ fn opcode_after(window: &[u8], prefixes: Prefixes, n: u32) -> Head
 }
 
 /// The prefixes and the opcode at the front of a window.
+#[cold]
+#[inline(never)]
 pub fn read_head(window: &[u8]) -> Head
     requires { length window.now ≤ 15 }
     ensures value { result ≡ head_of window.now }
