@@ -1,3 +1,4 @@
+pub mod PlainHead
 pub mod Locality
 pub mod Lookup
 pub mod Readings

@@ -149,6 +149,7 @@ fn operand(modrm: u8, memory: Memory) -> Operand
 }
 
 /// What a ModRM byte says, with the byte after it, and a displacement at an offset.
+#[inline(always)]
 #[tactic(auto, unfolding(crate::specs::Encoding::addressing_with))]
 fn addressing_parts(window: &[u8], modrm: u8, sib: u8, at: u32) -> Addressing
     requires { at ≤ 30 }
@@ -171,15 +172,43 @@ fn addressing_parts(window: &[u8], modrm: u8, sib: u8, at: u32) -> Addressing
     }
 }
 
+/// What a ModRM byte says that names a register. It is what the general way would find, which asks in vain for a SIB
+/// byte and a displacement.
+#[tactic(auto, unfolding(crate::specs::Encoding::addressing_with))]
+fn register_parts(window: &[u8], modrm: u8, at: u32) -> Addressing
+    requires { modrm / 64 ≡ 3 }
+    ensures value { result ≡ addressing_with window.now modrm (byte_in window.now at) at }
+    ensures bound { result.end ≡ at }
+{
+    let register = Register::from_number(modrm % 8);
+    Addressing {
+        is_register: true,
+        digit: modrm / 8 % 8,
+        operand: Operand::Register(register),
+        memory: Memory {
+            base: Some(register),
+            index: None,
+            displacement: 0,
+        },
+        displacement: None,
+        end: at,
+    }
+}
+
 /// The ModRM byte at an offset, with its SIB byte and displacement.
+#[inline(always)]
 pub fn addressing_at(window: &[u8], at: u32) -> Addressing
     requires { at ≤ 20 }
     ensures value { result ≡ addressing_of window.now at }
     ensures bound { result.end ≤ at + 6 }
 {
     let modrm = byte_at(window, at);
-    let sib = byte_at(window, at + 1);
-    addressing_parts(window, modrm, sib, at + 1 + sib_bytes(modrm))
+    if modrm / 64 == 3 {
+        register_parts(window, modrm, at + 1)
+    } else {
+        let sib = byte_at(window, at + 1);
+        addressing_parts(window, modrm, sib, at + 1 + sib_bytes(modrm))
+    }
 }
 
 /// What stands for it where there is no ModRM byte.

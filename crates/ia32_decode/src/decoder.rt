@@ -1,15 +1,17 @@
 //! Decoding one instruction.
-ghost use Rattle.std.specs.Prelude.{◌≡◌, ◌≤◌, ◌<◌, ◌+◌, length, IfSome, IfNone};
+ghost use Rattle.std.specs.Prelude.{◌≡◌, ◌≤◌, ◌<◌, ◌+◌, ◌&&◌, length, IfSome, IfNone};
 ghost use Rattle.ia32_decode.specs.declared.types.Decoded.{Decoded};
 ghost use Rattle.ia32_decode.specs.Encoding.{head_of};
-ghost use Rattle.ia32_decode.specs.Table.{shape_of};
-ghost use Rattle.ia32_decode.specs.Decode.{front_of, opcode_end_of, form_addressing, form_accepts, number_in, value_in, fields_of, assembled, completed, accepts, if_complete, read_with, read_line, read_front, decoded_from, Spells};
+ghost use Rattle.ia32_decode.specs.Table.{shape_of, digit_allowed};
+ghost use Rattle.ia32_decode.specs.Decode.{front_of, opcode_end_of, form_addressing, form_accepts, number_in, value_in, fields_of, read_front, decoded_from, Spells};
 
 use crate::addressing::{Addressing, absent_addressing, addressing_at, field, sign_extended};
-use crate::heads::{Head, byte_at, dword_at, read_head, word_at};
+use crate::heads::{
+    Head, begins_with_prefix, byte_at, dword_at, plain_head, read_head, word_at,
+};
 use crate::instructions::{Parts, build};
 use crate::layouts::{allows, shape_at, trailing_width, width};
-use crate::opcode_table::{Follows, Form, Line, line_at};
+use crate::opcode_table::{Follows, Form, Line, Shape, line_at};
 use crate::types::{Decoded, Fields, Width};
 
 /// The bytes that count: an instruction has at most 15.
@@ -41,24 +43,21 @@ fn opcode_end(form: Form, end: u32) -> u32
 }
 
 /// What the ModRM byte says, where the form has one.
+#[inline(always)]
 fn addressing(form: Form, window: &[u8], at: u32) -> Addressing
     requires { at ≤ 18 }
     ensures value { result ≡ form_addressing form window.now at }
     ensures bound { result.end ≤ 24 }
 {
     match form {
-        Form::ModRm => addressing_at(window, at),
-        Form::Memory => addressing_at(window, at),
-        Form::Unlisted => absent_addressing(at),
-        Form::Plain => absent_addressing(at),
-        Form::Branch => absent_addressing(at),
-        Form::EndBranch => absent_addressing(at),
+        Form::ModRm | Form::Memory => addressing_at(window, at),
+        Form::Unlisted | Form::Plain | Form::Branch | Form::EndBranch => absent_addressing(at),
     }
 }
 
 /// Whether a form takes the prefixes, the operand, and the byte FB.
-fn form_takes(form: Form, window: &[u8], head: Head, addressing: Addressing) -> bool
-    ensures { result ≡ form_accepts form window.now head addressing }
+fn form_takes(form: Form, window: &[u8], head: &Head, addressing: &Addressing) -> bool
+    ensures { result ≡ form_accepts form window.now head.now addressing.now }
 {
     match form {
         Form::Unlisted => false,
@@ -70,11 +69,10 @@ fn form_takes(form: Form, window: &[u8], head: Head, addressing: Addressing) -> 
     }
 }
 
-/// Whether a line takes what follows its opcode.
-fn takes(line: Line, window: &[u8], head: Head, addressing: Addressing) -> bool
-    ensures { result ≡ accepts line window.now head addressing }
+/// Whether a line of a shape takes what follows its opcode.
+fn takes(shape: Shape, window: &[u8], head: &Head, addressing: &Addressing) -> bool
+    ensures { result ≡ (form_accepts shape.form window.now head.now addressing.now && digit_allowed shape.digits addressing.now.digit) }
 {
-    let shape = shape_at(line);
     form_takes(shape.form, window, head, addressing) && allows(shape.digits, addressing.digit)
 }
 
@@ -101,19 +99,19 @@ fn trailing_value(follows: Follows, window: &[u8], at: u32, width: u32) -> u32
 {
     match follows {
         Follows::SignedByte => sign_extended(byte_at(window, at)),
-        Follows::Nothing => number(window, at, width),
-        Follows::Byte => number(window, at, width),
-        Follows::Word => number(window, at, width),
-        Follows::Dword => number(window, at, width),
-        Follows::Address => number(window, at, width),
-        Follows::Sized => number(window, at, width),
-        Follows::Tested => number(window, at, width),
+        Follows::Nothing
+        | Follows::Byte
+        | Follows::Word
+        | Follows::Dword
+        | Follows::Address
+        | Follows::Sized
+        | Follows::Tested => number(window, at, width),
     }
 }
 
 /// The fields of an address that follows the opcode.
-fn address_fields(end: u32, addressing: Addressing, width: u32) -> Fields
-    ensures { result ≡ fields_of Follows.Address end addressing width }
+fn address_fields(end: u32, addressing: &Addressing, width: u32) -> Fields
+    ensures { result ≡ fields_of Follows.Address end addressing.now width }
 {
     Fields {
         opcode_end: end,
@@ -123,8 +121,8 @@ fn address_fields(end: u32, addressing: Addressing, width: u32) -> Fields
 }
 
 /// The fields of a displacement and an immediate.
-fn operand_fields(end: u32, addressing: Addressing, width: u32) -> Fields
-    ensures { result ≡ fields_of Follows.Nothing end addressing width }
+fn operand_fields(end: u32, addressing: &Addressing, width: u32) -> Fields
+    ensures { result ≡ fields_of Follows.Nothing end addressing.now width }
 {
     Fields {
         opcode_end: end,
@@ -134,37 +132,43 @@ fn operand_fields(end: u32, addressing: Addressing, width: u32) -> Fields
 }
 
 /// Where the parts are.
-fn fields(follows: Follows, end: u32, addressing: Addressing, width: u32) -> Fields
-    ensures { result ≡ fields_of follows end addressing width }
+fn fields(follows: Follows, end: u32, addressing: &Addressing, width: u32) -> Fields
+    ensures { result ≡ fields_of follows end addressing.now width }
 {
     match follows {
         Follows::Address => address_fields(end, addressing, width),
-        Follows::Nothing => operand_fields(end, addressing, width),
-        Follows::Byte => operand_fields(end, addressing, width),
-        Follows::SignedByte => operand_fields(end, addressing, width),
-        Follows::Word => operand_fields(end, addressing, width),
-        Follows::Dword => operand_fields(end, addressing, width),
-        Follows::Sized => operand_fields(end, addressing, width),
-        Follows::Tested => operand_fields(end, addressing, width),
+        Follows::Nothing
+        | Follows::Byte
+        | Follows::SignedByte
+        | Follows::Word
+        | Follows::Dword
+        | Follows::Sized
+        | Follows::Tested => operand_fields(end, addressing, width),
     }
 }
 
-/// The instruction of a line whose number at the end has `count` bytes.
-#[tactic(auto, unfolding(crate::specs::Decode::assembled))]
-fn assemble(
-    line: Line,
-    window: &[u8],
-    head: Head,
-    addressing: Addressing,
-    width: Width,
-    count: u32,
-) -> Decoded
-    requires at { addressing.end ≤ 24 }
-    requires head { head.end ≤ 17 }
-    requires count { count ≤ 4 }
-    ensures { result ≡ assembled line window.now head addressing width count }
+/// The instruction that a head begins, of at most 15 bytes. It is made last and in one place, once it is known to
+/// be whole: it is large, and each function that handed it on would copy it. It stands in place at both
+/// calls: where there is no prefix, that settles many of its tests.
+#[inline(always)]
+#[tactic(auto, unfolding(crate::specs::Decode::read_front, crate::specs::Decode::read_line, crate::specs::Decode::read_with, crate::specs::Decode::assembled))]
+fn read_after(window: &[u8], head: &Head) -> Option<Decoded>
+    requires head { head.now ≡ head_of window.now }
+    requires end { head.now.end ≤ 17 }
+    ensures { result ≡ read_front window.now }
 {
+    let line = line_at(head.escaped, head.opcode);
     let shape = shape_at(line);
+    let end = opcode_end(shape.form, head.end);
+    let addressing = addressing(shape.form, window, end);
+    if !takes(shape, window, head, &addressing) {
+        return None;
+    }
+    let width = width(shape.sizing, head.opcode, head.prefixes.operand_size);
+    let count = trailing_width(shape.follows, width, addressing.digit);
+    if (addressing.end + count) as usize > window.len() {
+        return None;
+    }
     let parts = Parts {
         opcode: head.opcode,
         width,
@@ -173,75 +177,17 @@ fn assemble(
         memory: addressing.memory,
         value: trailing_value(shape.follows, window, addressing.end, count),
     };
-    let end = opcode_end(shape.form, head.end);
-    Decoded {
+    Some(Decoded {
         length: addressing.end + count,
-        instr: build(line, parts),
-        fields: fields(shape.follows, end, addressing, count),
+        instr: build(line, &parts),
+        fields: fields(shape.follows, end, &addressing, count),
         prefixes: head.prefixes,
-    }
-}
-
-/// The instruction of a line, whole or not.
-fn complete(line: Line, window: &[u8], head: Head, addressing: Addressing) -> Decoded
-    requires at { addressing.end ≤ 24 }
-    requires head { head.end ≤ 17 }
-    ensures { result ≡ completed line window.now head addressing }
-{
-    let shape = shape_at(line);
-    let width = width(shape.sizing, head.opcode, head.prefixes.operand_size);
-    let count = trailing_width(shape.follows, width, addressing.digit);
-    assemble(line, window, head, addressing, width, count)
-}
-
-/// An instruction, where all its bytes are in the window.
-fn within(window: &[u8], decoded: Decoded) -> Option<Decoded>
-    ensures { result ≡ if_complete window.now decoded }
-{
-    if decoded.length as usize <= window.len() {
-        Some(decoded)
-    } else {
-        None
-    }
-}
-
-/// The instruction of a line, where the line takes what follows its opcode.
-#[tactic(auto, unfolding(crate::specs::Decode::read_with))]
-fn read(line: Line, window: &[u8], head: Head, addressing: Addressing) -> Option<Decoded>
-    requires at { addressing.end ≤ 24 }
-    requires head { head.end ≤ 17 }
-    ensures { result ≡ read_with line window.now head addressing }
-{
-    if takes(line, window, head, addressing) {
-        within(window, complete(line, window, head, addressing))
-    } else {
-        None
-    }
-}
-
-/// The instruction of the line that stands at the opcode.
-#[tactic(auto, unfolding(crate::specs::Decode::read_line))]
-fn read_from(line: Line, window: &[u8], head: Head) -> Option<Decoded>
-    requires { head.end ≤ 17 }
-    ensures { result ≡ read_line line window.now head }
-{
-    let form = shape_at(line).form;
-    let at = opcode_end(form, head.end);
-    read(line, window, head, addressing(form, window, at))
-}
-
-/// The instruction at the front of at most 15 bytes.
-#[tactic(auto, unfolding(crate::specs::Decode::read_front))]
-fn decode_front(window: &[u8]) -> Option<Decoded>
-    requires { length window.now ≤ 15 }
-    ensures { result ≡ read_front window.now }
-{
-    let head = read_head(window);
-    read_from(line_at(head.escaped, head.opcode), window, head)
+    })
 }
 
 /// The instruction that a front of the window spells, `None` exactly where no line of the opcode table spells
 /// one in at most 15 bytes. It takes no memory.
+#[inline(never)]
 pub fn decode(window: &[u8]) -> Option<Decoded>
     ensures exact { result ≡ decoded_from window.now }
     ensures found { IfSome result (λ decoded. Spells window.now decoded) }
@@ -250,5 +196,9 @@ pub fn decode(window: &[u8]) -> Option<Decoded>
     ensures short { IfSome result (λ decoded. decoded.length ≤ 15) }
     ensures within { IfSome result (λ decoded. decoded.length ≤ length window.now) }
 {
-    decode_front(front(window))
+    let front = front(window);
+    if begins_with_prefix(front) {
+        return read_after(front, &read_head(front));
+    }
+    read_after(front, &plain_head(front))
 }

@@ -1,5 +1,5 @@
 //! The front of an instruction: its prefixes and its opcode.
-ghost use Rattle.std.specs.Prelude.{◌≡◌, ◌≤◌, ◌<◌, ◌+◌, ◌*◌, ◌^◌, length, take, not, IfSome};
+ghost use Rattle.std.specs.Prelude.{◌≡◌, ◌≤◌, ◌<◌, ◌+◌, ◌*◌, ◌^◌, length, take, not, [], false, IfSome};
 ghost use Rattle.std.specs.List.{position};
 ghost use Rattle.ia32_decode.specs.Encoding.{byte_in, word_in, dword_in, is_prefix, prefix_count, has_byte, prefixes_of, head_after, head_of};
 
@@ -108,6 +108,26 @@ fn prefixes(front: &[u8], count: u32) -> Prefixes
     }
 }
 
+/// What no bytes are.
+#[tactic(auto, unfolding(crate::specs::Encoding::prefixes_of))]
+fn no_prefixes() -> Prefixes
+    ensures { result ≡ prefixes_of [] 0 }
+{
+    Prefixes {
+        count: 0,
+        operand_size: false,
+        lock: false,
+        repeat_not_equal: false,
+        repeat: false,
+        extra_segment: false,
+        code_segment: false,
+        stack_segment: false,
+        data_segment: false,
+        segment_f: false,
+        segment_g: false,
+    }
+}
+
 /// The opcode that follows the prefixes, which are so many bytes.
 #[tactic(auto, unfolding(crate::specs::Encoding::head_after))]
 fn opcode_after(window: &[u8], prefixes: Prefixes, n: u32) -> Head
@@ -133,6 +153,8 @@ fn opcode_after(window: &[u8], prefixes: Prefixes, n: u32) -> Head
 }
 
 /// The prefixes and the opcode at the front of a window.
+#[cold]
+#[inline(never)]
 pub fn read_head(window: &[u8]) -> Head
     requires { length window.now ≤ 15 }
     ensures value { result ≡ head_of window.now }
@@ -141,4 +163,22 @@ pub fn read_head(window: &[u8]) -> Head
     let count = count_prefixes(window);
     let front = &window[..count];
     opcode_after(window, prefixes(front, count as u32), count as u32)
+}
+
+/// Whether a window begins with a prefix.
+pub fn begins_with_prefix(window: &[u8]) -> bool
+    ensures { result ≡ is_prefix (byte_in window.now 0) }
+{
+    is_prefix_byte(byte_at(window, 0))
+}
+
+/// The opcode at the front of a window that doesn't begin with a prefix. Most don't, and ten looks for prefixes
+/// among no bytes would take longer than all else here.
+#[tactic(auto, using(crate::proofs::PlainHead::head_of_plain))]
+pub fn plain_head(window: &[u8]) -> Head
+    requires { is_prefix (byte_in window.now 0) ≡ false }
+    ensures value { result ≡ head_of window.now }
+    ensures bound { result.end ≤ 17 }
+{
+    opcode_after(window, no_prefixes(), 0)
 }

@@ -1,5 +1,6 @@
 //! The instruction that each line of the opcode table means.
 ghost use Rattle.std.specs.Prelude.{◌≡◌};
+ghost use Rattle.ia32_decode.specs.Encoding.{register_of};
 ghost use Rattle.ia32_decode.specs.Instructions.{arithmetic_of, shift_of, unary_operation_of, condition_of, counting_of, unary_of, counting_operand_of, group_five_of, instr_of};
 
 use crate::opcode_table::Line;
@@ -124,9 +125,10 @@ fn counting_operation(digit: u8) -> Counting
 }
 
 /// The instruction of F6 or F7.
+#[inline(always)]
 #[tactic(auto, unfolding(crate::specs::Instructions::unary_of))]
-fn unary_at(parts: Parts) -> Instr
-    ensures { result ≡ unary_of parts }
+fn unary_at(parts: &Parts) -> Instr
+    ensures { result ≡ unary_of parts.now }
 {
     if parts.digit == 0 {
         Instr::TestImmediate {
@@ -144,9 +146,10 @@ fn unary_at(parts: Parts) -> Instr
 }
 
 /// The instruction of FE.
+#[inline(always)]
 #[tactic(auto, unfolding(crate::specs::Instructions::counting_operand_of))]
-fn counting_at(parts: Parts) -> Instr
-    ensures { result ≡ counting_operand_of parts }
+fn counting_at(parts: &Parts) -> Instr
+    ensures { result ≡ counting_operand_of parts.now }
 {
     Instr::CountOperand {
         operation: counting_operation(parts.digit),
@@ -156,9 +159,10 @@ fn counting_at(parts: Parts) -> Instr
 }
 
 /// The instruction of FF.
+#[inline(always)]
 #[tactic(auto, unfolding(crate::specs::Instructions::group_five_of))]
-fn group_five_at(parts: Parts) -> Instr
-    ensures { result ≡ group_five_of parts }
+fn group_five_at(parts: &Parts) -> Instr
+    ensures { result ≡ group_five_of parts.now }
 {
     if parts.digit == 2 {
         Instr::CallOperand {
@@ -180,24 +184,37 @@ fn group_five_at(parts: Parts) -> Instr
     }
 }
 
-/// The instruction of a line, by one arm for each line of the opcode table.
-#[tactic(auto, unfolding(crate::specs::Instructions::instr_of))]
-pub fn build(line: Line, parts: Parts) -> Instr
-    ensures { result ≡ instr_of line parts }
+/// The register that the middle field of the ModRM byte names.
+fn register(parts: &Parts) -> Register
+    ensures { result ≡ register_of parts.now.digit }
 {
-    let register = Register::from_number(parts.digit);
-    let low_register = Register::from_number(parts.opcode);
+    Register::from_number(parts.digit)
+}
+
+/// The register that the opcode names.
+fn low_register(parts: &Parts) -> Register
+    ensures { result ≡ register_of parts.now.opcode }
+{
+    Register::from_number(parts.opcode)
+}
+
+/// The instruction of a line, by one arm for each line of the opcode table.
+#[inline(always)]
+#[tactic(auto, unfolding(crate::specs::Instructions::instr_of))]
+pub fn build(line: Line, parts: &Parts) -> Instr
+    ensures { result ≡ instr_of line parts.now }
+{
     match line {
         Line::ArithTo => Instr::Arithmetic {
             operation: arithmetic_at(parts.opcode / 8),
             width: parts.width,
             destination: parts.operand,
-            source: Source::Operand(Operand::Register(register)),
+            source: Source::Operand(Operand::Register(register(parts))),
         },
         Line::ArithFrom => Instr::Arithmetic {
             operation: arithmetic_at(parts.opcode / 8),
             width: parts.width,
-            destination: Operand::Register(register),
+            destination: Operand::Register(register(parts)),
             source: Source::Operand(parts.operand),
         },
         Line::ArithAcc => Instr::Arithmetic {
@@ -209,20 +226,20 @@ pub fn build(line: Line, parts: Parts) -> Instr
         Line::IncReg => Instr::CountRegister {
             operation: Counting::Increment,
             width: parts.width,
-            register: low_register,
+            register: low_register(parts),
         },
         Line::DecReg => Instr::CountRegister {
             operation: Counting::Decrement,
             width: parts.width,
-            register: low_register,
+            register: low_register(parts),
         },
         Line::PushReg => Instr::PushRegister {
             width: parts.width,
-            register: low_register,
+            register: low_register(parts),
         },
         Line::PopReg => Instr::PopRegister {
             width: parts.width,
-            register: low_register,
+            register: low_register(parts),
         },
         Line::PushImm | Line::PushByte => Instr::PushImmediate {
             width: parts.width,
@@ -230,7 +247,7 @@ pub fn build(line: Line, parts: Parts) -> Instr
         },
         Line::MulImm | Line::MulByte => Instr::MultiplyImmediate {
             width: parts.width,
-            destination: register,
+            destination: register(parts),
             source: parts.operand,
             immediate: parts.value,
         },
@@ -247,26 +264,26 @@ pub fn build(line: Line, parts: Parts) -> Instr
         Line::Test => Instr::Test {
             width: parts.width,
             left: parts.operand,
-            right: register,
+            right: register(parts),
         },
         Line::Exchange => Instr::Exchange {
             width: parts.width,
             operand: parts.operand,
-            register,
+            register: register(parts),
         },
         Line::MoveTo => Instr::Move {
             width: parts.width,
             destination: parts.operand,
-            source: Operand::Register(register),
+            source: Operand::Register(register(parts)),
         },
         Line::MoveFrom => Instr::Move {
             width: parts.width,
-            destination: Operand::Register(register),
+            destination: Operand::Register(register(parts)),
             source: parts.operand,
         },
         Line::LoadAddr => Instr::LoadAddress {
             width: parts.width,
-            destination: register,
+            destination: register(parts),
             memory: parts.memory,
         },
         Line::PopRm => Instr::PopOperand {
@@ -276,7 +293,7 @@ pub fn build(line: Line, parts: Parts) -> Instr
         Line::Nop => Instr::Nop,
         Line::XchgAcc => Instr::ExchangeAccumulator {
             width: parts.width,
-            register: low_register,
+            register: low_register(parts),
         },
         Line::ExtendAcc => Instr::ExtendAccumulator { width: parts.width },
         Line::SpreadSign => Instr::SpreadSign { width: parts.width },
@@ -294,7 +311,7 @@ pub fn build(line: Line, parts: Parts) -> Instr
         },
         Line::ByteReg | Line::FullReg => Instr::MoveToRegister {
             width: parts.width,
-            register: low_register,
+            register: low_register(parts),
             immediate: parts.value,
         },
         Line::ShiftImm => Instr::ShiftByImmediate {
@@ -355,7 +372,7 @@ pub fn build(line: Line, parts: Parts) -> Instr
         Line::MoveIf => Instr::MoveIf {
             condition: condition_at(parts.opcode),
             width: parts.width,
-            destination: register,
+            destination: register(parts),
             source: parts.operand,
         },
         Line::SetIf => Instr::SetIf {
@@ -364,41 +381,41 @@ pub fn build(line: Line, parts: Parts) -> Instr
         },
         Line::MulReg => Instr::Multiply {
             width: parts.width,
-            destination: register,
+            destination: register(parts),
             source: parts.operand,
         },
         Line::CmpXchg => Instr::CompareExchange {
             width: parts.width,
             operand: parts.operand,
-            register,
+            register: register(parts),
         },
         Line::XchgAdd => Instr::ExchangeAdd {
             width: parts.width,
             operand: parts.operand,
-            register,
+            register: register(parts),
         },
         Line::ZeroByte => Instr::ZeroExtend {
             from: Width::Byte,
             width: parts.width,
-            destination: register,
+            destination: register(parts),
             source: parts.operand,
         },
         Line::ZeroWord => Instr::ZeroExtend {
             from: Width::Word,
             width: parts.width,
-            destination: register,
+            destination: register(parts),
             source: parts.operand,
         },
         Line::SignByte => Instr::SignExtend {
             from: Width::Byte,
             width: parts.width,
-            destination: register,
+            destination: register(parts),
             source: parts.operand,
         },
         Line::SignWord => Instr::SignExtend {
             from: Width::Word,
             width: parts.width,
-            destination: register,
+            destination: register(parts),
             source: parts.operand,
         },
         Line::Ud2 | Line::NoLine => Instr::Undefined,
@@ -408,12 +425,12 @@ pub fn build(line: Line, parts: Parts) -> Instr
         Line::TwoRm => Instr::SecondOperand {
             opcode: parts.opcode,
             operand: parts.operand,
-            register,
+            register: register(parts),
         },
         Line::TwoShift => Instr::DoubleShift {
             opcode: parts.opcode,
             operand: parts.operand,
-            register,
+            register: register(parts),
             count: parts.value,
         },
         Line::BitTest => Instr::BitTest {

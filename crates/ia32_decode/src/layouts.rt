@@ -18,6 +18,7 @@ fn laid_out(form: Form, sizing: Sizing, digits: Digits, follows: Follows) -> Sha
 }
 
 /// How a line is laid out.
+#[inline(always)]
 #[tactic(auto, unfolding(crate::specs::Table::row))]
 pub fn shape_at(line: Line) -> Shape
     ensures { result ≡ shape_of line }
@@ -113,8 +114,9 @@ pub fn shape_at(line: Line) -> Shape
     }
 }
 
-/// Whether a digit is listed.
-pub fn allows(digits: Digits, digit: u8) -> bool
+/// Whether a digit is listed, by a test for each group. Most lines list all digits, and need no call.
+#[inline(never)]
+fn lists(digits: Digits, digit: u8) -> bool
     ensures { result ≡ digit_allowed digits digit }
 {
     match digits {
@@ -126,6 +128,16 @@ pub fn allows(digits: Digits, digit: u8) -> bool
         Digits::NotOne => digit != 1,
         Digits::GroupFive => digit <= 2 || digit == 4 || digit == 6,
         Digits::FourUp => 4 <= digit,
+    }
+}
+
+/// Whether a digit is listed.
+pub fn allows(digits: Digits, digit: u8) -> bool
+    ensures { result ≡ digit_allowed digits digit }
+{
+    match digits {
+        Digits::Any => true,
+        _ => lists(digits, digit),
     }
 }
 
