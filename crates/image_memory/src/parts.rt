@@ -97,11 +97,27 @@ impl Window {
         requires { length bytes.now ≤ 15 }
         ensures { result ≡ shown bytes.now }
     {
+        if bytes.len() == 15 {
+            return Window::whole(bytes);
+        }
         let mut filled = [0; 15];
         filled[..bytes.len()].copy_from_slice(bytes);
         Window {
             bytes: filled,
             length: bytes.len() as u32,
+        }
+    }
+
+    // Fifteen bytes as a window, as nearly all are: a copy of a length that is known is a quick one.
+    fn whole(bytes: &[u8]) -> Self
+        requires { length bytes.now ≡ 15 }
+        ensures { result ≡ shown bytes.now }
+    {
+        let mut filled = [0; 15];
+        filled.copy_from_slice(bytes);
+        Window {
+            bytes: filled,
+            length: 15,
         }
     }
 }
