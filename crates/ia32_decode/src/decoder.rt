@@ -6,9 +6,7 @@ ghost use Rattle.ia32_decode.specs.Table.{shape_of, digit_allowed};
 ghost use Rattle.ia32_decode.specs.Decode.{front_of, opcode_end_of, form_addressing, form_accepts, number_in, value_in, fields_of, read_front, decoded_from, Spells};
 
 use crate::addressing::{Addressing, absent_addressing, addressing_at, field, sign_extended};
-use crate::heads::{
-    Head, begins_with_prefix, byte_at, dword_at, plain_head, read_head, word_at,
-};
+use crate::heads::{Head, begins_with_prefix, byte_at, dword_at, plain_head, read_head, word_at};
 use crate::instructions::{Parts, build};
 use crate::layouts::{allows, shape_at, trailing_width, width};
 use crate::opcode_table::{Follows, Form, Line, Shape, line_at};

@@ -3,6 +3,7 @@ ghost use Rattle.std.specs.Prelude.{◌≡◌, ◌≤◌, ◌<◌, ◌+◌, ◌*
 ghost use Rattle.std.specs.List.{position};
 ghost use Rattle.ia32_decode.specs.Encoding.{byte_in, word_in, dword_in, is_prefix, prefix_count, has_byte, prefixes_of, head_after, head_of};
 
+use crate::opcode_table::{Line, line_at};
 use crate::types::Prefixes;
 
 /// The prefixes and the opcode of an instruction.
@@ -165,11 +166,16 @@ pub fn read_head(window: &[u8]) -> Head
     opcode_after(window, prefixes(front, count as u32), count as u32)
 }
 
-/// Whether a window begins with a prefix.
+/// Whether a window begins with a prefix. No prefix stands in the opcode table, in which the byte is looked up in any
+/// case: so it alone answers for most instructions.
 pub fn begins_with_prefix(window: &[u8]) -> bool
     ensures { result ≡ is_prefix (byte_in window.now 0) }
 {
-    is_prefix_byte(byte_at(window, 0))
+    let byte = byte_at(window, 0);
+    match line_at(false, byte) {
+        Line::NoLine => is_prefix_byte(byte),
+        _ => false,
+    }
 }
 
 /// The opcode at the front of a window that doesn't begin with a prefix. Most don't, and ten looks for prefixes

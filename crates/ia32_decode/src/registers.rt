@@ -4,25 +4,22 @@ ghost use Rattle.ia32_decode.specs.Encoding.{register_of, register_number};
 
 use crate::types::Register;
 
-/// The registers by number.
-static REGISTERS: [Register; 8] = [
-    Register::Eax,
-    Register::Ecx,
-    Register::Edx,
-    Register::Ebx,
-    Register::Esp,
-    Register::Ebp,
-    Register::Esi,
-    Register::Edi,
-];
-
 impl Register {
     /// The register that the lowest three bits of a number name.
     #[tactic(auto, unfolding(crate::specs::Encoding::register_of))]
     pub fn from_number(number: u8) -> Register
         ensures { result ≡ register_of number }
     {
-        REGISTERS[(number % 8) as usize]
+        match number % 8 {
+            0 => Register::Eax,
+            1 => Register::Ecx,
+            2 => Register::Edx,
+            3 => Register::Ebx,
+            4 => Register::Esp,
+            5 => Register::Ebp,
+            6 => Register::Esi,
+            _ => Register::Edi,
+        }
     }
 
     /// The register's number, 0 to 7.
