@@ -98,13 +98,13 @@ fn carry_out<S: Space>(
 fn do_decoded<S: Space>(
     space: &S,
     context: &mut Context,
-    decoded: &Option<Decoded>,
+    decoded: Option<Decoded>,
 ) -> Result<Effect, Fault>
     ensures { MatchResult result
-        (λ effect. Ok (record { context = context.new; flow = effect.flow; store = effect.store }) ≡ change_by (S.contents space.now).pieces context.old decoded.now)
-        (λ fault. Err fault ≡ change_by (S.contents space.now).pieces context.old decoded.now) }
+        (λ effect. Ok (record { context = context.new; flow = effect.flow; store = effect.store }) ≡ change_by (S.contents space.now).pieces context.old decoded)
+        (λ fault. Err fault ≡ change_by (S.contents space.now).pieces context.old decoded) }
 {
-    match decoded {
+    match &decoded {
         None => Err(Fault::Undecoded),
         Some(decoded) => execute(space, context, decoded),
     }
@@ -122,7 +122,7 @@ fn do_next<S: Space>(space: &S, thread: &Thread, context: &mut Context) -> Resul
     do_decoded(
         space,
         context,
-        &decode(&window.bytes[..window.length as usize]),
+        decode(&window.bytes[..window.length as usize]),
     )
 }
 
