@@ -10,7 +10,7 @@ ghost use Rattle.ia32_step.specs.Operands.{number_at, source_value};
 ghost use Rattle.ia32_step.specs.Arithmetic.{alu_width, bits, binary_operation, settled, combined, tested, unary_counting, altered, stepped_shift, full_rotation, shifted_by, shifted, count_register};
 
 use crate::operands::{operand_value, place_of, source_value, value_at};
-use crate::types::{Context, Effect, Place};
+use crate::types::{Change, Context, Place};
 use ia32_alu::Flags;
 use ia32_decode::{Arithmetic, Counting, Operand, Register, Shift, Source, Width};
 use image_memory::Space;
@@ -44,137 +44,133 @@ fn binary_operation(operation: Arithmetic) -> ia32_alu::Binary
 
 /// What comes of two numbers goes to a place, but CMP sets the flags alone.
 fn settle(
-    context: &mut Context,
+    change: &mut Change,
     operation: Arithmetic,
     width: Width,
     place: Place,
     result_of: (u32, Flags),
-) -> Effect
-    ensures { record { context = context.new; flow = result.flow; store = result.store } ≡ settled operation width place result_of context.old }
+)
+    ensures { change.new ≡ settled operation width place result_of change.old.context }
 {
     let (value, flags) = result_of;
-    context.flags = flags;
+    change.context.flags = flags;
     match operation {
-        Arithmetic::Cmp => Effect::plain(),
-        _ => context.put(place, width, value),
+        Arithmetic::Cmp => change.go_on(),
+        _ => change.put(place, width, value),
     }
 }
 
 /// ADD, OR, ADC, SBB, AND, SUB, XOR and CMP of two numbers, of which the first stands at a place.
-fn work_out(
-    context: &mut Context,
-    operation: Arithmetic,
-    width: Width,
-    place: Place,
-    a: u32,
-    b: u32,
-) -> Effect
-    ensures { record { context = context.new; flow = result.flow; store = result.store } ≡ settled operation width place (binary_of (binary_operation operation) (bits width) a b context.old.flags) context.old }
+fn work_out(change: &mut Change, operation: Arithmetic, width: Width, place: Place, a: u32, b: u32)
+    ensures { change.new ≡ settled operation width place (binary_of (binary_operation operation) (bits width) a b change.old.context.flags) change.old.context }
 {
     let result_of = ia32_alu::binary(
         binary_operation(operation),
         alu_width(width),
         a,
         b,
-        context.flags,
+        change.context.flags,
     );
-    settle(context, operation, width, place, result_of)
+    settle(change, operation, width, place, result_of)
 }
 
 /// ADD, OR, ADC, SBB, AND, SUB, XOR and CMP of two operands.
 #[tactic(auto, unfolding(crate::specs::Arithmetic::combined))]
 pub(crate) fn combine<S: Space>(
     space: &S,
-    context: &mut Context,
+    change: &mut Change,
     operation: Arithmetic,
     width: Width,
     operand: &Operand,
     source: &Source,
-) -> Result<Effect, Fault>
+) -> Result<(), Fault>
     ensures { MatchResult result
-        (λ effect. Ok (record { context = context.new; flow = effect.flow; store = effect.store }) ≡ combined (number_at (S.contents space.now).pieces) operation width operand.now (source_value (number_at (S.contents space.now).pieces) context.old width source.now) context.old)
-        (λ fault. Err fault ≡ combined (number_at (S.contents space.now).pieces) operation width operand.now (source_value (number_at (S.contents space.now).pieces) context.old width source.now) context.old) }
+        (λ _. Ok change.new ≡ combined (number_at (S.contents space.now).pieces) operation width operand.now (source_value (number_at (S.contents space.now).pieces) change.old.context width source.now) change.old.context)
+        (λ fault. Err fault ≡ combined (number_at (S.contents space.now).pieces) operation width operand.now (source_value (number_at (S.contents space.now).pieces) change.old.context width source.now) change.old.context) }
 {
-    let place = place_of(context, operand);
-    let a = value_at(space, context, width, place)?;
-    let b = source_value(space, context, width, source)?;
-    Ok(work_out(context, operation, width, place, a, b))
+    let place = place_of(&change.context, operand);
+    let a = value_at(space, &change.context, width, place)?;
+    let b = source_value(space, &change.context, width, source)?;
+    work_out(change, operation, width, place, a, b);
+    Ok(())
 }
 
 /// ADD, OR, ADC, SBB, AND, SUB, XOR and CMP of an operand and an immediate.
 #[tactic(auto, unfolding(crate::specs::Arithmetic::combined))]
 pub(crate) fn combine_immediate<S: Space>(
     space: &S,
-    context: &mut Context,
+    change: &mut Change,
     operation: Arithmetic,
     width: Width,
     operand: &Operand,
     immediate: u32,
-) -> Result<Effect, Fault>
+) -> Result<(), Fault>
     ensures { MatchResult result
-        (λ effect. Ok (record { context = context.new; flow = effect.flow; store = effect.store }) ≡ combined (number_at (S.contents space.now).pieces) operation width operand.now (Ok immediate) context.old)
-        (λ fault. Err fault ≡ combined (number_at (S.contents space.now).pieces) operation width operand.now (Ok immediate) context.old) }
+        (λ _. Ok change.new ≡ combined (number_at (S.contents space.now).pieces) operation width operand.now (Ok immediate) change.old.context)
+        (λ fault. Err fault ≡ combined (number_at (S.contents space.now).pieces) operation width operand.now (Ok immediate) change.old.context) }
 {
-    let place = place_of(context, operand);
-    let a = value_at(space, context, width, place)?;
-    Ok(work_out(context, operation, width, place, a, immediate))
+    let place = place_of(&change.context, operand);
+    let a = value_at(space, &change.context, width, place)?;
+    work_out(change, operation, width, place, a, immediate);
+    Ok(())
 }
 
 /// TEST of an operand and another number.
 #[tactic(auto, unfolding(crate::specs::Arithmetic::tested))]
 pub(crate) fn test<S: Space>(
     space: &S,
-    context: &mut Context,
+    change: &mut Change,
     width: Width,
     operand: &Operand,
     b: u32,
-) -> Result<Effect, Fault>
+) -> Result<(), Fault>
     ensures { MatchResult result
-        (λ effect. Ok (record { context = context.new; flow = effect.flow; store = effect.store }) ≡ tested (number_at (S.contents space.now).pieces) width operand.now b context.old)
-        (λ fault. Err fault ≡ tested (number_at (S.contents space.now).pieces) width operand.now b context.old) }
+        (λ _. Ok change.new ≡ tested (number_at (S.contents space.now).pieces) width operand.now b change.old.context)
+        (λ fault. Err fault ≡ tested (number_at (S.contents space.now).pieces) width operand.now b change.old.context) }
 {
-    let a = operand_value(space, context, width, operand)?;
+    let a = operand_value(space, &change.context, width, operand)?;
     let (_, flags) = ia32_alu::binary(
         ia32_alu::Binary::Test,
         alu_width(width),
         a,
         b,
-        context.flags,
+        change.context.flags,
     );
-    context.flags = flags;
-    Ok(Effect::plain())
+    change.context.flags = flags;
+    change.go_on();
+    Ok(())
 }
 
 /// TEST of an operand and a register.
 pub(crate) fn test_register<S: Space>(
     space: &S,
-    context: &mut Context,
+    change: &mut Change,
     width: Width,
     operand: &Operand,
     register: Register,
-) -> Result<Effect, Fault>
+) -> Result<(), Fault>
     ensures { MatchResult result
-        (λ effect. Ok (record { context = context.new; flow = effect.flow; store = effect.store }) ≡ tested (number_at (S.contents space.now).pieces) width operand.now (register_value context.old.registers width register) context.old)
-        (λ fault. Err fault ≡ tested (number_at (S.contents space.now).pieces) width operand.now (register_value context.old.registers width register) context.old) }
+        (λ _. Ok change.new ≡ tested (number_at (S.contents space.now).pieces) width operand.now (register_value change.old.context.registers width register) change.old.context)
+        (λ fault. Err fault ≡ tested (number_at (S.contents space.now).pieces) width operand.now (register_value change.old.context.registers width register) change.old.context) }
 {
-    let own = context.register(width, register);
-    test(space, context, width, operand, own)
+    let own = change.context.register(width, register);
+    test(space, change, width, operand, own)
 }
 
 /// TEST of the accumulator and an immediate.
 pub(crate) fn test_accumulator<S: Space>(
     space: &S,
-    context: &mut Context,
+    change: &mut Change,
     width: Width,
     immediate: u32,
-) -> Result<Effect, Fault>
+) -> Result<(), Fault>
     ensures { MatchResult result
-        (λ effect. Ok (record { context = context.new; flow = effect.flow; store = effect.store }) ≡ tested (number_at (S.contents space.now).pieces) width (operands.Register Eax) immediate context.old)
-        (λ fault. Err fault ≡ tested (number_at (S.contents space.now).pieces) width (operands.Register Eax) immediate context.old) }
+        (λ _. Ok change.new ≡ tested (number_at (S.contents space.now).pieces) width (operands.Register Eax) immediate change.old.context)
+        (λ fault. Err fault ≡ tested (number_at (S.contents space.now).pieces) width (operands.Register Eax) immediate change.old.context) }
 {
     test(
         space,
-        context,
+        change,
         width,
         &Operand::Register(Register::Eax),
         immediate,
@@ -194,52 +190,53 @@ fn counting(operation: Counting) -> ia32_alu::Unary
 #[tactic(auto, unfolding(crate::specs::Arithmetic::altered))]
 pub(crate) fn alter<S: Space>(
     space: &S,
-    context: &mut Context,
+    change: &mut Change,
     operation: ia32_alu::Unary,
     width: Width,
     operand: &Operand,
-) -> Result<Effect, Fault>
+) -> Result<(), Fault>
     ensures { MatchResult result
-        (λ effect. Ok (record { context = context.new; flow = effect.flow; store = effect.store }) ≡ altered (number_at (S.contents space.now).pieces) operation width operand.now context.old)
-        (λ fault. Err fault ≡ altered (number_at (S.contents space.now).pieces) operation width operand.now context.old) }
+        (λ _. Ok change.new ≡ altered (number_at (S.contents space.now).pieces) operation width operand.now change.old.context)
+        (λ fault. Err fault ≡ altered (number_at (S.contents space.now).pieces) operation width operand.now change.old.context) }
 {
-    let place = place_of(context, operand);
-    let a = value_at(space, context, width, place)?;
-    let (value, flags) = ia32_alu::unary(operation, alu_width(width), a, context.flags);
-    context.flags = flags;
-    Ok(context.put(place, width, value))
+    let place = place_of(&change.context, operand);
+    let a = value_at(space, &change.context, width, place)?;
+    let (value, flags) = ia32_alu::unary(operation, alu_width(width), a, change.context.flags);
+    change.context.flags = flags;
+    change.put(place, width, value);
+    Ok(())
 }
 
 /// INC or DEC of an operand.
 pub(crate) fn count<S: Space>(
     space: &S,
-    context: &mut Context,
+    change: &mut Change,
     operation: Counting,
     width: Width,
     operand: &Operand,
-) -> Result<Effect, Fault>
+) -> Result<(), Fault>
     ensures { MatchResult result
-        (λ effect. Ok (record { context = context.new; flow = effect.flow; store = effect.store }) ≡ altered (number_at (S.contents space.now).pieces) (unary_counting operation) width operand.now context.old)
-        (λ fault. Err fault ≡ altered (number_at (S.contents space.now).pieces) (unary_counting operation) width operand.now context.old) }
+        (λ _. Ok change.new ≡ altered (number_at (S.contents space.now).pieces) (unary_counting operation) width operand.now change.old.context)
+        (λ fault. Err fault ≡ altered (number_at (S.contents space.now).pieces) (unary_counting operation) width operand.now change.old.context) }
 {
-    alter(space, context, counting(operation), width, operand)
+    alter(space, change, counting(operation), width, operand)
 }
 
 /// INC or DEC of a register.
 pub(crate) fn count_in_register<S: Space>(
     space: &S,
-    context: &mut Context,
+    change: &mut Change,
     operation: Counting,
     width: Width,
     register: Register,
-) -> Result<Effect, Fault>
+) -> Result<(), Fault>
     ensures { MatchResult result
-        (λ effect. Ok (record { context = context.new; flow = effect.flow; store = effect.store }) ≡ altered (number_at (S.contents space.now).pieces) (unary_counting operation) width (operands.Register register) context.old)
-        (λ fault. Err fault ≡ altered (number_at (S.contents space.now).pieces) (unary_counting operation) width (operands.Register register) context.old) }
+        (λ _. Ok change.new ≡ altered (number_at (S.contents space.now).pieces) (unary_counting operation) width (operands.Register register) change.old.context)
+        (λ fault. Err fault ≡ altered (number_at (S.contents space.now).pieces) (unary_counting operation) width (operands.Register register) change.old.context) }
 {
     count(
         space,
-        context,
+        change,
         operation,
         width,
         &Operand::Register(register),
@@ -271,42 +268,49 @@ pub(crate) fn stepped_shift(operation: Shift, width: Width) -> Option<ia32_alu::
 
 fn shift_by<S: Space>(
     space: &S,
-    context: &mut Context,
+    change: &mut Change,
     operation: ia32_alu::Shift,
     width: Width,
     operand: &Operand,
     count: u8,
-) -> Result<Effect, Fault>
+) -> Result<(), Fault>
     requires left { operation ≡ Rol → width ≡ Dword }
     requires right { operation ≡ Ror → width ≡ Dword }
     ensures { MatchResult result
-        (λ effect. Ok (record { context = context.new; flow = effect.flow; store = effect.store }) ≡ shifted_by (number_at (S.contents space.now).pieces) (Some operation) width operand.now count context.old)
-        (λ fault. Err fault ≡ shifted_by (number_at (S.contents space.now).pieces) (Some operation) width operand.now count context.old) }
+        (λ _. Ok change.new ≡ shifted_by (number_at (S.contents space.now).pieces) (Some operation) width operand.now count change.old.context)
+        (λ fault. Err fault ≡ shifted_by (number_at (S.contents space.now).pieces) (Some operation) width operand.now count change.old.context) }
 {
-    let place = place_of(context, operand);
-    let a = value_at(space, context, width, place)?;
-    let (value, flags) = ia32_alu::shift(operation, alu_width(width), a, count, context.flags);
-    context.flags = flags;
-    Ok(context.put(place, width, value))
+    let place = place_of(&change.context, operand);
+    let a = value_at(space, &change.context, width, place)?;
+    let (value, flags) = ia32_alu::shift(
+        operation,
+        alu_width(width),
+        a,
+        count,
+        change.context.flags,
+    );
+    change.context.flags = flags;
+    change.put(place, width, value);
+    Ok(())
 }
 
 /// A shift or rotate by a count.
 #[tactic(auto, unfolding(crate::specs::Arithmetic::shifted))]
 pub(crate) fn shift<S: Space>(
     space: &S,
-    context: &mut Context,
+    change: &mut Change,
     operation: Shift,
     width: Width,
     operand: &Operand,
     count: u8,
-) -> Result<Effect, Fault>
+) -> Result<(), Fault>
     ensures { MatchResult result
-        (λ effect. Ok (record { context = context.new; flow = effect.flow; store = effect.store }) ≡ shifted (number_at (S.contents space.now).pieces) operation width operand.now count context.old)
-        (λ fault. Err fault ≡ shifted (number_at (S.contents space.now).pieces) operation width operand.now count context.old) }
+        (λ _. Ok change.new ≡ shifted (number_at (S.contents space.now).pieces) operation width operand.now count change.old.context)
+        (λ fault. Err fault ≡ shifted (number_at (S.contents space.now).pieces) operation width operand.now count change.old.context) }
 {
     match stepped_shift(operation, width) {
         None => Err(Fault::Unsupported),
-        Some(stepped) => shift_by(space, context, stepped, width, operand, count),
+        Some(stepped) => shift_by(space, change, stepped, width, operand, count),
     }
 }
 
@@ -321,19 +325,19 @@ fn count_register(context: &Context) -> u8
 /// A shift or rotate by the lowest byte of an immediate.
 pub(crate) fn shift_by_immediate<S: Space>(
     space: &S,
-    context: &mut Context,
+    change: &mut Change,
     operation: Shift,
     width: Width,
     operand: &Operand,
     count: u32,
-) -> Result<Effect, Fault>
+) -> Result<(), Fault>
     ensures { MatchResult result
-        (λ effect. Ok (record { context = context.new; flow = effect.flow; store = effect.store }) ≡ shifted (number_at (S.contents space.now).pieces) operation width operand.now (count % 0x100) context.old)
-        (λ fault. Err fault ≡ shifted (number_at (S.contents space.now).pieces) operation width operand.now (count % 0x100) context.old) }
+        (λ _. Ok change.new ≡ shifted (number_at (S.contents space.now).pieces) operation width operand.now (count % 0x100) change.old.context)
+        (λ fault. Err fault ≡ shifted (number_at (S.contents space.now).pieces) operation width operand.now (count % 0x100) change.old.context) }
 {
     shift(
         space,
-        context,
+        change,
         operation,
         width,
         operand,
@@ -344,15 +348,15 @@ pub(crate) fn shift_by_immediate<S: Space>(
 /// A shift or rotate by CL.
 pub(crate) fn shift_by_cl<S: Space>(
     space: &S,
-    context: &mut Context,
+    change: &mut Change,
     operation: Shift,
     width: Width,
     operand: &Operand,
-) -> Result<Effect, Fault>
+) -> Result<(), Fault>
     ensures { MatchResult result
-        (λ effect. Ok (record { context = context.new; flow = effect.flow; store = effect.store }) ≡ shifted (number_at (S.contents space.now).pieces) operation width operand.now (count_register context.old) context.old)
-        (λ fault. Err fault ≡ shifted (number_at (S.contents space.now).pieces) operation width operand.now (count_register context.old) context.old) }
+        (λ _. Ok change.new ≡ shifted (number_at (S.contents space.now).pieces) operation width operand.now (count_register change.old.context) change.old.context)
+        (λ fault. Err fault ≡ shifted (number_at (S.contents space.now).pieces) operation width operand.now (count_register change.old.context) change.old.context) }
 {
-    let count = count_register(context);
-    shift(space, context, operation, width, operand, count)
+    let count = count_register(&change.context);
+    shift(space, change, operation, width, operand, count)
 }

@@ -1,13 +1,10 @@
 //! What instructions are made of.
-ghost use Rattle.std.specs.Prelude.{◌≡◌, Some, None, Ok, Err, Result, MatchResult};
-ghost use Rattle.ks_base.specs.declared.refusals.Fault.{Fault};
-ghost use Rattle.ia32_step.specs.declared.types.Change.{Change};
-ghost use Rattle.ia32_step.specs.declared.types.Flow.TheVariants.{Plain};
+ghost use Rattle.std.specs.Prelude.{◌≡◌};
 ghost use Rattle.ia32_step.specs.Operands.{number_at};
-ghost use Rattle.ia32_step.specs.Changes.{goes_on, putting, above, below, pushing, popped, raised};
+ghost use Rattle.ia32_step.specs.Changes.{goes_on, storing, putting, above, below, pushing, popped, raised};
 
 use crate::operands::number_at;
-use crate::types::{Context, Effect, Flow, Place, Store};
+use crate::types::{Change, Context, Flow, Place, Store};
 use ia32_decode::Width;
 use image_memory::Space;
 use ks_base::Fault;
@@ -26,55 +23,7 @@ fn below(address: u32, bytes: u32) -> u32
     address.wrapping_sub(bytes)
 }
 
-impl Effect {
-    /// The thread goes on, and nothing is written.
-    pub(crate) fn plain() -> Effect
-        ensures { result ≡ record { flow = Plain; store = None } }
-    {
-        Effect {
-            flow: Flow::Plain,
-            store: None,
-        }
-    }
-
-    /// The thread goes on, and a number is written to memory.
-    pub(crate) fn storing(address: u32, width: Width, value: u32) -> Effect
-        ensures { result ≡ record { flow = Plain; store = Some (record { address = address; width = width; value = value }) } }
-    {
-        Effect {
-            flow: Flow::Plain,
-            store: Some(Store {
-                address,
-                width,
-                value,
-            }),
-        }
-    }
-}
-
 impl Context {
-    /// A place takes a number.
-    pub(crate) fn put(&mut self, place: Place, width: Width, value: u32) -> Effect
-        ensures { record { context = self.new; flow = result.flow; store = result.store } ≡ putting place width value self.old }
-    {
-        match place {
-            Place::InRegister(register) => {
-                self.put_register(width, register, value);
-                Effect::plain()
-            }
-            Place::InMemory(address) => Effect::storing(address, width, value),
-        }
-    }
-
-    /// A dword is pushed.
-    pub(crate) fn push(&mut self, value: u32) -> Effect
-        ensures { record { context = self.new; flow = result.flow; store = result.store } ≡ pushing value self.old }
-    {
-        let top = below(self.stack_top(), 4);
-        self.put_stack_top(top);
-        Effect::storing(top, Width::Dword, value)
-    }
-
     /// The dword on top of the stack.
     pub(crate) fn popped<S: Space>(&self, space: &S) -> Result<u32, Fault>
         ensures { result ≡ popped (number_at (S.contents space.now).pieces) self.now }
@@ -91,11 +40,46 @@ impl Context {
     }
 }
 
-/// The thread goes on at the next instruction, and nothing else happens.
-pub(crate) fn go_on(context: &mut Context) -> Result<Effect, Fault>
-    ensures { MatchResult result
-        (λ effect. ◌≡◌ {A = Result Change Fault} (Ok (record { context = context.new; flow = effect.flow; store = effect.store })) (Ok (goes_on context.old)))
-        (λ fault. Err fault ≡ Ok (goes_on context.old)) }
-{
-    Ok(Effect::plain())
+impl Change {
+    /// The thread goes on, and nothing is written.
+    pub(crate) fn go_on(&mut self)
+        ensures { self.new ≡ goes_on self.old.context }
+    {
+        self.flow = Flow::Plain;
+        self.store = None;
+    }
+
+    /// The thread goes on, and a number is written to memory.
+    pub(crate) fn write(&mut self, address: u32, width: Width, value: u32)
+        ensures { self.new ≡ storing address width value self.old.context }
+    {
+        self.flow = Flow::Plain;
+        self.store = Some(Store {
+            address,
+            width,
+            value,
+        });
+    }
+
+    /// A place takes a number.
+    pub(crate) fn put(&mut self, place: Place, width: Width, value: u32)
+        ensures { self.new ≡ putting place width value self.old.context }
+    {
+        match place {
+            Place::InRegister(register) => {
+                self.context.put_register(width, register, value);
+                self.go_on();
+            }
+            Place::InMemory(address) => self.write(address, width, value),
+        }
+    }
+
+    /// A dword is pushed.
+    pub(crate) fn push(&mut self, value: u32)
+        ensures { self.new ≡ pushing value self.old.context }
+    {
+        let top = below(self.context.stack_top(), 4);
+        self.context.put_stack_top(top);
+        self.write(top, Width::Dword, value);
+    }
 }

@@ -8,7 +8,7 @@ use crate::arithmetic::{
     shift_by_immediate, stepped_shift, test, test_accumulator, test_register,
 };
 use crate::branches::{call_by, call_to, jump_by, jump_if, jump_to, return_from};
-use crate::changes::{above, go_on};
+use crate::changes::above;
 use crate::moves::{
     compare_exchange, copy, copy_if, exchange, exchange_accumulator, exchange_and_add,
     extend_accumulator, load_accumulator, load_immediate, put_immediate, set_by, sign_extend,
@@ -16,7 +16,7 @@ use crate::moves::{
 };
 use crate::products::{divide, multiply, multiply_register, take_product};
 use crate::stack::{leave, pop, pop_register, push, push_immediate, push_register};
-use crate::types::{Context, Effect};
+use crate::types::{Change, Context};
 use ia32_decode::{Arithmetic, Decoded, Instr, Operand, Prefixes, Unary, Width};
 use image_memory::Space;
 use ks_base::Fault;
@@ -25,31 +25,31 @@ use ks_base::Fault;
 #[tactic(auto, unfolding(crate::specs::Exec::unary_change))]
 fn unary_change<S: Space>(
     space: &S,
-    context: &mut Context,
+    change: &mut Change,
     operation: Unary,
     width: Width,
     operand: &Operand,
-) -> Result<Effect, Fault>
+) -> Result<(), Fault>
     ensures { MatchResult result
-        (λ effect. Ok (record { context = context.new; flow = effect.flow; store = effect.store }) ≡ unary_change (number_at (S.contents space.now).pieces) operation width operand.now context.old)
-        (λ fault. Err fault ≡ unary_change (number_at (S.contents space.now).pieces) operation width operand.now context.old) }
+        (λ _. Ok change.new ≡ unary_change (number_at (S.contents space.now).pieces) operation width operand.now change.old.context)
+        (λ fault. Err fault ≡ unary_change (number_at (S.contents space.now).pieces) operation width operand.now change.old.context) }
 {
     match operation {
-        Unary::Not => alter(space, context, ia32_alu::Unary::Not, width, operand),
-        Unary::Neg => alter(space, context, ia32_alu::Unary::Neg, width, operand),
-        Unary::Mul => multiply(space, context, false, width, operand),
-        Unary::Imul => multiply(space, context, true, width, operand),
-        Unary::Div => divide(space, context, false, width, operand),
-        Unary::Idiv => divide(space, context, true, width, operand),
+        Unary::Not => alter(space, change, ia32_alu::Unary::Not, width, operand),
+        Unary::Neg => alter(space, change, ia32_alu::Unary::Neg, width, operand),
+        Unary::Mul => multiply(space, change, false, width, operand),
+        Unary::Imul => multiply(space, change, true, width, operand),
+        Unary::Div => divide(space, change, false, width, operand),
+        Unary::Idiv => divide(space, change, true, width, operand),
     }
 }
 
 /// What an instruction does to a thread whose pc is the address after it.
 #[tactic(auto, unfolding(crate::specs::Exec::change_of, crate::specs::Stack::pushed, crate::specs::Operands::value_at))]
-fn change_of<S: Space>(space: &S, context: &mut Context, instr: &Instr) -> Result<Effect, Fault>
+fn change_of<S: Space>(space: &S, change: &mut Change, instr: &Instr) -> Result<(), Fault>
     ensures { MatchResult result
-        (λ effect. Ok (record { context = context.new; flow = effect.flow; store = effect.store }) ≡ change_of (number_at (S.contents space.now).pieces) instr.now context.old)
-        (λ fault. Err fault ≡ change_of (number_at (S.contents space.now).pieces) instr.now context.old) }
+        (λ _. Ok change.new ≡ change_of (number_at (S.contents space.now).pieces) instr.now change.old.context)
+        (λ fault. Err fault ≡ change_of (number_at (S.contents space.now).pieces) instr.now change.old.context) }
 {
     match instr {
         Instr::Arithmetic {
@@ -57,146 +57,183 @@ fn change_of<S: Space>(space: &S, context: &mut Context, instr: &Instr) -> Resul
             width,
             destination,
             source,
-        } => combine(space, context, *operation, *width, destination, source),
+        } => combine(space, change, *operation, *width, destination, source),
         Instr::ArithmeticImmediate {
             operation,
             width,
             destination,
             immediate,
-        } => combine_immediate(space, context, *operation, *width, destination, *immediate),
+        } => combine_immediate(space, change, *operation, *width, destination, *immediate),
         Instr::CountRegister {
             operation,
             width,
             register,
-        } => count_in_register(space, context, *operation, *width, *register),
+        } => count_in_register(space, change, *operation, *width, *register),
         Instr::CountOperand {
             operation,
             width,
             operand,
-        } => count(space, context, *operation, *width, operand),
+        } => count(space, change, *operation, *width, operand),
         Instr::Unary {
             operation,
             width,
             operand,
-        } => unary_change(space, context, *operation, *width, operand),
-        Instr::Test { width, left, right } => test_register(space, context, *width, left, *right),
+        } => unary_change(space, change, *operation, *width, operand),
+        Instr::Test { width, left, right } => test_register(space, change, *width, left, *right),
         Instr::TestAccumulator { width, immediate } => {
-            test_accumulator(space, context, *width, *immediate)
+            test_accumulator(space, change, *width, *immediate)
         }
         Instr::TestImmediate {
             width,
             operand,
             immediate,
-        } => test(space, context, *width, operand, *immediate),
+        } => test(space, change, *width, operand, *immediate),
         Instr::MultiplyImmediate {
             width,
             destination,
             source,
             immediate,
-        } => take_product(space, context, *width, *destination, source, *immediate),
+        } => take_product(space, change, *width, *destination, source, *immediate),
         Instr::Multiply {
             width,
             destination,
             source,
-        } => multiply_register(space, context, *width, *destination, source),
+        } => multiply_register(space, change, *width, *destination, source),
         Instr::ShiftByImmediate {
             operation,
             width,
             operand,
             count,
-        } => shift_by_immediate(space, context, *operation, *width, operand, *count),
+        } => shift_by_immediate(space, change, *operation, *width, operand, *count),
         Instr::ShiftByOne {
             operation,
             width,
             operand,
-        } => shift(space, context, *operation, *width, operand, 1),
+        } => shift(space, change, *operation, *width, operand, 1),
         Instr::ShiftByCl {
             operation,
             width,
             operand,
-        } => shift_by_cl(space, context, *operation, *width, operand),
+        } => shift_by_cl(space, change, *operation, *width, operand),
         Instr::Move {
             width,
             destination,
             source,
-        } => copy(space, context, *width, destination, source),
+        } => copy(space, change, *width, destination, source),
         Instr::MoveImmediate {
             width,
             destination,
             immediate,
-        } => put_immediate(context, *width, destination, *immediate),
+        } => {
+            put_immediate(change, *width, destination, *immediate);
+            Ok(())
+        }
         Instr::MoveToRegister {
             width,
             register,
             immediate,
-        } => load_immediate(context, *width, *register, *immediate),
+        } => {
+            load_immediate(change, *width, *register, *immediate);
+            Ok(())
+        }
         Instr::LoadAccumulator { width, address } => {
-            load_accumulator(space, context, *width, *address)
+            load_accumulator(space, change, *width, *address)
         }
         Instr::StoreAccumulator { width, address } => {
-            store_accumulator(context, *width, *address)
+            store_accumulator(change, *width, *address);
+            Ok(())
         }
         Instr::LoadAddress {
             width,
             destination,
             memory,
-        } => take_address(context, *width, *destination, memory),
+        } => {
+            take_address(change, *width, *destination, memory);
+            Ok(())
+        }
         Instr::Exchange {
             width,
             operand,
             register,
-        } => exchange(space, context, *width, operand, *register),
+        } => exchange(space, change, *width, operand, *register),
         Instr::ExchangeAccumulator { width, register } => {
-            exchange_accumulator(space, context, *width, *register)
+            exchange_accumulator(space, change, *width, *register)
         }
         Instr::ExchangeAdd {
             width,
             operand,
             register,
-        } => exchange_and_add(space, context, *width, operand, *register),
+        } => exchange_and_add(space, change, *width, operand, *register),
         Instr::CompareExchange {
             width,
             operand,
             register,
-        } => compare_exchange(space, context, *width, operand, *register),
+        } => compare_exchange(space, change, *width, operand, *register),
         Instr::MoveIf {
             condition,
             width,
             destination,
             source,
-        } => copy_if(space, context, *condition, *width, *destination, source),
-        Instr::SetIf { condition, operand } => set_by(context, *condition, operand),
+        } => copy_if(space, change, *condition, *width, *destination, source),
+        Instr::SetIf { condition, operand } => {
+            set_by(change, *condition, operand);
+            Ok(())
+        }
         Instr::ZeroExtend {
             from,
             width,
             destination,
             source,
-        } => zero_extend(space, context, *from, *width, *destination, source),
+        } => zero_extend(space, change, *from, *width, *destination, source),
         Instr::SignExtend {
             from,
             width,
             destination,
             source,
-        } => sign_extend(space, context, *from, *width, *destination, source),
-        Instr::ExtendAccumulator { width } => extend_accumulator(context, *width),
-        Instr::SpreadSign { width } => spread_sign(context, *width),
-        Instr::PushRegister { register, .. } => push_register(context, *register),
-        Instr::PushImmediate { immediate, .. } => push_immediate(context, *immediate),
-        Instr::PushOperand { operand, .. } => push(space, context, operand),
-        Instr::PopRegister { register, .. } => pop_register(space, context, *register),
-        Instr::PopOperand { operand, .. } => pop(space, context, operand),
-        Instr::Leave { .. } => leave(space, context),
+        } => sign_extend(space, change, *from, *width, *destination, source),
+        Instr::ExtendAccumulator { width } => {
+            extend_accumulator(change, *width);
+            Ok(())
+        }
+        Instr::SpreadSign { width } => {
+            spread_sign(change, *width);
+            Ok(())
+        }
+        Instr::PushRegister { register, .. } => {
+            push_register(change, *register);
+            Ok(())
+        }
+        Instr::PushImmediate { immediate, .. } => {
+            push_immediate(change, *immediate);
+            Ok(())
+        }
+        Instr::PushOperand { operand, .. } => push(space, change, operand),
+        Instr::PopRegister { register, .. } => pop_register(space, change, *register),
+        Instr::PopOperand { operand, .. } => pop(space, change, operand),
+        Instr::Leave { .. } => leave(space, change),
         Instr::JumpIf {
             condition,
             relative,
-        } => jump_if(context, *condition, *relative),
-        Instr::Jump { relative } => jump_by(context, *relative),
-        Instr::JumpOperand { operand, .. } => jump_to(space, context, operand),
-        Instr::Call { relative } => call_by(context, *relative),
-        Instr::CallOperand { operand, .. } => call_to(space, context, operand),
-        Instr::Return { .. } => return_from(space, context, 0),
-        Instr::ReturnAndRelease { bytes, .. } => return_from(space, context, *bytes),
-        Instr::Nop | Instr::EndBranch | Instr::NopOperand { .. } => go_on(context),
+        } => {
+            jump_if(change, *condition, *relative);
+            Ok(())
+        }
+        Instr::Jump { relative } => {
+            jump_by(change, *relative);
+            Ok(())
+        }
+        Instr::JumpOperand { operand, .. } => jump_to(space, change, operand),
+        Instr::Call { relative } => {
+            call_by(change, *relative);
+            Ok(())
+        }
+        Instr::CallOperand { operand, .. } => call_to(space, change, operand),
+        Instr::Return { .. } => return_from(space, change, 0),
+        Instr::ReturnAndRelease { bytes, .. } => return_from(space, change, *bytes),
+        Instr::Nop | Instr::EndBranch | Instr::NopOperand { .. } => {
+            change.go_on();
+            Ok(())
+        }
         Instr::Breakpoint | Instr::Undefined => Err(Fault::Trap),
         Instr::OpcodeOnly { .. }
         | Instr::Interrupt { .. }
@@ -344,12 +381,12 @@ fn takes_lock(instr: &Instr) -> bool
 #[tactic(auto, unfolding(crate::specs::Exec::executed))]
 pub(crate) fn execute<S: Space>(
     space: &S,
-    context: &mut Context,
+    change: &mut Change,
     decoded: &Decoded,
-) -> Result<Effect, Fault>
+) -> Result<(), Fault>
     ensures { MatchResult result
-        (λ effect. Ok (record { context = context.new; flow = effect.flow; store = effect.store }) ≡ executed (number_at (S.contents space.now).pieces) decoded.now context.old)
-        (λ fault. Err fault ≡ executed (number_at (S.contents space.now).pieces) decoded.now context.old) }
+        (λ _. Ok change.new ≡ executed (number_at (S.contents space.now).pieces) decoded.now change.old.context)
+        (λ fault. Err fault ≡ executed (number_at (S.contents space.now).pieces) decoded.now change.old.context) }
 {
     if !is_stepped(&decoded.instr) || refuses_prefixes(&decoded.prefixes, &decoded.instr) {
         return Err(Fault::Unsupported);
@@ -360,6 +397,6 @@ pub(crate) fn execute<S: Space>(
     if decoded.prefixes.lock && !takes_lock(&decoded.instr) {
         return Err(Fault::BadLock);
     }
-    context.pc = above(context.pc, decoded.length);
-    change_of(space, context, &decoded.instr)
+    change.context.pc = above(change.context.pc, decoded.length);
+    change_of(space, change, &decoded.instr)
 }

@@ -1,7 +1,5 @@
 //! Moves, exchanges and extensions.
-ghost use Rattle.std.specs.Prelude.{◌≡◌, ◌<◌, ◌-◌, ◌^◌, Ok, Err, Result, MatchResult};
-ghost use Rattle.ks_base.specs.declared.refusals.Fault.{Fault};
-ghost use Rattle.ia32_step.specs.declared.types.Change.{Change};
+ghost use Rattle.std.specs.Prelude.{◌≡◌, ◌<◌, ◌-◌, ◌^◌, Ok, Err, MatchResult};
 ghost use Rattle.ia32_alu.specs.Numbers.{highest, unsigned};
 ghost use Rattle.ia32_decode.specs.declared.types.Register.TheVariants.{Eax};
 ghost use Rattle.ia32_decode.specs.declared.types.Operand.TheVariants as operands;
@@ -13,7 +11,7 @@ ghost use Rattle.ia32_step.specs.Moves.{copied, accumulator_loaded, accumulator_
 
 use crate::arithmetic::alu_width;
 use crate::operands::{address_of, number_at, operand_value, place_of, value_at};
-use crate::types::{Context, Effect, Place};
+use crate::types::{Change, Context, Place};
 use ia32_alu::{Binary, Flags};
 use ia32_decode::{Condition, Memory, Operand, Register, Width};
 use image_memory::Space;
@@ -23,130 +21,112 @@ use ks_base::Fault;
 #[tactic(auto, unfolding(crate::specs::Moves::copied))]
 pub(crate) fn copy<S: Space>(
     space: &S,
-    context: &mut Context,
+    change: &mut Change,
     width: Width,
     destination: &Operand,
     source: &Operand,
-) -> Result<Effect, Fault>
+) -> Result<(), Fault>
     ensures { MatchResult result
-        (λ effect. Ok (record { context = context.new; flow = effect.flow; store = effect.store }) ≡ copied (number_at (S.contents space.now).pieces) width destination.now source.now context.old)
-        (λ fault. Err fault ≡ copied (number_at (S.contents space.now).pieces) width destination.now source.now context.old) }
+        (λ _. Ok change.new ≡ copied (number_at (S.contents space.now).pieces) width destination.now source.now change.old.context)
+        (λ fault. Err fault ≡ copied (number_at (S.contents space.now).pieces) width destination.now source.now change.old.context) }
 {
-    let value = operand_value(space, context, width, source)?;
-    let place = place_of(context, destination);
-    Ok(context.put(place, width, value))
+    let value = operand_value(space, &change.context, width, source)?;
+    let place = place_of(&change.context, destination);
+    change.put(place, width, value);
+    Ok(())
 }
 
 /// MOV of an immediate to an operand.
 pub(crate) fn put_immediate(
-    context: &mut Context,
+    change: &mut Change,
     width: Width,
     destination: &Operand,
     immediate: u32,
-) -> Result<Effect, Fault>
-    ensures { MatchResult result
-        (λ effect. ◌≡◌ {A = Result Change Fault} (Ok (record { context = context.new; flow = effect.flow; store = effect.store })) (Ok (putting (place_of context.old.registers destination.now) width immediate context.old)))
-        (λ fault. Err fault ≡ Ok (putting (place_of context.old.registers destination.now) width immediate context.old)) }
+)
+    ensures { change.new ≡ putting (place_of change.old.context.registers destination.now) width immediate change.old.context }
 {
-    let place = place_of(context, destination);
-    Ok(context.put(place, width, immediate))
+    let place = place_of(&change.context, destination);
+    change.put(place, width, immediate);
 }
 
 /// MOV of an immediate to a register.
-pub(crate) fn load_immediate(
-    context: &mut Context,
-    width: Width,
-    register: Register,
-    immediate: u32,
-) -> Result<Effect, Fault>
-    ensures { MatchResult result
-        (λ effect. ◌≡◌ {A = Result Change Fault} (Ok (record { context = context.new; flow = effect.flow; store = effect.store })) (Ok (goes_on (with_register width register immediate context.old))))
-        (λ fault. Err fault ≡ Ok (goes_on (with_register width register immediate context.old))) }
+pub(crate) fn load_immediate(change: &mut Change, width: Width, register: Register, immediate: u32)
+    ensures { change.new ≡ goes_on (with_register width register immediate change.old.context) }
 {
-    context.put_register(width, register, immediate);
-    Ok(Effect::plain())
+    change.context.put_register(width, register, immediate);
+    change.go_on();
 }
 
 /// MOV to the accumulator from an address.
 #[tactic(auto, unfolding(crate::specs::Moves::accumulator_loaded))]
 pub(crate) fn load_accumulator<S: Space>(
     space: &S,
-    context: &mut Context,
+    change: &mut Change,
     width: Width,
     address: u32,
-) -> Result<Effect, Fault>
+) -> Result<(), Fault>
     ensures { MatchResult result
-        (λ effect. Ok (record { context = context.new; flow = effect.flow; store = effect.store }) ≡ accumulator_loaded (number_at (S.contents space.now).pieces) width address context.old)
-        (λ fault. Err fault ≡ accumulator_loaded (number_at (S.contents space.now).pieces) width address context.old) }
+        (λ _. Ok change.new ≡ accumulator_loaded (number_at (S.contents space.now).pieces) width address change.old.context)
+        (λ fault. Err fault ≡ accumulator_loaded (number_at (S.contents space.now).pieces) width address change.old.context) }
 {
     let value = number_at(space, width, address)?;
-    context.put_register(width, Register::Eax, value);
-    Ok(Effect::plain())
+    change.context.put_register(width, Register::Eax, value);
+    change.go_on();
+    Ok(())
 }
 
 /// MOV from the accumulator to an address.
-pub(crate) fn store_accumulator(
-    context: &mut Context,
-    width: Width,
-    address: u32,
-) -> Result<Effect, Fault>
-    ensures { MatchResult result
-        (λ effect. ◌≡◌ {A = Result Change Fault} (Ok (record { context = context.new; flow = effect.flow; store = effect.store })) (Ok (accumulator_stored width address context.old)))
-        (λ fault. Err fault ≡ Ok (accumulator_stored width address context.old)) }
+pub(crate) fn store_accumulator(change: &mut Change, width: Width, address: u32)
+    ensures { change.new ≡ accumulator_stored width address change.old.context }
 {
-    Ok(Effect::storing(address, width, context.accumulator(width)))
+    let value = change.context.accumulator(width);
+    change.write(address, width, value);
 }
 
 /// LEA.
-pub(crate) fn take_address(
-    context: &mut Context,
-    width: Width,
-    register: Register,
-    memory: &Memory,
-) -> Result<Effect, Fault>
-    ensures { MatchResult result
-        (λ effect. ◌≡◌ {A = Result Change Fault} (Ok (record { context = context.new; flow = effect.flow; store = effect.store })) (Ok (address_taken width register memory.now context.old)))
-        (λ fault. Err fault ≡ Ok (address_taken width register memory.now context.old)) }
+pub(crate) fn take_address(change: &mut Change, width: Width, register: Register, memory: &Memory)
+    ensures { change.new ≡ address_taken width register memory.now change.old.context }
 {
-    let address = address_of(context, memory);
-    context.put_register(width, register, address);
-    Ok(Effect::plain())
+    let address = address_of(&change.context, memory);
+    change.context.put_register(width, register, address);
+    change.go_on();
 }
 
 /// XCHG.
 #[tactic(auto, unfolding(crate::specs::Moves::exchanged))]
 pub(crate) fn exchange<S: Space>(
     space: &S,
-    context: &mut Context,
+    change: &mut Change,
     width: Width,
     operand: &Operand,
     register: Register,
-) -> Result<Effect, Fault>
+) -> Result<(), Fault>
     ensures { MatchResult result
-        (λ effect. Ok (record { context = context.new; flow = effect.flow; store = effect.store }) ≡ exchanged (number_at (S.contents space.now).pieces) width operand.now register context.old)
-        (λ fault. Err fault ≡ exchanged (number_at (S.contents space.now).pieces) width operand.now register context.old) }
+        (λ _. Ok change.new ≡ exchanged (number_at (S.contents space.now).pieces) width operand.now register change.old.context)
+        (λ fault. Err fault ≡ exchanged (number_at (S.contents space.now).pieces) width operand.now register change.old.context) }
 {
-    let place = place_of(context, operand);
-    let value = value_at(space, context, width, place)?;
-    let own = context.register(width, register);
-    context.put_register(width, register, value);
-    Ok(context.put(place, width, own))
+    let place = place_of(&change.context, operand);
+    let value = value_at(space, &change.context, width, place)?;
+    let own = change.context.register(width, register);
+    change.context.put_register(width, register, value);
+    change.put(place, width, own);
+    Ok(())
 }
 
 /// XCHG of the accumulator and a register.
 pub(crate) fn exchange_accumulator<S: Space>(
     space: &S,
-    context: &mut Context,
+    change: &mut Change,
     width: Width,
     register: Register,
-) -> Result<Effect, Fault>
+) -> Result<(), Fault>
     ensures { MatchResult result
-        (λ effect. Ok (record { context = context.new; flow = effect.flow; store = effect.store }) ≡ exchanged (number_at (S.contents space.now).pieces) width (operands.Register Eax) register context.old)
-        (λ fault. Err fault ≡ exchanged (number_at (S.contents space.now).pieces) width (operands.Register Eax) register context.old) }
+        (λ _. Ok change.new ≡ exchanged (number_at (S.contents space.now).pieces) width (operands.Register Eax) register change.old.context)
+        (λ fault. Err fault ≡ exchanged (number_at (S.contents space.now).pieces) width (operands.Register Eax) register change.old.context) }
 {
     exchange(
         space,
-        context,
+        change,
         width,
         &Operand::Register(Register::Eax),
         register,
@@ -157,41 +137,42 @@ pub(crate) fn exchange_accumulator<S: Space>(
 #[tactic(auto, unfolding(crate::specs::Moves::exchanged_and_added))]
 pub(crate) fn exchange_and_add<S: Space>(
     space: &S,
-    context: &mut Context,
+    change: &mut Change,
     width: Width,
     operand: &Operand,
     register: Register,
-) -> Result<Effect, Fault>
+) -> Result<(), Fault>
     ensures { MatchResult result
-        (λ effect. Ok (record { context = context.new; flow = effect.flow; store = effect.store }) ≡ exchanged_and_added (number_at (S.contents space.now).pieces) width operand.now register context.old)
-        (λ fault. Err fault ≡ exchanged_and_added (number_at (S.contents space.now).pieces) width operand.now register context.old) }
+        (λ _. Ok change.new ≡ exchanged_and_added (number_at (S.contents space.now).pieces) width operand.now register change.old.context)
+        (λ fault. Err fault ≡ exchanged_and_added (number_at (S.contents space.now).pieces) width operand.now register change.old.context) }
 {
-    let place = place_of(context, operand);
-    let a = value_at(space, context, width, place)?;
-    let b = context.register(width, register);
-    let (sum, flags) = ia32_alu::binary(Binary::Add, alu_width(width), a, b, context.flags);
-    context.flags = flags;
-    context.put_register(width, register, a);
-    Ok(context.put(place, width, sum))
+    let place = place_of(&change.context, operand);
+    let a = value_at(space, &change.context, width, place)?;
+    let b = change.context.register(width, register);
+    let (sum, flags) = ia32_alu::binary(Binary::Add, alu_width(width), a, b, change.context.flags);
+    change.context.flags = flags;
+    change.context.put_register(width, register, a);
+    change.put(place, width, sum);
+    Ok(())
 }
 
 fn settle_comparison(
-    context: &mut Context,
+    change: &mut Change,
     place: Place,
     width: Width,
     a: u32,
     value: u32,
     compared: (u32, Flags),
-) -> Effect
-    ensures { record { context = context.new; flow = result.flow; store = result.store } ≡ compared_and_exchanged place width a value compared context.old }
+)
+    ensures { change.new ≡ compared_and_exchanged place width a value compared change.old.context }
 {
     let (_, flags) = compared;
-    context.flags = flags;
+    change.context.flags = flags;
     if flags.zf {
-        context.put(place, width, value)
+        change.put(place, width, value);
     } else {
-        context.put_register(width, Register::Eax, a);
-        context.put(place, width, a)
+        change.context.put_register(width, Register::Eax, a);
+        change.put(place, width, a);
     }
 }
 
@@ -199,26 +180,27 @@ fn settle_comparison(
 #[tactic(auto, unfolding(crate::specs::Moves::compare_exchanged))]
 pub(crate) fn compare_exchange<S: Space>(
     space: &S,
-    context: &mut Context,
+    change: &mut Change,
     width: Width,
     operand: &Operand,
     register: Register,
-) -> Result<Effect, Fault>
+) -> Result<(), Fault>
     ensures { MatchResult result
-        (λ effect. Ok (record { context = context.new; flow = effect.flow; store = effect.store }) ≡ compare_exchanged (number_at (S.contents space.now).pieces) width operand.now register context.old)
-        (λ fault. Err fault ≡ compare_exchanged (number_at (S.contents space.now).pieces) width operand.now register context.old) }
+        (λ _. Ok change.new ≡ compare_exchanged (number_at (S.contents space.now).pieces) width operand.now register change.old.context)
+        (λ fault. Err fault ≡ compare_exchanged (number_at (S.contents space.now).pieces) width operand.now register change.old.context) }
 {
-    let place = place_of(context, operand);
-    let a = value_at(space, context, width, place)?;
-    let value = context.register(width, register);
+    let place = place_of(&change.context, operand);
+    let a = value_at(space, &change.context, width, place)?;
+    let value = change.context.register(width, register);
     let compared = ia32_alu::binary(
         Binary::Cmp,
         alu_width(width),
-        context.accumulator(width),
+        change.context.accumulator(width),
         a,
-        context.flags,
+        change.context.flags,
     );
-    Ok(settle_comparison(context, place, width, a, value, compared))
+    settle_comparison(change, place, width, a, value, compared);
+    Ok(())
 }
 
 fn condition_number(condition: Condition) -> u8
@@ -256,36 +238,31 @@ pub(crate) fn holds(condition: Condition, flags: Flags) -> bool
 #[tactic(auto, unfolding(crate::specs::Moves::copied_if))]
 pub(crate) fn copy_if<S: Space>(
     space: &S,
-    context: &mut Context,
+    change: &mut Change,
     condition: Condition,
     width: Width,
     register: Register,
     source: &Operand,
-) -> Result<Effect, Fault>
+) -> Result<(), Fault>
     ensures { MatchResult result
-        (λ effect. Ok (record { context = context.new; flow = effect.flow; store = effect.store }) ≡ copied_if (number_at (S.contents space.now).pieces) condition width register source.now context.old)
-        (λ fault. Err fault ≡ copied_if (number_at (S.contents space.now).pieces) condition width register source.now context.old) }
+        (λ _. Ok change.new ≡ copied_if (number_at (S.contents space.now).pieces) condition width register source.now change.old.context)
+        (λ fault. Err fault ≡ copied_if (number_at (S.contents space.now).pieces) condition width register source.now change.old.context) }
 {
-    let taken = operand_value(space, context, width, source)?;
-    if holds(condition, context.flags) {
-        context.put_register(width, register, taken);
+    let taken = operand_value(space, &change.context, width, source)?;
+    if holds(condition, change.context.flags) {
+        change.context.put_register(width, register, taken);
     }
-    Ok(Effect::plain())
+    change.go_on();
+    Ok(())
 }
 
 /// SETcc.
-pub(crate) fn set_by(
-    context: &mut Context,
-    condition: Condition,
-    operand: &Operand,
-) -> Result<Effect, Fault>
-    ensures { MatchResult result
-        (λ effect. ◌≡◌ {A = Result Change Fault} (Ok (record { context = context.new; flow = effect.flow; store = effect.store })) (Ok (set_by condition operand.now context.old)))
-        (λ fault. Err fault ≡ Ok (set_by condition operand.now context.old)) }
+pub(crate) fn set_by(change: &mut Change, condition: Condition, operand: &Operand)
+    ensures { change.new ≡ set_by condition operand.now change.old.context }
 {
-    let place = place_of(context, operand);
-    let bit = u32::from(holds(condition, context.flags));
-    Ok(context.put(place, Width::Byte, bit))
+    let place = place_of(&change.context, operand);
+    let bit = u32::from(holds(condition, change.context.flags));
+    change.put(place, Width::Byte, bit);
 }
 
 #[tactic(auto, unfolding(ia32_alu::specs::Numbers::highest))]
@@ -337,38 +314,42 @@ fn sign_extended(width: Width, value: u32) -> u32
 #[tactic(auto, unfolding(crate::specs::Moves::zero_extended_to))]
 pub(crate) fn zero_extend<S: Space>(
     space: &S,
-    context: &mut Context,
+    change: &mut Change,
     from: Width,
     width: Width,
     register: Register,
     source: &Operand,
-) -> Result<Effect, Fault>
+) -> Result<(), Fault>
     ensures { MatchResult result
-        (λ effect. Ok (record { context = context.new; flow = effect.flow; store = effect.store }) ≡ zero_extended_to (number_at (S.contents space.now).pieces) from width register source.now context.old)
-        (λ fault. Err fault ≡ zero_extended_to (number_at (S.contents space.now).pieces) from width register source.now context.old) }
+        (λ _. Ok change.new ≡ zero_extended_to (number_at (S.contents space.now).pieces) from width register source.now change.old.context)
+        (λ fault. Err fault ≡ zero_extended_to (number_at (S.contents space.now).pieces) from width register source.now change.old.context) }
 {
-    let value = operand_value(space, context, from, source)?;
-    context.put_register(width, register, value);
-    Ok(Effect::plain())
+    let value = operand_value(space, &change.context, from, source)?;
+    change.context.put_register(width, register, value);
+    change.go_on();
+    Ok(())
 }
 
 /// MOVSX.
 #[tactic(auto, unfolding(crate::specs::Moves::sign_extended_to))]
 pub(crate) fn sign_extend<S: Space>(
     space: &S,
-    context: &mut Context,
+    change: &mut Change,
     from: Width,
     width: Width,
     register: Register,
     source: &Operand,
-) -> Result<Effect, Fault>
+) -> Result<(), Fault>
     ensures { MatchResult result
-        (λ effect. Ok (record { context = context.new; flow = effect.flow; store = effect.store }) ≡ sign_extended_to (number_at (S.contents space.now).pieces) from width register source.now context.old)
-        (λ fault. Err fault ≡ sign_extended_to (number_at (S.contents space.now).pieces) from width register source.now context.old) }
+        (λ _. Ok change.new ≡ sign_extended_to (number_at (S.contents space.now).pieces) from width register source.now change.old.context)
+        (λ fault. Err fault ≡ sign_extended_to (number_at (S.contents space.now).pieces) from width register source.now change.old.context) }
 {
-    let value = operand_value(space, context, from, source)?;
-    context.put_register(width, register, sign_extended(from, value));
-    Ok(Effect::plain())
+    let value = operand_value(space, &change.context, from, source)?;
+    change
+        .context
+        .put_register(width, register, sign_extended(from, value));
+    change.go_on();
+    Ok(())
 }
 
 fn half(width: Width) -> Width
@@ -381,27 +362,25 @@ fn half(width: Width) -> Width
 }
 
 /// CBW and CWDE.
-pub(crate) fn extend_accumulator(context: &mut Context, width: Width) -> Result<Effect, Fault>
-    ensures { MatchResult result
-        (λ effect. ◌≡◌ {A = Result Change Fault} (Ok (record { context = context.new; flow = effect.flow; store = effect.store })) (Ok (accumulator_extended width context.old)))
-        (λ fault. Err fault ≡ Ok (accumulator_extended width context.old)) }
+pub(crate) fn extend_accumulator(change: &mut Change, width: Width)
+    ensures { change.new ≡ accumulator_extended width change.old.context }
 {
-    let lower = context.accumulator(half(width));
-    context.put_register(width, Register::Eax, sign_extended(half(width), lower));
-    Ok(Effect::plain())
+    let lower = change.context.accumulator(half(width));
+    change
+        .context
+        .put_register(width, Register::Eax, sign_extended(half(width), lower));
+    change.go_on();
 }
 
 /// CWD and CDQ.
-pub(crate) fn spread_sign(context: &mut Context, width: Width) -> Result<Effect, Fault>
-    ensures { MatchResult result
-        (λ effect. ◌≡◌ {A = Result Change Fault} (Ok (record { context = context.new; flow = effect.flow; store = effect.store })) (Ok (sign_spread width context.old)))
-        (λ fault. Err fault ≡ Ok (sign_spread width context.old)) }
+pub(crate) fn spread_sign(change: &mut Change, width: Width)
+    ensures { change.new ≡ sign_spread width change.old.context }
 {
-    let sign = if is_negative(width, context.accumulator(width)) {
+    let sign = if is_negative(width, change.context.accumulator(width)) {
         0xFFFF_FFFF
     } else {
         0
     };
-    context.put_register(width, Register::Edx, sign);
-    Ok(Effect::plain())
+    change.context.put_register(width, Register::Edx, sign);
+    change.go_on();
 }

@@ -6,7 +6,7 @@ ghost use Rattle.ia32_step.specs.Arithmetic.{bits, upper_register, with_double, 
 
 use crate::arithmetic::alu_width;
 use crate::operands::operand_value;
-use crate::types::{Context, Effect};
+use crate::types::{Change, Context};
 use ia32_alu::Flags;
 use ia32_decode::{Operand, Register, Width};
 use image_memory::Space;
@@ -55,63 +55,65 @@ fn double(context: &Context, width: Width) -> u64
 #[tactic(auto, unfolding(crate::specs::Arithmetic::multiplied))]
 pub(crate) fn multiply<S: Space>(
     space: &S,
-    context: &mut Context,
+    change: &mut Change,
     signed: bool,
     width: Width,
     operand: &Operand,
-) -> Result<Effect, Fault>
+) -> Result<(), Fault>
     ensures { MatchResult result
-        (λ effect. Ok (record { context = context.new; flow = effect.flow; store = effect.store }) ≡ multiplied (number_at (S.contents space.now).pieces) signed width operand.now context.old)
-        (λ fault. Err fault ≡ multiplied (number_at (S.contents space.now).pieces) signed width operand.now context.old) }
+        (λ _. Ok change.new ≡ multiplied (number_at (S.contents space.now).pieces) signed width operand.now change.old.context)
+        (λ fault. Err fault ≡ multiplied (number_at (S.contents space.now).pieces) signed width operand.now change.old.context) }
 {
-    let b = operand_value(space, context, width, operand)?;
+    let b = operand_value(space, &change.context, width, operand)?;
     let (product, flags) = ia32_alu::multiply(
         signed,
         alu_width(width),
-        context.accumulator(width),
+        change.context.accumulator(width),
         b,
     );
-    context.flags = flags;
-    put_double(context, width, product);
-    Ok(Effect::plain())
+    change.context.flags = flags;
+    put_double(&mut change.context, width, product);
+    change.go_on();
+    Ok(())
 }
 
 /// IMUL with two or three operands.
 #[tactic(auto, unfolding(crate::specs::Arithmetic::product_taken))]
 pub(crate) fn take_product<S: Space>(
     space: &S,
-    context: &mut Context,
+    change: &mut Change,
     width: Width,
     register: Register,
     operand: &Operand,
     b: u32,
-) -> Result<Effect, Fault>
+) -> Result<(), Fault>
     ensures { MatchResult result
-        (λ effect. Ok (record { context = context.new; flow = effect.flow; store = effect.store }) ≡ product_taken (number_at (S.contents space.now).pieces) width register operand.now b context.old)
-        (λ fault. Err fault ≡ product_taken (number_at (S.contents space.now).pieces) width register operand.now b context.old) }
+        (λ _. Ok change.new ≡ product_taken (number_at (S.contents space.now).pieces) width register operand.now b change.old.context)
+        (λ fault. Err fault ≡ product_taken (number_at (S.contents space.now).pieces) width register operand.now b change.old.context) }
 {
-    let a = operand_value(space, context, width, operand)?;
+    let a = operand_value(space, &change.context, width, operand)?;
     let (product, flags) = ia32_alu::multiply(true, alu_width(width), a, b);
     let lower = (product % radix(width)) as u32;
-    context.flags = flags;
-    context.put_register(width, register, lower);
-    Ok(Effect::plain())
+    change.context.flags = flags;
+    change.context.put_register(width, register, lower);
+    change.go_on();
+    Ok(())
 }
 
 /// IMUL of a register by an operand.
 pub(crate) fn multiply_register<S: Space>(
     space: &S,
-    context: &mut Context,
+    change: &mut Change,
     width: Width,
     register: Register,
     operand: &Operand,
-) -> Result<Effect, Fault>
+) -> Result<(), Fault>
     ensures { MatchResult result
-        (λ effect. Ok (record { context = context.new; flow = effect.flow; store = effect.store }) ≡ product_taken (number_at (S.contents space.now).pieces) width register operand.now (register_value context.old.registers width register) context.old)
-        (λ fault. Err fault ≡ product_taken (number_at (S.contents space.now).pieces) width register operand.now (register_value context.old.registers width register) context.old) }
+        (λ _. Ok change.new ≡ product_taken (number_at (S.contents space.now).pieces) width register operand.now (register_value change.old.context.registers width register) change.old.context)
+        (λ fault. Err fault ≡ product_taken (number_at (S.contents space.now).pieces) width register operand.now (register_value change.old.context.registers width register) change.old.context) }
 {
-    let own = context.register(width, register);
-    take_product(space, context, width, register, operand, own)
+    let own = change.context.register(width, register);
+    take_product(space, change, width, register, operand, own)
 }
 
 fn clear_flags() -> Flags
@@ -126,22 +128,21 @@ fn clear_flags() -> Flags
     }
 }
 
-fn settle_quotient(
-    context: &mut Context,
-    width: Width,
-    both: Option<(u32, u32)>,
-) -> Result<Effect, Fault>
+fn settle_quotient(change: &mut Change, width: Width, both: Option<(u32, u32)>) -> Result<(), Fault>
     ensures { MatchResult result
-        (λ effect. Ok (record { context = context.new; flow = effect.flow; store = effect.store }) ≡ with_quotient width both context.old)
-        (λ fault. Err fault ≡ with_quotient width both context.old) }
+        (λ _. Ok change.new ≡ with_quotient width both change.old.context)
+        (λ fault. Err fault ≡ with_quotient width both change.old.context) }
 {
     match both {
         None => Err(Fault::Divide),
         Some((quotient, remainder)) => {
-            context.flags = clear_flags();
-            context.put_register(width, Register::Eax, quotient);
-            context.put_register(width, upper_register(width), remainder);
-            Ok(Effect::plain())
+            change.context.flags = clear_flags();
+            change.context.put_register(width, Register::Eax, quotient);
+            change
+                .context
+                .put_register(width, upper_register(width), remainder);
+            change.go_on();
+            Ok(())
         }
     }
 }
@@ -150,16 +151,16 @@ fn settle_quotient(
 #[tactic(auto, unfolding(crate::specs::Arithmetic::divided))]
 pub(crate) fn divide<S: Space>(
     space: &S,
-    context: &mut Context,
+    change: &mut Change,
     signed: bool,
     width: Width,
     operand: &Operand,
-) -> Result<Effect, Fault>
+) -> Result<(), Fault>
     ensures { MatchResult result
-        (λ effect. Ok (record { context = context.new; flow = effect.flow; store = effect.store }) ≡ divided (number_at (S.contents space.now).pieces) signed width operand.now context.old)
-        (λ fault. Err fault ≡ divided (number_at (S.contents space.now).pieces) signed width operand.now context.old) }
+        (λ _. Ok change.new ≡ divided (number_at (S.contents space.now).pieces) signed width operand.now change.old.context)
+        (λ fault. Err fault ≡ divided (number_at (S.contents space.now).pieces) signed width operand.now change.old.context) }
 {
-    let by = operand_value(space, context, width, operand)?;
-    let both = ia32_alu::divide(signed, alu_width(width), double(context, width), by);
-    settle_quotient(context, width, both)
+    let by = operand_value(space, &change.context, width, operand)?;
+    let both = ia32_alu::divide(signed, alu_width(width), double(&change.context, width), by);
+    settle_quotient(change, width, both)
 }

@@ -1,7 +1,5 @@
 //! Pushes and pops of 32 bits.
-ghost use Rattle.std.specs.Prelude.{◌≡◌, Ok, Err, Result, MatchResult};
-ghost use Rattle.ks_base.specs.declared.refusals.Fault.{Fault};
-ghost use Rattle.ia32_step.specs.declared.types.Change.{Change};
+ghost use Rattle.std.specs.Prelude.{◌≡◌, Ok, Err, MatchResult};
 ghost use Rattle.ia32_decode.specs.declared.types.Width.TheVariants.{Dword};
 ghost use Rattle.ia32_decode.specs.declared.types.Operand.TheVariants as operands;
 ghost use Rattle.ia32_step.specs.Registers.{register_value};
@@ -10,83 +8,73 @@ ghost use Rattle.ia32_step.specs.Operands.{number_at};
 ghost use Rattle.ia32_step.specs.Stack.{pushed, popped_to, left};
 
 use crate::operands::{operand_value, place_of};
-use crate::types::{Context, Effect};
+use crate::types::{Change, Context};
 use ia32_decode::{Operand, Register, Width};
 use image_memory::Space;
 use ks_base::Fault;
 
 /// PUSH of an operand.
 #[tactic(auto, unfolding(crate::specs::Stack::pushed))]
-pub(crate) fn push<S: Space>(
-    space: &S,
-    context: &mut Context,
-    operand: &Operand,
-) -> Result<Effect, Fault>
+pub(crate) fn push<S: Space>(space: &S, change: &mut Change, operand: &Operand) -> Result<(), Fault>
     ensures { MatchResult result
-        (λ effect. Ok (record { context = context.new; flow = effect.flow; store = effect.store }) ≡ pushed (number_at (S.contents space.now).pieces) operand.now context.old)
-        (λ fault. Err fault ≡ pushed (number_at (S.contents space.now).pieces) operand.now context.old) }
+        (λ _. Ok change.new ≡ pushed (number_at (S.contents space.now).pieces) operand.now change.old.context)
+        (λ fault. Err fault ≡ pushed (number_at (S.contents space.now).pieces) operand.now change.old.context) }
 {
-    let value = operand_value(space, context, Width::Dword, operand)?;
-    Ok(context.push(value))
+    let value = operand_value(space, &change.context, Width::Dword, operand)?;
+    change.push(value);
+    Ok(())
 }
 
 /// POP to an operand.
 #[tactic(auto, unfolding(crate::specs::Stack::popped_to))]
-pub(crate) fn pop<S: Space>(
-    space: &S,
-    context: &mut Context,
-    operand: &Operand,
-) -> Result<Effect, Fault>
+pub(crate) fn pop<S: Space>(space: &S, change: &mut Change, operand: &Operand) -> Result<(), Fault>
     ensures { MatchResult result
-        (λ effect. Ok (record { context = context.new; flow = effect.flow; store = effect.store }) ≡ popped_to (number_at (S.contents space.now).pieces) operand.now context.old)
-        (λ fault. Err fault ≡ popped_to (number_at (S.contents space.now).pieces) operand.now context.old) }
+        (λ _. Ok change.new ≡ popped_to (number_at (S.contents space.now).pieces) operand.now change.old.context)
+        (λ fault. Err fault ≡ popped_to (number_at (S.contents space.now).pieces) operand.now change.old.context) }
 {
-    let value = context.popped(space)?;
-    context.raise(0);
-    let place = place_of(context, operand);
-    Ok(context.put(place, Width::Dword, value))
+    let value = change.context.popped(space)?;
+    change.context.raise(0);
+    let place = place_of(&change.context, operand);
+    change.put(place, Width::Dword, value);
+    Ok(())
 }
 
 /// PUSH of a register.
-pub(crate) fn push_register(context: &mut Context, register: Register) -> Result<Effect, Fault>
-    ensures { MatchResult result
-        (λ effect. ◌≡◌ {A = Result Change Fault} (Ok (record { context = context.new; flow = effect.flow; store = effect.store })) (Ok (pushing (register_value context.old.registers Dword register) context.old)))
-        (λ fault. Err fault ≡ Ok (pushing (register_value context.old.registers Dword register) context.old)) }
+pub(crate) fn push_register(change: &mut Change, register: Register)
+    ensures { change.new ≡ pushing (register_value change.old.context.registers Dword register) change.old.context }
 {
-    let own = context.register(Width::Dword, register);
-    Ok(context.push(own))
+    let own = change.context.register(Width::Dword, register);
+    change.push(own);
 }
 
 /// PUSH of an immediate.
-pub(crate) fn push_immediate(context: &mut Context, immediate: u32) -> Result<Effect, Fault>
-    ensures { MatchResult result
-        (λ effect. ◌≡◌ {A = Result Change Fault} (Ok (record { context = context.new; flow = effect.flow; store = effect.store })) (Ok (pushing immediate context.old)))
-        (λ fault. Err fault ≡ Ok (pushing immediate context.old)) }
+pub(crate) fn push_immediate(change: &mut Change, immediate: u32)
+    ensures { change.new ≡ pushing immediate change.old.context }
 {
-    Ok(context.push(immediate))
+    change.push(immediate);
 }
 
 /// POP to a register.
 pub(crate) fn pop_register<S: Space>(
     space: &S,
-    context: &mut Context,
+    change: &mut Change,
     register: Register,
-) -> Result<Effect, Fault>
+) -> Result<(), Fault>
     ensures { MatchResult result
-        (λ effect. Ok (record { context = context.new; flow = effect.flow; store = effect.store }) ≡ popped_to (number_at (S.contents space.now).pieces) (operands.Register register) context.old)
-        (λ fault. Err fault ≡ popped_to (number_at (S.contents space.now).pieces) (operands.Register register) context.old) }
+        (λ _. Ok change.new ≡ popped_to (number_at (S.contents space.now).pieces) (operands.Register register) change.old.context)
+        (λ fault. Err fault ≡ popped_to (number_at (S.contents space.now).pieces) (operands.Register register) change.old.context) }
 {
-    pop(space, context, &Operand::Register(register))
+    pop(space, change, &Operand::Register(register))
 }
 
 /// LEAVE.
 #[tactic(auto, unfolding(crate::specs::Stack::left))]
-pub(crate) fn leave<S: Space>(space: &S, context: &mut Context) -> Result<Effect, Fault>
+pub(crate) fn leave<S: Space>(space: &S, change: &mut Change) -> Result<(), Fault>
     ensures { MatchResult result
-        (λ effect. Ok (record { context = context.new; flow = effect.flow; store = effect.store }) ≡ left (number_at (S.contents space.now).pieces) context.old)
-        (λ fault. Err fault ≡ left (number_at (S.contents space.now).pieces) context.old) }
+        (λ _. Ok change.new ≡ left (number_at (S.contents space.now).pieces) change.old.context)
+        (λ fault. Err fault ≡ left (number_at (S.contents space.now).pieces) change.old.context) }
 {
-    let base = context.register(Width::Dword, Register::Ebp);
-    context.put_stack_top(base);
-    pop_register(space, context, Register::Ebp)
+    let base = change.context.register(Width::Dword, Register::Ebp);
+    change.context.put_stack_top(base);
+    pop_register(space, change, Register::Ebp)
 }

@@ -7,7 +7,7 @@ ghost use Rattle.ia32_step.specs.declared.types.State.TheVariants.{Running};
 ghost use Rattle.ia32_step.specs.declared.types.Outcome.TheVariants.{Stopped, Exited};
 
 use crate::exec::execute;
-use crate::types::{Context, Effect, Outcome, State, Store, Thread};
+use crate::types::{Change, Context, Flow, Outcome, State, Store, Thread};
 use ia32_decode::{Decoded, Width, decode};
 use image_memory::Space;
 use ks_base::Fault;
@@ -74,54 +74,48 @@ fn exit(thread: &mut Thread) -> Outcome
 }
 
 /// Does what an instruction does, or stops the thread where its number can't be written.
-fn carry_out<S: Space>(
-    space: &mut S,
-    thread: &mut Thread,
-    context: &Context,
-    effect: &Effect,
-) -> Outcome
+fn carry_out<S: Space>(space: &mut S, thread: &mut Thread, change: &Change) -> Outcome
     ensures left { left_by (S.contents space.new) thread.new result
-        ≡ unless_barred (store_fault (S.contents space.old) effect.now.store) (S.contents space.old) thread.old
-        (record { context = context.now; flow = effect.now.flow; store = effect.now.store }) }
+        ≡ unless_barred (store_fault (S.contents space.old) change.now.store) (S.contents space.old) thread.old change.now }
     ensures room { S.room space.new ≡ S.room space.old }
 {
-    if let Some(store) = &effect.store {
+    if let Some(store) = &change.store {
         if let Err(fault) = write_store(space, store) {
             return stop(thread, fault);
         }
     }
-    thread.resume(context);
-    Outcome::Moved(effect.flow)
+    thread.resume(&change.context);
+    Outcome::Moved(change.flow)
 }
 
 /// What a decoded instruction does, if there is one.
 fn do_decoded<S: Space>(
     space: &S,
-    context: &mut Context,
+    change: &mut Change,
     decoded: Option<Decoded>,
-) -> Result<Effect, Fault>
+) -> Result<(), Fault>
     ensures { MatchResult result
-        (λ effect. Ok (record { context = context.new; flow = effect.flow; store = effect.store }) ≡ change_by (S.contents space.now).pieces context.old decoded)
-        (λ fault. Err fault ≡ change_by (S.contents space.now).pieces context.old decoded) }
+        (λ _. Ok change.new ≡ change_by (S.contents space.now).pieces change.old.context decoded)
+        (λ fault. Err fault ≡ change_by (S.contents space.now).pieces change.old.context decoded) }
 {
     match &decoded {
         None => Err(Fault::Undecoded),
-        Some(decoded) => execute(space, context, decoded),
+        Some(decoded) => execute(space, change, decoded),
     }
 }
 
 /// What the instruction does that is fetched at a thread's pc, in what the processor holds of the thread.
 #[tactic(auto, using(crate::proofs::Windows::window_short), unfolding(crate::specs::Step::next_change))]
-fn do_next<S: Space>(space: &S, thread: &Thread, context: &mut Context) -> Result<Effect, Fault>
-    requires { context.old ≡ context_of thread.now }
+fn do_next<S: Space>(space: &S, thread: &Thread, change: &mut Change) -> Result<(), Fault>
+    requires { change.old.context ≡ context_of thread.now }
     ensures { MatchResult result
-        (λ effect. Ok (record { context = context.new; flow = effect.flow; store = effect.store }) ≡ next_change (S.contents space.now) thread.now)
+        (λ _. Ok change.new ≡ next_change (S.contents space.now) thread.now)
         (λ fault. Err fault ≡ next_change (S.contents space.now) thread.now) }
 {
     let window = space.window(thread.pc)?;
     do_decoded(
         space,
-        context,
+        change,
         decode(&window.bytes[..window.length as usize]),
     )
 }
@@ -141,9 +135,13 @@ pub fn step_thread<S: Space>(space: &mut S, thread: &mut Thread) -> Outcome
     if thread.pc == 0xFFFF_0000 {
         return exit(thread);
     }
-    let mut context = thread.context();
-    match do_next(space, thread, &mut context) {
-        Ok(effect) => carry_out(space, thread, &context, &effect),
+    let mut change = Change {
+        context: thread.context(),
+        flow: Flow::Plain,
+        store: None,
+    };
+    match do_next(space, thread, &mut change) {
+        Ok(()) => carry_out(space, thread, &change),
         Err(fault) => stop(thread, fault),
     }
 }

@@ -84,15 +84,6 @@ pub struct Store {
     pub value: u32,
 }
 
-/// What an instruction does where no fault stops it, but for what the processor holds after it.
-#[derive(Clone, Copy)]
-pub struct Effect {
-    /// How it goes on.
-    pub flow: Flow,
-    /// What is written to memory, if anything is.
-    pub store: Option<Store>,
-}
-
 /// What an instruction does where no fault stops it.
 #[derive(Clone, Copy)]
 pub struct Change {
