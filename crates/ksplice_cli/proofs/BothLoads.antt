@@ -3,7 +3,7 @@ use Rattle.std.proofs.Common.{◌≡◌, ◌⊎◌, ℕ, ◌≤◌, ◌<◌, Boo
 use Rattle.ks_io.specs.Outside.{Counts, CountsTell, Rose}
 use Rattle.ksplice_cli.specs.Answer.{Answer}
 use Rattle.ksplice_cli.specs.Words.{Asked, Diff, Run}
-use Rattle.ksplice_cli.specs.Calls.{Found, Held, NotHeld, object_limit, image_limit, script_limit, AfterLoad, AfterBoth, OneComesOut, Answered, NoMemory, LoadEnds, AnswersBy, BothEnd, BothTell, CountsTellOf}
+use Rattle.ksplice_cli.specs.Calls.{Found, Held, NotHeld, IsHeld, found_file, object_limit, image_limit, script_limit, AfterLoad, AfterBoth, OneComesOut, Answered, NoMemory, LoadEnds, AnswersBy, BothEnd, BothTell, CountsTellOf}
 
 -- a count that rose later rose
 rose_later : (before between now : ℕ) → before ≤ between → Rose between now → Rose before now
@@ -107,12 +107,17 @@ pub first_tells : (first : Option (List ℕ)) (first_limit : ℕ) (second : Opti
     → CountsTell first first_limit before now → BothTell first first_limit second second_limit before now
 first_tells first first_limit second second_limit before now tells = (λ h. inl (tells.0 h), λ h. inl (tells.1 h))
 
-pub both_tell : (first : Option (List ℕ)) (first_limit : ℕ) (second : Option (List ℕ)) (second_limit : ℕ) (before between now : Counts)
-    → CountsTell first first_limit before between → CountsTell second second_limit between now → BothTell first first_limit second second_limit before now
-both_tell first first_limit second second_limit before between now one other = (
-  λ h. either one.0 other.0 (rose_in_one before.absences between.absences now.absences h),
-  λ h. either one.1 other.1 (rose_in_one before.excesses between.excesses now.excesses h),
-)
+is_held : (found : Found) (bytes : List ℕ) → found ≡ Held bytes → IsHeld found
+is_held found bytes held = rw held tt
+
+pub both_tell : (first : Option (List ℕ)) (first_limit : ℕ) (second : Option (List ℕ)) (second_limit : ℕ) (bytes : List ℕ) (before between now : Counts)
+    → found_file first_limit first ≡ Held bytes → CountsTell first first_limit before between → CountsTell second second_limit between now
+    → BothTell first first_limit second second_limit before now
+both_tell first first_limit second second_limit bytes before between now held one other =
+    let h = is_held (found_file first_limit first) bytes held in (
+      λ rose. either one.0 (λ later. (h, other.0 later)) (rose_in_one before.absences between.absences now.absences rose),
+      λ rose. either one.1 (λ later. (h, other.1 later)) (rose_in_one before.excesses between.excesses now.excesses rose),
+    )
 
 -- what the counts tell of the files of `diff`, and of `run`
 pub diff_tells : (files : List ℕ → Option (List ℕ)) (pre post : List ℕ) (before now : Counts) → BothTell (files pre) object_limit (files post) object_limit before now

@@ -1,12 +1,12 @@
 -- How the load of `code`, and what comes after it, make its answer.
-use Rattle.std.proofs.Common.{◌≡◌, ◌≢◌, ◌⊎◌, inl, inr, ℕ, Bool, true, false, List, Option, Some, Ok, Err, refl, sym, ap, subst}
+use Rattle.std.proofs.Common.{◌≡◌, ◌≢◌, ℕ, Bool, true, false, List, Option, Some, Ok, Err, refl, sym, ap, subst}
 use Rattle.ks_base.specs.declared.refusals.Refusal.{Refusal}
 use Rattle.ks_base.specs.declared.refusals.Refusal.TheVariants.{Memory}
 use Rattle.ks_io.specs.Outside.{Counts, CountsTell, Rose}
 use Rattle.ksplice_cli.specs.Answer.{ComesOut, answer_of, refused_answer}
 use Rattle.ksplice_cli.specs.Reply.{code_reply, code_answer, reply_answer}
 use Rattle.ksplice_cli.specs.Words.{Code}
-use Rattle.ksplice_cli.specs.Calls.{Held, found_file, image_limit, AfterLoad, OneComesOut, Answered, NoMemory, LoadEnds, Answers, CountsTellOf}
+use Rattle.ksplice_cli.specs.Calls.{Held, found_file, image_limit, AfterLoad, OneComesOut, Answered, LoadEnds, Answers, CountsTellOf}
 use Rattle.ksplice_cli.proofs.BothLoads.{carried_over, ended_load}
 use Rattle.ksplice_cli.proofs.Replies.{refusal_is_one}
 

@@ -1,5 +1,5 @@
 -- How pages that come out one after another are the whole that comes out.
-use Rattle.std.proofs.Common.{◌≡◌, ℕ, Bool, true, false, ◌||◌, ◌==◌, List, ◌++◌, Option, Some, None, MatchBool, refl, sym, ap, ◌∙◌, append_assoc}
+use Rattle.std.proofs.Common.{◌≡◌, ℕ, Bool, true, false, ◌||◌, ◌==◌, List, ◌++◌, Option, MatchBool, refl, ◌∙◌}
 use Rattle.ks_io.specs.Outside.{TookFront, grown}
 use Rattle.ks_io.specs.Fronts.{grown-append, TookFront-after}
 use Rattle.ksplice_cli.specs.Answer.{ComesOut, answer_of}

@@ -18,6 +18,10 @@ abbrev pub found_file : ℕ → Option (List ℕ) → Found
 found_file limit None = NotHeld Missing
 found_file limit (Some bytes) = if nat_le (length bytes) limit then Held bytes else NotHeld TooLong
 
+abbrev pub IsHeld : Found → Type 0
+IsHeld (Held bytes) = Unit {0}
+IsHeld (NotHeld fault) = ⊥
+
 -- the most bytes that an object file may have, an image file, and a script
 abbrev pub object_limit : ℕ
 object_limit = 8388608
@@ -111,30 +115,31 @@ NamesFile (Some (Diff pre post)) name = (name ≡ pre) ⊎ (name ≡ post)
 NamesFile (Some (Code image function)) name = name ≡ image
 NamesFile (Some (Run image script)) name = (name ≡ image) ⊎ (name ≡ script)
 
--- one of the files that the call was given is so, by its limit and its name
-abbrev pub NamesOne : Option Asked → (ℕ → List ℕ → Type 0) → Type 0
-NamesOne None P = ⊥
-NamesOne (Some (Diff pre post)) P = P object_limit pre ⊎ P object_limit post
-NamesOne (Some (Code image name)) P = P image_limit image
-NamesOne (Some (Run image script)) P = P image_limit image ⊎ P script_limit script
+-- Where the files are told, one of those that the call loads is so, by its limit and its name; the second one is loaded only
+-- where the first is held.
+abbrev pub LoadsOne : (List ℕ → Option (List ℕ)) → Option Asked → (ℕ → List ℕ → Type 0) → Type 0
+LoadsOne files None P = ⊥
+LoadsOne files (Some (Diff pre post)) P = P object_limit pre ⊎ (IsHeld (found_file object_limit (files pre)) × P object_limit post)
+LoadsOne files (Some (Code image name)) P = P image_limit image
+LoadsOne files (Some (Run image script)) P = P image_limit image ⊎ (IsHeld (found_file image_limit (files image)) × P script_limit script)
 
--- Where the files are told, the counts rise only for a file that the call was given: absences for one that isn't there,
+-- Where the files are told, the counts rise only for a file that the call loads: absences for one that isn't there,
 -- excesses for one that is longer than its limit.
 unfoldable pub CountsTellOf : Option Asked → (List ℕ → Option (List ℕ)) → Counts → Counts → Type 0
 CountsTellOf asked files before now =
-    (before.absences < now.absences → NamesOne asked (λ limit name. files name ≡ None))
-    × (before.excesses < now.excesses → NamesOne asked (λ limit name. IsLonger limit (files name)))
+    (before.absences < now.absences → LoadsOne files asked (λ limit name. files name ≡ None))
+    × (before.excesses < now.excesses → LoadsOne files asked (λ limit name. IsLonger limit (files name)))
 
 -- What came out is the line of a file that the call was given.
 abbrev pub EndsWithSomeFile : Option Asked → Counts → Counts → Option (List ℕ) → Option (List ℕ) → Type 0
 EndsWithSomeFile asked = EndsWithOneFile (NamesFile asked)
 
--- What the counts tell of two loads one after the other: absences rose only where one of the files isn't there, excesses only
--- where one is longer than its limit.
+-- What the counts tell of two loads one after the other: absences rose only where the first file isn't there, or is held and the
+-- second one isn't there; excesses likewise where one is longer than its limit.
 abbrev pub BothTell : Option (List ℕ) → ℕ → Option (List ℕ) → ℕ → Counts → Counts → Type 0
 BothTell first first_limit second second_limit before now =
-    (before.absences < now.absences → (first ≡ None) ⊎ (second ≡ None))
-    × (before.excesses < now.excesses → IsLonger first_limit first ⊎ IsLonger second_limit second)
+    (before.absences < now.absences → (first ≡ None) ⊎ (IsHeld (found_file first_limit first) × (second ≡ None)))
+    × (before.excesses < now.excesses → IsLonger first_limit first ⊎ (IsHeld (found_file first_limit first) × IsLonger second_limit second))
 
 -- What came out is the reply for some two files within the limit.
 pub record ComparesSome (old new : Option (List ℕ)) (status : ℕ) : Type 0 where

@@ -1,5 +1,5 @@
 -- Lines of a script one after another.
-use Rattle.std.proofs.Common.{◌≡◌, ℕ, zero, suc, ◌+◌, ◌<◌, Bool, true, false, ◌||◌, List, [], ◌∷◌, ◌++◌, length, get_or, take, drop, Option, Some, None, Result, Ok, Err, OnOk, OnErr, refl, sym, ◌∙◌, ap, subst, append_assoc, arith, inl, inr}
+use Rattle.std.proofs.Common.{◌≡◌, ℕ, zero, suc, ◌+◌, ◌<◌, Bool, true, false, ◌||◌, List, [], ◌∷◌, ◌++◌, length, get_or, take, drop, Option, Result, Ok, Err, OnOk, OnErr, refl, sym, ◌∙◌, ap, subst, append_assoc, arith, inl, inr}
 use Rattle.ks_io.specs.Outside.{grown, TookFront, TookPart}
 use Rattle.ks_io.specs.Fronts.{grown-append, grown-nothing, nothing_taken, front_of_part, TookFront-whole, TookFront-after, TookFront-before}
 use Rattle.ks_io.specs.declared.types.SinkFault.{SinkFault}

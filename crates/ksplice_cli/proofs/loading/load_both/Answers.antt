@@ -29,12 +29,12 @@ returns-in_err-one-clause-rises g c = λ told is_told.
 
 pub returns-in_err-other-clause-rises : goal.returns-in_err-other-clause-rises
 returns-in_err-other-clause-rises g c = λ told is_told.
-    both_tell (told c.args.first.name.now) c.args.first.limit (told c.args.second.name.now) c.args.second.limit
+    both_tell (told c.args.first.name.now) c.args.first.limit (told c.args.second.name.now) c.args.second.limit c.in_ok-one.one.items
     (g.F.Files.counts c.args.files.now) (g.F.Files.counts c.load_or_end.new.files) (g.F.Files.counts c.load_or_end-2.new.files)
-    (c.in_ok-one.ensures.rises told is_told) (c.in_err-other.ensures.rises told (c.load_or_end.ensures.told_kept ∙ is_told))
+    (c.in_ok-one.ensures.loaded told is_told) (c.in_ok-one.ensures.rises told is_told) (c.in_err-other.ensures.rises told (c.load_or_end.ensures.told_kept ∙ is_told))
 
 pub returns-clause-rises : goal.returns-clause-rises
 returns-clause-rises g c = λ told is_told.
-    both_tell (told c.args.first.name.now) c.args.first.limit (told c.args.second.name.now) c.args.second.limit
+    both_tell (told c.args.first.name.now) c.args.first.limit (told c.args.second.name.now) c.args.second.limit c.in_ok-one.one.items
     (g.F.Files.counts c.args.files.now) (g.F.Files.counts c.load_or_end.new.files) (g.F.Files.counts c.load_or_end-2.new.files)
-    (c.in_ok-one.ensures.rises told is_told) (c.in_ok-other.ensures.rises told (c.load_or_end.ensures.told_kept ∙ is_told))
+    (c.in_ok-one.ensures.loaded told is_told) (c.in_ok-one.ensures.rises told is_told) (c.in_ok-other.ensures.rises told (c.load_or_end.ensures.told_kept ∙ is_told))
