@@ -8,6 +8,3 @@ pub mod listing;
 
 pub use laws::lines_follow_one_another;
 pub use listing::{Listing, list_code};
-
-#[cfg(test)]
-mod tests;

@@ -16,6 +16,3 @@ pub mod types;
 
 pub use crate::object::Object;
 pub use crate::reader::read_object;
-
-#[cfg(test)]
-mod tests;

@@ -10,7 +10,7 @@ ghost use Rattle.extract_post.specs.Marks.{Marks, Stays};
 
 use crate::interiors::{data_of, first_break};
 use crate::marks::{apart, both};
-use crate::tests_of_names::{code, code_in_both, data_in_both, new_data};
+use crate::marks_by_name::{code, code_in_both, data_in_both, new_data};
 use crate::types::Link;
 use i386_reloc::Normal;
 use std::alloc::{AllocError, Global};

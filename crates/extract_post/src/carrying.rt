@@ -6,8 +6,8 @@ ghost use Rattle.extract_post.specs.Members.{Member, IsCarried};
 ghost use Rattle.extract_post.specs.Marks.{Marks};
 
 use crate::marks::{both, either};
+use crate::marks_by_name::{code, constants, new_data};
 use crate::reaching::reached;
-use crate::tests_of_names::{code, constants, new_data};
 use crate::types::Link;
 use i386_reloc::Normal;
 use std::alloc::{AllocError, Global};

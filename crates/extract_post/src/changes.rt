@@ -6,7 +6,7 @@ ghost use Rattle.extract_post.specs.Marks.{Marks, TellReachesChanged, AreOther};
 ghost use Rattle.extract_post.specs.Texts.{same_names};
 
 use crate::marks::{both, either, unmarked};
-use crate::tests_of_names::{code_alone, code_in_both, data_in_both, other_classes};
+use crate::marks_by_name::{code_alone, code_in_both, data_in_both, other_classes};
 use i386_reloc::Normal;
 use std::alloc::{AllocError, Global};
 

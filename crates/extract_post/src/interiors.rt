@@ -8,8 +8,8 @@ ghost use Rattle.i386_reloc.specs.Places.{reference_at};
 
 use crate::linking::{is_interior, place_of_target};
 use crate::marks::{both, either, is_marked};
+use crate::marks_by_name::read_only;
 use crate::reaching::reached;
-use crate::tests_of_names::read_only;
 use crate::types::Link;
 use i386_reloc::{Normal, Ref};
 use std::alloc::{AllocError, Global};

@@ -12,16 +12,12 @@ mod interiors;
 mod laws;
 mod linking;
 mod marks;
+mod marks_by_name;
 mod member_edges;
 mod members;
 mod naming;
 mod reaching;
 mod same_sections;
-#[cfg(test)]
-mod test_objects;
-#[cfg(test)]
-mod tests;
-mod tests_of_names;
 mod texts;
 pub mod types;
 

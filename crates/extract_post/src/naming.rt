@@ -12,7 +12,7 @@ ghost use Rattle.extract_post.specs.Members.{Member, IsChanged, IsAdded, IsDropp
 use crate::breaking::changed;
 use crate::carrying::carried;
 use crate::marks::{both, marked_names, name_of};
-use crate::tests_of_names::{code_alone, new_data};
+use crate::marks_by_name::{code_alone, new_data};
 use crate::types::{Extract, Link};
 use i386_reloc::Normal;
 use ks_base::{Names, Refusal};

@@ -9,8 +9,8 @@ ghost use Rattle.extract_post.specs.Texts.{same_names};
 
 use crate::edges::{backward_edges, forward_edges};
 use crate::marks::{apart, either, is_marked_at};
+use crate::marks_by_name::constants_in_either;
 use crate::same_sections::SameMarks;
-use crate::tests_of_names::constants_in_either;
 use crate::types::Link;
 use i386_reloc::Normal;
 use reachability::reached_along;

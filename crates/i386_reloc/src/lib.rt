@@ -29,6 +29,3 @@ pub use crate::sections::Normal;
 pub use crate::span::Span;
 pub use crate::types::{Class, Form, NormalSection, ObjectSymbol, Objects, Ref, Refs, Target};
 pub use crate::value::field_value;
-
-#[cfg(test)]
-mod tests;

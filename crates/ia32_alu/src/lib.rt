@@ -20,6 +20,3 @@ pub use multiplying::multiply;
 pub use operations::{binary, unary};
 pub use shifting::shift;
 pub use types::{Binary, Flags, Shift, Unary, Width};
-
-#[cfg(test)]
-mod tests;

@@ -22,6 +22,3 @@ pub use types::{
     Arithmetic, Condition, Counting, Decoded, Field, Fields, Index, Instr, Memory, Operand,
     Prefixes, Register, Shift, Source, Unary, Width,
 };
-
-#[cfg(test)]
-mod tests;

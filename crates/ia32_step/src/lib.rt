@@ -21,6 +21,3 @@ pub mod types;
 pub use laws::steps_keep;
 pub use step::step_thread;
 pub use types::{Flow, Outcome, State, Thread};
-
-#[cfg(test)]
-mod tests;

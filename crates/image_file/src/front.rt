@@ -6,8 +6,8 @@ ghost use Rattle.image_file.specs.Rules.{magic_rules, arena_low_rules, arena_hig
 ghost use Rattle.image_file.specs.Keeps.{all_hold, keeps_arena};
 ghost use Rattle.image_file.specs.Reading.{header_at};
 
+use crate::bounds::{MEMORY_LIMIT, is_aligned, is_arena_placed};
 use crate::numbers::{count_of, number_of};
-use crate::tests_of_fields::{MEMORY_LIMIT, is_aligned, is_arena_placed};
 use ks_base::{ImageFault, Range, Refusal};
 
 // The bytes 4B 49 4D 31 as a number.

@@ -2,6 +2,7 @@
 //! bytes of a file and written to them.
 #![tactic(auto)]
 
+mod bounds;
 mod front;
 pub mod laws;
 mod numbers;
@@ -9,13 +10,9 @@ pub mod reading;
 mod regions;
 mod stacks;
 mod symbols;
-mod tests_of_fields;
 pub mod types;
 pub mod writing;
 
 pub use reading::read_image;
 pub use types::Image;
 pub use writing::write_image;
-
-#[cfg(test)]
-mod tests;

@@ -9,8 +9,8 @@ ghost use Rattle.image_file.specs.Rules.{own_range, stack_low_rules, stack_high_
 ghost use Rattle.image_file.specs.Keeps.{all_hold, keeps_stack};
 ghost use Rattle.image_file.specs.Reading.{stack_after, stack_at, stack_width};
 
+use crate::bounds::{END_LIMIT, LOWEST, MEMORY_LIMIT, is_aligned, meets, meets_a_piece};
 use crate::numbers::number_of;
-use crate::tests_of_fields::{END_LIMIT, LOWEST, MEMORY_LIMIT, is_aligned, meets, meets_a_piece};
 use image_memory::Piece;
 use ks_base::{ImageFault, Range, Ranges, Refusal};
 use std::alloc::Global;

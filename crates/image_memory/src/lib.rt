@@ -15,6 +15,3 @@ pub use lookup::piece_at;
 pub use placement::are_placed;
 pub use space::Space;
 pub use types::{Access, Fence, Kind, Piece, Pieces, Window};
-
-#[cfg(test)]
-mod tests;

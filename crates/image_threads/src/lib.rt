@@ -10,6 +10,3 @@ pub mod turns;
 pub use machine::Machine;
 pub use stacks::are_stacks;
 pub use turns::Turns;
-
-#[cfg(test)]
-mod tests;

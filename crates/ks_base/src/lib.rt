@@ -15,6 +15,3 @@ pub use refusals::{
     Standing,
 };
 pub use reply::Line;
-
-#[cfg(test)]
-mod tests;

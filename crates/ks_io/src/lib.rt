@@ -7,8 +7,6 @@ mod counters;
 mod memory_files;
 mod memory_sink;
 mod outside;
-#[cfg(test)]
-mod tests;
 mod types;
 mod writing;
 

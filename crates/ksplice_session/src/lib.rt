@@ -11,6 +11,3 @@ pub use answers::answer;
 pub use running::run_session;
 pub use session::Session;
 pub use types::{Answer, SessionEnd, Shortage};
-
-#[cfg(test)]
-mod tests;

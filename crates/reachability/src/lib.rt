@@ -8,6 +8,3 @@ mod walk;
 
 pub use along::reached_along;
 pub use edge::Edge;
-
-#[cfg(test)]
-mod tests;

@@ -9,6 +9,3 @@ pub mod types;
 
 pub use reading::read_script;
 pub use types::{Command, Script};
-
-#[cfg(test)]
-mod tests;

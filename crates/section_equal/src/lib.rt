@@ -3,8 +3,6 @@
 
 mod references;
 mod sections;
-#[cfg(test)]
-mod tests;
 
 pub use crate::references::{equal_bytes, same_form};
 pub use crate::sections::{is_same, same_class, same_section};

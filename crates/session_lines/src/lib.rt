@@ -5,6 +5,3 @@ mod lines;
 mod threads;
 
 pub use lines::{put_peek, put_spawned, put_stepped, put_threads, put_turns};
-
-#[cfg(test)]
-mod tests;

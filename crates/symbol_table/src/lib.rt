@@ -17,6 +17,3 @@ pub use bodies::Bodies;
 pub use symbols::Symbol;
 pub use table::SymbolTable;
 pub use values::{Solved, Unknown, Values};
-
-#[cfg(test)]
-mod tests;

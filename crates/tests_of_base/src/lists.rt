@@ -1,0 +1,319 @@
+//! Callers of the lists with clauses over lists, and the texts of a reply.
+ghost use Rattle.std.specs.Prelude.{◌≡◌, ◌++◌, ◌∷◌, [], OnOk, OnErr, IfOk, IsTrue, ◌↔◌, Contains, option_to_list};
+ghost use Rattle.std.specs.Option.{option_copied};
+ghost use Rattle.std.specs.List.{slice_get};
+ghost use Rattle.std.specs.Ordering.{nat_cmp};
+ghost use Rattle.std.specs.Cmp.Lexicographic.{slice_cmp};
+ghost use Rattle.std.specs.BTreeMap.{get};
+
+use ks_base::{
+    ConflictName, Difference, DifferenceKind, ImageFault, Large, Line, Name, Names, Place, Range,
+    Ranges, Refusal, Spot, Standing,
+};
+use std::alloc::{AllocError, Global};
+use std::collections::BTreeMap;
+use std::test::Fail;
+
+#[derive(Clone, PartialEq, Eq, PartialOrd, Ord, Hash, Debug, Drop)]
+enum Unknown {
+    Code(Name),
+    Outside(Name),
+}
+
+fn copied(unknown: &Unknown) -> Result<Unknown, AllocError>
+    ensures { IfOk result (λ copy. copy ≡ unknown.now) }
+{
+    unknown.clone()
+}
+
+fn is_same(a: &Unknown, b: &Unknown) -> bool
+    ensures { IsTrue result ↔ (a.now ≡ b.now) }
+{
+    a == b
+}
+
+fn spot_at(alloc: Global, section: &[u8], offset: u32) -> Result<Spot, AllocError>
+    ensures { IfOk result (λ spot. spot ≡ record { section = section.now; offset = offset }) }
+{
+    Ok(Spot {
+        section: Name::from_slice(alloc, section)?,
+        offset,
+    })
+}
+
+fn append(names: &mut Names, name: &Name) -> Result<(), AllocError>
+    ensures ok { OnOk result (names.new ≡ names.old ++ name.now ∷ []) }
+    ensures err { OnErr result (names.new ≡ names.old) }
+{
+    let copy = name.clone()?;
+    names.push(copy)
+}
+
+fn first(names: &Names) -> Option<&Name>
+    ensures { option_copied result ≡ slice_get names.now 0 }
+{
+    names.get(0)
+}
+
+fn has(names: &Names, name: &Name) -> bool
+    ensures { IsTrue result ↔ Contains names.now name.now }
+{
+    names.as_slice().contains(name)
+}
+
+fn take_last(ranges: &mut Ranges) -> Option<Range>
+    ensures { ranges.old ≡ ranges.new ++ option_to_list result }
+{
+    ranges.pop()
+}
+
+fn name_of(alloc: Global, bytes: &[u8]) -> Result<Name, AllocError>
+    ensures { IfOk result (λ name. name ≡ bytes.now) }
+{
+    Name::from_slice(alloc, bytes)
+}
+
+// Whether a refusal's line, put after a blank, is as wanted.
+fn prints(alloc: Global, refusal: &Refusal, wanted: &str) -> Result<bool, AllocError> {
+    let mut line = Line::new(alloc);
+    line.put_text(" ")?;
+    line.put_refusal(refusal)?;
+    let mut all = Line::new(alloc);
+    all.put_text(" refused ")?;
+    all.put_text(wanted)?;
+    all.put_text("\n")?;
+    Ok(line.bytes() == all.bytes())
+}
+
+fn index_of(indices: &BTreeMap<Name, usize>, name: &Name) -> Option<usize>
+    ensures { result ≡ get (slice_cmp nat_cmp) indices.now name.now }
+{
+    indices.get(name).copied()
+}
+
+#[test]
+fn lists(rt: HostRuntime) -> Result<(), Fail> {
+    let alloc = rt.alloc();
+    let spot = spot_at(alloc, b".text.f", 1)?;
+    assert_eq!(rt; spot.section.as_slice(), b".text.f".as_slice());
+
+    let code = Unknown::Code(spot.section.clone()?);
+    let outside = Unknown::Outside(spot.section.clone()?);
+    assert!(rt; is_same(&copied(&code)?, &code));
+    assert!(rt; !is_same(&code, &outside));
+
+    let mut names = Names::new(alloc);
+    assert!(rt; names.is_empty());
+    append(&mut names, &spot.section)?;
+    assert!(rt; has(&names, &spot.section));
+    assert_eq!(rt; names.len(), 1);
+    assert!(rt; first(&names).is_some());
+
+    let mut indices = BTreeMap::new(alloc);
+    indices.insert(spot.section.clone()?, 7usize)?;
+    assert_eq!(rt; index_of(&indices, &spot.section), Some(7));
+
+    let range = Range { low: 16, high: 32 };
+    let mut ranges = Ranges::from_slice(alloc, &[range])?;
+    assert_eq!(rt; take_last(&mut ranges), Some(range));
+    assert_eq!(rt; take_last(&mut ranges), None);
+    assert_eq!(rt; ranges.into_vec().len(), 0);
+    Ok(())
+}
+
+#[test]
+fn texts(rt: HostRuntime) -> Result<(), Fail> {
+    let mut line = Line::new(rt.alloc());
+    line.put_text("at ")?;
+    for n in [0x0010_0000u32, 0x003f_fffc, 0xffff_0000] {
+        line.put_hex(n)?;
+    }
+    for n in [0u32, 6, 0x2b, 0xffff_ffff] {
+        line.put_offset(n)?;
+    }
+    assert_eq!(rt;
+        line.bytes(),
+        b"at 0x001000000x003ffffc0xffff00000x00x60x2b0xffffffff".as_slice()
+    );
+
+    let mut line = Line::new(rt.alloc());
+    for n in [0u64, 1000, 18_446_744_073_709_551_615] {
+        line.put_number(n)?;
+        line.put_text(",")?;
+    }
+    line.put_byte(0x0b)?;
+    line.put_name(&Name::from_slice(rt.alloc(), b"!~work.cold \\\x7f\xe9\n")?)?;
+    assert_eq!(rt;
+        line.bytes(),
+        br"0,1000,18446744073709551615,0b!~work.cold\x20\x5c\x7f\xe9\x0a".as_slice()
+    );
+    Ok(())
+}
+
+#[test]
+fn plain_refusals(rt: HostRuntime) -> Result<(), Fail> {
+    let table = [
+        (Refusal::NotElf, "1 not elf"),
+        (Refusal::NotRel386, "2 not i386 relocatable"),
+        (Refusal::NoChange, "12 no change"),
+        (Refusal::TooMany, "24 too many updates"),
+        (Refusal::NothingApplied, "27 nothing applied"),
+        (Refusal::NoStack, "32 no stack"),
+        (Refusal::TooManyThreads, "37 too many threads"),
+    ];
+    for (refusal, wanted) in &table {
+        assert!(rt; prints(rt.alloc(), refusal, wanted)?, "{wanted}");
+    }
+    Ok(())
+}
+
+#[test]
+fn numbered_refusals(rt: HostRuntime) -> Result<(), Fail> {
+    let table = [
+        (Refusal::BadHeader(20), "3 bad header 20"),
+        (Refusal::BadSection(1), "4 bad section 1"),
+        (Refusal::BadSymbol(2), "5 bad symbol 2"),
+        (Refusal::BadReloc(3, 0), "6 bad relocation 3 0"),
+        (
+            Refusal::TooLarge(Large::Relocations),
+            "10 too large relocations",
+        ),
+        (
+            Refusal::Overlap(0x0010_0000, 0x0010_0002),
+            "22 overlap 0x00100000 0x00100002",
+        ),
+        (Refusal::NoRoom(6), "23 no room 6"),
+        (
+            Refusal::StackOut(0, 0x003f_fffc),
+            "26 stack out thread 0 0x003ffffc",
+        ),
+        (
+            Refusal::BadImage(4, ImageFault::Short),
+            "28 bad image at 4 short",
+        ),
+        (Refusal::BadLine(2), "29 bad line 2"),
+        (Refusal::NoThread(7), "30 no thread 7"),
+    ];
+    for (refusal, wanted) in &table {
+        assert!(rt; prints(rt.alloc(), refusal, wanted)?, "{wanted}");
+    }
+    Ok(())
+}
+
+#[test]
+fn busy_refusals(rt: HostRuntime) -> Result<(), Fail> {
+    let table = [
+        (Place::Pc, 0x0010_0000u32, "25 busy thread 0 pc 0x00100000"),
+        (
+            Place::Register(6),
+            0x0010_0000,
+            "25 busy thread 0 register esi 0x00100000",
+        ),
+        (
+            Place::Stack(0x0040_0ff0),
+            0x0010_0005,
+            "25 busy thread 0 stack 0x00400ff0 0x00100005",
+        ),
+    ];
+    for (place, value, wanted) in table {
+        let refusal = Refusal::Busy(Standing {
+            thread: 0,
+            place,
+            value,
+        });
+        assert!(rt; prints(rt.alloc(), &refusal, wanted)?, "{wanted}");
+    }
+    Ok(())
+}
+
+// The refusals that hold a name alone, or a name and numbers, by their number.
+fn named(number: u8, name: Name) -> Refusal {
+    match number {
+        7 => Refusal::UnknownReloc(name, 0, 10),
+        8 => Refusal::NotOneFunction(name),
+        9 => Refusal::DoubleName(name),
+        11 => Refusal::DataChanged(name),
+        13 => Refusal::Interior(name, 4),
+        14 => Refusal::NoCandidate(name),
+        16 => Refusal::Ambiguous(name, 0x0010_0000, 0x0010_0010),
+        18 => Refusal::Unresolved(name),
+        19 => Refusal::TwoNames(name, 0x0010_0000, 0x0010_0010),
+        20 => Refusal::PreUndecoded(name, 18),
+        21 => Refusal::TooSmall(name, 4),
+        31 => Refusal::NoSymbol(name),
+        35 => Refusal::BadString(name, 4),
+        36 => Refusal::BadTarget(name, 5),
+        38 => Refusal::NameTaken(name),
+        _ => Refusal::Memory,
+    }
+}
+
+#[test]
+fn named_refusals(rt: HostRuntime) -> Result<(), Fail> {
+    let table = [
+        (7, "7 unknown relocation .text.f 0 10"),
+        (8, "8 not one function .text.f"),
+        (9, "9 double name .text.f"),
+        (11, "11 data changed .text.f"),
+        (13, "13 interior .text.f 0x4"),
+        (14, "14 no candidate .text.f"),
+        (16, "16 ambiguous .text.f 0x00100000 0x00100010"),
+        (18, "18 unresolved .text.f"),
+        (19, "19 two names .text.f 0x00100000 0x00100010"),
+        (20, "20 pre undecoded .text.f 0x12"),
+        (21, "21 too small .text.f room 4"),
+        (31, "31 no symbol .text.f"),
+        (35, "35 bad string .text.f 4"),
+        (36, "36 bad target .text.f 5"),
+        (38, "38 name taken .text.f"),
+    ];
+    for (number, wanted) in table {
+        let refusal = named(number, name_of(rt.alloc(), b".text.f")?);
+        assert!(rt; prints(rt.alloc(), &refusal, wanted)?, "{wanted}");
+    }
+    Ok(())
+}
+
+fn mismatch(alloc: Global) -> Result<Refusal, AllocError> {
+    let difference = Difference {
+        index: 2,
+        pre_offset: 6,
+        run_address: 0x0010_0026,
+        kind: DifferenceKind::Target,
+    };
+    Ok(Refusal::Mismatch(name_of(alloc, b".text.h")?, difference))
+}
+
+fn conflict(alloc: Global, offset: Option<u32>) -> Result<Refusal, AllocError> {
+    let name = name_of(alloc, b".data.x")?;
+    let p = spot_at(alloc, b".text.p", 1)?;
+    let q = spot_at(alloc, b".text.q", 1)?;
+    let unknown = ConflictName { name, offset };
+    Ok(Refusal::Conflict(unknown, 0x0020_0000, 0x0020_0008, p, q))
+}
+
+fn mismatch_prints(alloc: Global, wanted: &str) -> Result<bool, AllocError> {
+    let refusal = mismatch(alloc)?;
+    prints(alloc, &refusal, wanted)
+}
+
+fn conflict_prints(alloc: Global, offset: Option<u32>, wanted: &str) -> Result<bool, AllocError> {
+    let refusal = conflict(alloc, offset)?;
+    prints(alloc, &refusal, wanted)
+}
+
+#[test]
+fn mismatches(rt: HostRuntime) -> Result<(), Fail> {
+    let wanted = "15 mismatch .text.h index 2 pre 0x6 run 0x00100026 target";
+    assert!(rt; mismatch_prints(rt.alloc(), wanted)?);
+    Ok(())
+}
+
+#[test]
+fn conflicts(rt: HostRuntime) -> Result<(), Fail> {
+    let wanted = "17 conflict .data.x 0x00200000 at .text.p+0x1 0x00200008 at .text.q+0x1";
+    assert!(rt; conflict_prints(rt.alloc(), None, wanted)?);
+    let wanted = "17 conflict .data.x+0xb 0x00200000 at .text.p+0x1 0x00200008 at .text.q+0x1";
+    assert!(rt; conflict_prints(rt.alloc(), Some(11), wanted)?);
+    Ok(())
+}

@@ -1,0 +1,16 @@
+//! Tests of instructions, steps, threads and sessions: `ia32_alu`, `ia32_decode`, `ia32_step`, `image_threads`, `session_lines`, `ksplice_session`.
+//! They stand apart so that those crates are proved once, and not once more for their tests.
+#![tactic(auto)]
+
+#[cfg(test)]
+mod arithmetic;
+#[cfg(test)]
+mod decoding;
+#[cfg(test)]
+mod lines;
+#[cfg(test)]
+mod sessions;
+#[cfg(test)]
+mod steps;
+#[cfg(test)]
+mod threads;
