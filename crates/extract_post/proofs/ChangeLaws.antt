@@ -21,7 +21,7 @@ use Rattle.extract_post.specs.Extract.DataDiffers.{OtherClass, Itself as DataIts
 use Rattle.extract_post.specs.Seeds.{IsSeed, AreSeeds}
 use Rattle.extract_post.specs.Closures.{ReachesSeed}
 use Rattle.extract_post.specs.Marks.{marked, Marks, tests, TellReaching, TellReachesChanged, AreBoth, AreEither, AreOther, AreShifted, shifted, marked_at, is_other}
-use Rattle.i386_reloc.proofs.Places.{section_named_at}
+use Rattle.i386_reloc.specs.PlaceLaws.{section_named_at}
 use Rattle.extract_post.proofs.Links.{option_cases, section_at_place, section_found}
 use Rattle.extract_post.proofs.Tells.{tells_through}
 use Rattle.extract_post.proofs.MarkLaws.{tells_test, tells_and, tells_or, tests_at}

@@ -21,7 +21,7 @@ use Rattle.i386_reloc.specs.Classes.{is_strings_class}
 use Rattle.i386_reloc.specs.Normal.{same_bytes}
 use Rattle.i386_reloc.specs.Places.{place_named, at_place, place_of_target, reference_in, reference_at, place_of_reference}
 use Rattle.i386_reloc.specs.Texts.{StandsAt, StandsIn, HasTexts}
-use Rattle.i386_reloc.proofs.Places.{section_named_at}
+use Rattle.i386_reloc.specs.PlaceLaws.{section_named_at}
 use Rattle.section_equal.specs.Same.{same_class, same_reference, is_same}
 use Rattle.extract_post.specs.declared.texts.Ends.{Ends}
 use Rattle.extract_post.specs.Texts.{Agree, AgreeFor, bytes_of, bytes_at, refs_of, refs_at, EndsIn, HoldsAt, HoldsTarget, same_content}

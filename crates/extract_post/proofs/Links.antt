@@ -15,7 +15,7 @@ use Rattle.i386_reloc.specs.declared.types.Ref.{Ref}
 use Rattle.i386_reloc.specs.declared.types.NormalSection.{NormalSection}
 use Rattle.i386_reloc.specs.Normal.{same_bytes, section_named, name_of}
 use Rattle.i386_reloc.specs.Places.{place_named}
-use Rattle.i386_reloc.proofs.Places.{section_named_at}
+use Rattle.i386_reloc.specs.PlaceLaws.{section_named_at}
 use Rattle.extract_post.specs.Reaches.{goes_to_target, goes_to, is_interior}
 use Rattle.extract_post.specs.Closures.{HasDistinctNames}
 use Rattle.extract_post.specs.Edges.{place_of_target, Link, link_to, links_of, links_from, links_in}

@@ -7,7 +7,7 @@ use Rattle.i386_reloc.specs.declared.types.Target.TheVariants.{Section}
 use Rattle.i386_reloc.specs.declared.types.NormalSection.{NormalSection}
 use Rattle.i386_reloc.specs.Normal.{section_named}
 use Rattle.i386_reloc.specs.Places.{place_named, at_place}
-use Rattle.i386_reloc.proofs.Places.{section_named_at}
+use Rattle.i386_reloc.specs.PlaceLaws.{section_named_at}
 use Rattle.section_equal.specs.Same.{are_same, same_in}
 use Rattle.extract_post.specs.Texts.{same_names, mark_at}
 use Rattle.extract_post.proofs.Links.{target_of_place}

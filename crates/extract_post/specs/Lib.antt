@@ -1,4 +1,5 @@
 pub mod Reaches
+pub mod Wanted
 pub mod Members
 pub mod Extract
 pub mod Edges

@@ -10,8 +10,8 @@ ghost use Rattle.extract_post.specs.Marks.{Marks, Stays};
 
 use crate::interiors::{data_of, first_break};
 use crate::marks::{apart, both};
-use crate::marks_by_name::{code, code_in_both, data_in_both, new_data};
-use crate::types::Link;
+use crate::marks_by_name::{sections_alone, sections_in, sections_in_both};
+use crate::types::{Link, Wanted};
 use i386_reloc::Normal;
 use std::alloc::{AllocError, Global};
 
@@ -25,7 +25,7 @@ pub(crate) fn changed(
     requires { Marks (Member pre.now post.now) post.now members.now }
     ensures { IfOk result (λ marks. Marks (IsChanged pre.now post.now) post.now marks.items) }
 {
-    let in_both = code_in_both(alloc, pre, post)?;
+    let in_both = sections_in_both(alloc, Wanted::Code, pre, post)?;
     let marks = both(alloc, in_both.as_slice(), members)?;
     Ok(marks)
 }
@@ -41,7 +41,7 @@ fn staying(
     ensures { IfOk result (λ marks. Marks (Stays pre.now post.now) post.now marks.items) }
 {
     let _same = pre.len();
-    let code = code(alloc, post)?;
+    let code = sections_in(alloc, Wanted::Code, post)?;
     let marks = apart(alloc, code.as_slice(), members)?;
     Ok(marks)
 }
@@ -57,7 +57,7 @@ fn old_data(
     requires links { links.now ≡ links_in post.now }
     ensures { IfOk result (λ marks. Marks (IsDataOf post.now (is_in_both is_data_class pre.now post.now)) post.now marks.items) }
 {
-    let starts = data_in_both(alloc, pre, post)?;
+    let starts = sections_in_both(alloc, Wanted::Data, pre, post)?;
     let marks = data_of(alloc, post, links, starts.as_slice())?;
     Ok(marks)
 }
@@ -73,7 +73,7 @@ fn fresh_data(
     requires links { links.now ≡ links_in post.now }
     ensures { IfOk result (λ marks. Marks (IsDataOf post.now (is_new_data pre.now post.now)) post.now marks.items) }
 {
-    let starts = new_data(alloc, pre, post)?;
+    let starts = sections_alone(alloc, Wanted::Data, post, pre)?;
     let marks = data_of(alloc, post, links, starts.as_slice())?;
     Ok(marks)
 }

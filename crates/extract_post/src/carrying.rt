@@ -6,9 +6,9 @@ ghost use Rattle.extract_post.specs.Members.{Member, IsCarried};
 ghost use Rattle.extract_post.specs.Marks.{Marks};
 
 use crate::marks::{both, either};
-use crate::marks_by_name::{code, constants, new_data};
+use crate::marks_by_name::{sections_alone, sections_in};
 use crate::reaching::reached;
-use crate::types::Link;
+use crate::types::{Link, Wanted};
 use i386_reloc::Normal;
 use std::alloc::{AllocError, Global};
 
@@ -25,12 +25,12 @@ pub(crate) fn carried(
     requires members { Marks (Member pre.now post.now) post.now members.now }
     ensures { IfOk result (λ marks. Marks (IsCarried pre.now post.now) post.now marks.items) }
 {
-    let code = code(alloc, post)?;
+    let code = sections_in(alloc, Wanted::Code, post)?;
     let functions = both(alloc, code.as_slice(), members)?;
-    let data = new_data(alloc, pre, post)?;
+    let data = sections_alone(alloc, Wanted::Data, post, pre)?;
     let starts = either(alloc, functions.as_slice(), data.as_slice())?;
     let reached = reached(alloc, post, links, starts.as_slice())?;
-    let constants = constants(alloc, post)?;
+    let constants = sections_in(alloc, Wanted::Constant, post)?;
     let marks = both(alloc, reached.as_slice(), constants.as_slice())?;
     Ok(marks)
 }

@@ -6,7 +6,8 @@ ghost use Rattle.extract_post.specs.Marks.{Marks, TellReachesChanged, AreOther};
 ghost use Rattle.extract_post.specs.Texts.{same_names};
 
 use crate::marks::{both, either, unmarked};
-use crate::marks_by_name::{code_alone, code_in_both, data_in_both, other_classes};
+use crate::marks_by_name::{other_classes, sections_alone, sections_in_both};
+use crate::types::Wanted;
 use i386_reloc::Normal;
 use std::alloc::{AllocError, Global};
 
@@ -41,7 +42,7 @@ pub(crate) fn differing_data(
     ensures { IfOk result (λ marks. Marks (DataDiffers pre.now post.now) post.now marks.items) }
 {
     let changed = other_or_marked(alloc, pre, post, same, reaching)?;
-    let in_both = data_in_both(alloc, pre, post)?;
+    let in_both = sections_in_both(alloc, Wanted::Data, pre, post)?;
     let data = both(alloc, in_both.as_slice(), changed.as_slice())?;
     let classes = other_classes(alloc, pre, post)?;
     let marks = either(alloc, classes.as_slice(), data.as_slice())?;
@@ -61,9 +62,9 @@ pub(crate) fn first_members(
     ensures { IfOk result (λ marks. Marks (IsSeed pre.now post.now) post.now marks.items) }
 {
     let changed = other_or_marked(alloc, pre, post, same, reaching)?;
-    let in_both = code_in_both(alloc, pre, post)?;
+    let in_both = sections_in_both(alloc, Wanted::Code, pre, post)?;
     let code = both(alloc, in_both.as_slice(), changed.as_slice())?;
-    let alone = code_alone(alloc, post, pre)?;
+    let alone = sections_alone(alloc, Wanted::Code, post, pre)?;
     let marks = either(alloc, code.as_slice(), alone.as_slice())?;
     Ok(marks)
 }

@@ -1,12 +1,13 @@
 //! Which classes the sections of a name have in two objects.
 ghost use Rattle.std.specs.Prelude.{◌≡◌, not, ◌&&◌};
-ghost use Rattle.i386_reloc.specs.Classes.{is_code_class};
 ghost use Rattle.extract_post.specs.Reaches.{is_read_only_class, is_constant_class, is_data_class, is_in};
+ghost use Rattle.extract_post.specs.Wanted.{is_wanted};
 ghost use Rattle.i386_reloc.specs.Normal.{section_named};
 ghost use Rattle.extract_post.specs.Extract.{other_class};
-ghost use Rattle.extract_post.specs.Members.{is_there, is_in_both, is_new_data};
+ghost use Rattle.extract_post.specs.Members.{is_there, is_in_both};
 ghost use Rattle.extract_post.specs.Marks.{is_constant_in_either};
 
+use crate::types::Wanted;
 use i386_reloc::{Class, Normal};
 use section_equal::same_class;
 
@@ -39,6 +40,18 @@ fn is_data(class: Class) -> bool
     }
 }
 
+/// Whether sections of this class are asked for.
+fn is_wanted(wanted: Wanted, class: Class) -> bool
+    ensures { result ≡ is_wanted wanted class }
+{
+    match wanted {
+        Wanted::Code => class.is_code(),
+        Wanted::Data => is_data(class),
+        Wanted::ReadOnly => is_read_only(class),
+        Wanted::Constant => is_constant(class),
+    }
+}
+
 /// Whether an object has a section of this name.
 fn is_there(normal: &Normal<'_>, name: &[u8]) -> bool
     ensures { result ≡ is_there normal.now name.now }
@@ -46,42 +59,12 @@ fn is_there(normal: &Normal<'_>, name: &[u8]) -> bool
     normal.find(name).is_some()
 }
 
-/// Whether an object has a section of this name, and it is code.
-pub(crate) fn has_code(normal: &Normal<'_>, name: &[u8]) -> bool
-    ensures { result ≡ is_in is_code_class normal.now name.now }
+/// Whether an object has a section of this name that is asked for.
+pub(crate) fn is_in(wanted: Wanted, normal: &Normal<'_>, name: &[u8]) -> bool
+    ensures { result ≡ is_in (is_wanted wanted) normal.now name.now }
 {
     match normal.find(name) {
-        Some(section) => section.class.is_code(),
-        None => false,
-    }
-}
-
-/// Whether an object has a section of this name, and it is data that the program may change.
-fn has_data(normal: &Normal<'_>, name: &[u8]) -> bool
-    ensures { result ≡ is_in is_data_class normal.now name.now }
-{
-    match normal.find(name) {
-        Some(section) => is_data(section.class),
-        None => false,
-    }
-}
-
-/// Whether an object has a section of this name, and it is read-only data.
-pub(crate) fn has_read_only(normal: &Normal<'_>, name: &[u8]) -> bool
-    ensures { result ≡ is_in is_read_only_class normal.now name.now }
-{
-    match normal.find(name) {
-        Some(section) => is_read_only(section.class),
-        None => false,
-    }
-}
-
-/// Whether an object has a section of this name, and it is read-only data or texts.
-pub(crate) fn has_constant(normal: &Normal<'_>, name: &[u8]) -> bool
-    ensures { result ≡ is_in is_constant_class normal.now name.now }
-{
-    match normal.find(name) {
-        Some(section) => is_constant(section.class),
+        Some(section) => is_wanted(wanted, section.class),
         None => false,
     }
 }
@@ -96,37 +79,23 @@ pub(crate) fn is_of_other_class(pre: &Normal<'_>, post: &Normal<'_>, name: &[u8]
     }
 }
 
-/// Whether both objects have a section of this name, and both are code.
-pub(crate) fn is_code_in_both(pre: &Normal<'_>, post: &Normal<'_>, name: &[u8]) -> bool
-    ensures { result ≡ is_in_both is_code_class pre.now post.now name.now }
+/// Whether both objects have a section of this name that is asked for.
+pub(crate) fn is_in_both(wanted: Wanted, pre: &Normal<'_>, post: &Normal<'_>, name: &[u8]) -> bool
+    ensures { result ≡ is_in_both (is_wanted wanted) pre.now post.now name.now }
 {
-    has_code(pre, name) && has_code(post, name)
+    is_in(wanted, pre, name) && is_in(wanted, post, name)
 }
 
-/// Whether both objects have a section of this name, and both are data.
-pub(crate) fn is_data_in_both(pre: &Normal<'_>, post: &Normal<'_>, name: &[u8]) -> bool
-    ensures { result ≡ is_in_both is_data_class pre.now post.now name.now }
+/// Whether an object has a section of this name that is asked for, and the other has no section of it.
+pub(crate) fn is_alone(wanted: Wanted, with: &Normal<'_>, without: &Normal<'_>, name: &[u8]) -> bool
+    ensures { result ≡ (is_in (is_wanted wanted) with.now name.now && not (is_there without.now name.now)) }
 {
-    has_data(pre, name) && has_data(post, name)
-}
-
-/// Whether the first object has code of this name, and the second has no section of it.
-pub(crate) fn is_code_alone(with: &Normal<'_>, without: &Normal<'_>, name: &[u8]) -> bool
-    ensures { result ≡ (is_in is_code_class with.now name.now && not (is_there without.now name.now)) }
-{
-    has_code(with, name) && !is_there(without, name)
-}
-
-/// Whether the second object has data of this name, and the first has no section of it.
-pub(crate) fn is_new_data(pre: &Normal<'_>, post: &Normal<'_>, name: &[u8]) -> bool
-    ensures { result ≡ is_new_data pre.now post.now name.now }
-{
-    has_data(post, name) && !is_there(pre, name)
+    is_in(wanted, with, name) && !is_there(without, name)
 }
 
 /// Whether a section of this name is read-only data in either object.
 pub(crate) fn is_constant_in_either(pre: &Normal<'_>, post: &Normal<'_>, name: &[u8]) -> bool
     ensures { result ≡ is_constant_in_either pre.now post.now name.now }
 {
-    has_read_only(pre, name) || has_read_only(post, name)
+    is_in(Wanted::ReadOnly, pre, name) || is_in(Wanted::ReadOnly, post, name)
 }

@@ -8,9 +8,9 @@ ghost use Rattle.i386_reloc.specs.Places.{reference_at};
 
 use crate::linking::{is_interior, place_of_target};
 use crate::marks::{both, either, is_marked};
-use crate::marks_by_name::read_only;
+use crate::marks_by_name::sections_in;
 use crate::reaching::reached;
-use crate::types::Link;
+use crate::types::{Link, Wanted};
 use i386_reloc::{Normal, Ref};
 use std::alloc::{AllocError, Global};
 
@@ -27,7 +27,7 @@ pub(crate) fn data_of(
     ensures { IfOk result (λ marks. TellDataOf post.now starts.now marks.items) }
 {
     let reached = reached(alloc, post, links, starts)?;
-    let constants = read_only(alloc, post)?;
+    let constants = sections_in(alloc, Wanted::ReadOnly, post)?;
     let wanted = either(alloc, starts, constants.as_slice())?;
     let marks = both(alloc, reached.as_slice(), wanted.as_slice())?;
     Ok(marks)

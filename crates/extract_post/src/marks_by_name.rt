@@ -1,13 +1,14 @@
 //! Which sections of an object meet a condition on their names, as marks.
 ghost use Rattle.std.specs.Prelude.{◌≡◌, IfOk, map, not, ◌&&◌};
-ghost use Rattle.i386_reloc.specs.Classes.{is_code_class};
-ghost use Rattle.extract_post.specs.Reaches.{is_read_only_class, is_constant_class, is_data_class, is_in};
-ghost use Rattle.extract_post.specs.Members.{is_there, is_in_both, is_new_data};
+ghost use Rattle.extract_post.specs.Reaches.{is_in};
+ghost use Rattle.extract_post.specs.Wanted.{is_wanted};
+ghost use Rattle.extract_post.specs.Members.{is_there, is_in_both};
 ghost use Rattle.extract_post.specs.Extract.{other_class};
 ghost use Rattle.i386_reloc.specs.Normal.{section_named};
 ghost use Rattle.extract_post.specs.Marks.{tests, is_constant_in_either};
 
 use crate::classes;
+use crate::types::Wanted;
 use i386_reloc::Normal;
 use std::alloc::{AllocError, Global};
 
@@ -40,91 +41,47 @@ pub(crate) fn other_classes(
         .collect(alloc)
 }
 
-/// Which sections of the second object are code in both.
-pub(crate) fn code_in_both(
+/// Which sections of an object are asked for.
+pub(crate) fn sections_in(
     alloc: Global,
-    pre: &Normal<'_>,
-    post: &Normal<'_>,
+    wanted: Wanted,
+    normal: &Normal<'_>,
 ) -> Result<Vec<bool>, AllocError>
-    ensures { IfOk result (λ marks. marks.items ≡ tests (is_in_both is_code_class pre.now post.now) post.now) }
+    ensures { IfOk result (λ marks. marks.items ≡ tests (is_in (is_wanted wanted) normal.now) normal.now) }
 {
-    post.as_slice()
+    normal
+        .as_slice()
         .iter()
-        .map(|s| classes::is_code_in_both(pre, post, s.name.as_slice()))
+        .map(|s| classes::is_in(wanted, normal, s.name.as_slice()))
         .collect(alloc)
 }
 
-/// Which sections of the second object are data in both.
-pub(crate) fn data_in_both(
+/// Which sections of the second object are asked for, and are so in both.
+pub(crate) fn sections_in_both(
     alloc: Global,
+    wanted: Wanted,
     pre: &Normal<'_>,
     post: &Normal<'_>,
 ) -> Result<Vec<bool>, AllocError>
-    ensures { IfOk result (λ marks. marks.items ≡ tests (is_in_both is_data_class pre.now post.now) post.now) }
+    ensures { IfOk result (λ marks. marks.items ≡ tests (is_in_both (is_wanted wanted) pre.now post.now) post.now) }
 {
     post.as_slice()
         .iter()
-        .map(|s| classes::is_data_in_both(pre, post, s.name.as_slice()))
+        .map(|s| classes::is_in_both(wanted, pre, post, s.name.as_slice()))
         .collect(alloc)
 }
 
-/// Which sections of an object are code, and have a name that the other object has no section of.
-pub(crate) fn code_alone(
+/// Which sections of an object are asked for, and have a name that the other object has no section of.
+pub(crate) fn sections_alone(
     alloc: Global,
+    wanted: Wanted,
     with: &Normal<'_>,
     without: &Normal<'_>,
 ) -> Result<Vec<bool>, AllocError>
-    ensures { IfOk result (λ marks. marks.items ≡ tests (λ name. is_in is_code_class with.now name && not (is_there without.now name)) with.now) }
+    ensures { IfOk result (λ marks. marks.items ≡ tests (λ name. is_in (is_wanted wanted) with.now name && not (is_there without.now name)) with.now) }
 {
     with.as_slice()
         .iter()
-        .map(|s| classes::is_code_alone(with, without, s.name.as_slice()))
-        .collect(alloc)
-}
-
-/// Which sections of the second object are data, and have a name that the first has no section of.
-pub(crate) fn new_data(
-    alloc: Global,
-    pre: &Normal<'_>,
-    post: &Normal<'_>,
-) -> Result<Vec<bool>, AllocError>
-    ensures { IfOk result (λ marks. marks.items ≡ tests (is_new_data pre.now post.now) post.now) }
-{
-    post.as_slice()
-        .iter()
-        .map(|s| classes::is_new_data(pre, post, s.name.as_slice()))
-        .collect(alloc)
-}
-
-/// Which sections of an object are code.
-pub(crate) fn code(alloc: Global, normal: &Normal<'_>) -> Result<Vec<bool>, AllocError>
-    ensures { IfOk result (λ marks. marks.items ≡ tests (is_in is_code_class normal.now) normal.now) }
-{
-    normal
-        .as_slice()
-        .iter()
-        .map(|s| classes::has_code(normal, s.name.as_slice()))
-        .collect(alloc)
-}
-
-/// Which sections of an object are read-only data.
-pub(crate) fn read_only(alloc: Global, normal: &Normal<'_>) -> Result<Vec<bool>, AllocError>
-    ensures { IfOk result (λ marks. marks.items ≡ tests (is_in is_read_only_class normal.now) normal.now) }
-{
-    normal
-        .as_slice()
-        .iter()
-        .map(|s| classes::has_read_only(normal, s.name.as_slice()))
-        .collect(alloc)
-}
-
-/// Which sections of an object are read-only data or texts.
-pub(crate) fn constants(alloc: Global, normal: &Normal<'_>) -> Result<Vec<bool>, AllocError>
-    ensures { IfOk result (λ marks. marks.items ≡ tests (is_in is_constant_class normal.now) normal.now) }
-{
-    normal
-        .as_slice()
-        .iter()
-        .map(|s| classes::has_constant(normal, s.name.as_slice()))
+        .map(|s| classes::is_alone(wanted, with, without, s.name.as_slice()))
         .collect(alloc)
 }

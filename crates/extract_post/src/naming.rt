@@ -12,8 +12,8 @@ ghost use Rattle.extract_post.specs.Members.{Member, IsChanged, IsAdded, IsDropp
 use crate::breaking::changed;
 use crate::carrying::carried;
 use crate::marks::{both, marked_names, name_of};
-use crate::marks_by_name::{code_alone, new_data};
-use crate::types::{Extract, Link};
+use crate::marks_by_name::sections_alone;
+use crate::types::{Extract, Link, Wanted};
 use i386_reloc::Normal;
 use ks_base::{Names, Refusal};
 use std::alloc::{AllocError, Global};
@@ -75,7 +75,7 @@ fn added_names(
     requires { Marks (Member pre.now post.now) post.now members.now }
     ensures { IfOk result (λ names. Picks (IsAdded pre.now post.now) post.now names) }
 {
-    let alone = code_alone(alloc, post, pre)?;
+    let alone = sections_alone(alloc, Wanted::Code, post, pre)?;
     let marks = both(alloc, alone.as_slice(), members)?;
     let names = marked_names(alloc, post.as_slice(), marks.as_slice())?;
     Ok(names)
@@ -91,7 +91,7 @@ fn dropped_names(
     requires { Marks (Member pre.now post.now) pre.now members.now }
     ensures { IfOk result (λ names. Picks (IsDropped pre.now post.now) pre.now names) }
 {
-    let alone = code_alone(alloc, pre, post)?;
+    let alone = sections_alone(alloc, Wanted::Code, pre, post)?;
     let marks = both(alloc, alone.as_slice(), members)?;
     let names = marked_names(alloc, pre.as_slice(), marks.as_slice())?;
     Ok(names)
@@ -119,7 +119,7 @@ fn carried_names(
 fn new_data_names(alloc: Global, pre: &Normal<'_>, post: &Normal<'_>) -> Result<Names, AllocError>
     ensures { IfOk result (λ names. Picks (IsFresh pre.now post.now) post.now names) }
 {
-    let marks = new_data(alloc, pre, post)?;
+    let marks = sections_alone(alloc, Wanted::Data, post, pre)?;
     let names = marked_names(alloc, post.as_slice(), marks.as_slice())?;
     Ok(names)
 }

@@ -40,3 +40,16 @@ pub(crate) struct Numbers {
     /// How many sections both have.
     pub(crate) total: u32,
 }
+
+/// Which sections are asked for, by their class.
+#[derive(Clone, Copy)]
+pub(crate) enum Wanted {
+    /// Functions.
+    Code,
+    /// Data that the program may change.
+    Data,
+    /// Read-only data.
+    ReadOnly,
+    /// Read-only data and texts, which an update carries with it.
+    Constant,
+}

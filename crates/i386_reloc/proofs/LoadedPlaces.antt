@@ -9,7 +9,8 @@ use Rattle.i386_reloc.specs.Normal.{same_bytes, section_named, loaded_below, nor
 use Rattle.i386_reloc.specs.Places.{place_named}
 use Rattle.i386_reloc.specs.Refused.{name_fault_at}
 use Rattle.i386_reloc.proofs.Normals.{unplaced}
-use Rattle.i386_reloc.proofs.Places.{place_named_push, no_place, section_named_at}
+use Rattle.i386_reloc.specs.PlaceLaws.{section_named_at}
+use Rattle.i386_reloc.proofs.Places.{place_named_push, no_place}
 use Rattle.i386_reloc.proofs.RightFields.{both_none, each_none}
 
 -- one more section

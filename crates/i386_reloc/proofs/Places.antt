@@ -10,22 +10,9 @@ use Rattle.i386_reloc.specs.declared.types.NormalSection.{NormalSection}
 use Rattle.i386_reloc.specs.declared.types.Ref.{Ref}
 use Rattle.std.specs.List.{slice_get}
 use Rattle.std.proofs.lemmas.Option.{slice_get-map}
-use Rattle.i386_reloc.specs.Normal.{same_bytes, section_named}
-use Rattle.i386_reloc.specs.Places.{place_named, at_place, named, HasPlaces, place_of_target, targets_of, targets_in, reference_in, reference_at, place_of_reference}
+use Rattle.i386_reloc.specs.Normal.{same_bytes}
+use Rattle.i386_reloc.specs.Places.{place_named, named, HasPlaces, place_of_target, targets_of, targets_in, reference_in, reference_at, place_of_reference}
 use Rattle.i386_reloc.specs.Refused.{refused_where}
-
-at_place-suc : (section : NormalSection) (sections : List NormalSection) (place : Option ℕ) → at_place (section ∷ sections) (option_map suc place) ≡ at_place sections place
-at_place-suc section sections None = refl
-at_place-suc section sections (Some place) = refl
-
--- the section of a name is the one at the name's place
-pub section_named_at : (sections : List NormalSection) (name : List ℕ) → section_named sections name ≡ at_place sections (place_named sections name)
-section_named_at [] name = refl
-section_named_at (section ∷ sections) name =
-    elim (same_bytes section.name name) as (λ b. cond b (Some section) (section_named sections name) ≡ at_place (section ∷ sections) (cond b (Some 0) (option_map suc (place_named sections name)))) [
-      | true ↦ refl
-      | false ↦ section_named_at sections name ∙ sym (at_place-suc section sections (place_named sections name))
-    ]
 
 suc_of_first : (place : Option ℕ) (b : Bool) (n : ℕ) → option_map suc (first_of place (cond b (Some n) None)) ≡ first_of (option_map suc place) (cond b (Some (suc n)) None)
 suc_of_first None true n = refl

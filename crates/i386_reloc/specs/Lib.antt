@@ -5,6 +5,7 @@ pub mod Loaded
 pub mod Normal
 pub mod Objects
 pub mod Places
+pub mod PlaceLaws
 pub mod References
 pub mod Refused
 pub mod Relocations
