@@ -92,29 +92,34 @@ fn index_of(indices: &BTreeMap<Name, usize>, name: &Name) -> Option<usize>
 }
 
 #[test]
-fn lists(rt: HostRuntime) -> Result<(), Fail> {
+fn spots_and_names(rt: HostRuntime) -> Result<(), Fail> {
     let alloc = rt.alloc();
     let spot = spot_at(alloc, b".text.f", 1)?;
     assert_eq!(rt; spot.section.as_slice(), b".text.f".as_slice());
-
-    let code = Unknown::Code(spot.section.clone()?);
-    let outside = Unknown::Outside(spot.section.clone()?);
-    assert!(rt; is_same(&copied(&code)?, &code));
-    assert!(rt; !is_same(&code, &outside));
-
     let mut names = Names::new(alloc);
     assert!(rt; names.is_empty());
     append(&mut names, &spot.section)?;
     assert!(rt; has(&names, &spot.section));
-    assert_eq!(rt; names.len(), 1);
-    assert!(rt; first(&names).is_some());
+    assert!(rt; names.len() == 1 && first(&names).is_some());
+    Ok(())
+}
 
+#[test]
+fn names_as_keys(rt: HostRuntime) -> Result<(), Fail> {
+    let alloc = rt.alloc();
+    let code = Unknown::Code(name_of(alloc, b"f")?);
+    assert!(rt; is_same(&copied(&code)?, &code));
+    assert!(rt; !is_same(&code, &Unknown::Outside(name_of(alloc, b"f")?)));
     let mut indices = BTreeMap::new(alloc);
-    indices.insert(spot.section.clone()?, 7usize)?;
-    assert_eq!(rt; index_of(&indices, &spot.section), Some(7));
+    indices.insert(name_of(alloc, b"f")?, 7usize)?;
+    assert_eq!(rt; index_of(&indices, &name_of(alloc, b"f")?), Some(7));
+    Ok(())
+}
 
+#[test]
+fn last_range_is_taken(rt: HostRuntime) -> Result<(), Fail> {
     let range = Range { low: 16, high: 32 };
-    let mut ranges = Ranges::from_slice(alloc, &[range])?;
+    let mut ranges = Ranges::from_slice(rt.alloc(), &[range])?;
     assert_eq!(rt; take_last(&mut ranges), Some(range));
     assert_eq!(rt; take_last(&mut ranges), None);
     assert_eq!(rt; ranges.into_vec().len(), 0);
@@ -122,7 +127,7 @@ fn lists(rt: HostRuntime) -> Result<(), Fail> {
 }
 
 #[test]
-fn texts(rt: HostRuntime) -> Result<(), Fail> {
+fn places_in_texts(rt: HostRuntime) -> Result<(), Fail> {
     let mut line = Line::new(rt.alloc());
     line.put_text("at ")?;
     for n in [0x0010_0000u32, 0x003f_fffc, 0xffff_0000] {
@@ -135,14 +140,18 @@ fn texts(rt: HostRuntime) -> Result<(), Fail> {
         line.bytes(),
         b"at 0x001000000x003ffffc0xffff00000x00x60x2b0xffffffff".as_slice()
     );
+    Ok(())
+}
 
+#[test]
+fn numbers_and_names_in_texts(rt: HostRuntime) -> Result<(), Fail> {
     let mut line = Line::new(rt.alloc());
     for n in [0u64, 1000, 18_446_744_073_709_551_615] {
         line.put_number(n)?;
         line.put_text(",")?;
     }
     line.put_byte(0x0b)?;
-    line.put_name(&Name::from_slice(rt.alloc(), b"!~work.cold \\\x7f\xe9\n")?)?;
+    line.put_name(&name_of(rt.alloc(), b"!~work.cold \\\x7f\xe9\n")?)?;
     assert_eq!(rt;
         line.bytes(),
         br"0,1000,18446744073709551615,0b!~work.cold\x20\x5c\x7f\xe9\x0a".as_slice()
@@ -150,52 +159,56 @@ fn texts(rt: HostRuntime) -> Result<(), Fail> {
     Ok(())
 }
 
-#[test]
-fn plain_refusals(rt: HostRuntime) -> Result<(), Fail> {
-    let table = [
-        (Refusal::NotElf, "1 not elf"),
-        (Refusal::NotRel386, "2 not i386 relocatable"),
-        (Refusal::NoChange, "12 no change"),
-        (Refusal::TooMany, "24 too many updates"),
-        (Refusal::NothingApplied, "27 nothing applied"),
-        (Refusal::NoStack, "32 no stack"),
-        (Refusal::TooManyThreads, "37 too many threads"),
-    ];
-    for (refusal, wanted) in &table {
-        assert!(rt; prints(rt.alloc(), refusal, wanted)?, "{wanted}");
+// The refusals that hold no name, by their number.
+fn plain(number: u8) -> Refusal {
+    match number {
+        1 => Refusal::NotElf,
+        2 => Refusal::NotRel386,
+        3 => Refusal::BadHeader(20),
+        4 => Refusal::BadSection(1),
+        5 => Refusal::BadSymbol(2),
+        6 => Refusal::BadReloc(3, 0),
+        10 => Refusal::TooLarge(Large::Relocations),
+        12 => Refusal::NoChange,
+        22 => Refusal::Overlap(0x0010_0000, 0x0010_0002),
+        23 => Refusal::NoRoom(6),
+        24 => Refusal::TooMany,
+        26 => Refusal::StackOut(0, 0x003f_fffc),
+        27 => Refusal::NothingApplied,
+        28 => Refusal::BadImage(4, ImageFault::Short),
+        29 => Refusal::BadLine(2),
+        30 => Refusal::NoThread(7),
+        32 => Refusal::NoStack,
+        37 => Refusal::TooManyThreads,
+        _ => Refusal::Memory,
     }
-    Ok(())
 }
 
 #[test]
-fn numbered_refusals(rt: HostRuntime) -> Result<(), Fail> {
+fn plain_refusals(rt: HostRuntime) -> Result<(), Fail> {
     let table = [
-        (Refusal::BadHeader(20), "3 bad header 20"),
-        (Refusal::BadSection(1), "4 bad section 1"),
-        (Refusal::BadSymbol(2), "5 bad symbol 2"),
-        (Refusal::BadReloc(3, 0), "6 bad relocation 3 0"),
-        (
-            Refusal::TooLarge(Large::Relocations),
-            "10 too large relocations",
-        ),
-        (
-            Refusal::Overlap(0x0010_0000, 0x0010_0002),
-            "22 overlap 0x00100000 0x00100002",
-        ),
-        (Refusal::NoRoom(6), "23 no room 6"),
-        (
-            Refusal::StackOut(0, 0x003f_fffc),
-            "26 stack out thread 0 0x003ffffc",
-        ),
-        (
-            Refusal::BadImage(4, ImageFault::Short),
-            "28 bad image at 4 short",
-        ),
-        (Refusal::BadLine(2), "29 bad line 2"),
-        (Refusal::NoThread(7), "30 no thread 7"),
+        (1, "1 not elf"),
+        (2, "2 not i386 relocatable"),
+        (3, "3 bad header 20"),
+        (4, "4 bad section 1"),
+        (5, "5 bad symbol 2"),
+        (6, "6 bad relocation 3 0"),
+        (10, "10 too large relocations"),
+        (12, "12 no change"),
+        (22, "22 overlap 0x00100000 0x00100002"),
+        (23, "23 no room 6"),
+        (24, "24 too many updates"),
+        (26, "26 stack out thread 0 0x003ffffc"),
+        (27, "27 nothing applied"),
+        (28, "28 bad image at 4 short"),
+        (29, "29 bad line 2"),
+        (30, "30 no thread 7"),
+        (32, "32 no stack"),
+        (37, "37 too many threads"),
     ];
-    for (refusal, wanted) in &table {
-        assert!(rt; prints(rt.alloc(), refusal, wanted)?, "{wanted}");
+    for (number, wanted) in table {
+        let refusal = plain(number);
+        assert!(rt; prints(rt.alloc(), &refusal, wanted)?, "{wanted}");
     }
     Ok(())
 }

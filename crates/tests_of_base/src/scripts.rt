@@ -150,8 +150,12 @@ fn is_wanted(command: &Command, wanted: Wanted) -> bool {
     }
 }
 
-fn bad_line(alloc: Global, bytes: &[u8]) -> Option<Refusal> {
-    read_script(alloc, bytes).err()
+// The number of the first bad line, where there is one.
+fn bad_line(alloc: Global, bytes: &[u8]) -> Option<u32> {
+    match read_script(alloc, bytes) {
+        Err(Refusal::BadLine(number)) => Some(number),
+        _ => None,
+    }
 }
 
 fn gives(rt: &impl Abort, script: &Script, all: &[Wanted], what: &str) {
@@ -200,8 +204,11 @@ fn several_commands(rt: HostRuntime) -> Result<(), Fail> {
 #[test]
 fn bad_lines(rt: HostRuntime) {
     for (text, number) in BAD.iter() {
-        let refusal = bad_line(rt.alloc(), text.as_bytes());
-        assert!(rt; refusal == Some(Refusal::BadLine(*number)), "{text}");
+        assert_eq!(rt;
+            bad_line(rt.alloc(), text.as_bytes()),
+            Some(*number),
+            "{text}"
+        );
     }
 }
 
@@ -215,7 +222,7 @@ fn repeated(alloc: Global, front: &str, byte: u8, count: usize) -> Result<Vec<u8
 }
 
 #[test]
-fn long_scripts(rt: HostRuntime) -> Result<(), Fail> {
+fn scripts_at_their_limits(rt: HostRuntime) -> Result<(), Fail> {
     let alloc = rt.alloc();
     for (front, byte, count) in [("#", b'x', 4095), ("", b' ', 4096), ("", b'\n', 65_536)] {
         let mut bytes = repeated(alloc, front, byte, count)?;
@@ -223,19 +230,27 @@ fn long_scripts(rt: HostRuntime) -> Result<(), Fail> {
         assert!(rt; script.is_empty(), "{front}");
         bytes.push(byte)?;
         let number = if byte == b'\n' { 65_537 } else { 1 };
-        let refusal = bad_line(alloc, bytes.as_slice());
-        assert!(rt; refusal == Some(Refusal::BadLine(number)), "{front}");
+        assert_eq!(rt; bad_line(alloc, bytes.as_slice()), Some(number), "{front}");
     }
-    let padded = repeated(alloc, "threads", b' ', 4089)?;
-    let script = read_script(alloc, padded.as_slice()).ok().ok_or("refused")?;
-    gives(&rt, &script, &[Wanted::Threads], "a long line");
     let name = repeated(alloc, "spawn ", b'n', 4091)?;
-    assert!(rt; bad_line(alloc, name.as_slice()) == Some(Refusal::BadLine(1)));
+    assert_eq!(rt; bad_line(alloc, name.as_slice()), Some(1));
+    Ok(())
+}
+
+// How many commands a script has.
+fn count_of(alloc: Global, bytes: &[u8]) -> Option<usize> {
+    Some(read_script(alloc, bytes).ok()?.len())
+}
+
+#[test]
+fn long_scripts(rt: HostRuntime) -> Result<(), Fail> {
+    let alloc = rt.alloc();
+    let padded = repeated(alloc, "threads", b' ', 4089)?;
+    assert_eq!(rt; count_of(alloc, padded.as_slice()), Some(1));
     let mut last = repeated(alloc, "", b'\n', 65_535)?;
     last.extend_from_slice(b"threads")?;
-    let script = read_script(alloc, last.as_slice()).ok().ok_or("refused")?;
-    gives(&rt, &script, &[Wanted::Threads], "the last line");
+    assert_eq!(rt; count_of(alloc, last.as_slice()), Some(1));
     last.extend_from_slice(b"\nthreads")?;
-    assert!(rt; bad_line(alloc, last.as_slice()) == Some(Refusal::BadLine(65_537)));
+    assert_eq!(rt; bad_line(alloc, last.as_slice()), Some(65_537));
     Ok(())
 }

@@ -1,10 +1,11 @@
 //! A whole image, the empty one, a large one, and rows of fields that are changed in the whole one.
 use image_file::{read_image, write_image};
-use image_memory::Kind;
-use ks_base::{ImageFault, Refusal};
+use image_memory::{Kind, Piece};
+use ks_base::{ImageFault, Range, Refusal};
 use std::alloc::{AllocError, Global};
 use std::process::Abort;
 use std::test::Fail;
+use symbol_table::Symbol;
 
 const MAGIC: u32 = 0x314D_494B;
 
@@ -230,10 +231,18 @@ fn put_field(bytes: &mut [u8], offset: usize, number: u32) {
     }
 }
 
+// What is wrong with an image, and where; none where it is read.
+fn fault_of(alloc: Global, bytes: &[u8]) -> Option<(u32, ImageFault)> {
+    match read_image(alloc, bytes) {
+        Err(Refusal::BadImage(offset, fault)) => Some((offset, fault)),
+        _ => None,
+    }
+}
+
 fn refused(rt: &impl Abort, alloc: Global, bytes: &[u8], offset: u32, fault: ImageFault) {
-    let refusal = read_image(alloc, bytes).err();
-    assert!(rt;
-        refusal == Some(Refusal::BadImage(offset, fault)),
+    assert_eq!(rt;
+        fault_of(alloc, bytes),
+        Some((offset, fault)),
         "at {offset}"
     );
 }
@@ -279,20 +288,40 @@ fn empty_and_large_images(rt: HostRuntime) -> Result<(), Fail> {
     Ok(())
 }
 
+fn is_piece(piece: Option<&Piece>, kind: Kind, base: u32, bytes: &[u8]) -> bool {
+    match piece {
+        Some(piece) => {
+            piece.kind == kind && piece.base == base && piece.bytes.as_slice() == bytes
+        }
+        None => false,
+    }
+}
+
+fn is_global_function(symbol: Option<&Symbol>, address: u32, name: &[u8]) -> bool {
+    match symbol {
+        Some(symbol) => {
+            symbol.address == address
+                && symbol.function
+                && symbol.global
+                && symbol.name.as_slice() == name
+        }
+        None => false,
+    }
+}
+
 #[test]
 fn whole_image(rt: HostRuntime) -> Result<(), Fail> {
     let image = read_image(rt.alloc(), &WHOLE).ok().ok_or("refused")?;
-    let piece = image.pieces.get(1).ok_or("no second region")?;
-    assert!(rt; piece.kind == Kind::ReadOnly);
-    assert_eq!(rt; piece.base, 0x0010_0002);
-    assert_eq!(rt; piece.bytes.as_slice(), [7, 8, 9].as_slice());
-    let symbol = image.symbols.get(0).ok_or("no symbol")?;
-    assert_eq!(rt; symbol.address, 0x0010_0001);
-    assert!(rt; symbol.function && symbol.global);
-    assert_eq!(rt; symbol.name.as_slice(), b"main".as_slice());
-    let stack = image.stacks.get(1).ok_or("no second stack")?;
-    assert_eq!(rt; (stack.low, stack.high), (0x0200_0100, 0x0200_0120));
-    assert_eq!(rt; image.arena.high, 0x0090_0000);
+    let piece = image.pieces.get(1);
+    assert!(rt; is_piece(piece, Kind::ReadOnly, 0x0010_0002, &[7, 8, 9]));
+    let symbol = image.symbols.get(0);
+    assert!(rt; is_global_function(symbol, 0x0010_0001, b"main"));
+    let stack = Range {
+        low: 0x0200_0100,
+        high: 0x0200_0120,
+    };
+    assert!(rt; image.stacks.get(1).copied() == Some(stack));
+    assert!(rt; image.arena.high == 0x0090_0000);
     Ok(())
 }
 

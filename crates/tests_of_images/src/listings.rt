@@ -1,8 +1,8 @@
 //! Listings of an image made by hand, what is refused, and a listing of several pages.
 use code_listing::list_code;
 use image_file::read_image;
-use ks_base::{Name, Refusal};
-use std::alloc::Global;
+use ks_base::{Line, Name, Refusal};
+use std::alloc::{AllocError, Global};
 use std::process::Abort;
 use std::test::Fail;
 
@@ -93,13 +93,25 @@ fn whole_listings(rt: HostRuntime) -> Result<(), Fail> {
     Ok(())
 }
 
+// The line of the refusal of a name; nothing where its instructions are listed.
+fn refusal_line(alloc: Global, name: &str) -> Result<Line, AllocError> {
+    let mut line = Line::new(alloc);
+    if let Err(refusal) = listed(alloc, &IMAGE, name.as_bytes()) {
+        line.put_refusal(&refusal)?;
+    }
+    Ok(line)
+}
+
 #[test]
 fn refused_names(rt: HostRuntime) -> Result<(), Fail> {
-    let alloc = rt.alloc();
-    let none = Refusal::NoSymbol(Name::from_slice(alloc, b"none")?);
-    assert!(rt; listed(alloc, &IMAGE, b"none").err() == Some(none));
-    let two = Refusal::TwoNames(Name::from_slice(alloc, b"two")?, 0x0010_0010, 0x0030_0001);
-    assert!(rt; listed(alloc, &IMAGE, b"two").err() == Some(two));
+    let rows = [
+        ("none", "refused 31 no symbol none\n"),
+        ("two", "refused 19 two names two 0x00100010 0x00300001\n"),
+    ];
+    for (name, wanted) in rows {
+        let line = refusal_line(rt.alloc(), name)?;
+        assert_eq!(rt; line.bytes(), wanted.as_bytes(), "{name}");
+    }
     Ok(())
 }
 

@@ -1,6 +1,6 @@
 //! Each call on its happy path, over one table of symbols that has several blocks.
 
-use ks_base::{Name, Refusal};
+use ks_base::{Line, Name};
 use std::alloc::{AllocError, Global};
 use std::test::Fail;
 use symbol_table::{Bodies, Solved, Symbol, SymbolTable, Unknown, Values};
@@ -55,55 +55,93 @@ fn table_put_back(alloc: Global) -> Result<SymbolTable, AllocError> {
     Ok(table)
 }
 
+// Whether a symbol stands at an index, with this address and name.
+fn has_at(table: &SymbolTable, index: usize, address: u32, name: &[u8]) -> bool {
+    match table.get(index) {
+        Some(symbol) => symbol.address == address && symbol.name.as_slice() == name,
+        None => false,
+    }
+}
+
 #[test]
 fn symbols_stand_in_order(rt: HostRuntime) -> Result<(), Fail> {
     let mut table = table_of_rows(rt.alloc())?;
-    assert_eq!(rt; table.len(), 13);
-    let second = table.get(1).ok_or("no symbol")?;
-    assert_eq!(rt; second.address, 0x10);
-    assert_eq!(rt; second.name.as_slice(), b"early".as_slice());
-    assert!(rt; table.get(13).is_none());
+    assert!(rt; has_at(&table, 1, 0x10, b"early"));
+    assert!(rt; table.len() == 13 && table.get(13).is_none());
     assert!(rt; 4 <= table.len());
     table.remove_last(4);
-    assert_eq!(rt; table.len(), 9);
-    let last = table.get(8).ok_or("no symbol")?;
-    assert_eq!(rt; last.name.as_slice(), b"twin".as_slice());
-    assert!(rt; table.get(9).is_none());
-    assert_eq!(rt; table.next_address(0x30), Some(0x20100));
-    assert!(rt; table.name_at(0xf).is_none());
+    assert!(rt; has_at(&table, 8, 0x20100, b"twin"));
+    assert!(rt; table.len() == 9 && table.get(9).is_none());
+    assert!(rt; table.next_address(0x30) == Some(0x20100) && table.name_at(0xf).is_none());
     Ok(())
+}
+
+// What a name is looked up as.
+#[derive(Clone, Copy)]
+enum Kind {
+    Function,
+    Global,
+    Data,
+}
+
+// Whether a name has these addresses.
+fn has_addresses(
+    alloc: Global,
+    table: &SymbolTable,
+    row: &(Kind, &str, &[u32]),
+) -> Result<bool, AllocError> {
+    let name = Name::from_slice(alloc, row.1.as_bytes())?;
+    let found = match row.0 {
+        Kind::Function => table.functions_of(&name)?,
+        Kind::Global => table.globals_of(&name)?,
+        Kind::Data => table.data_of(&name)?,
+    };
+    Ok(found.as_slice() == row.2)
 }
 
 #[test]
 fn names_have_their_addresses(rt: HostRuntime) -> Result<(), Fail> {
-    let alloc = rt.alloc();
     let mut table = table_put_back(rt.alloc())?;
-    let f = Name::from_slice(alloc, b"f")?;
-    let d = Name::from_slice(alloc, b"d")?;
-    let g = Name::from_slice(alloc, b"g")?;
-    assert_eq!(rt;
-        table.functions_of(&f)?.as_slice(),
-        [0x8, 0x30, 0x40].as_slice()
-    );
-    assert_eq!(rt;
-        table.globals_of(&f)?.as_slice(),
-        [0x20, 0x28, 0x30, 0x40].as_slice()
-    );
-    assert_eq!(rt; table.data_of(&f)?.as_slice(), [0x20, 0x28].as_slice());
-    assert_eq!(rt; table.data_of(&d)?.as_slice(), [0x20].as_slice());
-    assert_eq!(rt; table.functions_of(&d)?.len(), 0);
-    assert!(rt; matches!(table.function_named(&g), Ok(0x10)));
-    assert!(rt; matches!(table.function_named(&d), Err(Refusal::NoSymbol(_))));
-    assert!(rt;
-        matches!(
-            table.function_named(&f),
-            Err(Refusal::TwoNames(_, 0x8, 0x30))
-        )
-    );
+    let rows: [(Kind, &str, &[u32]); 5] = [
+        (Kind::Function, "f", &[0x8, 0x30, 0x40]),
+        (Kind::Global, "f", &[0x20, 0x28, 0x30, 0x40]),
+        (Kind::Data, "f", &[0x20, 0x28]),
+        (Kind::Data, "d", &[0x20]),
+        (Kind::Function, "d", &[]),
+    ];
+    for row in &rows {
+        assert!(rt; has_addresses(rt.alloc(), &table, row)?, "{}", row.1);
+    }
     assert!(rt; 4 <= table.len());
     table.remove_last(4);
-    assert_eq!(rt; table.functions_of(&f)?.as_slice(), [0x30].as_slice());
-    assert_eq!(rt; table.data_of(&f)?.as_slice(), [0x20].as_slice());
+    assert!(rt; has_addresses(rt.alloc(), &table, &(Kind::Function, "f", &[0x30]))?);
+    assert!(rt; has_addresses(rt.alloc(), &table, &(Kind::Data, "f", &[0x20]))?);
+    Ok(())
+}
+
+// The address of the function of a name, or the line of the refusal.
+fn function_line(alloc: Global, table: &SymbolTable, name: &str) -> Result<Line, AllocError> {
+    let name = Name::from_slice(alloc, name.as_bytes())?;
+    let mut line = Line::new(alloc);
+    match table.function_named(&name) {
+        Ok(address) => line.put_hex(address)?,
+        Err(refusal) => line.put_refusal(&refusal)?,
+    }
+    Ok(line)
+}
+
+#[test]
+fn names_have_one_function(rt: HostRuntime) -> Result<(), Fail> {
+    let table = table_put_back(rt.alloc())?;
+    let rows = [
+        ("g", "0x00000010"),
+        ("d", "refused 31 no symbol d\n"),
+        ("f", "refused 19 two names f 0x00000008 0x00000030\n"),
+    ];
+    for (name, wanted) in rows {
+        let line = function_line(rt.alloc(), &table, name)?;
+        assert_eq!(rt; line.bytes(), wanted.as_bytes(), "{name}");
+    }
     Ok(())
 }
 
@@ -153,33 +191,38 @@ fn homes_have_their_newest_base(rt: HostRuntime) -> Result<(), Fail> {
     Ok(())
 }
 
+// The values of a section of code and of one of data that have one name.
+fn values(alloc: Global, body: Solved) -> Result<Values, Fail> {
+    let mut values = Values::new(alloc);
+    values.insert(Unknown::Code(Name::from_slice(alloc, b"f")?), body)?;
+    let data = Unknown::Data(Name::from_slice(alloc, b"f")?);
+    values.insert(data, Solved::Address(0x20))?;
+    Ok(values)
+}
+
+fn value_of(values: &Values, unknown: &Unknown) -> Option<Solved> {
+    values.get(unknown).copied()
+}
+
 #[test]
 fn unknowns_have_their_values(rt: HostRuntime) -> Result<(), Fail> {
     let alloc = rt.alloc();
-    let mut values: Values = Values::new(alloc);
     let body = Solved::Body {
         home: 0x10,
         base: 0x700,
         length: 9,
     };
-    values.insert(Unknown::Code(Name::from_slice(alloc, b"f")?), body)?;
-    values.insert(
-        Unknown::Data(Name::from_slice(alloc, b"f")?),
-        Solved::Address(0x20),
-    )?;
-    assert_eq!(rt; values.len(), 2);
-    let code = values
-        .get(&Unknown::Code(Name::from_slice(alloc, b"f")?))
-        .ok_or("no value")?;
-    assert_eq!(rt; *code, body);
-    let data = values
-        .get(&Unknown::Data(Name::from_slice(alloc, b"f")?))
-        .ok_or("no value")?;
-    assert_eq!(rt; *data, Solved::Address(0x20));
-    assert!(rt;
-        values
-            .get(&Unknown::Outside(Name::from_slice(alloc, b"f")?))
-            .is_none()
-    );
+    let values = values(alloc, body)?;
+    let rows = [
+        (Unknown::Code(Name::from_slice(alloc, b"f")?), Some(body)),
+        (
+            Unknown::Data(Name::from_slice(alloc, b"f")?),
+            Some(Solved::Address(0x20)),
+        ),
+        (Unknown::Outside(Name::from_slice(alloc, b"f")?), None),
+    ];
+    for (unknown, value) in &rows {
+        assert_eq!(rt; value_of(&values, unknown), *value);
+    }
     Ok(())
 }

@@ -6,15 +6,15 @@ use ia32_step::{Flow, Outcome, Thread};
 use image_file::{Image, read_image};
 use image_memory::{FlatSpace, Kind, Piece, Pieces, Space, are_placed};
 use image_threads::{Machine, Turns, are_stacks};
-use ks_base::{Bytes, Name, Refusal};
+use ks_base::{Bytes, Line, Name, Refusal};
 use std::alloc::{AllocError, Global};
 use std::process::Abort;
 use std::test::Fail;
 use symbol_table::Symbol;
 
-// `f` gives 1, and `main` calls it and returns. One stack.
-const IMAGE: [u8; 113] = [
-    0x4b, 0x49, 0x4d, 0x31, 1, 0, 0, 0, 2, 0, 0, 0, 1, 0, 0, 0, // magic and counts
+// `f` gives 1, and `main` calls it and returns. Two stacks.
+const IMAGE: [u8; 121] = [
+    0x4b, 0x49, 0x4d, 0x31, 1, 0, 0, 0, 2, 0, 0, 0, 2, 0, 0, 0, // magic and counts
     0, 0, 0x80, 0, 0, 0, 0x81, 0, // arena
     1, 0, 0, 0, 0, 0, 0x10, 0, 0x20, 0, 0, 0, // code at 0x00100000
     0xb8, 1, 0, 0, 0, 0xc3, // mov, ret
@@ -24,24 +24,8 @@ const IMAGE: [u8; 113] = [
     0, 0, 0x10, 0, 1, 0, 0, 0, 1, 0, 0, 0, 1, 0, 0, 0, b'f', // 0x00100000
     0x10, 0, 0x10, 0, 1, 0, 0, 0, 1, 0, 0, 0, 4, 0, 0, 0, b'm', b'a', b'i', b'n', // 0x00100010
     0, 0, 0x40, 0, 0, 0x10, 0x40, 0, // a stack of 4,096 bytes at 0x00400000
+    0, 0x20, 0x40, 0, 0, 0x30, 0x40, 0, // another at 0x00402000
 ];
-
-// A second stack, and where the number of stacks stands.
-const STACK: [u8; 8] = [0, 0x20, 0x40, 0, 0, 0x30, 0x40, 0];
-
-const STACK_COUNT: usize = 12;
-
-// The image's bytes, with one stack or with both.
-fn image_bytes(alloc: Global, both: bool) -> Result<Vec<u8>, AllocError> {
-    let mut bytes = Vec::from_slice(alloc, &IMAGE)?;
-    if both {
-        bytes.extend_from_slice(&STACK)?;
-        if let Some(count) = bytes.get_mut(STACK_COUNT) {
-            *count = 2;
-        }
-    }
-    Ok(bytes)
-}
 
 // The image's regions, and a writable piece of zeros for each stack.
 fn pieces_of(alloc: Global, image: &Image) -> Result<Pieces, AllocError> {
@@ -58,11 +42,10 @@ fn pieces_of(alloc: Global, image: &Image) -> Result<Pieces, AllocError> {
     Ok(pieces)
 }
 
-fn machine_of(rt: &impl Abort, alloc: Global, both: bool) -> Result<Machine<FlatSpace>, Refusal>
+fn machine_of(rt: &impl Abort, alloc: Global) -> Result<Machine<FlatSpace>, Refusal>
     ensures { IfOk result (λ machine. AreStacks machine.contents.pieces machine.stacks) }
 {
-    let bytes = image_bytes(alloc, both)?;
-    let image = read_image(alloc, bytes.as_slice())?;
+    let image = read_image(alloc, &IMAGE)?;
     let pieces = pieces_of(alloc, &image)?;
     assert!(rt; are_placed(&pieces));
     assert!(rt; are_stacks(&pieces, &image.stacks));
@@ -86,16 +69,26 @@ fn starts(machine: &mut Machine<FlatSpace>, alloc: Global, name: &[u8]) -> Optio
     spawned(machine, alloc, name).ok()
 }
 
+// Whether a thread isn't started, with this line.
 fn is_refused(
     machine: &mut Machine<FlatSpace>,
     alloc: Global,
     name: &[u8],
-    refusal: Refusal,
-) -> bool
+    wanted: &str,
+) -> Result<bool, AllocError>
     requires { AreStacks machine.old.contents.pieces machine.old.stacks }
     ensures { AreStacks machine.new.contents.pieces machine.new.stacks }
 {
-    spawned(machine, alloc, name).err() == Some(refusal)
+    match spawned(machine, alloc, name) {
+        Ok(_) => Ok(false),
+        Err(refusal) => prints(alloc, &refusal, wanted),
+    }
+}
+
+fn prints(alloc: Global, refusal: &Refusal, wanted: &str) -> Result<bool, AllocError> {
+    let mut line = Line::new(alloc);
+    line.put_refusal(refusal)?;
+    Ok(line.bytes() == wanted.as_bytes())
 }
 
 fn is_at_main(thread: &Thread) -> bool {
@@ -114,8 +107,8 @@ fn first_frame(machine: &Machine<FlatSpace>) -> [u8; 20] {
 #[test]
 fn first_thread(rt: HostRuntime) -> Result<(), Fail> {
     let alloc = rt.alloc();
-    let mut machine = machine_of(&rt, alloc, false)?;
-    assert!(rt; spawned(&mut machine, alloc, b"main") == Ok(0));
+    let mut machine = machine_of(&rt, alloc)?;
+    assert!(rt; starts(&mut machine, alloc, b"main") == Some(0));
     assert!(rt; is_at_main(machine.threads().first().ok_or("no thread")?));
     assert!(rt;
         first_frame(&machine)
@@ -141,8 +134,8 @@ fn outcomes(alloc: Global, machine: &mut Machine<FlatSpace>) -> Result<Vec<Outco
 #[test]
 fn steps_to_the_end(rt: HostRuntime) -> Result<(), Fail> {
     let alloc = rt.alloc();
-    let mut machine = machine_of(&rt, alloc, false)?;
-    assert!(rt; spawned(&mut machine, alloc, b"main") == Ok(0));
+    let mut machine = machine_of(&rt, alloc)?;
+    assert!(rt; starts(&mut machine, alloc, b"main") == Some(0));
     let steps = [
         Outcome::Moved(Flow::Call),
         Outcome::Moved(Flow::Plain),
@@ -151,7 +144,7 @@ fn steps_to_the_end(rt: HostRuntime) -> Result<(), Fail> {
         Outcome::Exited(1),
     ];
     assert!(rt; outcomes(alloc, &mut machine)?.as_slice() == steps.as_slice());
-    assert!(rt; machine.step(7) == Err(Refusal::NoThread(7)));
+    assert!(rt; matches!(machine.step(7), Err(Refusal::NoThread(7))));
     Ok(())
 }
 
@@ -177,15 +170,22 @@ fn runs_once(machine: &mut Machine<FlatSpace>, alloc: Global, number: u32) -> bo
 #[test]
 fn stack_of_an_ended_thread(rt: HostRuntime) -> Result<(), Fail> {
     let alloc = rt.alloc();
-    let mut machine = machine_of(&rt, alloc, false)?;
-    assert!(rt; starts(&mut machine, alloc, b"f") == Some(0));
-    assert!(rt; is_refused(&mut machine, alloc, b"main", Refusal::NoStack));
-    let nope = Refusal::NoSymbol(Name::from_slice(alloc, b"nope")?);
-    assert!(rt; is_refused(&mut machine, alloc, b"nope", nope));
-    step_of(&mut machine, 0);
-    step_of(&mut machine, 0);
-    step_of(&mut machine, 0);
-    assert!(rt; starts(&mut machine, alloc, b"main") == Some(1));
+    let mut machine = machine_of(&rt, alloc)?;
+    assert!(rt; starts(&mut machine, alloc, b"main") == Some(0));
+    assert!(rt; starts(&mut machine, alloc, b"f") == Some(1));
+    assert!(rt; is_refused(&mut machine, alloc, b"main", "refused 32 no stack\n")?);
+    step_of(&mut machine, 1);
+    step_of(&mut machine, 1);
+    step_of(&mut machine, 1);
+    assert!(rt; starts(&mut machine, alloc, b"main") == Some(2));
+    Ok(())
+}
+
+#[test]
+fn unknown_function(rt: HostRuntime) -> Result<(), Fail> {
+    let alloc = rt.alloc();
+    let mut machine = machine_of(&rt, alloc)?;
+    assert!(rt; is_refused(&mut machine, alloc, b"nope", "refused 31 no symbol nope\n")?);
     Ok(())
 }
 
@@ -204,9 +204,9 @@ fn runs_as_often(machine: &mut Machine<FlatSpace>, alloc: Global, count: u32) ->
 #[test]
 fn too_many_threads(rt: HostRuntime) -> Result<(), Fail> {
     let alloc = rt.alloc();
-    let mut machine = machine_of(&rt, alloc, false)?;
+    let mut machine = machine_of(&rt, alloc)?;
     assert!(rt; runs_as_often(&mut machine, alloc, 4_096));
-    assert!(rt; is_refused(&mut machine, alloc, b"f", Refusal::TooManyThreads));
+    assert!(rt; is_refused(&mut machine, alloc, b"f", "refused 37 too many threads\n")?);
     Ok(())
 }
 
@@ -232,13 +232,13 @@ fn add_function(
 #[test]
 fn added_symbols(rt: HostRuntime) -> Result<(), Fail> {
     let alloc = rt.alloc();
-    let mut machine = machine_of(&rt, alloc, true)?;
+    let mut machine = machine_of(&rt, alloc)?;
     add_function(&mut machine, Name::from_slice(alloc, b"g")?, 0x0010_0010)?;
     assert!(rt; starts(&mut machine, alloc, b"g") == Some(0));
     assert!(rt; is_at_main(machine.threads().first().ok_or("no thread")?));
     add_function(&mut machine, Name::from_slice(alloc, b"f")?, 0x0010_0010)?;
-    let two = Refusal::TwoNames(Name::from_slice(alloc, b"f")?, 0x0010_0000, 0x0010_0010);
-    assert!(rt; is_refused(&mut machine, alloc, b"f", two));
+    let two = "refused 19 two names f 0x00100000 0x00100010\n";
+    assert!(rt; is_refused(&mut machine, alloc, b"f", two)?);
     Ok(())
 }
 
@@ -250,7 +250,7 @@ fn written(machine: &mut Machine<FlatSpace>, bytes: &[u8; 20]) -> [u8; 20] {
 
 #[test]
 fn changed_memory(rt: HostRuntime) -> Result<(), Fail> {
-    let mut machine = machine_of(&rt, rt.alloc(), false)?;
+    let mut machine = machine_of(&rt, rt.alloc())?;
     let bytes = [9; 20];
     assert!(rt; written(&mut machine, &bytes) == bytes);
     Ok(())
@@ -260,7 +260,7 @@ fn changed_memory(rt: HostRuntime) -> Result<(), Fail> {
 fn order(rt: &impl Abort, alloc: Global, quantum: u32, steps: u32) -> Result<Vec<u32>, Refusal>
     requires { 1 ≤ quantum }
 {
-    let mut machine = machine_of(rt, alloc, true)?;
+    let mut machine = machine_of(rt, alloc)?;
     spawned(&mut machine, alloc, b"main")?;
     spawned(&mut machine, alloc, b"main")?;
     Ok(in_turn(alloc, &mut machine, Turns::new(quantum, steps))?)

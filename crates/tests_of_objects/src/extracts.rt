@@ -4,7 +4,7 @@ use crate::object_files::{FUNCTION, POINTED, SPLIT, WHOLE, WITH_DATA};
 use elf32_object::read_object;
 use extract_post::{Extract, extract};
 use i386_reloc::normalise;
-use ks_base::{Name, Names, Refusal};
+use ks_base::{Line, Names, Refusal};
 use std::alloc::{AllocError, Global};
 use std::test::Fail;
 
@@ -62,23 +62,27 @@ fn new_data_come_with_a_new_function(rt: HostRuntime) -> Result<(), Fail> {
     Ok(())
 }
 
+// The line of the refusal of two files; nothing where they have a difference.
+fn refusal_line(alloc: Global, pre: &[u8], post: &[u8]) -> Result<Line, Fail> {
+    let mut line = Line::new(alloc);
+    if let Err(refusal) = difference(alloc, pre, post)? {
+        line.put_refusal(&refusal)?;
+    }
+    Ok(line)
+}
+
 #[test]
 fn differences_are_refused(rt: HostRuntime) -> Result<(), Fail> {
     let alloc = rt.alloc();
-    let none = difference(alloc, &FUNCTION, &FUNCTION)?
-        .err()
-        .ok_or("no refusal")?;
-    assert!(rt; none == Refusal::NoChange);
-    let data = Name::from_slice(alloc, b".data.t")?;
-    let pointed = with_byte(alloc, &POINTED, 0x35, 2)?;
-    let broken = difference(alloc, &POINTED, &pointed)?
-        .err()
-        .ok_or("no refusal")?;
-    assert!(rt; broken == Refusal::Interior(data.clone()?, 0));
-    let changed = with_byte(alloc, &WITH_DATA, 0x3c, 9)?;
-    let other = difference(alloc, &WITH_DATA, &changed)?
-        .err()
-        .ok_or("no refusal")?;
-    assert!(rt; other == Refusal::DataChanged(data));
+    let rows: [(&[u8], usize, u8, &str); 3] = [
+        (&FUNCTION, 0x35, 1, "refused 12 no change\n"),
+        (&POINTED, 0x35, 2, "refused 13 interior .data.t 0x0\n"),
+        (&WITH_DATA, 0x3c, 9, "refused 11 data changed .data.t\n"),
+    ];
+    for (file, place, byte, wanted) in rows {
+        let changed = with_byte(alloc, file, place, byte)?;
+        let line = refusal_line(alloc, file, changed.as_slice())?;
+        assert_eq!(rt; line.bytes(), wanted.as_bytes());
+    }
     Ok(())
 }
