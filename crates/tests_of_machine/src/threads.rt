@@ -181,10 +181,13 @@ fn stack_of_an_ended_thread(rt: HostRuntime) -> Result<(), Fail> {
     Ok(())
 }
 
+// An unknown name is told before the want of a stack.
 #[test]
 fn unknown_function(rt: HostRuntime) -> Result<(), Fail> {
     let alloc = rt.alloc();
     let mut machine = machine_of(&rt, alloc)?;
+    assert!(rt; starts(&mut machine, alloc, b"f") == Some(0));
+    assert!(rt; starts(&mut machine, alloc, b"f") == Some(1));
     assert!(rt; is_refused(&mut machine, alloc, b"nope", "refused 31 no symbol nope\n")?);
     Ok(())
 }
