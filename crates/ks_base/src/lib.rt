@@ -7,6 +7,7 @@ pub mod places;
 mod refusal_texts;
 pub mod refusals;
 pub mod reply;
+pub mod reports;
 
 pub use list::ListOf;
 pub use places::{Bytes, Name, Names, Range, Ranges, Spot};
@@ -15,3 +16,4 @@ pub use refusals::{
     Standing,
 };
 pub use reply::Line;
+pub use reports::{Added, AddedList, Replaced, ReplacedList, Report};
