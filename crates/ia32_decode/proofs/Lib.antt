@@ -2,3 +2,4 @@ pub mod PlainHead
 pub mod Locality
 pub mod Lookup
 pub mod Readings
+pub mod Jumps

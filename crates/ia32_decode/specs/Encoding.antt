@@ -6,6 +6,8 @@ use Rattle.std.specs.Prelude.{ℕ, ◌+◌, ◌*◌, ◌/◌, ◌%◌, Bool, tru
 use Rattle.std.specs.List.{list_any, slice_index_or, position}
 use Rattle.ia32_decode.specs.declared.types.Register.{Register}
 use Rattle.ia32_decode.specs.declared.types.Register.TheVariants.{Eax, Ecx, Edx, Ebx, Esp, Ebp, Esi, Edi}
+use Rattle.ia32_decode.specs.declared.types.Condition.{Condition}
+use Rattle.ia32_decode.specs.declared.types.Condition.TheVariants.{Overflow, NoOverflow, Below, AboveOrEqual, Equal, NotEqual, BelowOrEqual, Above, Sign, NoSign, Parity, NoParity, Less, GreaterOrEqual, LessOrEqual, Greater}
 use Rattle.ia32_decode.specs.declared.types.Index.{Index}
 use Rattle.ia32_decode.specs.declared.types.Memory.{Memory}
 use Rattle.ia32_decode.specs.declared.types.Operand.{Operand}
@@ -84,6 +86,25 @@ register_number Esp = 4
 register_number Ebp = 5
 register_number Esi = 6
 register_number Edi = 7
+
+-- the conditions by number
+abbrev pub condition_number : Condition → ℕ
+condition_number Overflow = 0
+condition_number NoOverflow = 1
+condition_number Below = 2
+condition_number AboveOrEqual = 3
+condition_number Equal = 4
+condition_number NotEqual = 5
+condition_number BelowOrEqual = 6
+condition_number Above = 7
+condition_number Sign = 8
+condition_number NoSign = 9
+condition_number Parity = 10
+condition_number NoParity = 11
+condition_number Less = 12
+condition_number GreaterOrEqual = 13
+condition_number LessOrEqual = 14
+condition_number Greater = 15
 
 -- what the highest two bits of a SIB byte multiply the index by
 unfoldable pub scale_of : ℕ → ℕ

@@ -1,3 +1,4 @@
+pub mod Branches
 pub mod Decode
 pub mod Encoding
 pub mod Instructions

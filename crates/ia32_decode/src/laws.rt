@@ -1,8 +1,10 @@
 //! What holds of decoding at every window.
-ghost use Rattle.std.specs.Prelude.{◌≡◌, ◌≤◌, ◌<◌, ℕ, List, Some, length, take};
+ghost use Rattle.std.specs.Prelude.{◌≡◌, ◌≤◌, ◌<◌, ◌+◌, ◌*◌, ◌^◌, ◌∷◌, ◌++◌, ℕ, List, Some, length, take};
+ghost use Rattle.std.specs.Int.{w32, to_le_bytes};
 ghost use Rattle.ia32_decode.specs.declared.types.Decoded.{Decoded};
 ghost use Rattle.ia32_decode.specs.Encoding.{byte_in};
 ghost use Rattle.ia32_decode.specs.Decode.{decoded_from, Spells};
+ghost use Rattle.ia32_decode.specs.Branches.{jump_by};
 
 /// What is decoded rests on the instruction's own bytes: whatever follows them, it is decoded the same.
 pub fn decoding_rests_on_its_bytes()
@@ -24,4 +26,12 @@ pub fn one_line_spells()
         ((i : ℕ) → byte_in window i < 256) → s.line ≡ t.line }
     ensures instruction { (window : List ℕ) (one other : Decoded) (s : Spells window one) (t : Spells window other) →
         ((i : ℕ) → byte_in window i < 256) → one ≡ other }
+{}
+
+/// E9 and four bytes are the jump by the number that these bytes hold, whatever follows.
+pub fn jumps_decode()
+    ensures bytes { (a b c d : ℕ) (rest : List ℕ) →
+        decoded_from (0xE9 ∷ a ∷ b ∷ c ∷ d ∷ rest) ≡ Some (jump_by ((a + 0x100 * b) + 0x10000 * (c + 0x100 * d))) }
+    ensures number { (n : ℕ) (rest : List ℕ) → n < 2 ^ 32 →
+        decoded_from (0xE9 ∷ (to_le_bytes w32 n ++ rest)) ≡ Some (jump_by n) }
 {}

@@ -5,6 +5,7 @@
 #![tactic(auto)]
 
 mod addressing;
+mod branches;
 mod decoder;
 mod heads;
 mod instructions;
@@ -16,9 +17,11 @@ mod registers;
 mod types;
 
 pub use decoder::decode;
-pub use laws::{decoding_rests_on_its_bytes, instructions_have_bytes, one_line_spells};
+pub use laws::{
+    decoding_rests_on_its_bytes, instructions_have_bytes, jumps_decode, one_line_spells,
+};
 pub use padding_forms::is_padding;
 pub use types::{
-    Arithmetic, Condition, Counting, Decoded, Field, Fields, Index, Instr, Memory, Operand,
-    Prefixes, Register, Shift, Source, Unary, Width,
+    Arithmetic, Branch, BranchKind, Condition, Counting, Decoded, Field, Fields, Index, Instr,
+    Memory, Operand, Prefixes, Register, Shift, Source, Unary, Width,
 };

@@ -533,3 +533,27 @@ pub struct Decoded {
     /// Its prefixes.
     pub prefixes: Prefixes,
 }
+
+/// The kinds of direct branch.
+#[derive(Clone, Copy, PartialEq, Eq, Debug)]
+pub enum BranchKind {
+    /// A call.
+    Call,
+    /// A jump, of 8 or 32 bits.
+    Jump,
+    /// A jump on a condition, of 8 or 32 bits.
+    JumpIf(Condition),
+    /// LOOPNE, LOOPE, LOOP or JECXZ, by the opcode, E0 to E3.
+    Loop(u8),
+}
+
+/// A direct branch: an instruction whose bytes hold how far it goes.
+#[derive(Clone, Copy)]
+pub struct Branch {
+    /// Its kind.
+    pub kind: BranchKind,
+    /// Its prefixes.
+    pub prefixes: Prefixes,
+    /// How far from the instruction's end it goes, sign-extended to 32 bits.
+    pub displacement: u32,
+}

@@ -11,7 +11,7 @@ use Rattle.ia32_step.specs.declared.types.Thread.{Thread}
 use Rattle.ia32_step.specs.declared.types.Change.{Change}
 use Rattle.ia32_step.specs.Step.{Left, shape, store_fault, after_store, unless_barred, done, next_change, exits, stepped}
 
-as_long : (start : ℕ) (bytes : List ℕ) (address : ℕ) (old : List ℕ) → length (overlaid start bytes address old) ≡ length old
+pub as_long : (start : ℕ) (bytes : List ℕ) (address : ℕ) (old : List ℕ) → length (overlaid start bytes address old) ≡ length old
 unfolding overlaid
 as_long start bytes address [] = refl
 as_long start bytes address (b ∷ bs) = ap suc (as_long start bytes (address + 1) bs)

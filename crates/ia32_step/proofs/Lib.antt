@@ -1,2 +1,3 @@
 pub mod Keeping
-pub mod Windows
+pub mod CodeLaws
+pub mod FlowLaws

@@ -7,3 +7,6 @@ pub mod Stack
 pub mod Branches
 pub mod Exec
 pub mod Step
+pub mod Threads
+pub mod Code
+pub mod Frames

@@ -12,9 +12,9 @@ use Rattle.ia32_decode.specs.declared.types.Register.TheVariants.{Eax, Edx}
 use Rattle.ia32_decode.specs.declared.types.Width.{Width}
 use Rattle.ia32_decode.specs.declared.types.Width.TheVariants.{Byte, Word, Dword}
 use Rattle.ia32_decode.specs.declared.types.Condition.{Condition}
-use Rattle.ia32_decode.specs.declared.types.Condition.TheVariants.{Overflow, NoOverflow, Below, AboveOrEqual, Equal, NotEqual, BelowOrEqual, Above, Sign, NoSign, Parity, NoParity, Less, GreaterOrEqual, LessOrEqual, Greater}
 use Rattle.ia32_decode.specs.declared.types.Memory.{Memory}
 use Rattle.ia32_decode.specs.declared.types.Operand.{Operand}
+use Rattle.ia32_decode.specs.Encoding.{condition_number}
 use Rattle.ia32_step.specs.declared.types.Context.{Context}
 use Rattle.ia32_step.specs.declared.types.Place.{Place}
 use Rattle.ia32_step.specs.declared.types.Change.{Change}
@@ -67,25 +67,7 @@ compare_exchanged read width operand r context =
     given (operand_value read context width operand) (λ a.
     Ok (compared_and_exchanged (place_of context.registers operand) width a (register_value context.registers width r) (binary_of binary.Cmp (bits width) (accumulator context width) a context.flags) context))
 
--- the conditions by number
-abbrev pub condition_number : Condition → ℕ
-condition_number Overflow = 0
-condition_number NoOverflow = 1
-condition_number Below = 2
-condition_number AboveOrEqual = 3
-condition_number Equal = 4
-condition_number NotEqual = 5
-condition_number BelowOrEqual = 6
-condition_number Above = 7
-condition_number Sign = 8
-condition_number NoSign = 9
-condition_number Parity = 10
-condition_number NoParity = 11
-condition_number Less = 12
-condition_number GreaterOrEqual = 13
-condition_number LessOrEqual = 14
-condition_number Greater = 15
-
+-- whether a condition holds of the flags
 abbrev pub holds : Condition → Flags → Bool
 holds condition flags = condition_of (condition_number condition) flags
 

@@ -7,7 +7,7 @@ use Rattle.image_memory.specs.Contents.{Contents, piece_range}
 use Rattle.image_memory.specs.declared.types.Kind.{Kind}
 use Rattle.image_memory.specs.declared.types.Piece.{Piece}
 use Rattle.image_memory.specs.declared.types.Window.{Window}
-use Rattle.image_memory.specs.Fetch.{window_at}
+use Rattle.image_memory.specs.Fetch.{fetched, window_at}
 use Rattle.image_memory.specs.Access.{first_fault, write_fault, after_write}
 use Rattle.ia32_decode.specs.declared.types.Decoded.{Decoded}
 use Rattle.ia32_decode.specs.Decode.{decoded_from}
@@ -66,13 +66,13 @@ abbrev pub done : Contents → Thread → Result Change Fault → Left
 done contents thread (Err fault) = stops contents thread fault
 done contents thread (Ok change) = unless_barred (store_fault contents change.store) contents thread change
 
--- the bytes that were fetched
-abbrev pub fetched : Window → List ℕ
-fetched window = take window.length window.bytes
-
 abbrev pub change_by : List Piece → Context → Option Decoded → Result Change Fault
 change_by pieces context None = Err Undecoded
 change_by pieces context (Some d) = executed (number_at pieces) d context
+
+-- what carrying out a decoded instruction leaves; where there is none the thread stops
+abbrev pub carried_out : Contents → Thread → Option Decoded → Left
+carried_out contents thread decoded = done contents thread (change_by contents.pieces (context_of thread) decoded)
 
 abbrev pub change_in : List Piece → Context → Result Window Fault → Result Change Fault
 change_in pieces context (Err fault) = Err fault
@@ -83,14 +83,14 @@ change_in pieces context (Ok window) = change_by pieces context (decoded_from (f
 unfoldable pub next_change : Contents → Thread → Result Change Fault
 next_change contents thread = change_in contents.pieces (context_of thread) (window_at contents thread.pc)
 
--- a thread at the address to which its function returns ends
+-- a thread at the address to which the function returns that it was started at ends
 abbrev pub exited : Thread → Thread
 exited thread = record thread { state = states.Exited (accumulator (context_of thread) Dword) }
 
 abbrev pub exits : Contents → Thread → Left
 exits contents thread = left_by contents (exited thread) (Exited (accumulator (context_of thread) Dword))
 
--- One step of a running thread. At 0xFFFF0000, to which a function returns, it ends; elsewhere it carries out the instruction
+-- One step of a running thread. At 0xFFFF0000, to which the function returns that it was started at, it ends; elsewhere it carries out the instruction
 -- that is fetched at its pc.
 unfoldable pub stepped : Contents → Thread → Left
 stepped contents thread =

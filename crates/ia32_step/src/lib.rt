@@ -18,6 +18,6 @@ mod stack;
 mod step;
 pub mod types;
 
-pub use laws::steps_keep;
+pub use laws::{calls_and_returns, code_bytes_have_no_say, steps_keep, steps_leave_code};
 pub use step::step_thread;
-pub use types::{Flow, Outcome, State, Thread};
+pub use types::{Flow, Outcome, State, Thread, Threads};

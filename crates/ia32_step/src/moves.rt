@@ -7,7 +7,7 @@ ghost use Rattle.ia32_step.specs.Registers.{with_register};
 ghost use Rattle.ia32_step.specs.Changes.{goes_on, putting};
 ghost use Rattle.ia32_step.specs.Operands.{number_at, place_of};
 ghost use Rattle.ia32_step.specs.Arithmetic.{bits};
-ghost use Rattle.ia32_step.specs.Moves.{copied, accumulator_loaded, accumulator_stored, address_taken, exchanged, exchanged_and_added, compared_and_exchanged, compare_exchanged, condition_number, holds, copied_if, set_by, sign_extended, zero_extended_to, sign_extended_to, half, accumulator_extended, sign_spread};
+ghost use Rattle.ia32_step.specs.Moves.{copied, accumulator_loaded, accumulator_stored, address_taken, exchanged, exchanged_and_added, compared_and_exchanged, compare_exchanged, holds, copied_if, set_by, sign_extended, zero_extended_to, sign_extended_to, half, accumulator_extended, sign_spread};
 
 use crate::arithmetic::alu_width;
 use crate::operands::{address_of, number_at, operand_value, place_of, value_at};
@@ -203,35 +203,11 @@ pub(crate) fn compare_exchange<S: Space>(
     Ok(())
 }
 
-fn condition_number(condition: Condition) -> u8
-    ensures value { result ≡ condition_number condition }
-    ensures bound { result < 16 }
-{
-    match condition {
-        Condition::Overflow => 0,
-        Condition::NoOverflow => 1,
-        Condition::Below => 2,
-        Condition::AboveOrEqual => 3,
-        Condition::Equal => 4,
-        Condition::NotEqual => 5,
-        Condition::BelowOrEqual => 6,
-        Condition::Above => 7,
-        Condition::Sign => 8,
-        Condition::NoSign => 9,
-        Condition::Parity => 10,
-        Condition::NoParity => 11,
-        Condition::Less => 12,
-        Condition::GreaterOrEqual => 13,
-        Condition::LessOrEqual => 14,
-        Condition::Greater => 15,
-    }
-}
-
 /// Whether a condition holds of the flags.
 pub(crate) fn holds(condition: Condition, flags: Flags) -> bool
     ensures { result ≡ holds condition flags }
 {
-    ia32_alu::condition(condition_number(condition), flags)
+    ia32_alu::condition(condition.number(), flags)
 }
 
 /// CMOVcc.

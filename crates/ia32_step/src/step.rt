@@ -105,7 +105,7 @@ fn do_decoded<S: Space>(
 }
 
 /// What the instruction does that is fetched at a thread's pc, in what the processor holds of the thread.
-#[tactic(auto, using(crate::proofs::Windows::window_short), unfolding(crate::specs::Step::next_change))]
+#[tactic(auto, unfolding(crate::specs::Step::next_change))]
 fn do_next<S: Space>(space: &S, thread: &Thread, change: &mut Change) -> Result<(), Fault>
     requires { change.old.context ≡ context_of thread.now }
     ensures { MatchResult result

@@ -1,7 +1,7 @@
 //! Threads of the running program, and what becomes of one at a step.
 use ia32_alu::Flags;
 use ia32_decode::{Register, Width};
-use ks_base::{Fault, Range};
+use ks_base::{Fault, ListOf, Range};
 
 /// Whether a thread runs.
 #[derive(Clone, Copy, PartialEq, Eq, Debug)]
@@ -30,6 +30,9 @@ pub struct Thread {
     /// Whether it runs.
     pub state: State,
 }
+
+/// Threads in the order of their numbers.
+pub type Threads = ListOf<Thread>;
 
 /// What the processor holds of a thread.
 #[derive(Clone, Copy)]

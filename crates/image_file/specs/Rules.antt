@@ -1,5 +1,5 @@
 -- The rules of each field of an image, in the order in which they are tried.
-use Rattle.std.specs.Prelude.{ℕ, ◌+◌, ◌-◌, ◌%◌, Bool, false, not, ◌&&◌, ◌||◌, ◌==◌, nat_lt, nat_le, min, max, if◌then◌else◌, List, [], ◌∷◌}
+use Rattle.std.specs.Prelude.{ℕ, ◌+◌, ◌-◌, ◌%◌, Bool, false, not, ◌&&◌, ◌||◌, ◌==◌, nat_le, if◌then◌else◌, List, [], ◌∷◌}
 use Rattle.std.specs.Prelude.{Option, Some, None}
 use Rattle.std.specs.Option.{option_map}
 use Rattle.std.specs.List.{list_any}
@@ -8,6 +8,7 @@ use Rattle.ks_base.specs.declared.refusals.ImageFault.TheVariants as faults
 use Rattle.image_memory.specs.declared.types.Kind.{Kind}
 use Rattle.image_memory.specs.declared.types.Kind.TheVariants.{Code, ReadOnly, Writable}
 use Rattle.image_memory.specs.declared.types.Piece.{Piece}
+use Rattle.image_memory.specs.Ranges.{meets}
 use Rattle.image_memory.specs.Contents.{holding, piece_range}
 use Rattle.image_memory.specs.Access.{kind_of}
 use Rattle.image_memory.specs.Fetch.{is_code}
@@ -15,10 +16,6 @@ use Rattle.image_file.specs.Fields.{Rule, ◌orElse◌}
 
 abbrev pub is_aligned : ℕ → Bool
 is_aligned n = n % 16 == 0
-
--- whether two ranges share an address
-abbrev pub meets : Range → Range → Bool
-meets a b = nat_lt (max a.low b.low) (min a.high b.high)
 
 -- the end of the last of several things that each have a range, floor where there are none
 abbrev pub end_of : {X : Type 0} → (X → Range) → ℕ → List X → ℕ

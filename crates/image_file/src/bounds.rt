@@ -1,6 +1,7 @@
 //! Bounds and conditions that the addresses and ranges of an image keep.
 ghost use Rattle.std.specs.Prelude.{◌≡◌, ◌<◌, ◌^◌};
-ghost use Rattle.image_file.specs.Rules.{is_aligned, meets, is_arena_placed, meets_a_piece};
+ghost use Rattle.image_file.specs.Rules.{is_aligned, is_arena_placed, meets_a_piece};
+ghost use Rattle.image_memory.specs.Ranges.{meets};
 ghost use Rattle.image_memory.specs.Contents.{piece_range, ArePlaced};
 
 use image_memory::Piece;

@@ -2,6 +2,7 @@
 use Rattle.std.specs.Prelude.{ℕ, zero, suc, ◌+◌, ◌-◌, List, [], ◌∷◌, map, length, slice_index, if◌then◌else◌}
 use Rattle.std.specs.Prelude.{Option, Some, None}
 use Rattle.std.specs.Option.{option_map, option_or, unwrap_or}
+use Rattle.std.specs.Int.{w32, from_le_bytes}
 use Rattle.image_memory.specs.Ranges.{lies_in}
 use Rattle.image_memory.specs.Contents.{Contents, holding, byte_in}
 use Rattle.image_memory.specs.declared.types.Kind.{Kind}
@@ -55,6 +56,10 @@ byte_at pieces address = unwrap_or (option_map (byte_in address) (holding pieces
 unfoldable pub bytes_at : List Piece → ℕ → ℕ → List ℕ
 bytes_at pieces address zero = []
 bytes_at pieces address (suc n) = byte_at pieces address ∷ bytes_at pieces (address + 1) n
+
+-- the number that the four bytes from an address on spell, the lowest byte first
+abbrev pub dword_at : List Piece → ℕ → ℕ
+dword_at pieces address = from_le_bytes w32 (bytes_at pieces address 4)
 
 -- what stands at an address where b stood, after bytes were written from start on
 abbrev pub new_byte : ℕ → List ℕ → ℕ → ℕ → ℕ

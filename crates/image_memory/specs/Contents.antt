@@ -47,16 +47,12 @@ holding pieces address = find (λ piece. lies_in address (piece_range piece)) pi
 abbrev pub byte_in : ℕ → Piece → ℕ
 byte_in address piece = slice_index piece.bytes (address - piece.base)
 
-abbrev pub seen_in : ℕ → Piece → Kind × ℕ
-seen_in address piece = (piece.kind, byte_in address piece)
+abbrev pub kind_and_byte : ℕ → Piece → Kind × ℕ
+kind_and_byte address piece = (piece.kind, byte_in address piece)
 
 -- the kind of the piece there and the byte, nothing where no piece holds the address
 abbrev pub look_at : List Piece → ℕ → Option (Kind × ℕ)
-look_at pieces address = option_map (seen_in address) (holding pieces address)
-
--- whether an address is in a retired range
-abbrev pub fenced_at : List Fence → ℕ → Bool
-fenced_at fences address = list_any (λ fence. lies_in address fence.range) fences
+look_at pieces address = option_map (kind_and_byte address) (holding pieces address)
 
 -- whether an address is a spliced home
 abbrev pub spliced_at : List Fence → ℕ → Bool

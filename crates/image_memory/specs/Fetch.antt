@@ -1,12 +1,13 @@
--- What is fetched at an address.
-use Rattle.std.specs.Prelude.{ℕ, ◌-◌, Bool, true, false, List, [], ◌++◌, length, take, drop, replicate, nat_lt, unwrap_or, if◌then◌else◌}
+-- What is met and what is fetched at an address.
+use Rattle.std.specs.Prelude.{◌≡◌, ℕ, ◌-◌, ◌≤◌, Bool, true, false, ◌⊎◌, List, [], ◌++◌, length, take, drop, map, replicate, nat_lt, unwrap_or, if◌then◌else◌}
 use Rattle.std.specs.Prelude.{Option, Some, None, Result, Ok, Err}
-use Rattle.std.specs.List.{find}
-use Rattle.image_memory.specs.Contents.{Contents, holding, fenced_at, spliced_at}
+use Rattle.std.specs.List.{find, list_any}
+use Rattle.ks_base.specs.declared.places.Range.{Range}
+use Rattle.image_memory.specs.Ranges.{lies_in}
+use Rattle.image_memory.specs.Contents.{Contents, fence_range, holding, spliced_at}
 use Rattle.image_memory.specs.declared.types.Kind.{Kind}
 use Rattle.image_memory.specs.declared.types.Kind.TheVariants.{Code, ReadOnly, Writable}
 use Rattle.image_memory.specs.declared.types.Piece.{Piece}
-use Rattle.image_memory.specs.declared.types.Fence.{Fence}
 use Rattle.image_memory.specs.declared.types.Window.{Window}
 use Rattle.ks_base.specs.declared.refusals.Fault.{Fault}
 use Rattle.ks_base.specs.declared.refusals.Fault.TheVariants as faults
@@ -16,10 +17,6 @@ is_code Code = true
 is_code ReadOnly = false
 is_code Writable = false
 
--- at most 15 bytes as a window
-abbrev pub shown : List ℕ → Window
-shown bytes = record { bytes = bytes ++ replicate (15 - length bytes) 0; length = length bytes }
-
 abbrev pub code_in : ℕ → Option Piece → Option (List ℕ)
 code_in pc None = None
 code_in pc (Some piece) = if is_code piece.kind then Some (drop (pc - piece.base) piece.bytes) else None
@@ -28,43 +25,62 @@ code_in pc (Some piece) = if is_code piece.kind then Some (drop (pc - piece.base
 abbrev pub code_from : List Piece → ℕ → Option (List ℕ)
 code_from pieces pc = code_in pc (holding pieces pc)
 
--- the first retired range that begins above pc
-abbrev pub next_fence : List Fence → ℕ → Option Fence
-next_fence fences pc = find (λ fence. nat_lt pc fence.range.low) fences
-
-abbrev pub cut_before : ℕ → Option Fence → List ℕ → List ℕ
-cut_before pc None bytes = bytes
-cut_before pc (Some fence) bytes = take (fence.range.low - pc) bytes
+-- so many bytes from an address on lie in one code piece
+abbrev pub HasCode : List Piece → ℕ → ℕ → Type 0
+HasCode pieces address count = count ≤ length (unwrap_or (code_from pieces address) [])
 
 -- what a thread meets at an address
 pub data View : Type 0 where
   -- no code piece holds the address
   Unmapped : View
-  -- a spliced home, where a jump stands: the function goes on at its newest version
+  -- the home of a replaced function, which goes on at its newest version; in memory a jump stands there
   AtHome : View
   -- any other address of a retired range
   Stray : View
   -- the code from there on: at most 15 bytes, which end at the piece's end and before the next retired range
   Bytes : (bytes : List ℕ) → View
 
--- what is met at pc where code bytes stand from pc on
-abbrev pub met : List Fence → ℕ → List ℕ → View
-met fences pc bytes =
-    if spliced_at fences pc then AtHome
-    else (if fenced_at fences pc then Stray
-    else Bytes (take 15 (cut_before pc (next_fence fences pc) bytes)))
+-- code up to the next retired range
+abbrev pub cut_before : ℕ → Option Range → List ℕ → List ℕ
+cut_before pc None code = code
+cut_before pc (Some range) code = take (range.low - pc) code
 
-abbrev pub view_of : List Fence → ℕ → Option (List ℕ) → View
-view_of fences pc None = Unmapped
-view_of fences pc (Some bytes) = met fences pc bytes
+-- the code from pc on: at most 15 bytes, which end at the piece's end and before the next retired range
+abbrev pub window_of : List Range → ℕ → List ℕ → List ℕ
+window_of retired pc code = take 15 (cut_before pc (find (λ range. nat_lt pc range.low) retired) code)
 
--- the view at pc
-unfoldable pub view_at : Contents → ℕ → View
-view_at contents pc = view_of contents.fences pc (code_from contents.pieces pc)
+abbrev pub seen_in : (ℕ → Bool) → List Range → ℕ → Option (List ℕ) → View
+seen_in is_home retired pc None = Unmapped
+seen_in is_home retired pc (Some code) =
+    if is_home pc then AtHome
+    else (if list_any (lies_in pc) retired then Stray else Bytes (window_of retired pc code))
+
+-- The first that fits: no code piece holds pc; pc is the home of a replaced function; pc lies in a retired range, of which
+-- there are these, ascending; the code from pc on.
+unfoldable pub view : (ℕ → Bool) → List Range → List Piece → ℕ → View
+view is_home retired pieces pc = seen_in is_home retired pc (code_from pieces pc)
+
+-- whether there is a window: the jump at a home, or code
+abbrev pub has_window : View → Bool
+has_window Unmapped = false
+has_window AtHome = true
+has_window Stray = false
+has_window (Bytes code) = true
+
+-- the view of a memory at pc
+abbrev pub view_at : Contents → ℕ → View
+view_at contents pc = view (spliced_at contents.fences) (map fence_range contents.fences) contents.pieces pc
 
 -- the five bytes of the jump at a spliced home, as far as its piece goes
 abbrev pub jump_at : List Piece → ℕ → List ℕ
 jump_at pieces home = take 5 (unwrap_or (code_from pieces home) [])
+
+-- at most 15 bytes as a window, and the bytes of a window
+abbrev pub shown : List ℕ → Window
+shown bytes = record { bytes = bytes ++ replicate (15 - length bytes) 0; length = length bytes }
+
+abbrev pub fetched : Window → List ℕ
+fetched window = take window.length window.bytes
 
 -- what is fetched where a view is met: at a spliced home its jump
 abbrev pub window_for : View → List ℕ → Result Window Fault
@@ -76,3 +92,13 @@ window_for (Bytes bytes) jump = Ok (shown bytes)
 -- the window at pc
 unfoldable pub window_at : Contents → ℕ → Result Window Fault
 window_at contents pc = window_for (view_at contents pc) (jump_at contents.pieces pc)
+
+-- What a window tells of the view that it was fetched at: it is the code that is met, or at a spliced home the bytes of the
+-- jump; where nothing is fetched, the fault names what is met.
+abbrev pub Tells : View → List ℕ → Result Window Fault → Type 0
+Tells view jump (Ok window) = (view ≡ Bytes (fetched window)) ⊎ ((view ≡ AtHome) × (fetched window ≡ jump))
+Tells view jump (Err fault) = ((view ≡ Unmapped) × (fault ≡ faults.Unmapped)) ⊎ ((view ≡ Stray) × (fault ≡ faults.Stray))
+
+-- what is fetched at pc tells of the view there
+abbrev pub TellsView : Contents → ℕ → Result Window Fault → Type 0
+TellsView contents pc result = Tells (view_at contents pc) (jump_at contents.pieces pc) result

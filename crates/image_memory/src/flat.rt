@@ -1,28 +1,36 @@
 //! A memory that keeps its pieces in one sorted list.
-ghost use Rattle.std.specs.Prelude.{◌≡◌, ◌≤◌, ◌<◌, ◌+◌, ◌^◌, ℕ, List, [], IfOk, IfSome, IsTrue, vec_len, length, take, min, slice_get};
+ghost use Rattle.std.specs.Prelude.{◌≡◌, ◌≤◌, ◌<◌, ◌+◌, ◌^◌, ℕ, List, [], IfOk, IfSome, IsTrue, vec_len, vec_capacity, length, take, map, min, nat_lt, slice_get};
 ghost use Rattle.std.specs.Option.{option_copied, option_map};
-ghost use Rattle.std.specs.List.{AllWithin, All, find};
+ghost use Rattle.std.specs.List.{AllWithin, All, Any, Contains, find, insert, remove};
 ghost use Rattle.ks_base.specs.declared.places.Range.{Range};
 ghost use Rattle.image_memory.specs.Ranges.{Ascends, Ascends-prop, lies_in};
 ghost use Rattle.image_memory.specs.Contents.{Contents, Room, IsValid, ArePlaced, piece_range, fence_range, holding, look_at};
-ghost use Rattle.image_memory.specs.Access.{access_fault, kind_of, first_fault, read_fault, bytes_at, written};
-ghost use Rattle.image_memory.specs.Fetch.{code_from, cut_before, next_fence};
+ghost use Rattle.image_memory.specs.Access.{access_fault, kind_of, first_fault, read_fault, bytes_at, written, after_write};
+ghost use Rattle.image_memory.specs.Fetch.{code_from, window_of};
+ghost use Rattle.image_memory.specs.declared.types.Fence.{Fence};
+ghost use Rattle.image_memory.specs.Changes.{IsPlaceable, with_fence, without_fence, without_piece};
 
 use crate::bytes::{copy_front, front};
+use crate::changes::{insert_spare, put_spare, ranges_of, take_first};
 use crate::lookup::{begun, piece_at};
 use crate::space::Space;
 use crate::types::{Access, Fence, Kind, Piece, Pieces, Window};
-use ks_base::Fault;
+use ks_base::{Fault, Range};
 use std::alloc::{AllocError, Global};
 
-/// A memory as two sorted lists: its pieces, found by halving, and its retired ranges.
+/// A memory as two sorted lists: its pieces and its retired ranges, both found by halving.
 #[derive(Drop)]
 pub struct FlatSpace {
     pieces: Vec<Piece>,
     fences: Vec<Fence>,
+    spare_ranges: Vec<Range>,
+    spare_fences: u32,
     ghost ascend: { Ascends piece_range 0 pieces.items } by { Ascends-prop piece_range 0 pieces.items },
     ghost end_below: { All (λ piece. (piece_range piece).high ≤ 0xFFFF_0000) pieces.items },
     ghost fenced: { Ascends fence_range 0 fences.items } by { Ascends-prop fence_range 0 fences.items },
+    ghost placeable: { All IsPlaceable spare_ranges.items },
+    ghost piece_room: { vec_len pieces + vec_len spare_ranges ≤ vec_capacity pieces },
+    ghost fence_room: { vec_len fences + spare_fences ≤ vec_capacity fences },
 }
 
 impl FlatSpace {
@@ -40,6 +48,8 @@ impl FlatSpace {
         Ok(FlatSpace {
             pieces: pieces.into_vec(),
             fences: Vec::new(alloc),
+            spare_ranges: Vec::new(alloc),
+            spare_fences: 0,
         })
     }
 
@@ -51,6 +61,15 @@ impl FlatSpace {
             (vec_len self.now.pieces) }
     {
         begun(self.pieces.as_slice(), address)
+    }
+
+    // The place of the piece that begins at a base.
+    fn place_of_piece(&self, base: u32) -> usize
+        requires { Any (λ piece. piece.base ≡ base) self.now.pieces.items }
+        ensures within { result < vec_len self.now.pieces }
+        ensures taken { remove self.now.pieces.items result ≡ without_piece base self.now.pieces.items }
+    {
+        self.begun(u64::from(base)) - 1
     }
 
     // The piece that has a byte at an address.
@@ -97,16 +116,27 @@ impl FlatSpace {
         }
     }
 
-    // How many retired ranges begin at or below an address.
+    // How many retired ranges begin at or below an address: the place of one that begins there.
     fn fences_begun(&self, address: u32) -> usize
         ensures bound { result ≤ vec_len self.now.fences }
         ensures below { AllWithin (λ fence. fence.range.low ≤ address) self.now.fences.items 0 result }
         ensures above { AllWithin (λ fence. address < fence.range.low) self.now.fences.items result
             (vec_len self.now.fences) }
+        ensures put { (fence : Fence) → fence.range.low ≡ address
+            → insert self.now.fences.items result fence ≡ with_fence fence self.now.fences.items }
     {
         self.fences
             .as_slice()
             .partition_point(|fence| fence.range.low <= address)
+    }
+
+    // The place of a retired range.
+    fn place_of_fence(&self, range: Range) -> usize
+        requires { Contains (map fence_range self.now.fences.items) range }
+        ensures within { result < vec_len self.now.fences }
+        ensures taken { remove self.now.fences.items result ≡ without_fence range self.now.fences.items }
+    {
+        self.fences_begun(range.low) - 1
     }
 
     // The retired range that holds an address.
@@ -128,7 +158,7 @@ impl FlatSpace {
 
     // The first retired range that begins above an address.
     fn fence_after(&self, address: u32) -> Option<&Fence>
-        ensures next { option_copied result ≡ next_fence self.now.fences.items address }
+        ensures next { option_copied result ≡ find (λ fence. nat_lt address fence.range.low) self.now.fences.items }
         ensures above { IfSome result (λ fence. address < fence.now.range.low) }
     {
         nth_fence(self.fences.as_slice(), self.fences_begun(address))
@@ -137,13 +167,24 @@ impl FlatSpace {
     // How many bytes are fetched at most at an address outside the retired ranges.
     fn open_length(&self, pc: u32) -> usize
         ensures within { result ≤ 15 }
-        ensures cut { (bytes : List ℕ)
-            → take 15 (cut_before pc (next_fence self.now.fences.items pc) bytes) ≡ take result bytes }
+        ensures cut { (code : List ℕ) → window_of (map fence_range self.now.fences.items) pc code ≡ take result code }
     {
         match self.fence_after(pc) {
             Some(fence) => at_most_15((fence.range.low - pc) as usize),
             None => 15,
         }
+    }
+
+    // Puts bytes over those that pieces have from an address on.
+    fn put_bytes(&mut self, address: u64, from: &[u8])
+        requires { address < 2 ^ 32 }
+        ensures contents { ⟦<FlatSpace as Space>⟧.contents self.new
+            ≡ after_write (⟦<FlatSpace as Space>⟧.contents self.old) address from.now }
+        ensures room { ⟦<FlatSpace as Space>⟧.room self.new ≡ ⟦<FlatSpace as Space>⟧.room self.old }
+    {
+        let alloc = *self.pieces.allocator();
+        let first = self.begun(address).saturating_sub(1);
+        overlay_pieces(alloc, self.pieces.as_mut_slice(), first, address, from);
     }
 
     // The bytes from an address to the end of the code piece that holds it.
@@ -187,7 +228,7 @@ fn overlay_pieces(alloc: Global, pieces: &mut [Piece], first: usize, start: u64,
 impl Space for FlatSpace {
     ghost contents = { λ space. record { pieces = space.pieces.items; fences = space.fences.items } };
 
-    ghost room = { λ space. record { ranges = []; fences = 0 } };
+    ghost room = { λ space. record { ranges = space.spare_ranges.items; fences = space.spare_fences } };
 
     ghost valid = { λ space. record {
       placed = record { ascend = space.ascend; end_below = space.end_below };
@@ -215,13 +256,11 @@ impl Space for FlatSpace {
         if let Some(fault) = self.first_fault(Access::Write, address, from.len()) {
             return Err(fault);
         }
-        let alloc = *self.pieces.allocator();
-        let first = self.begun(address).saturating_sub(1);
-        overlay_pieces(alloc, self.pieces.as_mut_slice(), first, address, from);
+        self.put_bytes(address, from);
         Ok(())
     }
 
-    #[tactic(auto, unfolding(crate::specs::Fetch::window_at, crate::specs::Fetch::view_at))]
+    #[tactic(auto, unfolding(crate::specs::Fetch::window_at, crate::specs::Fetch::view))]
     fn window(&self, pc: u32) -> Result<Window, Fault> {
         let Some(bytes) = self.code_from(pc) else {
             return Err(Fault::Unmapped);
@@ -237,5 +276,40 @@ impl Space for FlatSpace {
             Some(fence) => fence.is_home(pc),
             None => false,
         }
+    }
+
+    fn reserve(&mut self, pieces: &Pieces, fences: u32) -> Result<(), AllocError> {
+        let ranges = ranges_of(*self.pieces.allocator(), pieces)?;
+        self.pieces.reserve(ranges.len())?;
+        self.fences.reserve(fences as usize)?;
+        self.spare_ranges = ranges;
+        self.spare_fences = fences;
+        Ok(())
+    }
+
+    fn add_piece(&mut self, piece: Piece) {
+        take_first(&mut self.spare_ranges, piece.range());
+        put_spare(&mut self.pieces, piece);
+    }
+
+    fn drop_piece(&mut self, base: u32) {
+        let at = self.place_of_piece(base);
+        let _ = self.pieces.remove(at);
+        self.spare_ranges.clear();
+    }
+
+    fn poke_code(&mut self, address: u32, from: &[u8]) {
+        self.put_bytes(u64::from(address), from);
+    }
+
+    fn fence(&mut self, range: Range, jump: bool) {
+        let at = self.fences_begun(range.low);
+        insert_spare(&mut self.fences, at, Fence { range, jump });
+        self.spare_fences -= 1;
+    }
+
+    fn unfence(&mut self, range: Range) {
+        let at = self.place_of_fence(range);
+        let _ = self.fences.remove(at);
     }
 }

@@ -3,14 +3,18 @@
 #![tactic(auto)]
 
 mod bytes;
+pub mod changes;
 pub mod flat;
+pub mod laws;
 pub mod lookup;
 mod parts;
 pub mod placement;
 pub mod space;
 pub mod types;
 
+pub use changes::put_piece;
 pub use flat::FlatSpace;
+pub use laws::pieces_stay_placed;
 pub use lookup::piece_at;
 pub use placement::are_placed;
 pub use space::Space;

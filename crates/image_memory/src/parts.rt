@@ -8,7 +8,7 @@ ghost use Rattle.image_memory.specs.Fetch.{code_in, shown, window_for, AtHome, S
 
 use crate::bytes::{front, overlay};
 use crate::types::{Access, Fence, Kind, Piece, Window};
-use ks_base::{Bytes, Fault};
+use ks_base::{Bytes, Fault, Range};
 use std::alloc::Global;
 use std::mem;
 
@@ -28,6 +28,17 @@ impl Access {
 }
 
 impl Piece {
+    // The addresses of its bytes.
+    pub(crate) fn range(&self) -> Range
+        requires { (piece_range self.now).high < 2 ^ 32 }
+        ensures { result ≡ piece_range self.now }
+    {
+        Range {
+            low: self.base,
+            high: self.base + self.bytes.len() as u32,
+        }
+    }
+
     // Whether the piece has a byte at an address.
     pub(crate) fn holds(&self, address: u64) -> bool
         ensures { result ≡ lies_in address (piece_range self.now) }

@@ -1,16 +1,19 @@
 //! What every representation of memory offers.
-ghost use Rattle.std.specs.Prelude.{◌≡◌, length, OnOk, OnErr, MatchResult};
-ghost use Rattle.image_memory.specs.Contents.{Contents, Room, IsValid, look_at, spliced_at};
+ghost use Rattle.std.specs.Prelude.{◌≡◌, ◌≤◌, ◌<◌, ◌-◌, [], length, map, OnOk, OnErr, IfOk, MatchResult};
+ghost use Rattle.image_memory.specs.Ranges.{MeetsNone};
+ghost use Rattle.image_memory.specs.Contents.{Contents, Room, IsValid, piece_range, fence_range, look_at, spliced_at};
 ghost use Rattle.image_memory.specs.Access.{first_fault, read_fault, write_fault, bytes_at, after_write};
-ghost use Rattle.image_memory.specs.Fetch.{window_at};
+ghost use Rattle.image_memory.specs.Fetch.{window_at, HasCode, TellsView};
+ghost use Rattle.image_memory.specs.Changes.{ArePlaceable, FitsSpare, HasPiece, IsRetired, without_first, after_add, after_drop, after_fence, after_unfence};
 
-use crate::types::{Kind, Window};
-use ks_base::Fault;
+use crate::types::{Kind, Piece, Pieces, Window};
+use ks_base::{Fault, Range};
+use std::alloc::AllocError;
 
 /// A memory: pieces in ascending order of base, and retired ranges in ascending order, each with
 /// whether its low is a spliced home (`contents`); and what is kept spare for pieces and fences to come
 /// (`room`). At every moment no piece is empty, none ends above 0xFFFF0000, no two pieces meet, no
-/// retired range is empty and no two of these meet. No call of it takes memory.
+/// retired range is empty and no two of these meet. Only `reserve` takes memory.
 pub trait Space {
     ghost contents: { Self → Contents };
 
@@ -46,11 +49,58 @@ pub trait Space {
     /// spliced home, and [`Fault::Stray`] elsewhere. [`Fault::Unmapped`] exactly where no code piece
     /// holds `pc`.
     fn window(&self, pc: u32) -> Result<Window, Fault>
-        ensures { result ≡ window_at (contents self.now) pc };
+        ensures exact { result ≡ window_at (contents self.now) pc }
+        ensures short { IfOk result (λ window. window.length ≤ 15) }
+        ensures tells { TellsView (contents self.now) pc result };
 
     /// Whether `pc` is a spliced home.
     fn spliced(&self, pc: u32) -> bool
         ensures { result ≡ spliced_at (contents self.now).fences pc };
+
+    /// Makes room for pieces and retired ranges to come: the spare ranges are then those of `pieces`, and so many
+    /// retired ranges are spare at least. What the memory holds stays, whatever the answer is. `Err` comes for want
+    /// of memory alone, and nothing is said of the room then.
+    fn reserve(&mut self, pieces: &Pieces, fences: u32) -> Result<(), AllocError>
+        requires { ArePlaceable pieces.now }
+        ensures contents { contents self.new ≡ contents self.old }
+        ensures ranges { OnOk result ((room self.new).ranges ≡ map piece_range pieces.now) }
+        ensures fences { OnOk result (fences ≤ (room self.new).fences) };
+
+    /// Adds a piece whose range is spare and meets no piece. The range, the first of the spare ones that is this
+    /// one, is spare no longer.
+    fn add_piece(&mut self, piece: Piece)
+        requires spare { FitsSpare (room self.old) piece }
+        requires apart { MeetsNone piece_range (piece_range piece) (contents self.old).pieces }
+        ensures contents { contents self.new ≡ after_add (contents self.old) piece }
+        ensures room { room self.new
+            ≡ record (room self.old) { ranges = without_first (piece_range piece) (room self.old).ranges } };
+
+    /// Takes the piece away that begins at a base. No range is spare then.
+    fn drop_piece(&mut self, base: u32)
+        requires { HasPiece (contents self.old) base }
+        ensures contents { contents self.new ≡ after_drop (contents self.old) base }
+        ensures room { room self.new ≡ record (room self.old) { ranges = [] } };
+
+    /// Writes bytes of code, which all lie in one code piece, from an address on.
+    fn poke_code(&mut self, address: u32, from: &[u8])
+        requires { HasCode (contents self.old).pieces address (length from.now) }
+        ensures contents { contents self.new ≡ after_write (contents self.old) address from.now }
+        ensures room { room self.new ≡ room self.old };
+
+    /// Retires a range, which isn't empty and meets no retired one. With `jump` its low is a spliced home. It takes one
+    /// spare retired range.
+    fn fence(&mut self, range: Range, jump: bool)
+        requires spare { 0 < (room self.old).fences }
+        requires full { range.low < range.high }
+        requires apart { MeetsNone fence_range range (contents self.old).fences }
+        ensures contents { contents self.new ≡ after_fence (contents self.old) (record { range = range; jump = jump }) }
+        ensures room { room self.new ≡ record (room self.old) { fences = (room self.old).fences - 1 } };
+
+    /// Retires a range no longer, and its low is no spliced home then.
+    fn unfence(&mut self, range: Range)
+        requires { IsRetired (contents self.old) range }
+        ensures contents { contents self.new ≡ after_unfence (contents self.old) range }
+        ensures room { room self.new ≡ room self.old };
 
     ghost valid: { (space : Self) → IsValid (contents space) };
 }

@@ -2,3 +2,4 @@ pub mod StackLaws
 pub mod ListLaws
 pub mod TakenLaws
 pub mod TurnLaws
+pub mod PlacedLaws

@@ -4,7 +4,8 @@ use Rattle.std.proofs.Math.ListN.{length-set}
 use Rattle.std.specs.List.{filter, slice_get}
 use Rattle.std.proofs.lemmas.Bool.Decides.{nat_tests}
 use Rattle.ia32_step.specs.declared.types.Thread.{Thread}
-use Rattle.image_threads.specs.Program.{runs, if_running, running_at, number_of, running_numbers, AreNumbered}
+use Rattle.ia32_step.specs.Threads.{runs}
+use Rattle.image_threads.specs.Program.{if_running, running_at, number_of, running_numbers, AreNumbered}
 
 pub numbered_on : (m : ℕ) (threads : List Thread) (t : Thread) → AreNumbered m threads → t.number ≡ m + length threads → AreNumbered m (threads ++ t ∷ [])
 numbered_on m [] t h e = (omega arith, tt)

@@ -16,8 +16,9 @@ use Rattle.image_memory.specs.Contents.{Contents, IsValid, piece_range, holding}
 use Rattle.image_memory.specs.Access.{kind_of, first_fault, write_fault, unwritable, overlaid, written}
 use Rattle.ia32_step.specs.Step.{shape}
 use Rattle.ia32_step.specs.declared.types.Thread.{Thread}
-use Rattle.image_file.specs.Keeps.{keeps_stack}
-use Rattle.image_threads.specs.Spawning.{is_writable, are_same, is_stack, AreStacks, is_taken, free_stack, first_bytes}
+use Rattle.image_threads.specs.Program.{IsStackRange}
+use Rattle.image_memory.specs.Ranges.{are_same}
+use Rattle.image_threads.specs.Spawning.{is_writable, is_stack, AreStacks, is_taken, free_stack, first_bytes}
 
 same_ends : (w : Bool) (a b c d : ℕ) → (w && ((a == b) && (c == d))) ≡ true → (w ≡ true) × (a ≡ b) × (c ≡ d)
 same_ends true a b c d h = grind (arith, nat_tests)
@@ -81,15 +82,9 @@ stack_written contents stack n valid h whole =
 pub length-first_bytes : (stack : Range) (argument : ℕ) → stack.low + 20 ≤ stack.high → stack.low + length (first_bytes stack argument) ≡ stack.high
 length-first_bytes stack argument h = simp (length-append, length-replicate) (omega arith)
 
-tall_kept : (arena : Range) (pieces : List Piece) (stack : Range) → IsTrue (keeps_stack arena pieces stack) → stack.low + 32 ≤ stack.high
-tall_kept arena pieces stack h = grind (arith, nat_tests)
-
--- each stack of an image has 32 bytes
-pub stacks_tall : (arena : Range) (pieces : List Piece) (stacks : List Range)
-    → All (λ stack. IsTrue (keeps_stack arena pieces stack)) stacks → All (λ stack. stack.low + 32 ≤ stack.high) stacks
-stacks_tall arena pieces stacks h =
-    All-weaker (λ (stack : Range). IsTrue (keeps_stack arena pieces stack)) (λ (stack : Range). stack.low + 32 ≤ stack.high)
-    (tall_kept arena pieces) stacks h
+-- each stack has 32 bytes
+pub all_tall : (stacks : List Range) → All IsStackRange stacks → All (λ stack. stack.low + 32 ≤ stack.high) stacks
+all_tall stacks h = All-weaker IsStackRange (λ (stack : Range). stack.low + 32 ≤ stack.high) (λ stack bounds. bounds.tall) stacks h
 
 as_long : (start : ℕ) (bytes : List ℕ) (address : ℕ) (old : List ℕ) → length (overlaid start bytes address old) ≡ length old
 unfolding overlaid
@@ -132,6 +127,19 @@ found_in p (x ∷ xs) =
 -- a stack that is found is one of the stacks
 pub stack_listed : (stacks : List Range) (threads : List Thread) (found : Option Range) → found ≡ free_stack stacks threads → IfSome found (Contains stacks)
 stack_listed stacks threads found e = rw e (found_in (λ stack. not (is_taken threads stack)) stacks)
+
+-- and no running thread has it
+pub stack_free : (stacks : List Range) (threads : List Thread) (found : Option Range) → found ≡ free_stack stacks threads
+    → IfSome found (λ stack. is_taken threads stack ≡ false)
+stack_free stacks threads found e = rw e (all_free stacks)
+  where
+    all_free : (stacks : List Range) → IfSome (free_stack stacks threads) (λ stack. is_taken threads stack ≡ false)
+    all_free [] = tt
+    all_free (x ∷ xs) =
+        elim (is_taken threads x) as (λ b. is_taken threads x ≡ b → IfSome (cond (not b) (Some x) (free_stack xs threads)) (λ stack. is_taken threads stack ≡ false)) [
+          | true ↦ λ _. all_free xs
+          | false ↦ λ free. free
+        ] refl
 
 pub stack_has : (P : Range → Type 0) (stacks : List Range) (found : Option Range) → IfSome found (Contains stacks) → All P stacks → IfSome found P
 stack_has P stacks found there h = IfSome_then found {P = Contains stacks} {Q = P} there (λ stack listed. All-contains P stacks stack h listed)

@@ -3,8 +3,10 @@ use Rattle.std.proofs.Common.{◌≡◌, ℕ, zero, suc, ◌+◌, true, false, �
 use Rattle.std.specs.List.{filter, list_any, slice_get}
 use Rattle.ks_base.specs.declared.places.Range.{Range}
 use Rattle.ia32_step.specs.declared.types.Thread.{Thread}
-use Rattle.image_threads.specs.Program.{runs, number_of, running_numbers, AreNumbered}
-use Rattle.image_threads.specs.Spawning.{are_same, is_taken, has_stack}
+use Rattle.ia32_step.specs.Threads.{runs}
+use Rattle.image_threads.specs.Program.{number_of, running_numbers, AreNumbered}
+use Rattle.image_memory.specs.Ranges.{are_same}
+use Rattle.image_threads.specs.Spawning.{is_taken, has_stack}
 
 -- the numbers of the threads from the number m on
 taken_from : (all : List Thread) (stack : Range) (m : ℕ) (threads : List Thread) → AreNumbered m threads

@@ -5,7 +5,8 @@ use Rattle.std.specs.List.{All, filter, find}
 use Rattle.std.proofs.lemmas.List.Elements.{All-nil, All-cons, All-head, All-weaker, All-contains}
 use Rattle.ia32_step.specs.declared.types.Thread.{Thread}
 use Rattle.image_threads.specs.declared.turns.Turn.{Turn}
-use Rattle.image_threads.specs.Program.{runs, running_at, number_of, running_numbers, AreNumbered}
+use Rattle.ia32_step.specs.Threads.{runs}
+use Rattle.image_threads.specs.Program.{running_at, number_of, running_numbers, AreNumbered}
 use Rattle.image_threads.specs.Turning.{Schedule, begun, longer, first_turn, turn_after, turn_from, next_turn}
 use Rattle.image_threads.proofs.StackLaws.{found_in}
 

@@ -1,12 +1,13 @@
 -- What a running program is: its memory, symbols, stacks and threads.
-use Rattle.std.specs.Prelude.{◌≡◌, ℕ, suc, Bool, true, false, List, [], ◌∷◌, map, Option, Some, None, if◌then◌else◌}
-use Rattle.std.specs.List.{filter, slice_get}
+use Rattle.std.specs.Prelude.{◌≡◌, ℕ, suc, ◌+◌, ◌%◌, ◌≤◌, List, [], ◌∷◌, map, Contains, Option, Some, None, if◌then◌else◌}
+use Rattle.std.specs.List.{All, filter, slice_get}
 use Rattle.ks_base.specs.declared.places.Range.{Range}
 use Rattle.image_memory.specs.Contents.{Contents, Room}
+use Rattle.image_memory.specs.Ranges.{Ascends}
 use Rattle.symbol_table.specs.Table.{Table}
-use Rattle.ia32_step.specs.declared.types.State.{State}
-use Rattle.ia32_step.specs.declared.types.State.TheVariants.{Running, Exited, Stopped}
+use Rattle.image_file.specs.Rules.{own_range}
 use Rattle.ia32_step.specs.declared.types.Thread.{Thread}
+use Rattle.ia32_step.specs.Threads.{runs}
 
 pub record Program : Type 0 where
   pub contents : Contents
@@ -14,14 +15,6 @@ pub record Program : Type 0 where
   pub table : Table
   pub stacks : List Range
   pub threads : List Thread
-
-abbrev pub is_running : State → Bool
-is_running Running = true
-is_running (Exited value) = false
-is_running (Stopped fault) = false
-
-abbrev pub runs : Thread → Bool
-runs thread = is_running thread.state
 
 abbrev pub if_running : Option Thread → Option Thread
 if_running None = None
@@ -42,3 +35,16 @@ running_numbers threads = map number_of (filter runs threads)
 abbrev pub AreNumbered : ℕ → List Thread → Type 0
 AreNumbered n [] = Unit {0}
 AreNumbered n (thread ∷ rest) = (thread.number ≡ n) × AreNumbered (suc n) rest
+
+-- a stack begins and ends at multiples of 16, and has 32 bytes or more
+pub record IsStackRange (stack : Range) : Type 0 where
+  pub low : stack.low % 16 ≡ 0
+  pub high : stack.high % 16 ≡ 0
+  pub tall : stack.low + 32 ≤ stack.high
+
+-- The stacks ascend and don't meet; each thread has one of them, and no two running threads have the same.
+pub record WellPlaced (stacks : List Range) (threads : List Thread) : Type 0 where
+  pub bounds : All IsStackRange stacks
+  pub ascend : Ascends own_range 0 stacks
+  pub listed : All (λ thread. Contains stacks thread.stack) threads
+  pub apart : (i j : ℕ) (a b : Thread) → running_at threads i ≡ Some a → running_at threads j ≡ Some b → a.stack ≡ b.stack → i ≡ j

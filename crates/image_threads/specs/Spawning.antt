@@ -9,21 +9,21 @@ use Rattle.ks_base.specs.declared.refusals.Refusal.TheVariants.{TooManyThreads, 
 use Rattle.image_memory.specs.declared.types.Kind.{Kind}
 use Rattle.image_memory.specs.declared.types.Kind.TheVariants.{Code, ReadOnly, Writable}
 use Rattle.image_memory.specs.declared.types.Piece.{Piece}
-use Rattle.image_memory.specs.Access.{after_write}
+use Rattle.image_memory.specs.Access.{written}
+use Rattle.image_memory.specs.Ranges.{are_same}
 use Rattle.image_memory.specs.Contents.{piece_range}
+use Rattle.symbol_table.specs.declared.symbols.Symbol.{Symbol}
 use Rattle.symbol_table.specs.Symbols.{function_named}
 use Rattle.ia32_alu.specs.declared.types.Flags.{Flags}
 use Rattle.ia32_step.specs.declared.types.State.TheVariants.{Running}
 use Rattle.ia32_step.specs.declared.types.Thread.{Thread}
-use Rattle.image_threads.specs.Program.{Program, runs}
+use Rattle.ia32_step.specs.Threads.{runs}
+use Rattle.image_threads.specs.Program.{Program}
 
 abbrev pub is_writable : Kind → Bool
 is_writable Code = false
 is_writable ReadOnly = false
 is_writable Writable = true
-
-abbrev pub are_same : Range → Range → Bool
-are_same a b = (a.low == b.low) && (a.high == b.high)
 
 -- whether a range of addresses is a writable piece
 abbrev pub is_stack : List Piece → Range → Bool
@@ -33,11 +33,11 @@ is_stack pieces range = list_any (λ piece. is_writable piece.kind && are_same (
 abbrev pub AreStacks : List Piece → List Range → Type 0
 AreStacks pieces ranges = All (λ range. IsTrue (is_stack pieces range)) ranges
 
--- whether a running thread has a stack
+-- whether a running thread has this stack
 abbrev pub is_taken : List Thread → Range → Bool
 is_taken threads stack = list_any (λ thread. runs thread && are_same thread.stack stack) threads
 
--- whether the thread of a number has a stack
+-- whether the thread of a number has this stack
 abbrev pub has_stack : List Thread → Range → ℕ → Bool
 has_stack threads stack n = unwrap_or (option_map (λ thread. are_same thread.stack stack) (slice_get threads n)) false
 
@@ -71,21 +71,37 @@ first_thread number stack pc = record {
   state = Running;
 }
 
-abbrev pub started_on : Program → ℕ → ℕ → Option Range → Result Program Refusal
-started_on program pc argument None = Err NoStack
-started_on program pc argument (Some stack) =
-    Ok (record program {
-      contents = after_write program.contents stack.low (first_bytes stack argument);
-      threads = program.threads ++ first_thread (length program.threads) stack pc ∷ [];
+-- what starting a thread leaves
+pub record Started : Type 0 where
+  pub pieces : List Piece
+  pub threads : List Thread
+
+abbrev pub started_on : List Piece → List Thread → (pc argument : ℕ) → Option Range → Result Started Refusal
+started_on pieces threads pc argument None = Err NoStack
+started_on pieces threads pc argument (Some stack) =
+    Ok (record {
+      pieces = written stack.low (first_bytes stack argument) pieces;
+      threads = threads ++ first_thread (length threads) stack pc ∷ [];
     })
 
-abbrev pub started_at : Program → ℕ → Result ℕ Refusal → Result Program Refusal
-started_at program argument (Err refusal) = Err refusal
-started_at program argument (Ok pc) =
-    if nat_le 4096 (length program.threads) then Err TooManyThreads
-    else started_on program pc argument (free_stack program.stacks program.threads)
+abbrev pub started_at : List Piece → List Range → List Thread → (argument : ℕ) → Result ℕ Refusal → Result Started Refusal
+started_at pieces stacks threads argument (Err refusal) = Err refusal
+started_at pieces stacks threads argument (Ok pc) =
+    if nat_le 4096 (length threads) then Err TooManyThreads
+    else started_on pieces threads pc argument (free_stack stacks threads)
 
--- The program after a thread was started at the function of a name, or why none is: the name has no function symbol or
--- several addresses, 4,096 threads were started, or each stack has a running thread.
-unfoldable pub spawned : Program → List ℕ → ℕ → Result Program Refusal
-spawned program name argument = started_at program argument (function_named program.table.symbols name)
+-- The pieces and threads after a thread was started at the function of a name, or why none is: the name has no function
+-- symbol or several addresses, 4,096 threads were started, or each stack has a running thread.
+unfoldable pub started : List Symbol → List Piece → List Range → List Thread → (name : List ℕ) → (argument : ℕ) → Result Started Refusal
+started symbols pieces stacks threads name argument =
+    started_at pieces stacks threads argument (function_named symbols name)
+
+abbrev pub with_started : Program → Result Started Refusal → Result Program Refusal
+with_started program (Err refusal) = Err refusal
+with_started program (Ok after) =
+    Ok (record program { contents = record program.contents { pieces = after.pieces }; threads = after.threads })
+
+-- the program after a thread was started, or why none is
+unfoldable pub spawned : Program → (name : List ℕ) → (argument : ℕ) → Result Program Refusal
+spawned program name argument =
+    with_started program (started program.table.symbols program.contents.pieces program.stacks program.threads name argument)

@@ -1,6 +1,7 @@
 //! What a thread and its stack are at first.
 ghost use Rattle.std.specs.Prelude.{◌≡◌, ◌≤◌, ◌+◌, IfOk};
-ghost use Rattle.image_threads.specs.Spawning.{are_same, is_taken, free_stack, first_top, first_bytes, first_thread};
+ghost use Rattle.image_memory.specs.Ranges.{are_same};
+ghost use Rattle.image_threads.specs.Spawning.{is_taken, free_stack, first_top, first_bytes, first_thread};
 
 use ia32_alu::Flags;
 use ia32_step::{State, Thread};

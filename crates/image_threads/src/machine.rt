@@ -1,19 +1,18 @@
 //! A program that runs: its memory, its symbols, its stacks and its threads.
-ghost use Rattle.std.specs.Prelude.{◌≡◌, ◌≢◌, ◌<◌, ◌≤◌, ◌+◌, ◌-◌, ◌++◌, [], ◌∷◌, length, map, IfOk, OnOk, OnErr, IfSome, IsTrue, Contains, MatchResult, Ok, Err};
-ghost use Rattle.std.specs.List.{All};
+ghost use Rattle.std.specs.Prelude.{◌≡◌, ◌≢◌, ◌<◌, ◌≤◌, ◌+◌, ◌-◌, ◌++◌, [], ◌∷◌, length, map, IfOk, OnOk, OnErr, IfSome, IsTrue, Contains, MatchResult, Ok, Err, false};
 ghost use Rattle.std.specs.Borrow.{Lends, sem};
 ghost use Rattle.ks_base.specs.declared.refusals.Refusal.TheVariants.{Memory};
 ghost use Rattle.ia32_step.specs.declared.types.State.TheVariants.{Running};
 ghost use Rattle.ia32_step.specs.Step.{left_by, shape, stepped};
 ghost use Rattle.image_memory.specs.Access.{after_write};
-ghost use Rattle.image_threads.specs.Program.{AreNumbered, running_at, running_numbers};
-ghost use Rattle.image_threads.specs.Spawning.{is_stack, AreStacks, free_stack, first_bytes, first_thread, spawned};
+ghost use Rattle.image_threads.specs.Program.{AreNumbered, WellPlaced, running_at, running_numbers};
+ghost use Rattle.image_threads.specs.Spawning.{is_stack, AreStacks, is_taken, free_stack, first_bytes, first_thread, spawned};
 ghost use Rattle.image_threads.specs.Stepping.{moved};
 
 use crate::first::first_bytes;
 use crate::stacks::fill_stack;
 use crate::thread_list::ThreadList;
-use ia32_step::{Outcome, Thread, step_thread, steps_keep};
+use ia32_step::{Outcome, Thread, Threads, step_thread, steps_keep};
 use image_file::Image;
 use image_memory::Space;
 use ks_base::{Name, Range, Ranges, Refusal};
@@ -31,15 +30,13 @@ pub struct Machine<S: Space> {
 }
 
 impl<S: Space> Model for Machine<S> {
-    ghost use Rattle.std.specs.Prelude.{◌≤◌, ◌+◌};
-    ghost use Rattle.std.specs.List.{All};
-    ghost use Rattle.image_threads.specs.Program.{Program};
+    ghost use Rattle.image_threads.specs.Program.{Program, WellPlaced};
 
     ghost Value = { Program };
 
     ghost view = { λ m. record { contents = S.contents m.space; room = S.room m.space; table = m.symbols; stacks = m.stacks; threads = m.threads } };
 
-    ghost invariant = { λ m. All (λ stack. stack.low + 32 ≤ stack.high) m.stacks };
+    ghost invariant = { λ m. WellPlaced m.stacks m.threads };
 }
 
 impl<S: Space> Machine<S> {
@@ -62,13 +59,15 @@ impl<S: Space> Machine<S> {
         })
     }
 
-    /// The threads in the order of their numbers: no more than 4,096, numbered from 0.
-    pub fn threads(&self) -> &[Thread]
+    /// The threads in the order of their numbers: no more than 4,096, numbered from 0. Each has one of the stacks,
+    /// which ascend and don't meet, and no two running threads have the same.
+    pub fn threads(&self) -> &Threads
         ensures threads { result.now ≡ self.now.threads }
         ensures numbered { AreNumbered 0 self.now.threads }
         ensures few { length self.now.threads ≤ 4096 }
+        ensures placed { WellPlaced self.now.stacks self.now.threads }
     {
-        self.threads.as_slice()
+        self.threads.all()
     }
 
     /// The memory.
@@ -120,6 +119,7 @@ impl<S: Space> Machine<S> {
     /// The first stack that no running thread has.
     fn free_stack(&self) -> Option<Range>
         ensures first { result ≡ free_stack self.now.stacks self.now.threads }
+        ensures free { IfSome result (λ stack. is_taken self.now.threads stack ≡ false) }
         ensures listed { IfSome result (Contains self.now.stacks) }
         ensures tall { IfSome result (λ stack. stack.low + 32 ≤ stack.high) }
     {
@@ -131,6 +131,8 @@ impl<S: Space> Machine<S> {
         requires few { length self.old.threads < 4096 }
         requires tall { stack.low + 32 ≤ stack.high }
         requires writable { IsTrue (is_stack self.old.contents.pieces stack) }
+        requires listed { Contains self.old.stacks stack }
+        requires free { is_taken self.old.threads stack ≡ false }
         ensures started { OnOk result (self.new ≡ record self.old {
           contents = after_write self.old.contents stack.low (first_bytes stack argument);
           threads = self.old.threads ++ first_thread (length self.old.threads) stack pc ∷ [];
@@ -150,7 +152,7 @@ impl<S: Space> Machine<S> {
     /// function symbol has the name, then [`Refusal::TwoNames`] where several addresses have, [`Refusal::TooManyThreads`]
     /// where 4,096 threads were started, [`Refusal::NoStack`] where each stack has a running thread, and
     /// [`Refusal::Memory`] for want of memory alone; all is then as before.
-    #[tactic(auto, unfolding(crate::specs::Spawning::spawned))]
+    #[tactic(auto, unfolding(crate::specs::Spawning::spawned, crate::specs::Spawning::started))]
     pub fn spawn(&mut self, name: &Name, argument: u32) -> Result<u32, Refusal>
         requires { AreStacks self.old.contents.pieces self.old.stacks }
         ensures started { MatchResult result
@@ -196,12 +198,13 @@ fn free_among(stacks: &[Range], threads: &ThreadList) -> Option<Range>
     stacks.iter().copied().find(|stack| !threads.has(*stack))
 }
 
-/// Steps a running thread, which keeps its number.
+/// Steps a running thread, which keeps its number and its stack.
 fn step_numbered<S: Space>(space: &mut S, thread: &mut Thread) -> Outcome
     requires running { thread.old.state ≡ Running }
     ensures left { left_by (S.contents space.new) thread.new result ≡ stepped (S.contents space.old) thread.old }
     ensures room { S.room space.new ≡ S.room space.old }
     ensures number { thread.new.number ≡ thread.old.number }
+    ensures stack { thread.new.stack ≡ thread.old.stack }
     ensures shapes { map shape (S.contents space.new).pieces ≡ map shape (S.contents space.old).pieces }
 {
     steps_keep();

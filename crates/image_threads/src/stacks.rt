@@ -2,7 +2,8 @@
 ghost use Rattle.std.specs.Prelude.{◌≡◌, ◌+◌, ◌&&◌, ◌↔◌, length, IsTrue};
 ghost use Rattle.image_memory.specs.Contents.{piece_range};
 ghost use Rattle.image_memory.specs.Access.{after_write};
-ghost use Rattle.image_threads.specs.Spawning.{is_writable, are_same, is_stack, AreStacks};
+ghost use Rattle.image_memory.specs.Ranges.{are_same};
+ghost use Rattle.image_threads.specs.Spawning.{is_writable, is_stack, AreStacks};
 
 use image_memory::{Kind, Piece, Pieces, Space};
 use ks_base::{Range, Ranges};

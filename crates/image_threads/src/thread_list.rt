@@ -2,14 +2,17 @@
 ghost use Rattle.std.specs.Prelude.{◌≡◌, ◌<◌, ◌≤◌, ◌++◌, [], ◌∷◌, length, nat_le, set, OnOk, OnErr, IfOk, IsSome, IfSome, Some};
 ghost use Rattle.std.specs.List.{slice_get, list_any};
 ghost use Rattle.ia32_step.specs.declared.types.State.TheVariants.{Running};
-ghost use Rattle.image_threads.specs.Program.{AreNumbered, running_at, running_numbers, if_running, is_running};
-ghost use Rattle.image_threads.specs.Spawning.{is_taken, has_stack, first_thread, are_same};
+ghost use Rattle.ia32_step.specs.Threads.{is_running};
+ghost use Rattle.image_threads.specs.Program.{AreNumbered, running_at, running_numbers, if_running};
+ghost use Rattle.image_memory.specs.Ranges.{are_same};
+ghost use Rattle.image_threads.specs.Spawning.{is_taken, has_stack, first_thread};
 
 use crate::first::first_thread;
-use ia32_step::{State, Thread};
+use ia32_step::{State, Thread, Threads};
 use ks_base::Range;
 use std::alloc::{AllocError, Global};
 use std::marker::Model;
+use std::mem;
 
 /// How many threads may be started in all.
 const MOST_THREADS: usize = 4_096;
@@ -17,7 +20,7 @@ const MOST_THREADS: usize = 4_096;
 /// The threads that were started, numbered from 0: no more than 4,096. A clause sees them as their list.
 #[derive(Drop)]
 pub(crate) struct ThreadList {
-    threads: Vec<Thread>,
+    threads: Threads,
     // the numbers of the threads that run, ascending: no more than there are stacks
     running: Vec<u32>,
 }
@@ -29,9 +32,9 @@ impl Model for ThreadList {
 
     ghost Value = { List Thread };
 
-    ghost view = { λ l. l.threads.items };
+    ghost view = { λ l. l.threads };
 
-    ghost invariant = { λ l. AreNumbered 0 l.threads.items × ((l.running.items ≡ running_numbers l.threads.items) × (length l.threads.items ≤ 4096)) };
+    ghost invariant = { λ l. AreNumbered 0 l.threads × ((l.running.items ≡ running_numbers l.threads) × (length l.threads ≤ 4096)) };
 }
 
 impl ThreadList {
@@ -40,23 +43,23 @@ impl ThreadList {
         ensures { result ≡ [] }
     {
         ThreadList {
-            threads: Vec::new(alloc),
+            threads: Threads::new(alloc),
             running: Vec::new(alloc),
         }
     }
 
     /// The allocator that the list was made with.
     pub(crate) fn alloc(&self) -> Global {
-        *self.threads.allocator()
+        *self.running.allocator()
     }
 
     /// The threads, numbered from 0.
-    pub(crate) fn as_slice(&self) -> &[Thread]
+    pub(crate) fn all(&self) -> &Threads
         ensures threads { result.now ≡ self.now }
         ensures numbered { AreNumbered 0 self.now }
         ensures few { length self.now ≤ 4096 }
     {
-        self.threads.as_slice()
+        &self.threads
     }
 
     /// The numbers of the running threads, ascending.
@@ -121,11 +124,22 @@ impl ThreadList {
         ensures { self.new ≡ set self.old thread.number thread }
     {
         let number = thread.number;
-        self.threads[number as usize] = thread;
+        let alloc = self.alloc();
+        set_thread(alloc, &mut self.threads, number as usize, thread);
         if !is_running(thread.state) {
             self.running.retain(|other| *other != number);
         }
     }
+}
+
+/// Puts a thread in the place of that at an index. The list is taken apart for it, which moves no other thread.
+fn set_thread(alloc: Global, threads: &mut Threads, index: usize, thread: Thread)
+    requires { index < length threads.old }
+    ensures { threads.new ≡ set threads.old index thread }
+{
+    let mut items = mem::replace(threads, Threads::new(alloc)).into_vec();
+    items[index] = thread;
+    *threads = Threads::from_vec(items);
 }
 
 fn thread_at(threads: &[Thread], number: u32) -> Option<Thread>

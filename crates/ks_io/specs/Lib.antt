@@ -3,3 +3,7 @@ pub mod Answered
 pub mod Fronts
 pub mod InMemory
 pub mod Held
+pub mod Kept
+pub mod KeptLaws
+pub mod Loads
+pub mod LoadLaws

@@ -4,14 +4,16 @@
 #![tactic(auto)]
 
 mod counters;
+mod loading;
 mod memory_files;
 mod memory_sink;
 mod outside;
 mod types;
 mod writing;
 
+pub use loading::load_all;
 pub use memory_files::MemoryFiles;
 pub use memory_sink::MemorySink;
 pub use outside::{Files, Sink};
-pub use types::{FileFault, SinkFault};
+pub use types::{FileFault, Lost, SinkFault, Wanted};
 pub use writing::write_all;

@@ -1,4 +1,4 @@
-//! The faults that files and sinks answer with.
+//! The faults that files and sinks answer with, and the files that are wanted.
 ghost use Rattle.std.specs.Prelude.{◌≡◌};
 
 use std::alloc::AllocError;
@@ -30,6 +30,20 @@ impl From<AllocError> for FileFault {
     fn from(_error: AllocError) -> FileFault {
         FileFault::Memory
     }
+}
+
+/// A file that is wanted: its name, and the most bytes that it may have.
+#[derive(Clone, Copy, Debug)]
+pub struct Wanted<'a> {
+    pub name: &'a str,
+    pub limit: u32,
+}
+
+/// A file that was not loaded: which of those that were wanted, counted from 0, and why.
+#[derive(Clone, Copy, Debug, PartialEq, Eq)]
+pub struct Lost {
+    pub index: usize,
+    pub fault: FileFault,
 }
 
 /// Why a sink took nothing.

@@ -1,5 +1,6 @@
 //! Writing a whole piece to a sink.
-ghost use Rattle.std.specs.Prelude.{◌≡◌, ◌≢◌, ◌≤◌, OnOk, OnErr, IsErrOf};
+ghost use Rattle.std.specs.Prelude.{◌≡◌, ◌≢◌, OnOk, OnErr, IsErrOf};
+ghost use Rattle.ks_io.specs.Kept.{SinkKept};
 ghost use Rattle.ks_io.specs.Outside.{Rose, TookPart, grown};
 
 use crate::outside::Sink;
@@ -12,9 +13,7 @@ pub fn write_all<O: Sink>(out: &mut O, piece: &[u8]) -> Result<(), SinkFault>
     ensures part { OnErr result (TookPart (O.taken out.old) piece.now (O.taken out.new)) }
     ensures failed { IsErrOf result SinkFault.SinkFailed
         → Rose (O.faults out.old) (O.faults out.new) }
-    ensures never_falls { O.faults out.old ≤ O.faults out.new }
-    ensures quiet_kept { O.quiet out.old → O.quiet out.new }
-    ensures quiet_faults { O.quiet out.old → O.faults out.new ≡ O.faults out.old }
+    ensures kept { SinkKept O.faults O.quiet out.old out.new }
     ensures quiet_answer { O.quiet out.old → result ≢ Err SinkFault.SinkFailed }
 {
     let mut rest = piece;

@@ -1,8 +1,9 @@
-pub mod Loads
-pub mod BothLoads
+pub mod CallAnswers
 pub mod Listings
 pub mod Replies
 pub mod Codes
 pub mod Pages
+pub mod OneLoading
 pub mod OneAnswer
+pub mod Promised
 pub mod Sessions

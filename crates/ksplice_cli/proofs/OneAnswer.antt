@@ -1,8 +1,11 @@
 -- A call has one answer, since two objects have one extract.
-use Rattle.std.proofs.Common.{◌≡◌, ℕ, Bool, true, false, ◌==◌, List, Option, Some, None, Result, Ok, Err, sym, ap, subst, ◌∙◌}
+use Rattle.std.proofs.Common.{◌≡◌, ℕ, List, [], ◌∷◌, Option, Some, None, Result, Ok, Err, sym, ap, subst, ◌∙◌}
 use Rattle.std.specs.Result.{result_ok, result_err}
 use Rattle.std.proofs.lemmas.Option.{same_Some}
 use Rattle.ks_base.specs.declared.refusals.Refusal.{Refusal}
+use Rattle.ks_io.specs.Loads.{Needed, CameTo, first_lacking}
+use Rattle.ks_io.specs.Outside.{Counts}
+use Rattle.ks_io.specs.declared.types.FileFault.{FileFault}
 use Rattle.i386_reloc.specs.declared.types.NormalSection.{NormalSection}
 use Rattle.extract_post.specs.declared.types.Extract.{Extract}
 use Rattle.extract_post.specs.Extract.{Extracts}
@@ -11,7 +14,8 @@ use Rattle.ksplice_cli.specs.Difference.{listing}
 use Rattle.ksplice_cli.specs.Reply.{both_sections, IsDifference, IsReply, reply_answer}
 use Rattle.ksplice_cli.specs.Reply.IsDifference.{Unread, NoneExtracted, Lists}
 use Rattle.ksplice_cli.specs.Words.{Asked, Diff, Code, Run}
-use Rattle.ksplice_cli.specs.Calls.{Found, Held, NotHeld, AfterLoad, IsAnswer, found_file, object_limit, image_limit, script_limit}
+use Rattle.ksplice_cli.specs.Calls.{IsAnswer, IsAnswerBy, failed_load, named_files, needed}
+use Rattle.ksplice_cli.proofs.OneLoading.{same_loads}
 
 -- two objects have one extract or one refusal
 abbrev HasOneExtract : Type 0
@@ -54,22 +58,25 @@ one_reply : HasOneExtract → (pre post : List ℕ) (one other : Answer) → IsR
 one_reply law pre post one other is is' =
     is.told ∙ ap reply_answer (one_difference law pre post is.reply is'.reply is.difference is'.difference) ∙ sym is'.told
 
-one_after_load : (failed : Bool) (found : Found) (name : List ℕ) (rest : List ℕ → Answer → Type 0)
-    → ((bytes : List ℕ) (one other : Answer) → rest bytes one → rest bytes other → one ≡ other)
-    → (one other : Answer) → AfterLoad failed found name rest one → AfterLoad failed found name rest other → one ≡ other
-one_after_load true found name rest each one other is is' = is ∙ sym is'
-one_after_load false (Held bytes) name rest each one other is is' = each bytes one other is is'
-one_after_load false (NotHeld fault) name rest each one other is is' = is ∙ sym is'
+one_by : HasOneExtract → (first : Option Needed) (command : Asked) (held : List (List ℕ)) (lost : Option FileFault) (one other : Answer)
+    → IsAnswerBy first command held lost one → IsAnswerBy first command held lost other → one ≡ other
+one_by law (Some file) command held lost one other is is' = is ∙ sym is'
+one_by law None (Diff pre post) (old ∷ new ∷ held) lost one other is is' = one_reply law old new one other is is'
+one_by law None (Code image name) (bytes ∷ held) lost one other is is' = is ∙ sym is'
+one_by law None (Run image script) (bytes ∷ lines ∷ held) lost one other is is' = is ∙ sym is'
+one_by law None (Diff pre post) [] lost one other is is' = absurd is
+one_by law None (Diff pre post) (old ∷ []) lost one other is is' = absurd is
+one_by law None (Code image name) [] lost one other is is' = absurd is
+one_by law None (Run image script) [] lost one other is is' = absurd is
+one_by law None (Run image script) (bytes ∷ []) lost one other is is' = absurd is
 
-pub one_answer : HasOneExtract → (files : List ℕ → Option (List ℕ)) (failing : ℕ) (asked : Option Asked) (one other : Answer) → IsAnswer files failing asked one → IsAnswer files failing asked other → one ≡ other
-one_answer law files failing None one other is is' = is ∙ sym is'
-one_answer law files failing (Some (Diff pre post)) one other is is' =
-    one_after_load (failing == 1) (found_file object_limit (files pre)) pre _
-    (λ old. one_after_load (failing == 2) (found_file object_limit (files post)) post (IsReply old) (one_reply law old))
-    one other is is'
-one_answer law files failing (Some (Code image name)) one other is is' =
-    one_after_load (failing == 1) (found_file image_limit (files image)) image _ (λ bytes one other is is'. is ∙ sym is') one other is is'
-one_answer law files failing (Some (Run image script)) one other is is' =
-    one_after_load (failing == 1) (found_file image_limit (files image)) image _
-    (λ bytes. one_after_load (failing == 2) (found_file script_limit (files script)) script _ (λ lines one other is is'. is ∙ sym is'))
-    one other is is'
+one_of : HasOneExtract → (asked : Option Asked) (held : List (List ℕ)) (lost : Option FileFault) (one other : Answer) → IsAnswer asked held lost one → IsAnswer asked held lost other → one ≡ other
+one_of law None held lost one other is is' = is ∙ sym is'
+one_of law (Some command) held lost one other is is' = one_by law (first_lacking (named_files (Some command)) held) command held lost one other is is'
+
+pub one_answer : HasOneExtract → (files : List ℕ → Option (List ℕ)) (asked : Option Asked) (held held' : List (List ℕ)) (lost lost' : Option FileFault) (before now before' now' : Counts) (one other : Answer)
+    → CameTo (Some files) (needed asked held) held lost before now → CameTo (Some files) (needed asked held') held' lost' before' now'
+    → failed_load held lost ≡ failed_load held' lost' → IsAnswer asked held lost one → IsAnswer asked held' lost' other → (one.status ≡ 6 → ⊥) → (other.status ≡ 6 → ⊥) → one ≡ other
+one_answer law files asked held held' lost lost' before now before' now' one other loads loads' failed is is' ample ample' =
+    let same = same_loads files asked held held' lost lost' before now before' now' one other loads loads' failed is is' ample ample' in
+    one_of law asked held lost one other is (subst (λ (x : List (List ℕ)). IsAnswer asked x lost other) (sym same.0) (subst (λ (x : Option FileFault). IsAnswer asked held' x other) (sym same.1) is'))

@@ -2,13 +2,10 @@
 use Rattle.std.proofs.Common.{◌≡◌, ◌≢◌, ◌⊎◌, inl, inr, ℕ, List, Option, None, Result, Ok, Err, IfOk, IfErr, codes, refl, subst}
 use Rattle.ks_base.specs.declared.refusals.Refusal.{Refusal}
 use Rattle.ks_base.specs.declared.refusals.Refusal.TheVariants.{Memory}
-use Rattle.ks_io.specs.Outside.{Counts}
 use Rattle.i386_reloc.specs.declared.types.NormalSection.{NormalSection}
 use Rattle.extract_post.specs.Extract.{Extracts}
-use Rattle.ksplice_cli.specs.Answer.{Answer, ComesOut, answer_of, refused_answer, usage_answer}
+use Rattle.ksplice_cli.specs.Answer.{Answer, ComesOut, OneComesOut, Answered, NoMemory, answer_of, refused_answer, usage_answer}
 use Rattle.ksplice_cli.specs.Reply.{IsDifference, NoneExtracted, Lists, Listed, IsReply, both_sections}
-use Rattle.ksplice_cli.specs.Words.{Asked}
-use Rattle.ksplice_cli.specs.Calls.{OneComesOut, Answered, NoMemory, Answers}
 
 -- the lines of an extract are the difference
 pub listed : (pre post : List ℕ) (old new : List NormalSection) (result : Result (List ℕ) Refusal) → both_sections pre post ≡ Ok (old, new)
@@ -55,8 +52,3 @@ refusal_comes_out pre post refusal old new status difference =
 pub usage_comes_out : (output : List ℕ) (old new : Option (List ℕ)) (status : ℕ) → output ≡ codes "usage: ksplice diff PRE POST | code IMAGE NAME | run IMAGE SCRIPT\n"
     → ComesOut (answer_of output 2) old new status → ComesOut usage_answer old new status
 usage_comes_out output old new status e out = subst (λ (x : List ℕ). ComesOut (answer_of x 2) old new status) e out
-
-pub usage_answers : (asked : Option Asked) (files : List ℕ → Option (List ℕ)) (before now : Counts) (old new : Option (List ℕ)) (status : ℕ) → asked ≡ None
-    → ComesOut usage_answer old new status → Answers asked files before now old new status
-usage_answers asked files before now old new status none out =
-    record { failing = 0; caused = λ no. absurd (no refl); answer = Answered usage_answer (rw none refl) out }

@@ -1,22 +1,54 @@
 -- How a session's end, or why there is none, makes the answer of `run`.
-use Rattle.std.proofs.Common.{◌≡◌, ◌≢◌, ℕ, List, Option, Ok, Err, sym, ap}
+use Rattle.std.proofs.Common.{◌≡◌, ◌≢◌, ℕ, List, [], Option, None, Ok, Err, refl, sym, ap, ◌∙◌}
+use Rattle.std.proofs.lemmas.List.{append-nil}
 use Rattle.ks_base.specs.declared.refusals.Refusal.{Refusal}
 use Rattle.ks_base.specs.declared.refusals.Refusal.TheVariants.{Memory}
+use Rattle.ks_io.specs.Outside.{Counts, TookFront, grown}
+use Rattle.ks_io.specs.Loads.{Told}
+use Rattle.ks_io.specs.LoadLaws.{CameTo-nothing}
+use Rattle.ks_io.specs.declared.types.FileFault.{FileFault}
 use Rattle.script_lines.specs.declared.types.Command.{Command}
-use Rattle.ksplice_session.specs.CallTable.{CallTable}
-use Rattle.ksplice_cli.specs.Answer.{ComesOut, refused_answer}
-use Rattle.ksplice_cli.specs.Reply.{session_of, lines_answer, session_answer, run_answer}
-use Rattle.ksplice_cli.specs.Calls.{OneComesOut, Answered}
+use Rattle.update_stack.specs.CallTable.{CallTable}
+use Rattle.ksplice_session.specs.Session.{Ends, AllDone, AllRun, FileStopped, SinkStopped, SinkAtFile, MemoryInLine, MemoryAfterLine, MemoryAtFile, SessionEnds, whole_output}
+use Rattle.ksplice_session.specs.declared.types.SessionEnd.{SessionEnd}
+use Rattle.ksplice_cli.specs.Answer.{ComesOut, Answered, refused_answer}
+use Rattle.ksplice_cli.specs.Calls.{RunAnswers, end_status, session_files}
+use Rattle.ksplice_cli.specs.Reply.{session_of, session_answer, lines_answer, run_answer}
 use Rattle.ksplice_cli.proofs.Replies.{refusal_is_one}
 
--- the answer to the lines is the answer to the files
-pub lines_come_out : (image script : List ℕ) (k : CallTable) (lines : List Command) (old new : Option (List ℕ)) (status : ℕ) → session_of image script ≡ Ok (k, lines)
-    → ComesOut (lines_answer k lines) old new status → OneComesOut (λ answer. answer ≡ run_answer image script) old new status
-lines_come_out image script k lines old new status read out = Answered (lines_answer k lines) (ap session_answer (sym read)) out
+-- the answer to the lines comes out
+lines_come_out : (k : CallTable) (script : List Command) (held : List (List ℕ)) (lost : Option FileFault) (old new : Option (List ℕ)) (now : CallTable) (end : SessionEnd)
+    → Ends k script held lost old new now end → TookFront old (whole_output k script held lost) new → ComesOut (lines_answer k script held lost) old new (end_status end)
+lines_come_out k script held lost old new now _ (AllDone all none taken _) front =
+    (rw (all, none) refl, rw all (taken ∙ ap (grown old) (sym (append-nil _))))
+lines_come_out k script held lost old new now _ (AllRun all some taken _) front =
+    (rw (all, some) refl, rw all (taken ∙ ap (grown old) (sym (append-nil _))))
+lines_come_out k script held lost old new now _ (FileStopped file fault lacks is taken _) front = (rw (lacks, is) refl, rw (lacks, is) taken)
+lines_come_out k script held lost old new now _ (SinkStopped _ _ _ _) front = front
+lines_come_out k script held lost old new now _ (SinkAtFile _ _ _ _ _ _) front = front
+lines_come_out k script held lost old new now _ (MemoryInLine _ _ _ _) front = front
+lines_come_out k script held lost old new now _ (MemoryAfterLine _ _ _ _) front = front
+lines_come_out k script held lost old new now _ (MemoryAtFile _ _ _ _) front = front
 
--- why there is no session comes out
-pub no_session_comes_out : (image script : List ℕ) (refusal : Refusal) (old new : Option (List ℕ)) (status : ℕ)
+-- The session of image and script ended.
+pub session_answers : (image script : List ℕ) (k : CallTable) (lines : List Command) (told : Told) (before after : Counts) (old new : Option (List ℕ)) (now : CallTable) (end : SessionEnd) (status : ℕ)
+    → session_of image script ≡ Ok (k, lines) → SessionEnds told k lines before after old new now end → status ≡ end_status end → RunAnswers image script told before after old new status
+session_answers image script k lines told before after old new now end status read ends is = record {
+  held = ends.held;
+  lost = ends.lost;
+  loads = rw read ends.loads;
+  answer = Answered (run_answer image script ends.held ends.lost) refl
+      (rw (is, read) (lines_come_out k lines ends.held ends.lost old new now end ends.ends ends.front));
+}
+
+-- There is no session, and why comes out.
+pub no_session_answers : (image script : List ℕ) (refusal : Refusal) (told : Told) (before : Counts) (old new : Option (List ℕ)) (status : ℕ)
     → (refusal ≢ Memory → session_of image script ≡ Err refusal) → (refusal ≢ Memory → ComesOut (refused_answer refusal) old new status) → (refusal ≡ Memory → (status ≡ 6) × (new ≡ old))
-    → OneComesOut (λ answer. answer ≡ run_answer image script) old new status
-no_session_comes_out image script refusal old new status read =
-    refusal_is_one (λ answer. answer ≡ run_answer image script) refusal old new status (λ ample. ap session_answer (sym (read ample)))
+    → RunAnswers image script told before before old new status
+no_session_answers image script refusal told before old new status read out memory = record {
+  held = [];
+  lost = None;
+  loads = CameTo-nothing told (session_files (session_of image script)) before;
+  answer = refusal_is_one (λ answer. answer ≡ run_answer image script [] None) refusal old new status
+      (λ ample. ap (λ read. session_answer read [] None) (sym (read ample))) out memory;
+}

@@ -1,12 +1,12 @@
 -- What a call answers: its output and its status.
-use Rattle.std.specs.Prelude.{◌≡◌, ℕ, ◌||◌, ◌==◌, List, [], ◌∷◌, ◌++◌, codes, Option, MatchBool}
-use Rattle.ks_base.specs.Text.{shown_name}
+use Rattle.std.specs.Prelude.{◌≡◌, ℕ, ◌||◌, ◌==◌, List, codes, Option, Some, None, MatchBool}
 use Rattle.ks_base.specs.declared.refusals.Refusal.{Refusal}
 use Rattle.ks_base.specs.declared.refusals.Refusal.TheVariants.{BadImage, BadLine}
 use Rattle.ks_base.specs.Refusals.{refusal_line}
+use Rattle.ks_io.specs.Loads.{Needed}
 use Rattle.ks_io.specs.Outside.{grown, TookFront}
 use Rattle.ks_io.specs.declared.types.FileFault.{FileFault}
-use Rattle.ks_io.specs.declared.types.FileFault.TheVariants.{Missing, TooLong, Failed, Memory}
+use Rattle.ksplice_session.specs.Session.{lost_line}
 
 pub record Answer : Type 0 where
   pub output : List ℕ
@@ -29,18 +29,14 @@ refused_status other = 3
 abbrev pub refused_answer : Refusal → Answer
 refused_answer refusal = record { output = refusal_line refusal; status = refused_status refusal }
 
--- the line of a file that was not loaded, with status 4; want of memory has no line
-abbrev pub fault_text : FileFault → List ℕ
-fault_text Missing = codes "missing"
-fault_text TooLong = codes "too long"
-fault_text Failed = codes "failed"
-fault_text Memory = []
+-- the status where a file is lacking: 4 for a fault of the outside, and 6 where memory ran out
+abbrev pub lost_status : Option FileFault → ℕ
+lost_status None = 6
+lost_status (Some fault) = 4
 
-abbrev pub file_line : List ℕ → List ℕ → List ℕ
-file_line name fault = codes "file " ++ shown_name name ++ codes " " ++ fault ++ 10 ∷ []
-
-abbrev pub file_answer : List ℕ → FileFault → Answer
-file_answer name fault = record { output = file_line name (fault_text fault); status = 4 }
+-- the line of a file that was not loaded, with its status; want of memory has no line
+abbrev pub lost_answer : Needed → Option FileFault → Answer
+lost_answer file lost = answer_of (lost_line (Some file) lost) (lost_status lost)
 
 -- An answer comes out: with its status and its whole output; or with 5, for a fault of the sink, or 6, for want of
 -- memory, and a front of its output.
@@ -49,3 +45,8 @@ ComesOut answer old new status =
     MatchBool (status == 5 || status == 6)
     (TookFront old answer.output new)
     ((status ≡ answer.status) × (new ≡ grown old answer.output))
+
+-- One of these answers comes out; or memory ran out before there was one, and nothing came out.
+pub data OneComesOut (IsOne : Answer → Type 0) (old new : Option (List ℕ)) (status : ℕ) : Type 0 where
+  Answered : (answer : Answer) → IsOne answer → ComesOut answer old new status → OneComesOut IsOne old new status
+  NoMemory : status ≡ 6 → new ≡ old → OneComesOut IsOne old new status

@@ -1,26 +1,19 @@
--- What a call of the program does: which answers are those to its words and to what the files are.
-use Rattle.std.specs.Prelude.{◌≡◌, ◌≢◌, ◌⊎◌, ℕ, ◌<◌, ◌≤◌, Bool, true, false, ◌==◌, nat_eq, nat_le, if◌then◌else◌, List, [], ◌∷◌, length, Option, Some, None}
+-- What a call of the program does: which files it loads, and which answers are those to its words and its files.
+use Rattle.std.specs.Prelude.{◌≡◌, ℕ, Bool, nat_eq, List, [], ◌∷◌, ◌++◌, length, Option, Some, None, Result, Ok, Err}
 use Rattle.std.specs.List.{list_any}
-use Rattle.ks_io.specs.Outside.{Counts, Rose, IsLonger, grown}
-use Rattle.ks_io.specs.Answered.{ShowsIn}
+use Rattle.ks_base.specs.declared.refusals.Refusal.{Refusal}
+use Rattle.ks_io.specs.Loads.{Needed, Told, CameTo, first_lacking}
+use Rattle.ks_io.specs.Outside.{Counts}
 use Rattle.ks_io.specs.declared.types.FileFault.{FileFault}
 use Rattle.ks_io.specs.declared.types.FileFault.TheVariants.{Missing, TooLong, Failed, Memory}
-use Rattle.ksplice_cli.specs.Answer.{Answer, usage_answer, file_answer, file_line, fault_text, ComesOut}
-use Rattle.ksplice_cli.specs.Reply.{IsReply, code_answer, run_answer}
+use Rattle.script_lines.specs.declared.types.Command.{Command}
+use Rattle.update_stack.specs.CallTable.{CallTable}
+use Rattle.ksplice_session.specs.Session.{files_along}
+use Rattle.ksplice_session.specs.declared.types.SessionEnd.{SessionEnd}
+use Rattle.ksplice_session.specs.declared.types.SessionEnd.TheVariants.{Done, SomeRefused, FileEnd, SinkEnd, MemoryEnd}
+use Rattle.ksplice_cli.specs.Answer.{Answer, OneComesOut, usage_answer, lost_answer}
+use Rattle.ksplice_cli.specs.Reply.{IsReply, code_answer, run_answer, session_of}
 use Rattle.ksplice_cli.specs.Words.{Asked, Diff, Code, Run}
-
--- what a load finds where the files are told: the file's bytes, or why there are none
-pub data Found : Type 0 where
-  Held : (bytes : List ℕ) → Found
-  NotHeld : (fault : FileFault) → Found
-
-abbrev pub found_file : ℕ → Option (List ℕ) → Found
-found_file limit None = NotHeld Missing
-found_file limit (Some bytes) = if nat_le (length bytes) limit then Held bytes else NotHeld TooLong
-
-abbrev pub IsHeld : Found → Type 0
-IsHeld (Held bytes) = Unit {0}
-IsHeld (NotHeld fault) = ⊥
 
 -- the most bytes that an object file may have, an image file, and a script
 abbrev pub object_limit : ℕ
@@ -32,153 +25,80 @@ image_limit = 33554432
 abbrev pub script_limit : ℕ
 script_limit = 1048576
 
--- the answers of a load, given those of what comes after it; a load that the outside fails ends the call whatever the
--- file is
-abbrev pub AfterLoad : Bool → Found → List ℕ → (List ℕ → Answer → Type 0) → Answer → Type 0
-AfterLoad true found name rest answer = answer ≡ file_answer name Failed
-AfterLoad false (Held bytes) name rest answer = rest bytes answer
-AfterLoad false (NotHeld fault) name rest answer = answer ≡ file_answer name fault
+abbrev pub needed_file : List ℕ → ℕ → Needed
+needed_file name limit = record { name = name; limit = limit }
 
--- The answers of two loads one after the other, given those of what comes after both; `failing` is the number of the load that
--- the outside fails, 0 where none does.
-abbrev pub AfterBoth : ℕ → Found → List ℕ → Found → List ℕ → (List ℕ → List ℕ → Answer → Type 0) → Answer → Type 0
-AfterBoth failing first first_name second second_name rest =
-    AfterLoad (failing == 1) first first_name (λ bytes. AfterLoad (failing == 2) second second_name (rest bytes))
+-- the files that the words name, in order
+abbrev pub named_files : Option Asked → List Needed
+named_files None = []
+named_files (Some (Diff pre post)) = needed_file pre object_limit ∷ needed_file post object_limit ∷ []
+named_files (Some (Code image name)) = needed_file image image_limit ∷ []
+named_files (Some (Run image script)) = needed_file image image_limit ∷ needed_file script script_limit ∷ []
 
--- One of these answers comes out; or memory ran out before there was one, and nothing came out.
-pub data OneComesOut (IsOne : Answer → Type 0) (old new : Option (List ℕ)) (status : ℕ) : Type 0 where
-  Answered : (answer : Answer) → IsOne answer → ComesOut answer old new status → OneComesOut IsOne old new status
-  NoMemory : status ≡ 6 → new ≡ old → OneComesOut IsOne old new status
+-- the files of a session that was read
+abbrev pub session_files : Result (CallTable × List Command) Refusal → List Needed
+session_files (Err refusal) = []
+session_files (Ok session) = files_along session.1
 
--- Where the files are told, what comes out of a load that ends the call: the load is failed by the outside only where the
--- count of faults rose.
-pub record LoadEnds (found : Found) (name : List ℕ) (before now : Counts) (old new : Option (List ℕ)) (status : ℕ) : Type 0 where
-  pub failed : Bool
-  pub caused : failed ≡ true → Rose before.faults now.faults
-  pub answer : OneComesOut (AfterLoad failed found name (λ bytes answer. ⊥)) old new status
+-- The files that lines name, once the files that the words name are held with these bytes: those of the script, where image and script
+-- are in their forms.
+abbrev pub line_files : Option Asked → List (List ℕ) → List Needed
+line_files (Some (Run image script)) (bytes ∷ lines ∷ held) = session_files (session_of bytes lines)
+line_files asked held = []
 
--- What comes out is one of the answers for some failing load, by its number; one fails only where the count of faults rose.
-pub record AnswersBy (IsOne : ℕ → Answer → Type 0) (before now : Counts) (old new : Option (List ℕ)) (status : ℕ) : Type 0 where
-  pub failing : ℕ
-  pub caused : failing ≢ 0 → Rose before.faults now.faults
-  pub answer : OneComesOut (IsOne failing) old new status
+-- All files that a call loads, in order. None is read before all that the words name are held.
+abbrev pub needed : Option Asked → List (List ℕ) → List Needed
+needed asked held = named_files asked ++ line_files asked held
 
--- Where the files are told, what comes out of two loads of which one ends the call.
-abbrev pub BothEnd : Found → List ℕ → Found → List ℕ → Counts → Counts → Option (List ℕ) → Option (List ℕ) → ℕ → Type 0
-BothEnd first first_name second second_name =
-    AnswersBy (λ failing. AfterBoth failing first first_name second second_name (λ bytes other answer. ⊥))
+-- the reply to a command, once the files that its words name are held
+abbrev pub IsReplyTo : Asked → List (List ℕ) → Option FileFault → Answer → Type 0
+IsReplyTo (Diff pre post) (old ∷ new ∷ held) lost answer = IsReply old new answer
+IsReplyTo (Code image name) (bytes ∷ held) lost answer = answer ≡ code_answer bytes name
+IsReplyTo (Run image script) (bytes ∷ lines ∷ held) lost answer = answer ≡ run_answer bytes lines held lost
+IsReplyTo asked held lost answer = ⊥
 
--- What came out is the line of the file of this name, and what was wrong with the file shows in its count.
-pub record EndsWithFile (name : List ℕ) (before now : Counts) (old new : Option (List ℕ)) : Type 0 where
-  pub fault : FileFault
-  pub shown : ShowsIn fault before now
-  pub fault_of_file : fault ≢ Memory
-  pub line : new ≡ grown old (file_line name (fault_text fault))
+-- the answers to a command: the line of the first file that the words name and that is lacking, or the reply
+abbrev pub IsAnswerBy : Option Needed → Asked → List (List ℕ) → Option FileFault → Answer → Type 0
+IsAnswerBy (Some file) asked held lost answer = answer ≡ lost_answer file lost
+IsAnswerBy None asked held lost answer = IsReplyTo asked held lost answer
 
--- What came out is the line of a file of one of these names.
-pub record EndsWithOneFile (IsNamed : List ℕ → Type 0) (before now : Counts) (old new : Option (List ℕ)) : Type 0 where
-  pub name : List ℕ
-  pub named : IsNamed name
-  pub ends : EndsWithFile name before now old new
+-- The answers to what the words ask for, by the bytes of the files that were held, in order, and the fault of the outside for which the next
+-- was not, if there was one.
+abbrev pub IsAnswer : Option Asked → List (List ℕ) → Option FileFault → Answer → Type 0
+IsAnswer None held lost answer = answer ≡ usage_answer
+IsAnswer (Some asked) held lost answer = IsAnswerBy (first_lacking (named_files (Some asked)) held) asked held lost answer
 
--- The answers to `diff` over told files. Both objects are loaded before the first is read.
-abbrev pub IsDiffAnswer : (List ℕ → Option (List ℕ)) → ℕ → List ℕ → List ℕ → Answer → Type 0
-IsDiffAnswer files failing pre post =
-    AfterBoth failing (found_file object_limit (files pre)) pre (found_file object_limit (files post)) post IsReply
+-- What the loads of a call came to, and what came out: an answer by these loads.
+pub record Answers (asked : Option Asked) (told : Told) (before now : Counts) (old new : Option (List ℕ)) (status : ℕ) : Type 0 where
+  pub held : List (List ℕ)
+  pub lost : Option FileFault
+  pub loads : CameTo told (needed asked held) held lost before now
+  pub answer : OneComesOut (IsAnswer asked held lost) old new status
 
--- the answers to `code` over told files
-abbrev pub IsCodeAnswer : (List ℕ → Option (List ℕ)) → ℕ → List ℕ → List ℕ → Answer → Type 0
-IsCodeAnswer files failing image name =
-    AfterLoad (failing == 1) (found_file image_limit (files image)) image (λ bytes answer. answer ≡ code_answer bytes name)
+-- the number of the load that the outside failed, counted from 0, if one did
+abbrev pub failed_load : List (List ℕ) → Option FileFault → Option ℕ
+failed_load held None = None
+failed_load held (Some Missing) = None
+failed_load held (Some TooLong) = None
+failed_load held (Some Failed) = Some (length held)
+failed_load held (Some Memory) = None
 
--- The answers to `run` over told files. Image and script are loaded before the image is read.
-abbrev pub IsRunAnswer : (List ℕ → Option (List ℕ)) → ℕ → List ℕ → List ℕ → Answer → Type 0
-IsRunAnswer files failing image script =
-    AfterBoth failing (found_file image_limit (files image)) image (found_file script_limit (files script)) script
-    (λ bytes lines answer. answer ≡ run_answer bytes lines)
+-- What the loads of lines came to, and what came out, once image and script are held.
+pub record RunAnswers (image script : List ℕ) (told : Told) (before now : Counts) (old new : Option (List ℕ)) (status : ℕ) : Type 0 where
+  pub held : List (List ℕ)
+  pub lost : Option FileFault
+  pub loads : CameTo told (session_files (session_of image script)) held lost before now
+  pub answer : OneComesOut (λ answer. answer ≡ run_answer image script held lost) old new status
 
--- the answers to what the words ask for
-abbrev pub IsAnswer : (List ℕ → Option (List ℕ)) → ℕ → Option Asked → Answer → Type 0
-IsAnswer files failing None answer = answer ≡ usage_answer
-IsAnswer files failing (Some (Diff pre post)) answer = IsDiffAnswer files failing pre post answer
-IsAnswer files failing (Some (Code image name)) answer = IsCodeAnswer files failing image name answer
-IsAnswer files failing (Some (Run image script)) answer = IsRunAnswer files failing image script answer
+-- the status of a session's end
+abbrev pub end_status : SessionEnd → ℕ
+end_status Done = 0
+end_status SomeRefused = 3
+end_status FileEnd = 4
+end_status SinkEnd = 5
+end_status MemoryEnd = 6
 
--- Where the files are told, what comes out is an answer to what the words ask for.
-abbrev pub Answers : Option Asked → (List ℕ → Option (List ℕ)) → Counts → Counts → Option (List ℕ) → Option (List ℕ) → ℕ → Type 0
-Answers asked files = AnswersBy (λ failing. IsAnswer files failing asked)
-
--- a name that the call was given for a file
-abbrev pub NamesFile : Option Asked → List ℕ → Type 0
-NamesFile None name = ⊥
-NamesFile (Some (Diff pre post)) name = (name ≡ pre) ⊎ (name ≡ post)
-NamesFile (Some (Code image function)) name = name ≡ image
-NamesFile (Some (Run image script)) name = (name ≡ image) ⊎ (name ≡ script)
-
--- Where the files are told, one of those that the call loads is so, by its limit and its name; the second one is loaded only
--- where the first is held.
-abbrev pub LoadsOne : (List ℕ → Option (List ℕ)) → Option Asked → (ℕ → List ℕ → Type 0) → Type 0
-LoadsOne files None P = ⊥
-LoadsOne files (Some (Diff pre post)) P = P object_limit pre ⊎ (IsHeld (found_file object_limit (files pre)) × P object_limit post)
-LoadsOne files (Some (Code image name)) P = P image_limit image
-LoadsOne files (Some (Run image script)) P = P image_limit image ⊎ (IsHeld (found_file image_limit (files image)) × P script_limit script)
-
--- Where the files are told, the counts rise only for a file that the call loads: absences for one that isn't there,
--- excesses for one that is longer than its limit.
-unfoldable pub CountsTellOf : Option Asked → (List ℕ → Option (List ℕ)) → Counts → Counts → Type 0
-CountsTellOf asked files before now =
-    (before.absences < now.absences → LoadsOne files asked (λ limit name. files name ≡ None))
-    × (before.excesses < now.excesses → LoadsOne files asked (λ limit name. IsLonger limit (files name)))
-
--- What came out is the line of a file that the call was given.
-abbrev pub EndsWithSomeFile : Option Asked → Counts → Counts → Option (List ℕ) → Option (List ℕ) → Type 0
-EndsWithSomeFile asked = EndsWithOneFile (NamesFile asked)
-
--- What the counts tell of two loads one after the other: absences rose only where the first file isn't there, or is held and the
--- second one isn't there; excesses likewise where one is longer than its limit.
-abbrev pub BothTell : Option (List ℕ) → ℕ → Option (List ℕ) → ℕ → Counts → Counts → Type 0
-BothTell first first_limit second second_limit before now =
-    (before.absences < now.absences → (first ≡ None) ⊎ (IsHeld (found_file first_limit first) × (second ≡ None)))
-    × (before.excesses < now.excesses → IsLonger first_limit first ⊎ (IsHeld (found_file first_limit first) × IsLonger second_limit second))
-
--- What came out is the reply for some two files within the limit.
-pub record ComparesSome (old new : Option (List ℕ)) (status : ℕ) : Type 0 where
-  pub pre : List ℕ
-  pub post : List ℕ
-  pub pre_fits : length pre ≤ object_limit
-  pub post_fits : length post ≤ object_limit
-  pub answer : Answer
-  pub reply : IsReply pre post answer
-  pub comes_out : ComesOut answer old new status
-
--- What came out is the reply about the function of this name for some image file within the limit.
-pub record ListsSome (name : List ℕ) (old new : Option (List ℕ)) (status : ℕ) : Type 0 where
-  pub bytes : List ℕ
-  pub fits : length bytes ≤ image_limit
-  pub comes_out : ComesOut (code_answer bytes name) old new status
-
--- What came out is the reply of a session for some image file and some script within their limits.
-pub record RunsSome (old new : Option (List ℕ)) (status : ℕ) : Type 0 where
-  pub bytes : List ℕ
-  pub lines : List ℕ
-  pub bytes_fit : length bytes ≤ image_limit
-  pub lines_fit : length lines ≤ script_limit
-  pub comes_out : ComesOut (run_answer bytes lines) old new status
-
--- What came out is the reply to what the words ask for, for some files.
-abbrev pub RepliesSome : Option Asked → Option (List ℕ) → Option (List ℕ) → ℕ → Type 0
-RepliesSome None old new status = ⊥
-RepliesSome (Some (Diff pre post)) old new status = ComparesSome old new status
-RepliesSome (Some (Code image name)) old new status = ListsSome name old new status
-RepliesSome (Some (Run image script)) old new status = RunsSome old new status
-
--- the statuses with which a call ends whose file isn't loaded, that has its reply, whose words have a reading; and all
-abbrev pub ends_load : ℕ → Bool
-ends_load status = list_any (nat_eq status) (4 ∷ 5 ∷ 6 ∷ [])
-
-abbrev pub ends_reply : ℕ → Bool
-ends_reply status = list_any (nat_eq status) (0 ∷ 3 ∷ 5 ∷ 6 ∷ 7 ∷ [])
-
+-- the statuses with which a call ends whose words have a reading; and all
 abbrev pub is_carried_out : ℕ → Bool
 is_carried_out status = list_any (nat_eq status) (0 ∷ 3 ∷ 4 ∷ 5 ∷ 6 ∷ 7 ∷ [])
 

@@ -5,3 +5,4 @@ pub mod Verbs
 pub mod Answer
 pub mod Reply
 pub mod Calls
+pub mod Promises

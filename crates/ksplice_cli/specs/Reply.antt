@@ -1,6 +1,6 @@
 -- The replies: to `diff` the difference of two object files, to `code` the instructions of one function of an image, to `run`
 -- those of a session; or why there are none.
-use Rattle.std.specs.Prelude.{◌≡◌, ℕ, if◌then◌else◌, List, Option, Some, None, Result, Ok, Err}
+use Rattle.std.specs.Prelude.{◌≡◌, ℕ, Bool, if◌then◌else◌, List, Option, Some, None, Result, Ok, Err}
 use Rattle.ks_base.specs.declared.refusals.Refusal.{Refusal}
 use Rattle.elf32_object.specs.declared.types.ObjectFault.{ObjectFault}
 use Rattle.elf32_object.specs.Rules.{object_fault}
@@ -13,9 +13,11 @@ use Rattle.image_file.specs.Reading.{Contents, image_of}
 use Rattle.code_listing.specs.Listing.{code_of}
 use Rattle.script_lines.specs.declared.types.Command.{Command}
 use Rattle.script_lines.specs.Script.{script_of}
-use Rattle.ksplice_session.specs.CallTable.{CallTable, first_table}
-use Rattle.ksplice_session.specs.Session.{replies, some_refused}
-use Rattle.ksplice_cli.specs.Answer.{Answer, refused_answer, answer_of}
+use Rattle.update_stack.specs.CallTable.{CallTable, first_machine}
+use Rattle.ks_io.specs.Loads.{Needed}
+use Rattle.ks_io.specs.declared.types.FileFault.{FileFault}
+use Rattle.ksplice_session.specs.Session.{whole_output, lacking, session_played}
+use Rattle.ksplice_cli.specs.Answer.{Answer, refused_answer, answer_of, lost_status}
 use Rattle.ksplice_cli.specs.Difference.{listing}
 
 abbrev pub sections_unless : Option ObjectFault → Option Refusal → List NormalSection → Result (List NormalSection) Refusal
@@ -83,20 +85,26 @@ with_lines machine (Ok lines) = Ok (machine, lines)
 
 abbrev pub session_of_read : Result Contents Refusal → Result (List Command) Refusal → Result (CallTable × List Command) Refusal
 session_of_read (Err refusal) script = Err refusal
-session_of_read (Ok image) script = with_lines (first_table image) script
+session_of_read (Ok image) script = with_lines (first_machine image) script
 
 -- the session of an image file and a script file; what is wrong with the image comes before what is wrong with the script
 unfoldable pub session_of : List ℕ → List ℕ → Result (CallTable × List Command) Refusal
 session_of image script = session_of_read (image_of image) (script_of script)
 
--- the replies to the lines; the status says whether one of them is a refusal
-abbrev pub lines_answer : CallTable → List Command → Answer
-lines_answer machine lines = answer_of (replies machine lines) (if some_refused machine lines then 3 else 0)
+-- the status of a session: whether a file is lacking, else whether a reply is a refusal
+abbrev pub session_status : Option Needed → Option FileFault → Bool → ℕ
+session_status None lost refused = if refused then 3 else 0
+session_status (Some file) lost refused = lost_status lost
 
-abbrev pub session_answer : Result (CallTable × List Command) Refusal → Answer
-session_answer (Err refusal) = refused_answer refusal
-session_answer (Ok session) = lines_answer session.0 session.1
+-- the replies to the lines, up to the line of a file where one is lacking
+abbrev pub lines_answer : CallTable → List Command → List (List ℕ) → Option FileFault → Answer
+lines_answer k script held lost =
+    answer_of (whole_output k script held lost) (session_status (lacking script held) lost (session_played k script held).refused)
 
--- the answer to `run` where both files are loaded
-abbrev pub run_answer : List ℕ → List ℕ → Answer
-run_answer image script = session_answer (session_of image script)
+abbrev pub session_answer : Result (CallTable × List Command) Refusal → List (List ℕ) → Option FileFault → Answer
+session_answer (Err refusal) held lost = refused_answer refusal
+session_answer (Ok session) held lost = lines_answer session.0 session.1 held lost
+
+-- The answer to `run` where both files are held, by the bytes of the files of lines that were held, and the fault for which the next was not.
+abbrev pub run_answer : List ℕ → List ℕ → List (List ℕ) → Option FileFault → Answer
+run_answer image script held lost = session_answer (session_of image script) held lost

@@ -1,19 +1,20 @@
 //! The command `code`.
-ghost use Rattle.std.specs.Prelude.{◌≡◌, ◌≢◌, ◌≤◌, ◌<◌, ℕ, List, Option, Some, true, length, IfSome, IfNone};
+ghost use Rattle.std.specs.Prelude.{◌≡◌, ◌≢◌, ◌<◌, ℕ, List, Option, Some, true, length, IfSome, IfNone};
 ghost use Rattle.ks_base.specs.Gives.{Gives};
-ghost use Rattle.ks_io.specs.Outside.{Rose, NeverFall};
-ghost use Rattle.ksplice_cli.specs.Answer.{ComesOut, answer_of};
-ghost use Rattle.ksplice_cli.specs.Calls.{Answers, CountsTellOf, EndsWithSomeFile, ListsSome, OneComesOut, ends_reply, is_carried_out};
+ghost use Rattle.ks_io.specs.Kept.{FilesKept, SinkKept};
+ghost use Rattle.ks_io.specs.Outside.{Rose};
+ghost use Rattle.ksplice_cli.specs.Answer.{ComesOut, OneComesOut, answer_of};
+ghost use Rattle.ksplice_cli.specs.Calls.{Answers, is_carried_out};
 ghost use Rattle.ksplice_cli.specs.Reply.{code_reply, code_answer};
 ghost use Rattle.ksplice_cli.specs.Words.{Code};
 
-use crate::loading::{IMAGE_LIMIT, load_or_end};
-use crate::saying::refuse;
+use crate::limits::IMAGE_LIMIT;
+use crate::saying::{end_with_file, refuse};
 use crate::status::Status;
 use code_listing::{Listing, list_code};
 use image_file::read_image;
 use ks_base::{Name, Refusal};
-use ks_io::{Files, Sink, SinkFault, write_all};
+use ks_io::{Files, Sink, SinkFault, Wanted, load_all, write_all};
 use std::alloc::Global;
 
 /// Loads the image, and then writes the instructions of the function of the name.
@@ -24,39 +25,31 @@ pub fn code<F: Files, O: Sink>(
     files: &mut F,
     out: &mut O,
 ) -> Status
-    ensures answers { (told : List ℕ → Option (List ℕ)) → F.told files.old ≡ Some told → Answers (Some (Code image.now name.now)) told
-        (F.counts files.old) (F.counts files.new) (O.taken out.old) (O.taken out.new) result.code }
-    ensures rises { (told : List ℕ → Option (List ℕ)) → F.told files.old ≡ Some told
-        → CountsTellOf (Some (Code image.now name.now)) told (F.counts files.old) (F.counts files.new) }
-    ensures file { result.code ≡ 4 → EndsWithSomeFile (Some (Code image.now name.now))
-        (F.counts files.old) (F.counts files.new) (O.taken out.old) (O.taken out.new) }
-    ensures done { result.code ≡ 0 → ListsSome name.now (O.taken out.old) (O.taken out.new) result.code }
-    ensures refused { result.code ≡ 3 → ListsSome name.now (O.taken out.old) (O.taken out.new) result.code }
-    ensures unreadable { result.code ≡ 7 → ListsSome name.now (O.taken out.old) (O.taken out.new) result.code }
+    ensures answers { Answers (Some (Code image.now name.now)) (F.told files.old) (F.counts files.old) (F.counts files.new)
+        (O.taken out.old) (O.taken out.new) result.code }
     ensures status { is_carried_out result.code ≡ true }
+    ensures files { FilesKept F.told F.counts F.quiet files.old files.new }
+    ensures out { SinkKept O.faults O.quiet out.old out.new }
     ensures sink { result.code ≡ 5 → Rose (O.faults out.old) (O.faults out.new) }
     ensures quiet { O.quiet out.old → result.code ≢ 5 }
-    ensures told_kept { F.told files.new ≡ F.told files.old }
-    ensures counts { NeverFall (F.counts files.old) (F.counts files.new) }
-    ensures quiet_files { F.quiet files.old → F.quiet files.new }
-    ensures quiet_faults { F.quiet files.old → (F.counts files.new).faults ≡ (F.counts files.old).faults }
-    ensures never_falls { O.faults out.old ≤ O.faults out.new }
-    ensures quiet_kept { O.quiet out.old → O.quiet out.new }
 {
-    match load_or_end(alloc, image, IMAGE_LIMIT, files, out) {
-        Ok(bytes) => print_code(alloc, bytes.as_slice(), name, out),
-        Err(status) => status,
+    let wanted = [Wanted {
+        name: image,
+        limit: IMAGE_LIMIT,
+    }];
+    match load_all(alloc, files, &wanted) {
+        Ok(held) => print_code(alloc, &held[0], name, out),
+        Err(lost) => end_with_file(alloc, &wanted[lost.index], lost.fault, out),
     }
 }
 
 // Writes the instructions of a function of an image, or why there are none.
 #[tactic(auto, using(ks_io::specs::Fronts::nothing_taken))]
 fn print_code<O: Sink>(alloc: Global, bytes: &[u8], name: &str, out: &mut O) -> Status
-    ensures status { ends_reply result.code ≡ true }
+    ensures status { is_carried_out result.code ≡ true }
     ensures answer { OneComesOut (λ answer. answer ≡ code_answer bytes.now name.now) (O.taken out.old) (O.taken out.new) result.code }
     ensures sink { result.code ≡ 5 → Rose (O.faults out.old) (O.faults out.new) }
-    ensures never_falls { O.faults out.old ≤ O.faults out.new }
-    ensures quiet_kept { O.quiet out.old → O.quiet out.new }
+    ensures out { SinkKept O.faults O.quiet out.old out.new }
     ensures quiet { O.quiet out.old → result.code ≢ 5 }
 {
     match read_code(alloc, bytes, name) {
@@ -77,11 +70,10 @@ fn read_code(alloc: Global, bytes: &[u8], name: &str) -> Result<Listing, Refusal
 
 // Writes the pages of a listing, one after another.
 fn print_listing<O: Sink>(alloc: Global, listing: &mut Listing, out: &mut O) -> Status
-    ensures status { ends_reply result.code ≡ true }
+    ensures status { is_carried_out result.code ≡ true }
     ensures answer { ComesOut (answer_of listing.old 0) (O.taken out.old) (O.taken out.new) result.code }
     ensures sink { result.code ≡ 5 → Rose (O.faults out.old) (O.faults out.new) }
-    ensures never_falls { O.faults out.old ≤ O.faults out.new }
-    ensures quiet_kept { O.quiet out.old → O.quiet out.new }
+    ensures out { SinkKept O.faults O.quiet out.old out.new }
     ensures quiet { O.quiet out.old → result.code ≢ 5 }
 {
     loop {
@@ -94,14 +86,13 @@ fn print_listing<O: Sink>(alloc: Global, listing: &mut Listing, out: &mut O) -> 
 // Writes the next page of a listing; the status, where the listing ends with it.
 #[tactic(auto, using(ks_io::specs::Fronts::nothing_taken, ks_io::specs::Fronts::front_of_part, crate::proofs::Pages::page_came_out))]
 fn print_page<O: Sink>(alloc: Global, listing: &mut Listing, out: &mut O) -> Option<Status>
-    ensures status { IfSome result (λ status. ends_reply status.code ≡ true) }
+    ensures status { IfSome result (λ status. is_carried_out status.code ≡ true) }
     ensures last { IfSome result (λ status. ComesOut (answer_of listing.old 0) (O.taken out.old) (O.taken out.new) status.code) }
     ensures more { IfNone result ((now : Option (List ℕ)) (status : ℕ) → ComesOut (answer_of listing.new 0) (O.taken out.new) now status
         → ComesOut (answer_of listing.old 0) (O.taken out.old) now status) }
     ensures shorter { IfNone result (length listing.new < length listing.old) }
     ensures sink { IfSome result (λ status. status.code ≡ 5 → Rose (O.faults out.old) (O.faults out.new)) }
-    ensures never_falls { O.faults out.old ≤ O.faults out.new }
-    ensures quiet_kept { O.quiet out.old → O.quiet out.new }
+    ensures out { SinkKept O.faults O.quiet out.old out.new }
     ensures quiet { IfSome result (λ status. O.quiet out.old → status.code ≢ 5) }
 {
     let Ok(page) = listing.next_page(alloc) else {

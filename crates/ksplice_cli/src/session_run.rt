@@ -1,20 +1,20 @@
 //! The command `run`.
-ghost use Rattle.std.specs.Prelude.{◌≡◌, ◌≢◌, ◌≤◌, ℕ, List, Option, Some, true, IfOk};
+ghost use Rattle.std.specs.Prelude.{◌≡◌, ◌≢◌, Some, true, IfOk};
 ghost use Rattle.std.specs.List.{All};
 ghost use Rattle.ks_base.specs.Gives.{Gives};
-ghost use Rattle.ks_io.specs.Outside.{Rose, NeverFall};
+ghost use Rattle.ks_io.specs.Kept.{FilesKept, SinkKept};
+ghost use Rattle.ks_io.specs.Outside.{Rose};
 ghost use Rattle.script_lines.specs.Allowed.{IsAllowed};
-ghost use Rattle.ksplice_cli.specs.Answer.{ComesOut};
-ghost use Rattle.ksplice_cli.specs.Calls.{Answers, CountsTellOf, EndsWithSomeFile, RunsSome, OneComesOut, ends_reply, is_carried_out};
-ghost use Rattle.ksplice_cli.specs.Reply.{session_of, lines_answer, run_answer};
+ghost use Rattle.ksplice_cli.specs.Calls.{Answers, RunAnswers, end_status, is_carried_out};
+ghost use Rattle.ksplice_cli.specs.Reply.{session_of};
 ghost use Rattle.ksplice_cli.specs.Words.{Run};
 
-use crate::loading::{IMAGE_LIMIT, SCRIPT_LIMIT, Wanted, load_both};
-use crate::saying::refuse;
+use crate::limits::{IMAGE_LIMIT, SCRIPT_LIMIT};
+use crate::saying::{end_with_file, refuse};
 use crate::status::Status;
 use image_file::read_image;
 use ks_base::Refusal;
-use ks_io::{Files, Sink};
+use ks_io::{Files, Sink, Wanted, load_all};
 use ksplice_session::{Session, SessionEnd, run_session};
 use script_lines::{Script, read_script};
 use std::alloc::Global;
@@ -27,51 +27,55 @@ pub fn run<F: Files, O: Sink>(
     files: &mut F,
     out: &mut O,
 ) -> Status
-    ensures answers { (told : List ℕ → Option (List ℕ)) → F.told files.old ≡ Some told → Answers (Some (Run image.now script.now)) told
-        (F.counts files.old) (F.counts files.new) (O.taken out.old) (O.taken out.new) result.code }
-    ensures rises { (told : List ℕ → Option (List ℕ)) → F.told files.old ≡ Some told
-        → CountsTellOf (Some (Run image.now script.now)) told (F.counts files.old) (F.counts files.new) }
-    ensures file { result.code ≡ 4 → EndsWithSomeFile (Some (Run image.now script.now))
-        (F.counts files.old) (F.counts files.new) (O.taken out.old) (O.taken out.new) }
-    ensures done { result.code ≡ 0 → RunsSome (O.taken out.old) (O.taken out.new) result.code }
-    ensures refused { result.code ≡ 3 → RunsSome (O.taken out.old) (O.taken out.new) result.code }
-    ensures unreadable { result.code ≡ 7 → RunsSome (O.taken out.old) (O.taken out.new) result.code }
+    ensures answers { Answers (Some (Run image.now script.now)) (F.told files.old) (F.counts files.old) (F.counts files.new)
+        (O.taken out.old) (O.taken out.new) result.code }
     ensures status { is_carried_out result.code ≡ true }
+    ensures files { FilesKept F.told F.counts F.quiet files.old files.new }
+    ensures out { SinkKept O.faults O.quiet out.old out.new }
     ensures sink { result.code ≡ 5 → Rose (O.faults out.old) (O.faults out.new) }
     ensures quiet { O.quiet out.old → result.code ≢ 5 }
-    ensures told_kept { F.told files.new ≡ F.told files.old }
-    ensures counts { NeverFall (F.counts files.old) (F.counts files.new) }
-    ensures quiet_files { F.quiet files.old → F.quiet files.new }
-    ensures quiet_faults { F.quiet files.old → (F.counts files.new).faults ≡ (F.counts files.old).faults }
-    ensures never_falls { O.faults out.old ≤ O.faults out.new }
-    ensures quiet_kept { O.quiet out.old → O.quiet out.new }
 {
-    let first = Wanted {
-        name: image,
-        limit: IMAGE_LIMIT,
-    };
-    let second = Wanted {
-        name: script,
-        limit: SCRIPT_LIMIT,
-    };
-    match load_both(alloc, first, second, files, out) {
-        Ok((image, script)) => print_session(alloc, image.as_slice(), script.as_slice(), out),
-        Err(status) => status,
+    let wanted = [
+        Wanted {
+            name: image,
+            limit: IMAGE_LIMIT,
+        },
+        Wanted {
+            name: script,
+            limit: SCRIPT_LIMIT,
+        },
+    ];
+    match load_all(alloc, files, &wanted) {
+        Ok(held) => print_session(alloc, &held[0], &held[1], files, out),
+        Err(lost) => end_with_file(alloc, &wanted[lost.index], lost.fault, out),
     }
 }
 
 // Runs the session of an image file and a script file, or writes why there is none.
 #[tactic(auto, using(ks_io::specs::Fronts::nothing_taken))]
-fn print_session<O: Sink>(alloc: Global, image: &[u8], script: &[u8], out: &mut O) -> Status
-    ensures status { ends_reply result.code ≡ true }
-    ensures answer { OneComesOut (λ answer. answer ≡ run_answer image.now script.now) (O.taken out.old) (O.taken out.new) result.code }
+fn print_session<F: Files, O: Sink>(
+    alloc: Global,
+    image: &[u8],
+    script: &[u8],
+    files: &mut F,
+    out: &mut O,
+) -> Status
+    ensures answers { RunAnswers image.now script.now (F.told files.old) (F.counts files.old) (F.counts files.new)
+        (O.taken out.old) (O.taken out.new) result.code }
+    ensures status { is_carried_out result.code ≡ true }
+    ensures files { FilesKept F.told F.counts F.quiet files.old files.new }
+    ensures out { SinkKept O.faults O.quiet out.old out.new }
     ensures sink { result.code ≡ 5 → Rose (O.faults out.old) (O.faults out.new) }
-    ensures never_falls { O.faults out.old ≤ O.faults out.new }
-    ensures quiet_kept { O.quiet out.old → O.quiet out.new }
     ensures quiet { O.quiet out.old → result.code ≢ 5 }
 {
     match read_session(alloc, image, script) {
-        Ok((mut session, script)) => print_replies(alloc, &mut session, &script, out),
+        Ok((mut session, script)) => status_of(run_session(
+            alloc,
+            &mut session,
+            &script,
+            files,
+            out,
+        )),
         Err(refusal) => refuse(alloc, &refusal, out),
     }
 }
@@ -88,22 +92,11 @@ fn read_session(alloc: Global, image: &[u8], script: &[u8]) -> Result<(Session, 
     Ok((session, script))
 }
 
-// Runs the lines of a script, and writes their replies.
-fn print_replies<O: Sink>(
-    alloc: Global,
-    session: &mut Session,
-    script: &Script,
-    out: &mut O,
-) -> Status
-    requires { All IsAllowed script.now }
-    ensures status { ends_reply result.code ≡ true }
-    ensures answer { ComesOut (lines_answer session.old script.now) (O.taken out.old) (O.taken out.new) result.code }
-    ensures sink { result.code ≡ 5 → Rose (O.faults out.old) (O.faults out.new) }
-    ensures never_falls { O.faults out.old ≤ O.faults out.new }
-    ensures quiet_kept { O.quiet out.old → O.quiet out.new }
-    ensures quiet { O.quiet out.old → result.code ≢ 5 }
+// The status of a session's end.
+fn status_of(end: SessionEnd) -> Status
+    ensures { result.code ≡ end_status end }
 {
-    match run_session(alloc, session, script, out) {
+    match end {
         SessionEnd::Done => Status::DONE,
         SessionEnd::SomeRefused => Status::REFUSED,
         SessionEnd::FileEnd => Status::NO_FILE,

@@ -1,5 +1,5 @@
 pub mod MemoryLaws
-pub mod TableLaws
+pub mod Ranges
 pub mod RunLaws
 pub mod AnswerLaws
 pub mod SessionLaws

@@ -1,18 +1,23 @@
 -- What running a line of a script comes to.
-use Rattle.std.specs.Prelude.{◌≡◌, ◌≢◌, [], Result, Ok, Err}
-use Rattle.script_lines.specs.declared.types.Command.{Command}
+use Rattle.std.specs.Prelude.{◌≡◌, List, ◌++◌, Result, Ok, Err}
+use Rattle.std.specs.declared.alloc.AllocError.{AllocError}
+use Rattle.update_stack.specs.CallTable.{CallTable}
+use Rattle.update_stack.specs.Events.{Event, after_events}
 use Rattle.ksplice_session.specs.declared.types.Answer.{Answer}
-use Rattle.ksplice_session.specs.declared.types.Shortage.{Shortage}
-use Rattle.ksplice_session.specs.declared.types.Shortage.TheVariants.{BeforeLine, AfterLine}
-use Rattle.ksplice_session.specs.CallTable.{CallTable}
-use Rattle.ksplice_session.specs.Replies.{Answered, answered}
+use Rattle.ksplice_session.specs.Replies.{Told}
 
-abbrev pub given : CallTable → Answer → Answered
-given now answer = record { machine = now; reply = answer.line; refused = answer.refused }
+-- A front of some events was made.
+pub record MadeFront (k : CallTable) (events : List Event) (now : CallTable) : Type 0 where
+  pub made : List Event
+  pub rest : List Event
+  pub whole : made ++ rest ≡ events
+  pub machine : now ≡ after_events k made
 
--- The line was run, and this is its answer; or memory ran out before it was run; or when it had been run, before its reply, which
--- isn't empty, was written.
-abbrev pub Answers : CallTable → Command → CallTable → Result Answer Shortage → Type 0
-Answers k command now (Ok answer) = given now answer ≡ answered k command
-Answers k command now (Err BeforeLine) = now ≡ k
-Answers k command now (Err AfterLine) = (now ≡ (answered k command).machine) × ((answered k command).reply ≢ [])
+-- what a line tells, as the answer to it
+abbrev pub answer_of : Told → Answer
+answer_of told = record { line = told.reply; refused = told.refused }
+
+-- All of the line's events were made, and this is its answer; or memory ran out when a front of them had been made.
+abbrev pub Answers : CallTable → Told → CallTable → Result Answer AllocError → Type 0
+Answers k told now (Ok answer) = (answer ≡ answer_of told) × (now ≡ after_events k told.events)
+Answers k told now (Err _) = MadeFront k told.events now

@@ -1,6 +1,9 @@
-pub mod CallTable
+pub mod Stacks
+pub mod Places
+pub mod Lines
 pub mod Running
 pub mod Replies
 pub mod Answers
 pub mod Session
 pub mod LineEnds
+pub mod ScriptEnds

@@ -1,37 +1,72 @@
 -- What comes of one line of a script.
-use Rattle.std.specs.Prelude.{◌≡◌, ℕ, Bool, List, Option, Result, Ok, Err, ◌⊎◌}
-use Rattle.ks_io.specs.Outside.{grown, TookPart}
+use Rattle.std.specs.Prelude.{◌≡◌, ℕ, Bool, List, length, Option, Some, None, Result, Ok, Err}
+use Rattle.ks_io.specs.Outside.{Counts, grown, TookFront, TookPart}
+use Rattle.ks_io.specs.Loads.{Needed, Told as ToldFiles, CameTo, first_lacking, needed_by, outside_fault}
 use Rattle.ks_io.specs.declared.types.SinkFault.{SinkFault}
 use Rattle.ks_io.specs.declared.types.SinkFault.TheVariants.{SinkFailed, Memory}
+use Rattle.ks_io.specs.declared.types.Wanted.{Wanted}
+use Rattle.ks_io.specs.declared.types.FileFault.{FileFault}
 use Rattle.script_lines.specs.declared.types.Command.{Command}
+use Rattle.update_stack.specs.CallTable.{CallTable}
+use Rattle.update_stack.specs.Events.{after_events}
 use Rattle.ksplice_session.specs.declared.types.SessionEnd.{SessionEnd}
 use Rattle.ksplice_session.specs.declared.types.SessionEnd.TheVariants.{Done, SomeRefused, FileEnd, SinkEnd, MemoryEnd}
-use Rattle.ksplice_session.specs.CallTable.{CallTable}
-use Rattle.ksplice_session.specs.Replies.{answered}
-use Rattle.ksplice_session.specs.Session.{after, replies, some_refused, Ends}
+use Rattle.ksplice_session.specs.Replies.{Told, told_of, files_of}
+use Rattle.ksplice_session.specs.Answers.{MadeFront}
+use Rattle.ksplice_session.specs.Session.{file_line, lost_line}
 
--- the line was run, and its reply wasn't wholly written
-abbrev pub IsCut : CallTable → Command → Option (List ℕ) → Option (List ℕ) → CallTable → Type 0
-IsCut k line old new now = TookPart old (answered k line).reply new × (now ≡ (answered k line).machine)
+-- How a line ends the session that has its files: the sink failed at its reply, or memory ran out, before its reply or in it.
+pub data CutAt (k : CallTable) (told : Told) (old new : Option (List ℕ)) (now : CallTable) : SessionEnd → Type 0 where
+  SinkCut : TookPart old told.reply new → now ≡ after_events k told.events → CutAt k told old new now SinkEnd
+  MemoryCut : TookPart old told.reply new → now ≡ after_events k told.events → CutAt k told old new now MemoryEnd
+  EventsCut : new ≡ old → MadeFront k told.events now → CutAt k told old new now MemoryEnd
 
--- The line was run and its reply written; or the sink failed at the reply; or memory ran out, before the line was run or then.
-abbrev pub LineEnds : CallTable → Command → Option (List ℕ) → Option (List ℕ) → CallTable → Result Bool SessionEnd → Type 0
-LineEnds k line old new now (Ok refused) =
-    (refused ≡ (answered k line).refused) × (new ≡ grown old (answered k line).reply) × (now ≡ (answered k line).machine)
-LineEnds k line old new now (Err SinkEnd) = IsCut k line old new now
-LineEnds k line old new now (Err MemoryEnd) = ((new ≡ old) × (now ≡ k)) ⊎ IsCut k line old new now
-LineEnds k line old new now (Err Done) = ⊥
-LineEnds k line old new now (Err SomeRefused) = ⊥
-LineEnds k line old new now (Err FileEnd) = ⊥
+-- How a line ends the session that lacks a file.
+pub data LostAt (file : Needed) (lost : Option FileFault) (old new : Option (List ℕ)) : SessionEnd → Type 0 where
+  LineWritten : (fault : FileFault) → lost ≡ Some fault → new ≡ grown old (file_line file.name fault) → LostAt file lost old new FileEnd
+  SinkLost : (fault : FileFault) → lost ≡ Some fault → TookPart old (file_line file.name fault) new → LostAt file lost old new SinkEnd
+  MemoryLost : TookFront old (lost_line (Some file) lost) new → LostAt file lost old new MemoryEnd
+
+-- A line was run and its reply written.
+pub record Replied (k : CallTable) (told : Told) (old new : Option (List ℕ)) (now : CallTable) (refused : Bool) : Type 0 where
+  pub marked : refused ≡ told.refused
+  pub taken : new ≡ grown old told.reply
+  pub machine : now ≡ after_events k told.events
+
+-- A line was run with its files, and its reply written.
+pub record WasRun (files : ToldFiles) (k : CallTable) (line : Command) (before after : Counts) (old new : Option (List ℕ)) (now : CallTable) (refused : Bool) : Type 0 where
+  pub held : List (List ℕ)
+  pub loads : CameTo files (files_of line) held None before after
+  pub all_held : length held ≡ length (files_of line)
+  pub replied : Replied k (told_of k line held) old new now refused
+
+-- A line ended the session, with its files or without one of them.
+pub data EndedBy (files : ToldFiles) (k : CallTable) (line : Command) (before after : Counts) (old new : Option (List ℕ)) (now : CallTable) (end : SessionEnd) : Type 0 where
+  AtLine : (held : List (List ℕ)) → CameTo files (files_of line) held None before after → length held ≡ length (files_of line) →
+      CutAt k (told_of k line held) old new now end → EndedBy files k line before after old new now end
+  AtFile : (held : List (List ℕ)) (lost : Option FileFault) (file : Needed) → CameTo files (files_of line) held lost before after →
+      first_lacking (files_of line) held ≡ Some file → LostAt file lost old new end → now ≡ k → EndedBy files k line before after old new now end
+
+abbrev pub LineEnds : ToldFiles → CallTable → Command → Counts → Counts → Option (List ℕ) → Option (List ℕ) → CallTable → Result Bool SessionEnd → Type 0
+LineEnds files k line before after old new now (Ok refused) = WasRun files k line before after old new now refused
+LineEnds files k line before after old new now (Err end) = EndedBy files k line before after old new now end
 
 -- how a line ends whose reply was written, or not
-abbrev pub line_end : Result (Unit {0}) SinkFault → Bool → Result Bool SessionEnd
-line_end (Ok u) refused = Ok refused
-line_end (Err SinkFailed) refused = Err SinkEnd
-line_end (Err Memory) refused = Err MemoryEnd
+abbrev pub written_end : Result (Unit {0}) SinkFault → Bool → Result Bool SessionEnd
+written_end (Ok u) refused = Ok refused
+written_end (Err SinkFailed) refused = Err SinkEnd
+written_end (Err Memory) refused = Err MemoryEnd
 
--- All lines were run, and at least one was refused or none; or the session ended.
-abbrev pub LinesEnd : CallTable → List Command → Option (List ℕ) → Option (List ℕ) → CallTable → Result Bool SessionEnd → Type 0
-LinesEnd k script old new now (Ok refused) =
-    (refused ≡ some_refused k script) × (new ≡ grown old (replies k script)) × (now ≡ after k script)
-LinesEnd k script old new now (Err end) = Ends k script old new now end
+-- what comes of a line that has its files
+abbrev pub ToldEnds : CallTable → Told → Option (List ℕ) → Option (List ℕ) → CallTable → Result Bool SessionEnd → Type 0
+ToldEnds k told old new now (Ok refused) = Replied k told old new now refused
+ToldEnds k told old new now (Err end) = CutAt k told old new now end
+
+-- how the session ends at a file, when its line was written, or not
+abbrev pub file_end : Result (Unit {0}) SinkFault → SessionEnd
+file_end (Ok u) = FileEnd
+file_end (Err SinkFailed) = SinkEnd
+file_end (Err Memory) = MemoryEnd
+
+abbrev pub FileEnds : Wanted → FileFault → Option (List ℕ) → Option (List ℕ) → SessionEnd → Type 0
+FileEnds file fault old new end = LostAt (needed_by file) (outside_fault fault) old new end

@@ -1,52 +1,72 @@
--- What each line of a script does to the machine, and its reply.
-use Rattle.std.specs.Prelude.{ℕ, Bool, true, false, if◌then◌else◌, List, [], length, Option, Some, None, Result, Ok, Err}
+-- What each line of a script does, as the list of its events, and what it replies.
+use Rattle.std.specs.Prelude.{ℕ, Bool, true, false, if◌then◌else◌, List, [], ◌∷◌, length, is_some, Option, Some, None, Result, Ok, Err}
 use Rattle.std.specs.List.{slice_get}
 use Rattle.ks_base.specs.declared.refusals.Refusal.{Refusal}
 use Rattle.ks_base.specs.declared.refusals.Refusal.TheVariants.{NoThread}
 use Rattle.ks_base.specs.Refusals.{refusal_line}
+use Rattle.ks_io.specs.Loads.{Needed}
 use Rattle.symbol_table.specs.declared.symbols.Symbol.{Symbol}
 use Rattle.ia32_step.specs.declared.types.Thread.{Thread}
-use Rattle.session_lines.specs.Lines.{spawned_line, stepped_line, turns_line, threads_lines, peek_line}
+use Rattle.image_threads.specs.Program.{running_at}
 use Rattle.script_lines.specs.declared.types.Command.{Command}
 use Rattle.script_lines.specs.declared.types.Command.TheVariants.{Spawn, Step, RoundRobin, Threads, Peek}
-use Rattle.ksplice_session.specs.CallTable.{CallTable, table_spawned}
-use Rattle.ksplice_session.specs.Running.{Run, runs_at, run_thread, run_turns, first_schedule}
+use Rattle.update_stack.specs.CallTable.{CallTable}
+use Rattle.update_stack.specs.Events.{Event, Spawn as SpawnEvent, Answer, Spawned, Stepped, Happened, answered, after_events}
+use Rattle.update_stack.specs.StandsFor.{patched}
+use Rattle.ksplice_session.specs.Lines.{spawned_line, stepped_line, turns_line, threads_lines, peek_line}
+use Rattle.ksplice_session.specs.Running.{thread_steps, round_robin}
 
--- the machine after a line, its reply, and whether that is a refusal
-pub record Answered : Type 0 where
-  pub machine : CallTable
+-- a line's events in order, its reply, and whether that is a refusal
+pub record Told : Type 0 where
+  pub events : List Event
   pub reply : List ℕ
   pub refused : Bool
 
-abbrev pub replied : CallTable → List ℕ → Answered
-replied k reply = record { machine = k; reply = reply; refused = false }
+abbrev pub replied : List Event → List ℕ → Told
+replied events reply = record { events = events; reply = reply; refused = false }
 
--- a refused line changes nothing
-abbrev pub refused_with : CallTable → Refusal → Answered
-refused_with k refusal = record { machine = k; reply = refusal_line refusal; refused = true }
+abbrev pub refused_after : List Event → Refusal → Told
+refused_after events refusal = record { events = events; reply = refusal_line refusal; refused = true }
 
-abbrev pub shown_thread : List Symbol → Option Thread → (Thread → List ℕ) → List ℕ
-shown_thread symbols None line = []
-shown_thread symbols (Some thread) line = line thread
+-- what a thread of a machine shows
+abbrev pub shown_by : CallTable → (List Symbol → Thread → List ℕ) → Option Thread → List ℕ
+shown_by k line None = []
+shown_by k line (Some thread) = line k.symbols thread
 
--- the reply to a spawn tells of the last thread
-abbrev pub spawn_answered : CallTable → Result CallTable Refusal → Answered
-spawn_answered k (Err refusal) = refused_with k refusal
-spawn_answered k (Ok now) =
-    replied now (shown_thread now.symbols (slice_get now.threads (length k.threads)) (spawned_line now.symbols))
+abbrev pub shown : CallTable → ℕ → (List Symbol → Thread → List ℕ) → List ℕ
+shown k number line = shown_by k line (slice_get k.threads number)
 
-abbrev pub step_answered : ℕ → Run → Answered
-step_answered thread run =
-    replied run.machine (shown_thread run.machine.symbols (slice_get run.machine.threads thread) (λ t. stepped_line run.machine.symbols t run.made))
+abbrev pub reply_to : CallTable → Answer → List ℕ
+reply_to now (Spawned thread) = shown now thread spawned_line
+reply_to now (Stepped outcome) = []
 
-abbrev pub turns_answered : Run → Answered
-turns_answered run = replied run.machine (turns_line run.made)
+-- a line that is one event; where it is refused, nothing happened
+abbrev pub told_by : Event → Result Happened Refusal → Told
+told_by event (Err refusal) = refused_after [] refusal
+told_by event (Ok now) = replied (event ∷ []) (reply_to now.machine now.answer)
 
--- the answer to a line
-unfoldable pub answered : CallTable → Command → Answered
-answered k (Spawn name argument) = spawn_answered k (table_spawned k name argument)
-answered k (Step thread steps) =
-    if runs_at k thread then step_answered thread (run_thread k thread steps) else refused_with k (NoThread thread)
-answered k (RoundRobin quantum steps) = turns_answered (run_turns k (first_schedule quantum steps) steps)
-answered k Threads = replied k (threads_lines k.symbols k.threads)
-answered k (Peek address count) = replied k (peek_line k.pieces address count)
+abbrev pub stepped_line_of : ℕ → List Symbol → Thread → List ℕ
+stepped_line_of made symbols thread = stepped_line symbols thread made
+
+abbrev pub step_told : CallTable → (thread : ℕ) → List Event → Told
+step_told k thread events = replied events (shown (after_events k events) thread (stepped_line_of (length events)))
+
+abbrev pub turns_told : List Event → Told
+turns_told events = replied events (turns_line (length events))
+
+-- what a line does and replies, once its files are held with these bytes
+unfoldable pub told_of : CallTable → Command → List (List ℕ) → Told
+told_of k (Spawn name argument) held = told_by (SpawnEvent name argument) (answered k (SpawnEvent name argument))
+told_of k (Step thread n) held =
+    if is_some (running_at k.threads thread) then step_told k thread (thread_steps k thread n) else refused_after [] (NoThread thread)
+told_of k (RoundRobin quantum n) held = turns_told (round_robin k quantum n)
+told_of k Threads held = replied [] (threads_lines k.symbols k.threads)
+told_of k (Peek address count) held = replied [] (peek_line (patched k).pieces address count)
+
+-- the files that a line loads before it is run, in order; no line that is built so far loads one
+unfoldable pub files_of : Command → List Needed
+files_of (Spawn name argument) = []
+files_of (Step thread n) = []
+files_of (RoundRobin quantum n) = []
+files_of Threads = []
+files_of (Peek address count) = []

@@ -1,47 +1,147 @@
 -- What a session does: the lines of a script one after another, and how it ends.
-use Rattle.std.specs.Prelude.{◌≡◌, ℕ, Bool, true, false, ◌||◌, List, [], ◌∷◌, ◌++◌, Option}
-use Rattle.ks_io.specs.Outside.{grown, TookPart}
+use Rattle.std.specs.Prelude.{◌≡◌, ℕ, Bool, false, true, ◌||◌, nat_le, if◌then◌else◌, List, [], ◌∷◌, ◌++◌, codes, length, take, drop, Option, Some, None}
+use Rattle.std.specs.List.{fold, flat_map}
+use Rattle.ks_base.specs.Text.{shown_name}
+use Rattle.ks_io.specs.Outside.{Counts, grown, TookFront, TookPart}
+use Rattle.ks_io.specs.Loads.{Needed, Told as ToldFiles, CameTo, first_lacking}
+use Rattle.ks_io.specs.declared.types.FileFault.{FileFault}
+use Rattle.ks_io.specs.declared.types.FileFault.TheVariants.{Missing, TooLong, Failed, Memory}
 use Rattle.script_lines.specs.declared.types.Command.{Command}
 use Rattle.ksplice_session.specs.declared.types.SessionEnd.{SessionEnd}
-use Rattle.ksplice_session.specs.declared.types.SessionEnd.TheVariants.{Done, SomeRefused, SinkEnd, MemoryEnd}
-use Rattle.ksplice_session.specs.CallTable.{CallTable}
-use Rattle.ksplice_session.specs.Replies.{answered}
+use Rattle.ksplice_session.specs.declared.types.SessionEnd.TheVariants.{Done, SomeRefused, FileEnd, SinkEnd, MemoryEnd}
+use Rattle.update_stack.specs.CallTable.{CallTable}
+use Rattle.update_stack.specs.Events.{Event, after_events}
+use Rattle.ksplice_session.specs.Replies.{Told, told_of, files_of}
+use Rattle.ksplice_session.specs.Answers.{MadeFront}
 
--- the machine after lines
-unfoldable pub after : CallTable → List Command → CallTable
-after k [] = k
-after k (line ∷ lines) = after (answered k line).machine lines
-
--- their replies, each after the machine that the lines before it leave
-unfoldable pub replies : CallTable → List Command → List ℕ
-replies k [] = []
-replies k (line ∷ lines) = (answered k line).reply ++ replies (answered k line).machine lines
-
--- whether one of them is refused
-unfoldable pub some_refused : CallTable → List Command → Bool
-some_refused k [] = false
-some_refused k (line ∷ lines) = (answered k line).refused || some_refused (answered k line).machine lines
-
--- lines that were run, the line at which a session ended, and those behind it
-pub record Stopped (script : List Command) : Type 0 where
-  pub before : List Command
+-- a line that was run, and the bytes of its files
+pub record Ran : Type 0 where
   pub line : Command
-  pub behind : List Command
-  pub whole : before ++ line ∷ behind ≡ script
+  pub held : List (List ℕ)
 
--- Of the replies all before a line's have come out, and a front of that line's that isn't the whole of it.
-abbrev pub CutShort : CallTable → List Command → Command → Option (List ℕ) → Option (List ℕ) → Type 0
-CutShort k before line old new = TookPart (grown old (replies k before)) (answered (after k before) line).reply new
+-- What was done of a script: the machine that the lines leave, their events, their replies together, and whether one was refused.
+pub record Played : Type 0 where
+  pub machine : CallTable
+  pub events : List Event
+  pub output : List ℕ
+  pub refused : Bool
 
--- How a session ends that began at a machine: what came out, and the machine that it leaves.
-pub data Ends (k : CallTable) (script : List Command) (old new : Option (List ℕ)) (now : CallTable) : SessionEnd → Type 0 where
+abbrev pub nothing_played : CallTable → Played
+nothing_played k = record { machine = k; events = []; output = []; refused = false }
+
+abbrev pub with_told : Played → Told → Played
+with_told p told = record {
+  machine = after_events p.machine told.events;
+  events = p.events ++ told.events;
+  output = p.output ++ told.reply;
+  refused = p.refused || told.refused;
+}
+
+abbrev pub play_line : Played → Ran → Played
+play_line p ran = with_told p (told_of p.machine ran.line ran.held)
+
+abbrev pub held_of : Ran → List (List ℕ)
+held_of ran = ran.held
+
+-- the bytes of all files of some lines, in order
+abbrev pub held_along : List Ran → List (List ℕ)
+held_along ran = flat_map held_of ran
+
+-- lines from a machine on
+unfoldable pub played : CallTable → List Ran → Played
+played k ran = fold play_line (nothing_played k) ran
+
+-- all files of a script, in order
+unfoldable pub files_along : List Command → List Needed
+files_along script = flat_map files_of script
+
+-- The lines of a script that are run where so many of its files are held: those before the first line that lacks a file.
+unfoldable pub ran_by : List Command → List (List ℕ) → List Ran
+ran_by [] held = []
+ran_by (line ∷ lines) held =
+    let count = length (files_of line) in
+    if nat_le count (length held) then record { line = line; held = take count held } ∷ ran_by lines (drop count held) else []
+
+abbrev pub lacking : List Command → List (List ℕ) → Option Needed
+lacking script held = first_lacking (files_along script) held
+
+abbrev pub session_played : CallTable → List Command → List (List ℕ) → Played
+session_played k script held = played k (ran_by script held)
+
+-- the line of a file that was not loaded; want of memory has none
+abbrev pub fault_text : FileFault → List ℕ
+fault_text Missing = codes "missing"
+fault_text TooLong = codes "too long"
+fault_text Failed = codes "failed"
+fault_text Memory = []
+
+abbrev pub file_line : List ℕ → FileFault → List ℕ
+file_line name fault = codes "file " ++ shown_name name ++ codes " " ++ fault_text fault ++ 10 ∷ []
+
+abbrev pub lost_line : Option Needed → Option FileFault → List ℕ
+lost_line None lost = []
+lost_line (Some file) None = []
+lost_line (Some file) (Some fault) = file_line file.name fault
+
+-- the whole output: the replies, and the file line where a load ended the session
+abbrev pub whole_output : CallTable → List Command → List (List ℕ) → Option FileFault → List ℕ
+whole_output k script held lost = (session_played k script held).output ++ lost_line (lacking script held) lost
+
+-- lines that were run, one that was begun, and those behind it
+pub record At (ran : List Ran) : Type 0 where
+  pub before : List Ran
+  pub line : Ran
+  pub behind : List Ran
+  pub whole : before ++ line ∷ behind ≡ ran
+
+-- what was done before that line, and what the line does
+abbrev pub before_line : {ran : List Ran} → CallTable → At ran → Played
+before_line k at = played k at.before
+
+abbrev pub told_at : {ran : List Ran} → CallTable → At ran → Told
+told_at k at = told_of (before_line k at).machine at.line.line at.line.held
+
+-- No file of a line behind that one was loaded, and none was lost.
+pub record NoneBehind (held : List (List ℕ)) (lost : Option FileFault) {ran : List Ran} (at : At ran) : Type 0 where
+  pub through : held ≡ held_along at.before ++ at.line.held
+  pub none_lost : lost ≡ None
+
+-- How a session ends that began at k, given the files that were held and the fault for which the next was not: what came out, and the
+-- machine that it leaves.
+pub data Ends (k : CallTable) (script : List Command) (held : List (List ℕ)) (lost : Option FileFault) (old new : Option (List ℕ)) (now : CallTable) : SessionEnd → Type 0 where
   -- all lines were run, and none was refused
-  AllDone : some_refused k script ≡ false → new ≡ grown old (replies k script) → now ≡ after k script → Ends k script old new now Done
+  AllDone : lacking script held ≡ None → (session_played k script held).refused ≡ false →
+      new ≡ grown old (session_played k script held).output → now ≡ (session_played k script held).machine → Ends k script held lost old new now Done
   -- all were run, and at least one was refused
-  AllRun : some_refused k script ≡ true → new ≡ grown old (replies k script) → now ≡ after k script → Ends k script old new now SomeRefused
+  AllRun : lacking script held ≡ None → (session_played k script held).refused ≡ true →
+      new ≡ grown old (session_played k script held).output → now ≡ (session_played k script held).machine → Ends k script held lost old new now SomeRefused
+  -- a load failed; the lines before it were run, and the file's line was written
+  FileStopped : (file : Needed) (fault : FileFault) → lacking script held ≡ Some file → lost ≡ Some fault →
+      new ≡ grown old ((session_played k script held).output ++ file_line file.name fault) → now ≡ (session_played k script held).machine →
+      Ends k script held lost old new now FileEnd
   -- the sink failed at a line's reply; the line was run
-  SinkStopped : (s : Stopped script) → CutShort k s.before s.line old new → now ≡ after k (s.before ++ s.line ∷ []) → Ends k script old new now SinkEnd
-  -- memory ran out before a line was run
-  MemoryBefore : (s : Stopped script) → new ≡ grown old (replies k s.before) → now ≡ after k s.before → Ends k script old new now MemoryEnd
-  -- or when it had been run, before its reply was wholly written
-  MemoryAfter : (s : Stopped script) → CutShort k s.before s.line old new → now ≡ after k (s.before ++ s.line ∷ []) → Ends k script old new now MemoryEnd
+  SinkStopped : (at : At (ran_by script held)) → NoneBehind held lost at → TookPart (grown old (before_line k at).output) (told_at k at).reply new →
+      now ≡ after_events (before_line k at).machine (told_at k at).events → Ends k script held lost old new now SinkEnd
+  -- or at the line of a file; the lines before it were run
+  SinkAtFile : (file : Needed) (fault : FileFault) → lacking script held ≡ Some file → lost ≡ Some fault →
+      TookPart (grown old (session_played k script held).output) (file_line file.name fault) new → now ≡ (session_played k script held).machine →
+      Ends k script held lost old new now SinkEnd
+  -- Memory ran out in a line: a front of its events was made, and nothing of its reply came out.
+  MemoryInLine : (at : At (ran_by script held)) → NoneBehind held lost at → new ≡ grown old (before_line k at).output →
+      MadeFront (before_line k at).machine (told_at k at).events now → Ends k script held lost old new now MemoryEnd
+  -- Or when it had been run, before its reply was wholly written.
+  MemoryAfterLine : (at : At (ran_by script held)) → NoneBehind held lost at → TookPart (grown old (before_line k at).output) (told_at k at).reply new →
+      now ≡ after_events (before_line k at).machine (told_at k at).events → Ends k script held lost old new now MemoryEnd
+  -- Or at a load, or in the line of the file that wasn't loaded; the lines before it were run.
+  MemoryAtFile : (file : Needed) → lacking script held ≡ Some file →
+      TookFront (grown old (session_played k script held).output) (lost_line (Some file) lost) new → now ≡ (session_played k script held).machine →
+      Ends k script held lost old new now MemoryEnd
+
+-- What a session's loads came to, and how it ends.
+pub record SessionEnds (told : ToldFiles) (k : CallTable) (script : List Command) (before after : Counts) (old new : Option (List ℕ)) (now : CallTable) (end : SessionEnd) : Type 0 where
+  pub held : List (List ℕ)
+  pub lost : Option FileFault
+  pub loads : CameTo told (files_along script) held lost before after
+  pub ends : Ends k script held lost old new now end
+  -- however it ends, no more has come out than a front of the whole output
+  pub front : TookFront old (whole_output k script held lost) new

@@ -1,9 +1,10 @@
 //! The memory of a session: the regions of an image and its stacks.
-ghost use Rattle.std.specs.Prelude.{◌≡◌, nat_lt, length, unwrap_or, OnOk, IfOk};
-ghost use Rattle.std.specs.List.{position};
-ghost use Rattle.ksplice_session.specs.CallTable.{stack_piece, with_piece, all_pieces};
+ghost use Rattle.std.specs.Prelude.{◌≡◌, OnOk, IfOk};
+ghost use Rattle.image_memory.specs.Contents.{ArePlaced};
+ghost use Rattle.update_stack.specs.CallTable.{stack_piece, all_pieces};
+ghost use Rattle.ksplice_session.specs.Stacks.{FitAmong};
 
-use image_memory::{Kind, Piece, Pieces};
+use image_memory::{Kind, Piece, Pieces, pieces_stay_placed, put_piece};
 use ks_base::{Bytes, Range, Ranges};
 use std::alloc::{AllocError, Global};
 
@@ -14,6 +15,8 @@ pub(crate) fn all_pieces(
     regions: &Pieces,
     stacks: &Ranges,
 ) -> Result<Pieces, AllocError>
+    requires placed { ArePlaced regions.now }
+    requires stacks { FitAmong regions.now stacks.now }
     ensures { IfOk result (λ pieces. pieces ≡ all_pieces regions.now stacks.now) }
 {
     let mut pieces = regions.clone()?.into_vec();
@@ -23,11 +26,14 @@ pub(crate) fn all_pieces(
 
 /// Puts the pieces of stacks among pieces, the last stack first.
 fn put_stacks(alloc: Global, pieces: &mut Vec<Piece>, stacks: &[Range]) -> Result<(), AllocError>
+    requires placed { ArePlaced pieces.old.items }
+    requires stacks { FitAmong pieces.old.items stacks.now }
     ensures { OnOk result (pieces.new.items ≡ all_pieces pieces.old.items stacks.now) }
 {
     match stacks {
         [] => Ok(()),
         [stack, later @ ..] => {
+            pieces_stay_placed();
             put_stacks(alloc, pieces, later)?;
             put_piece(pieces, stack_piece(alloc, *stack)?)
         }
@@ -45,26 +51,4 @@ fn stack_piece(alloc: Global, stack: Range) -> Result<Piece, AllocError>
         base: stack.low,
         bytes: Bytes::from_vec(bytes),
     })
-}
-
-/// Puts a piece before the first of some pieces that begins above it.
-fn put_piece(pieces: &mut Vec<Piece>, piece: Piece) -> Result<(), AllocError>
-    ensures { OnOk result (pieces.new.items ≡ with_piece piece pieces.old.items) }
-{
-    let place = place_above(pieces.as_slice(), piece.base);
-    pieces.insert(place, piece)?;
-    Ok(())
-}
-
-/// The index of the first piece that begins above an address, or how many there are.
-fn place_above(pieces: &[Piece], address: u32) -> usize
-    ensures { result ≡ unwrap_or (position (λ piece. nat_lt address piece.base) pieces.now) (length pieces.now) }
-{
-    first_above(pieces, address).unwrap_or(pieces.len())
-}
-
-fn first_above(pieces: &[Piece], address: u32) -> Option<usize>
-    ensures { result ≡ position (λ piece. nat_lt address piece.base) pieces.now }
-{
-    pieces.iter().position(|piece| address < piece.base)
 }

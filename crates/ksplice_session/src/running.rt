@@ -1,91 +1,149 @@
 //! Running a script.
-ghost use Rattle.std.specs.Prelude.{◌≡◌, ◌≢◌, ◌≤◌, Err, IsErrOf};
+ghost use Rattle.std.specs.Prelude.{◌≡◌, ◌≢◌, [], Err, IsErrOf};
 ghost use Rattle.std.specs.List.{All};
-ghost use Rattle.ks_io.specs.Outside.{Rose, TookFront};
+ghost use Rattle.ks_io.specs.Kept.{FilesKept, SinkKept};
+ghost use Rattle.ks_io.specs.Outside.{Rose};
 ghost use Rattle.script_lines.specs.Allowed.{IsAllowed};
-ghost use Rattle.ksplice_session.specs.LineEnds.{LineEnds, line_end, LinesEnd};
-ghost use Rattle.ksplice_session.specs.Session.{Ends, replies};
+ghost use Rattle.ksplice_session.specs.LineEnds.{LineEnds, ToldEnds, FileEnds, written_end, file_end};
+ghost use Rattle.ksplice_session.specs.Replies.{told_of};
+ghost use Rattle.ksplice_session.specs.ScriptEnds.{ScriptEnds};
+ghost use Rattle.ksplice_session.specs.Session.{SessionEnds};
 
 use crate::answers::answer;
+use crate::files::{files_of, write_file_line};
 use crate::session::Session;
 use crate::types::SessionEnd;
-use ks_io::{Sink, SinkFault, write_all};
+use ks_io::{FileFault, Files, Lost, Sink, SinkFault, Wanted, load_all, write_all};
 use script_lines::{Command, Script};
 use std::alloc::Global;
 
-/// Runs the lines of a script one after another, and writes each reply when its line was run. A refused line changes
-/// nothing, and the next is run. The session ends at a fault of the sink or for want of memory.
-pub fn run_session<O: Sink>(
+/// Runs the lines of a script one after another. A line's files are loaded before it is run, and its reply is written
+/// when it was run; a refused line changes nothing, and the next is run. The session ends at a file that can't be loaded,
+/// when that file's line was written, at a fault of the sink, or for want of memory.
+pub fn run_session<F: Files, O: Sink>(
     alloc: Global,
     session: &mut Session,
     script: &Script,
+    files: &mut F,
     out: &mut O,
 ) -> SessionEnd
     requires { All IsAllowed script.now }
-    ensures ends { Ends session.old script.now (O.taken out.old) (O.taken out.new) session.new result }
-    // However it ends, no more than a front of the replies has come out.
-    ensures front { TookFront (O.taken out.old) (replies session.old script.now) (O.taken out.new) }
+    ensures ends { SessionEnds (F.told files.old) session.old script.now (F.counts files.old) (F.counts files.new)
+        (O.taken out.old) (O.taken out.new) session.new result }
+    ensures files { FilesKept F.told F.counts F.quiet files.old files.new }
+    ensures out { SinkKept O.faults O.quiet out.old out.new }
     ensures sink { result ≡ SessionEnd.SinkEnd → Rose (O.faults out.old) (O.faults out.new) }
-    ensures never_falls { O.faults out.old ≤ O.faults out.new }
-    ensures quiet_kept { O.quiet out.old → O.quiet out.new }
-    ensures quiet_faults { O.quiet out.old → O.faults out.new ≡ O.faults out.old }
-    ensures quiet_answer { O.quiet out.old → result ≢ SessionEnd.SinkEnd }
+    ensures quiet { O.quiet out.old → result ≢ SessionEnd.SinkEnd }
 {
-    match run_lines(alloc, session, script.as_slice(), out) {
+    match run_lines(alloc, session, script.as_slice(), files, out) {
         Ok(true) => SessionEnd::SomeRefused,
         Ok(false) => SessionEnd::Done,
         Err(end) => end,
     }
 }
 
-fn run_lines<O: Sink>(
+fn run_lines<F: Files, O: Sink>(
     alloc: Global,
     session: &mut Session,
     script: &[Command],
+    files: &mut F,
     out: &mut O,
 ) -> Result<bool, SessionEnd>
     requires { All IsAllowed script.now }
-    ensures ends { LinesEnd session.old script.now (O.taken out.old) (O.taken out.new) session.new result }
+    ensures ends { ScriptEnds (F.told files.old) session.old script.now (F.counts files.old) (F.counts files.new)
+        (O.taken out.old) (O.taken out.new) session.new result }
+    ensures files { FilesKept F.told F.counts F.quiet files.old files.new }
+    ensures out { SinkKept O.faults O.quiet out.old out.new }
     ensures sink { IsErrOf result SessionEnd.SinkEnd → Rose (O.faults out.old) (O.faults out.new) }
-    ensures never_falls { O.faults out.old ≤ O.faults out.new }
-    ensures quiet_kept { O.quiet out.old → O.quiet out.new }
-    ensures quiet_faults { O.quiet out.old → O.faults out.new ≡ O.faults out.old }
-    ensures quiet_answer { O.quiet out.old → result ≢ Err SessionEnd.SinkEnd }
+    ensures quiet { O.quiet out.old → result ≢ Err SessionEnd.SinkEnd }
 {
     let mut refused = false;
     for command in script {
-        let was_refused = run_line(alloc, session, command, out)?;
+        let was_refused = run_line(alloc, session, command, files, out)?;
         refused |= was_refused;
     }
     Ok(refused)
 }
 
-fn run_line<O: Sink>(
+// Runs a line when its files were loaded, and answers whether its reply is a refusal.
+fn run_line<F: Files, O: Sink>(
+    alloc: Global,
+    session: &mut Session,
+    command: &Command,
+    files: &mut F,
+    out: &mut O,
+) -> Result<bool, SessionEnd>
+    requires { IsAllowed command.now }
+    ensures ends { LineEnds (F.told files.old) session.old command.now (F.counts files.old) (F.counts files.new)
+        (O.taken out.old) (O.taken out.new) session.new result }
+    ensures files { FilesKept F.told F.counts F.quiet files.old files.new }
+    ensures out { SinkKept O.faults O.quiet out.old out.new }
+    ensures sink { IsErrOf result SessionEnd.SinkEnd → Rose (O.faults out.old) (O.faults out.new) }
+    ensures quiet { O.quiet out.old → result ≢ Err SessionEnd.SinkEnd }
+{
+    let wanted = files_of(command);
+    match load_all(alloc, files, wanted) {
+        Ok(_) => reply(alloc, session, command, out),
+        Err(lost) => Err(end_at_file(alloc, &wanted[lost.index], lost.fault, out)),
+    }
+}
+
+// Runs a line and writes its reply.
+fn reply<O: Sink>(
     alloc: Global,
     session: &mut Session,
     command: &Command,
     out: &mut O,
 ) -> Result<bool, SessionEnd>
     requires { IsAllowed command.now }
-    ensures ends { LineEnds session.old command.now (O.taken out.old) (O.taken out.new) session.new result }
+    ensures ends { ToldEnds session.old (told_of session.old command.now [])
+        (O.taken out.old) (O.taken out.new) session.new result }
+    ensures out { SinkKept O.faults O.quiet out.old out.new }
     ensures sink { IsErrOf result SessionEnd.SinkEnd → Rose (O.faults out.old) (O.faults out.new) }
-    ensures never_falls { O.faults out.old ≤ O.faults out.new }
-    ensures quiet_kept { O.quiet out.old → O.quiet out.new }
-    ensures quiet_faults { O.quiet out.old → O.faults out.new ≡ O.faults out.old }
-    ensures quiet_answer { O.quiet out.old → result ≢ Err SessionEnd.SinkEnd }
+    ensures quiet { O.quiet out.old → result ≢ Err SessionEnd.SinkEnd }
 {
     match answer(alloc, session, command) {
-        Ok(answer) => line_end(write_all(out, answer.line.bytes()), answer.refused),
+        Ok(answer) => written_end(write_all(out, answer.line.bytes()), answer.refused),
         Err(_) => Err(SessionEnd::MemoryEnd),
     }
 }
 
-fn line_end(written: Result<(), SinkFault>, refused: bool) -> Result<bool, SessionEnd>
-    ensures { result ≡ line_end written refused }
+// What a line ends with whose reply was written, or not.
+fn written_end(written: Result<(), SinkFault>, refused: bool) -> Result<bool, SessionEnd>
+    ensures { result ≡ written_end written refused }
 {
     match written {
         Ok(()) => Ok(refused),
         Err(SinkFault::SinkFailed) => Err(SessionEnd::SinkEnd),
         Err(SinkFault::Memory) => Err(SessionEnd::MemoryEnd),
+    }
+}
+
+// How the session ends at a file that was not loaded, when its line was written.
+fn end_at_file<O: Sink>(
+    alloc: Global,
+    file: &Wanted<'_>,
+    fault: FileFault,
+    out: &mut O,
+) -> SessionEnd
+    ensures ends { FileEnds file.now fault (O.taken out.old) (O.taken out.new) result }
+    ensures out { SinkKept O.faults O.quiet out.old out.new }
+    ensures sink { result ≡ SessionEnd.SinkEnd → Rose (O.faults out.old) (O.faults out.new) }
+    ensures quiet { O.quiet out.old → result ≢ SessionEnd.SinkEnd }
+{
+    if let FileFault::Memory = fault {
+        return SessionEnd::MemoryEnd;
+    }
+    file_end(write_file_line(alloc, file.name, fault, out))
+}
+
+// What the session ends with when the line of a file was written, or not.
+fn file_end(written: Result<(), SinkFault>) -> SessionEnd
+    ensures { result ≡ file_end written }
+{
+    match written {
+        Ok(()) => SessionEnd::FileEnd,
+        Err(SinkFault::SinkFailed) => SessionEnd::SinkEnd,
+        Err(SinkFault::Memory) => SessionEnd::MemoryEnd,
     }
 }

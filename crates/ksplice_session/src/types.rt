@@ -10,15 +10,6 @@ pub struct Answer {
     pub refused: bool,
 }
 
-/// When memory ran out.
-#[derive(Clone, Copy, PartialEq, Eq, Debug)]
-pub enum Shortage {
-    /// Before the line was run: all is as before.
-    BeforeLine,
-    /// When it had been run, before its reply, which isn't empty, was written.
-    AfterLine,
-}
-
 /// How a session ends.
 #[derive(Clone, Copy, PartialEq, Eq, Debug)]
 pub enum SessionEnd {

@@ -6,11 +6,12 @@ use Rattle.std.proofs.lemmas.List.Elements.{All-nil, All-cons, All-append, All-s
 use Rattle.ks_base.specs.declared.refusals.Refusal.TheVariants.{BadLine}
 use Rattle.script_lines.specs.declared.types.Command.{Command}
 use Rattle.script_lines.specs.declared.types.Command.TheVariants.{Peek}
-use Rattle.script_lines.specs.Lines.{words_of, is_plain, lines_of}
+use Rattle.script_lines.specs.Lines.{words_of, is_plain, lines_of, IsPrintable}
 use Rattle.script_lines.specs.Numbers.{when, number_of}
 use Rattle.script_lines.specs.Forms.{◌>>=◌, number_within, two, spawn_of, step_of, round_robin_of, threads_of, peek_of, command_of, is_comment, asked_by, asked_in}
 use Rattle.script_lines.specs.Script.{commands_of, lines_before_bad, script_of}
 use Rattle.script_lines.specs.Allowed.{IsAllowed}
+use Rattle.script_lines.proofs.Words.{Each, words_printable}
 
 -- what is made of a value of which Q holds
 made : {A B : Type 0} (Q : A → Type 0) (P : B → Type 0) (found : Option A) (make : A → Option B) → IfSome found Q → ((x : A) → Q x → IfSome (make x) P) → IfSome (found >>= make) P
@@ -38,8 +39,16 @@ within low high word =
     let P : ℕ → Type 0 = λ n. (low ≤ n) × (n ≤ high) in
     made_of_any P (number_of word) _ (λ n. tested P (nat_le low n && nat_le n high) n (λ e. grind (arith, nat_tests)))
 
-spawn_allowed : (words : List (List ℕ)) → IfSome (spawn_of words) IsAllowed
-spawn_allowed words = made_of_any IsAllowed (two words) _ (λ given. made_of_any IsAllowed (number_of given.1) _ (λ argument. tt))
+-- both of two words are printable
+two_printable : (words : List (List ℕ)) → Each IsPrintable words → IfSome (two words) (λ given. IsPrintable given.0 × IsPrintable given.1)
+two_printable [] each = tt
+two_printable (first ∷ []) each = tt
+two_printable (first ∷ second ∷ []) each = (each.0, each.1.0)
+two_printable (first ∷ second ∷ third ∷ rest) each = tt
+
+spawn_allowed : (words : List (List ℕ)) → Each IsPrintable words → IfSome (spawn_of words) IsAllowed
+spawn_allowed words each =
+    made _ IsAllowed (two words) _ (two_printable words each) (λ given printable. made_of_any IsAllowed (number_of given.1) _ (λ argument. printable.0))
 
 step_allowed : (words : List (List ℕ)) → IfSome (step_of words) IsAllowed
 step_allowed words =
@@ -64,9 +73,9 @@ peek_allowed words =
     (λ address. made _ IsAllowed (number_within 1 4096 given.1) _ (within 1 4096 given.1)
     (λ count h. tested IsAllowed (nat_le (address + count) (2 ^ 32)) (Peek address count) (λ e. (h.0, h.1, grind (arith, nat_tests))))))
 
-command_allowed : (word : List ℕ) (words : List (List ℕ)) → IfSome (command_of word words) IsAllowed
-command_allowed word words =
-    chosen IsAllowed (bytes_eq word (codes "spawn")) _ _ (spawn_allowed words)
+command_allowed : (word : List ℕ) (words : List (List ℕ)) → Each IsPrintable words → IfSome (command_of word words) IsAllowed
+command_allowed word words each =
+    chosen IsAllowed (bytes_eq word (codes "spawn")) _ _ (spawn_allowed words each)
     (chosen IsAllowed (bytes_eq word (codes "step")) _ _ (step_allowed words)
     (chosen IsAllowed (bytes_eq word (codes "rr")) _ _ (round_robin_allowed words)
     (chosen IsAllowed (bytes_eq word (codes "threads")) _ _ (threads_allowed words)
@@ -80,9 +89,13 @@ wrapped : (command : Option Command) → Keeps command → IfSome (option_map So
 wrapped (Some command) p = p
 wrapped None p = tt
 
-asked_allowed : (words : List (List ℕ)) → IfSome (asked_by words) Keeps
-asked_allowed [] = tt
-asked_allowed (word ∷ words) = chosen Keeps (is_comment word) _ _ tt (wrapped (command_of word words) (command_allowed word words))
+asked_allowed : (words : List (List ℕ)) → Each IsPrintable words → IfSome (asked_by words) Keeps
+asked_allowed [] each = tt
+asked_allowed (word ∷ words) each = chosen Keeps (is_comment word) _ _ tt (wrapped (command_of word words) (command_allowed word words each.1))
+
+line_allowed : (line : List ℕ) → IfSome (asked_in line) Keeps
+line_allowed line =
+    elim (is_plain line) as (λ b. is_plain line ≡ b → IfSome (cond b (asked_by (words_of line)) None) Keeps) [ true ↦ λ plain. asked_allowed (words_of line) (words_printable line plain) | false ↦ λ _. tt ] refl
 
 listed : (found : Option (Option Command)) → IfSome found Keeps → All IsAllowed (option_to_list (unwrap_or found None))
 listed (Some (Some command)) p = All-cons IsAllowed command [] p (All-nil IsAllowed)
@@ -93,7 +106,7 @@ of_lines : (lines : List (List ℕ)) → All IsAllowed (flat_map commands_of lin
 of_lines [] = All-nil IsAllowed
 of_lines (line ∷ lines) =
     All-append IsAllowed (commands_of line) (flat_map commands_of lines)
-    (listed (asked_in line) (chosen Keeps (is_plain line) _ _ (asked_allowed (words_of line)) tt))
+    (listed (asked_in line) (line_allowed line))
     (of_lines lines)
 
 pub all_allowed : (bytes : List ℕ) (script : List Command) → script_of bytes ≡ Ok script → All IsAllowed script

@@ -2,3 +2,4 @@ pub mod Bounds
 pub mod Cuts
 pub mod Digits
 pub mod LineByLine
+pub mod Words

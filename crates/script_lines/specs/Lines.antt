@@ -1,5 +1,5 @@
 -- The lines of a script, and the words of a line.
-use Rattle.std.specs.Prelude.{ℕ, ◌==◌, nat_le, Bool, not, ◌&&◌, List, [], ◌∷◌, length, filter, if◌then◌else◌}
+use Rattle.std.specs.Prelude.{◌≡◌, ℕ, ◌≤◌, ◌==◌, nat_le, Bool, true, not, ◌&&◌, List, [], ◌∷◌, length, filter, if◌then◌else◌}
 use Rattle.std.specs.List.{slice_split, list_all}
 
 abbrev pub is_empty : List ℕ → Bool
@@ -31,3 +31,12 @@ is_printable byte = nat_le 0x20 byte && nat_le byte 0x7E
 -- whether a line has at most 4,096 bytes, and each from 0x20 to 0x7E
 abbrev pub is_plain : List ℕ → Bool
 is_plain line = nat_le (length line) 4096 && list_all is_printable line
+
+abbrev pub is_word_byte : ℕ → Bool
+is_word_byte byte = nat_le 0x21 byte && nat_le byte 0x7E
+
+-- what each word of such a line is: 1 to 4,096 bytes, each from 0x21 to 0x7E
+pub record IsPrintable (word : List ℕ) : Type 0 where
+  pub some : 1 ≤ length word
+  pub short : length word ≤ 4096
+  pub bytes : list_all is_word_byte word ≡ true

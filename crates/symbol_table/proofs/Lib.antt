@@ -1,5 +1,7 @@
 pub mod AscendingLaws
 pub mod BlockLaws
 pub mod BodyLaws
+pub mod EntryLaws
+pub mod FunctionLaws
 pub mod NameLaws
-pub mod StartLaws
+pub mod NextLaws

@@ -1,27 +1,34 @@
--- Laws of the symbols' places in order of their names.
-use Rattle.std.proofs.Common.{◌≡◌, ℕ, suc, zero, ◌+◌, ◌<◌, ◌≤◌, Bool, true, false, cond, ◌||◌, ◌&&◌, eqb, List, [], ◌∷◌, ◌++◌, map, length, get_or, take, drop, refl, sym, ◌∙◌, ap, subst, Option, Some, None, arith}
+-- Laws of the index of names.
+use Rattle.std.proofs.Common.{◌≡◌, ℕ, suc, zero, ◌+◌, ◌<◌, ◌≤◌, Bool, true, false, cond, not, ◌||◌, ◌&&◌, eqb, ltb, leb, List, [], ◌∷◌, ◌++◌, map, length, get_or, take, drop, refl, sym, ◌∙◌, ap, subst, Option, Some, None, inl, inr, arith}
 use Rattle.std.specs.List.{slice_get, between, filter, filter_map, cons_option, list_any}
-use Rattle.std.specs.List.Sorted.{IsSortedBy, IsPartitionedBy, IsPermutation}
-use Rattle.std.specs.Ordering.{nat_cmp, is_lt, is_le, is_eq, ordering_index}
+use Rattle.std.specs.List.Sorted.{IsSortedBy, IsPartitionedBy, IsPartitionPoint, IsPermutation, IsNonDecreasingBy}
+use Rattle.std.specs.Option.{is_some}
+use Rattle.std.specs.Ordering.{nat_cmp, ordering_then, ordering_reverse, is_lt, is_le, is_eq, ordering_index}
 use Rattle.std.specs.declared.cmp.Ordering.{Ordering}
 use Rattle.std.specs.declared.cmp.Ordering.TheVariants.{Less, Equal, Greater}
 use Rattle.std.specs.Cmp.Lexicographic.{slice_cmp}
-use Rattle.std.proofs.lemmas.Bool.{false≢true, cond-true, cond-false}
+use Rattle.std.proofs.lemmas.Bool.{and_right, or_right, false≢true, cond-true, cond-false, false_from_ne_true, ltb-false, cases_lt}
+use Rattle.std.proofs.lemmas.Bool.Decides.{nat_tests}
 use Rattle.std.proofs.lemmas.Cmp.{nat_list_cmp_total}
-use Rattle.std.proofs.lemmas.List.{get_or-map, map_push, map_more}
-use Rattle.std.proofs.lemmas.Option.{slice_get-get_or}
+use Rattle.std.proofs.lemmas.List.{take-append-drop}
 use Rattle.std.proofs.lemmas.List.Elements.{filter-append, filter_map-append}
-use Rattle.std.proofs.lemmas.List.Sorted.{searchable_from_sorted, IsPermutation-refl, IsPermutation-map, IsPermutation-trans, IsPermutation-append_left, IsPermutation-append_comm, list_any-IsPermutation}
+use Rattle.std.proofs.lemmas.List.Folds.{list_any-append, list_any_at}
+use Rattle.std.proofs.lemmas.List.Kept.{IsSortedBy-filter}
+use Rattle.std.proofs.lemmas.List.Sorted.{searchable_from_sorted, IsPermutation-trans, IsPermutation-append_left, IsPermutation-append_comm, list_any-IsPermutation, IsNonDecreasingBy-from_all_adjacent}
 use Rattle.std.proofs.lemmas.Map.Text.{is_eq-slice_cmp}
+use Rattle.std.proofs.lemmas.Map.Views.{any-filter_same}
 use Rattle.symbol_table.specs.declared.symbols.Symbol.{Symbol}
+use Rattle.symbol_table.specs.declared.entries.Entry.{Entry}
+use Rattle.symbol_table.specs.declared.entries.Index.TheVariants.{Names}
 use Rattle.symbol_table.specs.declared.kinds.Kind.{Kind}
+use Rattle.symbol_table.specs.declared.kinds.Kind.TheVariants.{Global}
 use Rattle.symbol_table.specs.Kinds.{is_of_kind, is_listed}
-use Rattle.symbol_table.specs.Symbols.{ascending, addresses_of, address_of, is_named}
-use Rattle.symbol_table.specs.Names.{name_of, reached, order_of, order_at, is_before, is_not_after, is_named_at, has_lesser_name, HasAllNames, kind_address, found_at}
-use Rattle.symbol_table.specs.Blocks.{InBlocks}
-use Rattle.symbol_table.proofs.BlockLaws.{drop_between, in_blocks_sorted}
+use Rattle.symbol_table.specs.Symbols.{ascending, addresses_of, address_of, is_named, is_global_named, global_addresses}
+use Rattle.symbol_table.specs.Entries.{name_of, order_of, order_at, address_order, name_less, HasAll}
+use Rattle.symbol_table.specs.Names.{is_before, is_not_after, is_named_at, stands_at, kind_address, found_at, is_global_at, is_global_entry}
+use Rattle.symbol_table.proofs.BlockLaws.{drop_between}
 use Rattle.symbol_table.proofs.AscendingLaws.{has, same_members, has-ascending, ascends-ascending}
-use Rattle.symbol_table.proofs.StartLaws.{slice_get-push, slice_get-last}
+use Rattle.symbol_table.proofs.EntryLaws.{entry_laws, any_entry}
 
 -- ---- what a search by halving finds
 lt_stays : (a b : Ordering) → ordering_index a ≤ ordering_index b → is_lt b ≡ true → is_lt a ≡ true
@@ -40,13 +47,21 @@ le_stays Greater Less le is = absurd (omega arith)
 le_stays Greater Equal le is = absurd (omega arith)
 le_stays Greater Greater le is = is
 
-pub parted_before : (symbols : List Symbol) (places : List ℕ) (name : List ℕ) → IsSortedBy (has_lesser_name symbols) places → IsPartitionedBy (is_before symbols name) places
-parted_before symbols places name up i j d le less is =
-    lt_stays (order_at symbols name (get_or places i d)) (order_at symbols name (get_or places j d)) (searchable_from_sorted nat_list_cmp_total (λ place. name_of (slice_get symbols place)) places name up i j d le less) is
+then_first : (a b : Ordering) → is_lt (ordering_then a b) ≡ false → is_lt a ≡ false
+then_first Less b none = none
+then_first Equal b none = refl
+then_first Greater b none = refl
 
-pub parted_up_to : (symbols : List Symbol) (places : List ℕ) (name : List ℕ) → IsSortedBy (has_lesser_name symbols) places → IsPartitionedBy (is_not_after symbols name) places
-parted_up_to symbols places name up i j d le less is =
-    le_stays (order_at symbols name (get_or places i d)) (order_at symbols name (get_or places j d)) (searchable_from_sorted nat_list_cmp_total (λ place. name_of (slice_get symbols place)) places name up i j d le less) is
+names_rise : (symbols : List Symbol) (entries : List Entry) → IsSortedBy (name_less symbols) entries → IsSortedBy (λ entry other. is_lt (order_at symbols (name_of (slice_get symbols other.place)) entry)) entries
+names_rise symbols entries up k d low less = then_first (order_at symbols (name_of (slice_get symbols (get_or entries k d).place)) (get_or entries (k + 1) d)) _ (up k d low less)
+
+pub parted_before : (symbols : List Symbol) (entries : List Entry) (name : List ℕ) → IsSortedBy (name_less symbols) entries → IsPartitionedBy (is_before symbols name) entries
+parted_before symbols entries name up i j d le less is =
+    lt_stays (order_at symbols name (get_or entries i d)) (order_at symbols name (get_or entries j d)) (searchable_from_sorted nat_list_cmp_total (λ (entry : Entry). name_of (slice_get symbols entry.place)) entries name (names_rise symbols entries up) i j d le less) is
+
+pub parted_up_to : (symbols : List Symbol) (entries : List Entry) (name : List ℕ) → IsSortedBy (name_less symbols) entries → IsPartitionedBy (is_not_after symbols name) entries
+parted_up_to symbols entries name up i j d le less is =
+    le_stays (order_at symbols name (get_or entries i d)) (order_at symbols name (get_or entries j d)) (searchable_from_sorted nat_list_cmp_total (λ (entry : Entry). name_of (slice_get symbols entry.place)) entries name (names_rise symbols entries up) i j d le less) is
 
 -- ---- a part of a list that a test passes, and no more
 pub filter_part : {X : Type 0} (p : X → Bool) (xs : List X) (low k : ℕ) → low + k ≤ length xs → ((j : ℕ) (d : X) → j < low → p (get_or xs j d) ≡ false) → ((j : ℕ) (d : X) → low ≤ j → j < low + k → p (get_or xs j d) ≡ true) → ((j : ℕ) (d : X) → low + k ≤ j → j < length xs → p (get_or xs j d) ≡ false) → take k (drop low xs) ≡ filter p xs
@@ -81,76 +96,76 @@ after_not_named Greater high = refl
 pub before_up_to : (o : Ordering) → is_lt o ≡ true → is_le o ≡ true
 before_up_to Less low = refl
 before_up_to Equal low = refl
-before_up_to Greater low = low
+before_up_to Greater low = absurd (false≢true low)
 
--- ---- one more symbol
-is_missing : Option Symbol → Bool
-is_missing None = true
-is_missing (Some symbol) = false
+-- the point of a test that passes more is no earlier
+pub points_rise : (p q : Entry → Bool) (xs : List Entry) (i j : ℕ) → IsPartitionPoint (λ x. p x ≡ true) (λ x. p x ≡ false) xs i → IsPartitionPoint (λ x. q x ≡ true) (λ x. q x ≡ false) xs j → i ≤ length xs → ((x : Entry) → p x ≡ true → q x ≡ true) → i ≤ j
+points_rise p q xs i j low high within weak =
+    let d : Entry = record { address = 0; place = 0 } in
+    elim (cases_lt j i) as (λ _. i ≤ j) [
+      | inl less ↦ absurd (false≢true (sym (high.1 j d (omega arith) (omega arith)) ∙ weak (get_or xs j d) (low.0 j d (omega arith) less)))
+      | inr le ↦ le
+    ]
 
-none_missing : (symbols : List Symbol) → list_any is_missing (map Some symbols) ≡ false
-unfolding is_missing
-none_missing [] = refl
-none_missing (symbol ∷ rest) = none_missing rest
+-- ---- the tests of an address
+pub under_up_to : (a n : ℕ) → ltb n a ≡ true → leb n a ≡ true
+under_up_to a n is = grind (arith, nat_tests)
 
-stays : (symbols : List Symbol) (new : Symbol) (place : ℕ) (o : Option Symbol) → slice_get symbols place ≡ o → is_missing o ≡ false → slice_get (symbols ++ new ∷ []) place ≡ o
-unfolding is_missing
-stays symbols new place None is there = absurd (false≢true (sym there))
-stays symbols new place (Some symbol) is there = slice_get-push symbols new symbol place is
+pub under_not_at : (a n : ℕ) → ltb n a ≡ true → eqb a n ≡ false
+under_not_at a n is = grind (arith, nat_tests)
 
-not_first : (a b : Bool) → (a || b) ≡ false → a ≡ false
-not_first false b none = refl
-not_first true b none = none
+pub between_at : (a n : ℕ) → ltb n a ≡ false → leb n a ≡ true → eqb a n ≡ true
+between_at a n low high = grind (arith, nat_tests)
 
-not_second : (a b : Bool) → (a || b) ≡ false → b ≡ false
-not_second false b none = none
-not_second true b none = absurd (false≢true (sym none))
+pub over_not_at : (a n : ℕ) → leb n a ≡ false → eqb a n ≡ false
+over_not_at a n is = grind (arith, nat_tests)
 
-reached_still : (symbols : List Symbol) (new : Symbol) (places : List ℕ) → list_any is_missing (reached symbols places) ≡ false → reached (symbols ++ new ∷ []) places ≡ reached symbols places
-reached_still symbols new [] there = refl
-reached_still symbols new (place ∷ rest) there =
-    let first = stays symbols new place (slice_get symbols place) refl (not_first _ _ there) in
-    ap (λ o. o ∷ reached (symbols ++ new ∷ []) rest) first ∙ ap (λ os. slice_get symbols place ∷ os) (reached_still symbols new rest (not_second _ _ there))
+-- ---- entries of one name are in order of their addresses
+equal_is : (o : Ordering) → is_eq o ≡ true → o ≡ Equal
+equal_is Less is = absurd (false≢true is)
+equal_is Equal is = refl
+equal_is Greater is = absurd (false≢true is)
 
-places_still : (symbols : List Symbol) (new : Symbol) (places : List ℕ) → HasAllNames symbols places → reached (symbols ++ new ∷ []) places ≡ reached symbols places
-places_still symbols new places all = reached_still symbols new places (sym (list_any-IsPermutation is_missing _ _ all.all) ∙ none_missing symbols)
+same_names : (x y name : List ℕ) → is_eq (slice_cmp nat_cmp x name) ≡ true → is_eq (slice_cmp nat_cmp y name) ≡ true → slice_cmp nat_cmp x y ≡ Equal
+same_names x y name is_x is_y =
+    let one = equal_is (slice_cmp nat_cmp x name) is_x in
+    let other = equal_is (slice_cmp nat_cmp y name) is_y in
+    nat_list_cmp_total.congr x name y one ∙ nat_list_cmp_total.antisymm name y ∙ ap ordering_reverse other
 
--- the blocks stay in order
-pub names_later : (symbols : List Symbol) (new : Symbol) (places : List ℕ) → HasAllNames symbols places → InBlocks (has_lesser_name (symbols ++ new ∷ [])) places
-names_later symbols new places all end within k d above below =
-    let later : ℕ → Option Symbol = slice_get (symbols ++ new ∷ []) in
-    let still : map later places ≡ reached symbols places = places_still symbols new places all in
-    let same : (j : ℕ) → j < length places → later (get_or places j d) ≡ slice_get symbols (get_or places j d) = λ j l. sym (get_or-map later places j d None l) ∙ ap (λ os. get_or os j None) still ∙ get_or-map (slice_get symbols) places j d None l in
-    ap (λ o. is_lt (slice_cmp nat_cmp (name_of o) (name_of (later (get_or places k d))))) (same (k + 1) (omega arith))
-    ∙ ap (λ o. is_lt (slice_cmp nat_cmp (name_of (slice_get symbols (get_or places (k + 1) d))) (name_of o))) (same k (omega arith))
-    ∙ all.blocks end within k d above below
+address_rises : (a b p q : ℕ) → is_lt (ordering_then (nat_cmp b a) (nat_cmp p q)) ≡ false → a ≤ b
+address_rises a b p q none =
+    elim (ltb b a) as (λ t. ltb b a ≡ t → is_lt (ordering_then (cond t Less (cond (eqb b a) Equal Greater)) (nat_cmp p q)) ≡ false → a ≤ b) [
+      | true ↦ λ _ wrong. absurd (false≢true (sym wrong))
+      | false ↦ λ low _. ltb-false b a low
+    ] refl none
 
-pub names_after : (symbols : List Symbol) (places moved : List ℕ) (new : Symbol) (place : ℕ) → HasAllNames symbols places → place ≡ length symbols → IsPermutation (places ++ place ∷ []) moved → InBlocks (has_lesser_name (symbols ++ new ∷ [])) moved → HasAllNames (symbols ++ new ∷ []) moved
-names_after symbols places moved new place all at_end more blocks =
-    let later : ℕ → Option Symbol = slice_get (symbols ++ new ∷ []) in
-    let still : map later places ≡ reached symbols places = places_still symbols new places all in
-    let here : later place ≡ Some new = ap later at_end ∙ slice_get-last symbols new in
-    let parts : map later (places ++ place ∷ []) ≡ reached symbols places ++ Some new ∷ [] = map_push later places place ∙ ap (λ os. os ++ later place ∷ []) still ∙ ap (λ o. reached symbols places ++ o ∷ []) here in
-    let P : List (Option Symbol) → Type 0 = λ os. IsPermutation os (map later (places ++ place ∷ [])) in
-    let Q : List (Option Symbol) → Type 0 = λ os. IsPermutation (map Some symbols ++ Some new ∷ []) os in
-    record {
-      blocks = blocks;
-      all =
-          IsPermutation-trans _ _ _
-          (subst P (sym (map_push Some symbols new)) (subst Q (sym parts) (IsPermutation-append_left (Some new ∷ []) _ _ all.all)))
-          (IsPermutation-map later _ _ more);
-    }
+named_all : (symbols : List Symbol) (name : List ℕ) (entries : List Entry) (k : ℕ) (d : Entry) → k < length (filter (is_named_at symbols name) entries) → is_named_at symbols name (get_or (filter (is_named_at symbols name) entries) k d) ≡ true
+named_all symbols name entries k d less =
+    let named = is_named_at symbols name in
+    let other : Entry → Bool = λ entry. not (named entry) in
+    let none : list_any other (filter named entries) ≡ false = any-filter_same other named false (λ entry. not_true (named entry)) entries in
+    true_from_not (named (get_or (filter named entries) k d)) (false_from_ne_true (other (get_or (filter named entries) k d)) (λ is. false≢true (sym none ∙ list_any_at other (filter named entries) k d less is)))
+  where
+    not_true : (b : Bool) → not b ≡ true → b ≡ false
+    not_true true is = sym is
+    not_true false is = refl
+
+    true_from_not : (b : Bool) → not b ≡ false → b ≡ true
+    true_from_not true is = refl
+    true_from_not false is = sym is
+
+pub named_rise : (symbols : List Symbol) (name : List ℕ) (entries named : List Entry) → IsSortedBy (name_less symbols) entries → named ≡ filter (is_named_at symbols name) entries → IsNonDecreasingBy (λ (entry : Entry). entry.address) named
+named_rise symbols name entries named up is =
+    let kept = filter (is_named_at symbols name) entries in
+    let sorted = IsSortedBy-filter (name_less symbols) (entry_laws Names symbols) (is_named_at symbols name) entries up in
+    let P : List Entry → Type 0 = IsNonDecreasingBy (λ (entry : Entry). entry.address) in
+    subst P (sym is) (IsNonDecreasingBy-from_all_adjacent (λ (entry : Entry). entry.address) kept (λ k d less.
+    let x = get_or kept k d in
+    let y = get_or kept (k + 1) d in
+    let same = same_names (name_of (slice_get symbols y.place)) (name_of (slice_get symbols x.place)) name (named_all symbols name entries (k + 1) d less) (named_all symbols name entries k d (omega arith)) in
+    address_rises x.address y.address x.place y.place (sym (ap (λ o. is_lt (ordering_then o (address_order y x))) same) ∙ sorted k d (omega arith) less)))
 
 -- ---- the addresses that a lookup finds
-passes : (Symbol → Bool) → Option Symbol → Bool
-passes wanted None = false
-passes wanted (Some symbol) = wanted symbol
-
-any_passes : (wanted : Symbol → Bool) (symbols : List Symbol) → list_any (passes wanted) (map Some symbols) ≡ list_any wanted symbols
-unfolding passes
-any_passes wanted [] = refl
-any_passes wanted (symbol ∷ rest) = ap (λ b. wanted symbol || b) (any_passes wanted rest)
-
 has_wanted : (n : ℕ) (wanted : Symbol → Bool) (symbols : List Symbol) → has n (map address_of (filter wanted symbols)) ≡ list_any (λ symbol. wanted symbol && eqb n symbol.address) symbols
 has_wanted n wanted [] = refl
 has_wanted n wanted (symbol ∷ rest) =
@@ -168,75 +183,96 @@ unfolding gives
 has-cons_option n None later = refl
 has-cons_option n (Some m) later = refl
 
-has-kept : (n : ℕ) (h : ℕ → Option ℕ) (place : ℕ) (rest : List ℕ) (b : Bool) → has n (filter_map h (cond b (place ∷ rest) rest)) ≡ ((b && gives n (h place)) || has n (filter_map h rest))
-has-kept n h place rest true = has-cons_option n (h place) (filter_map h rest)
-has-kept n h place rest false = refl
+has-kept : (n : ℕ) (h : Entry → Option ℕ) (entry : Entry) (rest : List Entry) (b : Bool) → has n (filter_map h (cond b (entry ∷ rest) rest)) ≡ ((b && gives n (h entry)) || has n (filter_map h rest))
+has-kept n h entry rest true = has-cons_option n (h entry) (filter_map h rest)
+has-kept n h entry rest false = refl
 
-and_false : (b : Bool) → (b && false) ≡ false
-and_false true = refl
-and_false false = refl
+-- whether an entry gives an address of a kind and a name
+gives_at : ℕ → Kind → List ℕ → List Symbol → Entry → Bool
+gives_at n kind name symbols entry = is_named_at symbols name entry && gives n (kind_address kind (slice_get symbols entry.place))
 
-one_passes : (n : ℕ) (kind : Kind) (name : List ℕ) (o : Option Symbol) → (is_eq (order_of name o) && gives n (kind_address kind o)) ≡ passes (λ symbol. is_listed kind name symbol && eqb n symbol.address) o
-unfolding gives passes
-one_passes n kind name None = and_false (is_eq (order_of name None))
-one_passes n kind name (Some symbol) =
-    ap (λ b. b && gives n (kind_address kind (Some symbol))) (is_eq-slice_cmp symbol.name name)
-    ∙ elim (is_of_kind kind symbol) as (λ b. (is_named name symbol && gives n (cond b (Some symbol.address) None)) ≡ ((b && is_named name symbol) && eqb n symbol.address)) [ true ↦ refl | false ↦ and_false (is_named name symbol) ]
-
-has_found : (n : ℕ) (kind : Kind) (name : List ℕ) (symbols : List Symbol) (places : List ℕ) → has n (filter_map (λ place. kind_address kind (slice_get symbols place)) (filter (is_named_at symbols name) places)) ≡ list_any (passes (λ symbol. is_listed kind name symbol && eqb n symbol.address)) (reached symbols places)
+has_found : (n : ℕ) (kind : Kind) (name : List ℕ) (symbols : List Symbol) (entries : List Entry) → has n (found_at symbols kind name entries) ≡ list_any (gives_at n kind name symbols) entries
+unfolding gives_at
 has_found n kind name symbols [] = refl
-has_found n kind name symbols (place ∷ rest) =
-    let later = filter_map (λ place. kind_address kind (slice_get symbols place)) (filter (is_named_at symbols name) rest) in
-    has-kept n (λ place. kind_address kind (slice_get symbols place)) place (filter (is_named_at symbols name) rest) (is_named_at symbols name place)
-    ∙ ap (λ b. b || has n later) (one_passes n kind name (slice_get symbols place))
-    ∙ ap (λ b. passes (λ symbol. is_listed kind name symbol && eqb n symbol.address) (slice_get symbols place) || b) (has_found n kind name symbols rest)
+has_found n kind name symbols (entry ∷ rest) =
+    has-kept n (λ one. kind_address kind (slice_get symbols one.place)) entry (filter (is_named_at symbols name) rest) (is_named_at symbols name entry)
+    ∙ ap (λ b. gives_at n kind name symbols entry || b) (has_found n kind name symbols rest)
+
+gives_one : (n : ℕ) (kind : Kind) (name : List ℕ) (symbols : List Symbol) (k : ℕ) (symbol : Symbol) → slice_get symbols k ≡ Some symbol → gives_at n kind name symbols (record { address = symbol.address; place = k }) ≡ (is_listed kind name symbol && eqb n symbol.address)
+unfolding gives_at gives
+gives_one n kind name symbols k symbol is =
+    ap (λ o. is_eq (order_of name o) && gives n (kind_address kind o)) is
+    ∙ ap (λ b. b && gives n (kind_address kind (Some symbol))) (is_eq-slice_cmp symbol.name name)
+    ∙ elim (is_of_kind kind symbol) as (λ b. (is_named name symbol && gives n (cond b (Some symbol.address) None)) ≡ ((b && is_named name symbol) && eqb n symbol.address)) [ true ↦ refl | false ↦ and_right (is_named name symbol) false refl ]
+
+has_listed : (n : ℕ) (kind : Kind) (name : List ℕ) (symbols : List Symbol) (entries : List Entry) → HasAll Names symbols entries → has n (found_at symbols kind name entries) ≡ has n (map address_of (filter (is_listed kind name) symbols))
+has_listed n kind name symbols entries all =
+    has_found n kind name symbols entries
+    ∙ any_entry Names symbols entries (gives_at n kind name symbols) (λ symbol. is_listed kind name symbol && eqb n symbol.address) all (gives_one n kind name symbols)
+    ∙ sym (has_wanted n (is_listed kind name) symbols)
 
 -- numbers in another order are the same, each once and ascending
-ascending_moved : (found moved : List ℕ) → IsPermutation found moved → ascending moved ≡ ascending found
-ascending_moved found moved same =
-    same_members (ascending moved) (ascending found) (ascends-ascending moved) (ascends-ascending found) (λ n.
-    has-ascending n moved ∙ sym (list_any-IsPermutation (eqb n) found moved same) ∙ sym (has-ascending n found))
-
-pub found_by_name : (kind : Kind) (name : List ℕ) (symbols : List Symbol) (places found : List ℕ) → HasAllNames symbols places → IsPermutation (found_at symbols kind name places) found → ascending found ≡ addresses_of (is_listed kind name) symbols
-found_by_name kind name symbols places moved all same =
-    let found = found_at symbols kind name places in
+pub found_by_name : (kind : Kind) (name : List ℕ) (symbols : List Symbol) (entries : List Entry) (moved : List ℕ) → HasAll Names symbols entries → IsPermutation (found_at symbols kind name entries) moved → ascending moved ≡ addresses_of (is_listed kind name) symbols
+found_by_name kind name symbols entries moved all same =
     let wanted = map address_of (filter (is_listed kind name) symbols) in
-    ascending_moved found moved same
-    ∙ same_members (ascending found) (ascending wanted) (ascends-ascending found) (ascends-ascending wanted) (λ n.
-    has-ascending n found ∙ has_found n kind name symbols places
-    ∙ sym (list_any-IsPermutation (passes (λ symbol. is_listed kind name symbol && eqb n symbol.address)) (map Some symbols) (reached symbols places) all.all)
-    ∙ any_passes (λ symbol. is_listed kind name symbol && eqb n symbol.address) symbols
-    ∙ sym (has_wanted n (is_listed kind name) symbols)
-    ∙ sym (has-ascending n wanted))
+    same_members (ascending moved) (ascending wanted) (ascends-ascending moved) (ascends-ascending wanted) (λ n.
+    has-ascending n moved ∙ sym (list_any-IsPermutation (eqb n) (found_at symbols kind name entries) moved same)
+    ∙ has_listed n kind name symbols entries all ∙ sym (has-ascending n wanted))
 
-found_append : (symbols : List Symbol) (kind : Kind) (name places rest : List ℕ) → found_at symbols kind name (places ++ rest) ≡ found_at symbols kind name places ++ found_at symbols kind name rest
-found_append symbols kind name places rest = ap (filter_map (λ place. kind_address kind (slice_get symbols place))) (filter-append (is_named_at symbols name) places rest) ∙ filter_map-append (λ place. kind_address kind (slice_get symbols place)) (filter (is_named_at symbols name) places) (filter (is_named_at symbols name) rest)
+found_append : (symbols : List Symbol) (kind : Kind) (name : List ℕ) (entries rest : List Entry) → found_at symbols kind name (entries ++ rest) ≡ found_at symbols kind name entries ++ found_at symbols kind name rest
+found_append symbols kind name entries rest = ap (filter_map (λ entry. kind_address kind (slice_get symbols entry.place))) (filter-append (is_named_at symbols name) entries rest) ∙ filter_map-append (λ entry. kind_address kind (slice_get symbols entry.place)) (filter (is_named_at symbols name) entries) (filter (is_named_at symbols name) rest)
 
 -- one block more is looked through
-pub found_more : (symbols : List Symbol) (kind : Kind) (name places : List ℕ) (begin end : ℕ) (found block : List ℕ) → begin ≤ end → block ≡ found_at symbols kind name (between begin end places) → IsPermutation (found_at symbols kind name (drop end places)) found → IsPermutation (found_at symbols kind name (drop begin places)) (found ++ block)
-found_more symbols kind name places begin end found block order is so_far =
-    let here = between begin end places in
-    let rest = drop end places in
+pub found_more : (symbols : List Symbol) (kind : Kind) (name : List ℕ) (entries : List Entry) (begin end : ℕ) (found block : List ℕ) → begin ≤ end → block ≡ found_at symbols kind name (between begin end entries) → IsPermutation (found_at symbols kind name (drop end entries)) found → IsPermutation (found_at symbols kind name (drop begin entries)) (found ++ block)
+found_more symbols kind name entries begin end found block order is so_far =
+    let here = between begin end entries in
+    let rest = drop end entries in
     let P : List ℕ → Type 0 = λ ys. IsPermutation ys (found ++ block) in
     let Q : List ℕ → Type 0 = λ ys. IsPermutation (found_at symbols kind name here ++ found_at symbols kind name rest) (found ++ ys) in
-    subst P (sym (ap (found_at symbols kind name) (drop_between places begin end order) ∙ found_append symbols kind name here rest))
+    subst P (sym (ap (found_at symbols kind name) (drop_between entries begin end order) ∙ found_append symbols kind name here rest))
     (subst Q (sym is) (IsPermutation-trans _ _ _ (IsPermutation-append_comm (found_at symbols kind name here) (found_at symbols kind name rest)) (IsPermutation-append_left (found_at symbols kind name here) _ _ so_far)))
 
--- ---- all symbols' places
-pub reached_more : (symbols : List Symbol) (places more : List ℕ) (place : ℕ) → place < length symbols → more ≡ places ++ place ∷ [] → reached symbols places ≡ map Some (take place symbols) → reached symbols more ≡ map Some (take (place + 1) symbols)
-reached_more symbols places more place less is all =
-    let some : Symbol = record { address = 0; function = true; global = true; name = [] } in
-    ap (reached symbols) is ∙ map_push (slice_get symbols) places place ∙ ap (λ os. os ++ slice_get symbols place ∷ []) all
-    ∙ ap (λ o. map Some (take place symbols) ++ o ∷ []) (slice_get-get_or symbols place some less) ∙ sym (map_more Some symbols place some less)
+-- ---- a global symbol of a name at an address
+any_filtered : (p test : Entry → Bool) (entries : List Entry) → list_any test (filter p entries) ≡ list_any (λ entry. p entry && test entry) entries
+any_filtered p test [] = refl
+any_filtered p test (entry ∷ rest) =
+    elim (p entry) as (λ b. list_any test (cond b (entry ∷ filter p rest) (filter p rest)) ≡ ((b && test entry) || list_any (λ one. p one && test one) rest)) [
+      | true ↦ ap (λ b. test entry || b) (any_filtered p test rest)
+      | false ↦ any_filtered p test rest
+    ]
 
-pub names_sorted : (symbols : List Symbol) (held places sorted : List ℕ) → held ≡ places → reached symbols places ≡ map Some symbols → IsPermutation held sorted → IsSortedBy (has_lesser_name symbols) sorted → HasAllNames symbols sorted
-names_sorted symbols held places sorted is all same up =
-    let P : List (Option Symbol) → Type 0 = λ os. IsPermutation os (reached symbols sorted) in
-    record {
-      blocks = in_blocks_sorted (has_lesser_name symbols) sorted up;
-      all = subst P (ap (reached symbols) is ∙ all) (IsPermutation-map (slice_get symbols) held sorted same);
-    }
+shuffled : (named here global : Bool) → (named && (here && global)) ≡ ((global && named) && here)
+shuffled false here true = refl
+shuffled false here false = refl
+shuffled true true true = refl
+shuffled true true false = refl
+shuffled true false true = refl
+shuffled true false false = refl
 
--- no symbols and no places
-pub names_of_none : HasAllNames [] []
-names_of_none = record { blocks = λ end within k d above below. absurd (omega arith); all = IsPermutation-refl [] }
+global_one : (symbols : List Symbol) (name : List ℕ) (address k : ℕ) (symbol : Symbol) → slice_get symbols k ≡ Some symbol → is_global_entry symbols name address (record { address = symbol.address; place = k }) ≡ (is_global_named name symbol && eqb address symbol.address)
+global_one symbols name address k symbol is =
+    ap (λ o. is_eq (order_of name o) && (eqb address symbol.address && is_some (kind_address Global o))) is
+    ∙ ap (λ b. b && (eqb address symbol.address && is_some (kind_address Global (Some symbol)))) (is_eq-slice_cmp symbol.name name)
+    ∙ ap (λ b. is_named name symbol && (eqb address symbol.address && b)) (elim symbol.global as (λ b. is_some (cond b (Some symbol.address) None) ≡ b) [ true ↦ refl | false ↦ refl ])
+    ∙ shuffled (is_named name symbol) (eqb address symbol.address) symbol.global
+
+-- looking through blocks
+pub found_here : (p : Entry → Bool) (entries : List Entry) (begin end : ℕ) → begin ≤ end → list_any p (between begin end entries) ≡ true → list_any p entries ≡ true
+found_here p entries begin end order is =
+    ap (list_any p) (sym (take-append-drop begin entries)) ∙ list_any-append p (take begin entries) (drop begin entries)
+    ∙ ap (λ b. list_any p (take begin entries) || b) (ap (list_any p) (drop_between entries begin end order) ∙ list_any-append p (between begin end entries) (drop end entries) ∙ ap (λ b. b || list_any p (drop end entries)) is)
+    ∙ or_right (list_any p (take begin entries)) true refl
+
+pub none_here : (p : Entry → Bool) (entries : List Entry) (begin end : ℕ) → begin ≤ end → list_any p (between begin end entries) ≡ false → list_any p (drop end entries) ≡ false → list_any p (drop begin entries) ≡ false
+none_here p entries begin end order here later =
+    ap (list_any p) (drop_between entries begin end order) ∙ list_any-append p (between begin end entries) (drop end entries)
+    ∙ ap (λ b. b || list_any p (drop end entries)) here ∙ later
+
+pub any_named : (symbols : List Symbol) (name : List ℕ) (address : ℕ) (entries : List Entry) → list_any (is_global_at symbols) (filter (stands_at address) (filter (is_named_at symbols name) entries)) ≡ list_any (is_global_entry symbols name address) entries
+any_named symbols name address entries = any_filtered (stands_at address) (is_global_at symbols) (filter (is_named_at symbols name) entries) ∙ any_filtered (is_named_at symbols name) (λ entry. stands_at address entry && is_global_at symbols entry) entries
+
+pub any_global : (symbols : List Symbol) (name : List ℕ) (address : ℕ) (entries : List Entry) → HasAll Names symbols entries → list_any (is_global_entry symbols name address) entries ≡ list_any (eqb address) (global_addresses symbols name)
+any_global symbols name address entries all =
+    any_entry Names symbols entries (is_global_entry symbols name address) (λ symbol. is_global_named name symbol && eqb address symbol.address) all (global_one symbols name address)
+    ∙ sym (has_wanted address (is_global_named name) symbols)
+    ∙ sym (has-ascending address (map address_of (filter (is_global_named name) symbols)))

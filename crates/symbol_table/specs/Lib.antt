@@ -1,7 +1,11 @@
 pub mod Blocks
 pub mod Bodies
+pub mod Entries
+pub mod Functions
+pub mod Indexed
 pub mod Kinds
 pub mod Names
-pub mod Starts
+pub mod Next
 pub mod Symbols
 pub mod Table
+pub mod Unknowns

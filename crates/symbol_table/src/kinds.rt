@@ -1,15 +1,18 @@
 //! The three kinds of symbol that are looked up by name.
-ghost use Rattle.std.specs.Prelude.{◌≡◌, IfOk};
-ghost use Rattle.std.specs.List.{slice_get};
+ghost use Rattle.std.specs.Prelude.{◌≡◌, ◌==◌, IfOk};
+ghost use Rattle.std.specs.List.{slice_get, filter, list_any};
 ghost use Rattle.std.specs.List.Sorted.{IsPermutation, IsSortedBy};
-ghost use Rattle.symbol_table.specs.Symbols.{addresses_of};
+ghost use Rattle.symbol_table.specs.Symbols.{addresses_of, global_addresses};
 ghost use Rattle.symbol_table.specs.Kinds.{is_of_kind, is_listed};
-ghost use Rattle.symbol_table.specs.Names.{kind_address, found_at, has_lesser_name, HasAllNames};
+ghost use Rattle.symbol_table.specs.declared.entries.Index.TheVariants.{Names};
+ghost use Rattle.symbol_table.specs.Entries.{name_less, HasAll};
+ghost use Rattle.symbol_table.specs.Names.{kind_address, found_at, is_named_at, stands_at, is_global_at};
 ghost use Rattle.symbol_table.specs.Blocks.{InBlocks};
 
 use crate::addresses::{Addresses, put_in_order};
 use crate::blocks::block_begin;
-use crate::names::places_of;
+use crate::entries::Entry;
+use crate::names::{entries_at, entries_named};
 use crate::symbols::Symbol;
 use ks_base::Name;
 use std::alloc::{AllocError, Global};
@@ -45,20 +48,20 @@ fn kind_address(symbols: &[Symbol], place: usize, kind: Kind) -> Option<u32>
     }
 }
 
-// The addresses of the symbols of a kind and a name, of places in order of the names.
+// The addresses of the symbols of a kind and a name, of entries in order of the names.
 fn found_in_block(
     alloc: Global,
     symbols: &[Symbol],
-    places: &[usize],
+    entries: &[Entry],
     kind: Kind,
     name: &Name,
 ) -> Result<Vec<u32>, AllocError>
-    requires { IsSortedBy (has_lesser_name symbols.now) places.now }
-    ensures { IfOk result (λ found. found.items ≡ found_at symbols.now kind name.now places.now) }
+    requires { IsSortedBy (name_less symbols.now) entries.now }
+    ensures { IfOk result (λ found. found.items ≡ found_at symbols.now kind name.now entries.now) }
 {
-    places_of(symbols, places, name.as_slice())
+    entries_named(symbols, entries, name.as_slice())
         .iter()
-        .filter_map(|place| kind_address(symbols, *place, kind))
+        .filter_map(|entry| kind_address(symbols, entry.place, kind))
         .collect(alloc)
 }
 
@@ -66,18 +69,18 @@ fn found_in_block(
 fn addresses_found(
     alloc: Global,
     symbols: &[Symbol],
-    places: &[usize],
+    entries: &[Entry],
     kind: Kind,
     name: &Name,
 ) -> Result<Vec<u32>, AllocError>
-    requires { InBlocks (has_lesser_name symbols.now) places.now }
-    ensures { IfOk result (λ found. IsPermutation (found_at symbols.now kind name.now places.now) found.items) }
+    requires { InBlocks (name_less symbols.now) entries.now }
+    ensures { IfOk result (λ found. IsPermutation (found_at symbols.now kind name.now entries.now) found.items) }
 {
     let mut found = Vec::new(alloc);
-    let mut end = places.len();
+    let mut end = entries.len();
     while end > 0 {
         let begin = block_begin(end);
-        let block = found_in_block(alloc, symbols, &places[begin..end], kind, name)?;
+        let block = found_in_block(alloc, symbols, &entries[begin..end], kind, name)?;
         found.extend_from_slice(block.as_slice())?;
         end = begin;
     }
@@ -88,12 +91,38 @@ fn addresses_found(
 pub(crate) fn addresses_of(
     alloc: Global,
     symbols: &[Symbol],
-    places: &[usize],
+    entries: &[Entry],
     kind: Kind,
     name: &Name,
 ) -> Result<Addresses, AllocError>
-    requires { HasAllNames symbols.now places.now }
+    requires { HasAll Names symbols.now entries.now }
     ensures { IfOk result (λ found. found ≡ addresses_of (is_listed kind name.now) symbols.now) }
 {
-    put_in_order(addresses_found(alloc, symbols, places, kind, name)?)
+    put_in_order(addresses_found(alloc, symbols, entries, kind, name)?)
+}
+
+// Whether a name has a global symbol at an address, of entries in order of the names.
+fn is_global_in_block(symbols: &[Symbol], entries: &[Entry], name: &Name, address: u32) -> bool
+    requires { IsSortedBy (name_less symbols.now) entries.now }
+    ensures { result ≡ list_any (is_global_at symbols.now) (filter (stands_at address) (filter (is_named_at symbols.now name.now) entries.now)) }
+{
+    entries_at(entries_named(symbols, entries, name.as_slice()), address)
+        .iter()
+        .any(|entry| kind_address(symbols, entry.place, Kind::Global).is_some())
+}
+
+// Whether a name has a global symbol at an address.
+pub(crate) fn is_global(symbols: &[Symbol], entries: &[Entry], name: &Name, address: u32) -> bool
+    requires { HasAll Names symbols.now entries.now }
+    ensures { result ≡ list_any (λ a. address == a) (global_addresses symbols.now name.now) }
+{
+    let mut end = entries.len();
+    while end > 0 {
+        let begin = block_begin(end);
+        if is_global_in_block(symbols, &entries[begin..end], name, address) {
+            return true;
+        }
+        end = begin;
+    }
+    false
 }

@@ -5,9 +5,11 @@
 pub mod addresses;
 mod blocks;
 pub mod bodies;
+mod entries;
+mod functions;
 mod kinds;
 mod names;
-mod starts;
+mod next;
 pub mod symbols;
 pub mod table;
 pub mod values;

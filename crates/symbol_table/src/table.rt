@@ -1,14 +1,15 @@
 //! The table of symbols.
-ghost use Rattle.std.specs.Prelude.{◌≡◌, ◌+◌, ◌-◌, ◌<◌, ◌≤◌, ◌++◌, [], ◌∷◌, length, take, OnOk, IfOk};
+ghost use Rattle.std.specs.Prelude.{◌≡◌, ◌==◌, ◌+◌, ◌-◌, ◌<◌, ◌≤◌, ◌++◌, [], ◌∷◌, length, take, OnOk, IfOk};
 ghost use Rattle.std.specs.Option.{option_copied, option_map};
-ghost use Rattle.std.specs.List.{slice_get};
+ghost use Rattle.std.specs.List.{slice_get, list_any};
 ghost use Rattle.ks_base.specs.Gives.{Gives};
 ghost use Rattle.symbol_table.specs.Symbols.{function_addresses, global_addresses, data_addresses, name_below, only_address, function_named, next_address};
 
 use crate::addresses::Addresses;
-use crate::kinds::{Kind, addresses_of};
-use crate::names::{list_names, note_name};
-use crate::starts::{Start, last_start, list_starts, note_symbol};
+use crate::entries::{Entry, Index, list_entries, note_last};
+use crate::functions::function_below;
+use crate::kinds::{Kind, addresses_of, is_global};
+use crate::next::{lesser, next_of};
 use crate::symbols::Symbol;
 use ks_base::{Name, Refusal};
 use std::alloc::{AllocError, Global};
@@ -22,10 +23,10 @@ const NAMED_REACH: u32 = 65_536;
 #[derive(Drop)]
 pub struct SymbolTable {
     symbols: Vec<Symbol>,
-    // where functions begin, in blocks that are in order of the addresses
-    starts: Vec<Start>,
-    // the symbols' places, in blocks that are in order of their names
-    places: Vec<usize>,
+    // the indices of the symbols, each in blocks that are in order
+    functions: Vec<Entry>,
+    data: Vec<Entry>,
+    names: Vec<Entry>,
     spare: usize,
 }
 
@@ -37,10 +38,9 @@ impl Model for SymbolTable {
 
     ghost view = { λ t. record { symbols = t.symbols.items; spare = t.spare } };
 
-    ghost use Rattle.symbol_table.specs.Starts.{HasRoom, HasAllStarts};
-    ghost use Rattle.symbol_table.specs.Names.{HasAllNames};
+    ghost use Rattle.symbol_table.specs.Indexed.{IsIndexed};
 
-    ghost invariant = { λ t. HasRoom t.symbols t.starts t.places t.spare × (HasAllStarts t.symbols.items t.starts.items × HasAllNames t.symbols.items t.places.items) };
+    ghost invariant = { λ t. IsIndexed t.symbols t.functions t.data t.names t.spare };
 }
 
 impl SymbolTable {
@@ -51,8 +51,9 @@ impl SymbolTable {
     {
         SymbolTable {
             symbols: Vec::new(alloc),
-            starts: Vec::new(alloc),
-            places: Vec::new(alloc),
+            functions: Vec::new(alloc),
+            data: Vec::new(alloc),
+            names: Vec::new(alloc),
             spare: 0,
         }
     }
@@ -78,7 +79,7 @@ impl SymbolTable {
         addresses_of(
             *self.symbols.allocator(),
             self.symbols.as_slice(),
-            self.places.as_slice(),
+            self.names.as_slice(),
             Kind::Function,
             name,
         )
@@ -101,7 +102,7 @@ impl SymbolTable {
         addresses_of(
             *self.symbols.allocator(),
             self.symbols.as_slice(),
-            self.places.as_slice(),
+            self.names.as_slice(),
             Kind::Global,
             name,
         )
@@ -114,7 +115,7 @@ impl SymbolTable {
         addresses_of(
             *self.symbols.allocator(),
             self.symbols.as_slice(),
-            self.places.as_slice(),
+            self.names.as_slice(),
             Kind::Data,
             name,
         )
@@ -126,9 +127,9 @@ impl SymbolTable {
     pub fn name_at(&self, address: u32) -> Option<(&Name, u32)>
         ensures { option_map (λ shown. (shown.0.now, shown.1)) result ≡ name_below self.now.symbols address }
     {
-        let start = last_start(self.starts.as_slice(), address)?;
-        let symbol = self.symbols.as_slice().get(start.place)?;
-        let offset = address - start.address;
+        let symbols = self.symbols.as_slice();
+        let symbol = function_below(symbols, self.functions.as_slice(), address)?;
+        let offset = address - symbol.address;
         if offset < NAMED_REACH {
             Some((&symbol.name, offset))
         } else {
@@ -136,15 +137,29 @@ impl SymbolTable {
         }
     }
 
-    /// The least address of a symbol above an address, `None` exactly where there is none. It takes no memory.
+    /// The least address of a symbol above an address, `None` exactly where there is none. It takes no memory,
+    /// and no more time than the square of the logarithm of the number of symbols.
     pub fn next_address(&self, address: u32) -> Option<u32>
         ensures { result ≡ next_address self.now.symbols address }
     {
-        self.symbols
-            .iter()
-            .map(|symbol| symbol.address)
-            .filter(|other| *other > address)
-            .min()
+        lesser(
+            next_of(self.functions.as_slice(), address),
+            next_of(self.data.as_slice(), address),
+        )
+    }
+
+    /// Whether a global symbol of a name stands at an address: whether the address is one of
+    /// [`globals_of`](SymbolTable::globals_of). It takes no memory, and no more time than the square of the
+    /// logarithm of the number of symbols, and the number of those of that name at that address.
+    pub fn is_global(&self, name: &Name, address: u32) -> bool
+        ensures { result ≡ list_any (λ a. address == a) (global_addresses self.now.symbols name.now) }
+    {
+        is_global(
+            self.symbols.as_slice(),
+            self.names.as_slice(),
+            name,
+            address,
+        )
     }
 
     /// Makes at least `n` spare places. The symbols stay, whatever the answer is; after `Err` nothing is
@@ -158,9 +173,11 @@ impl SymbolTable {
             return Ok(());
         }
         self.symbols.reserve(wanted)?;
-        self.starts
-            .reserve(self.symbols.len() - self.starts.len() + wanted)?;
-        self.places.reserve(wanted)?;
+        let count = self.symbols.len();
+        self.functions
+            .reserve(count - self.functions.len() + wanted)?;
+        self.data.reserve(count - self.data.len() + wanted)?;
+        self.names.reserve(count - self.names.len() + wanted)?;
         self.spare = wanted;
         Ok(())
     }
@@ -171,9 +188,11 @@ impl SymbolTable {
         ensures symbols { self.new.symbols ≡ self.old.symbols ++ symbol ∷ [] }
         ensures spare { self.new.spare + 1 ≡ self.old.spare }
     {
-        note_symbol(&mut self.starts, &symbol, self.symbols.len());
         let _ = self.symbols.push(symbol);
-        note_name(&mut self.places, self.symbols.as_slice());
+        let symbols = self.symbols.as_slice();
+        note_last(&mut self.functions, Index::Functions, symbols);
+        note_last(&mut self.data, Index::Data, symbols);
+        note_last(&mut self.names, Index::Names, symbols);
         self.spare -= 1;
     }
 
@@ -185,8 +204,10 @@ impl SymbolTable {
     {
         let kept = self.symbols.len() - n as usize;
         self.symbols.truncate(kept);
-        list_starts(&mut self.starts, self.symbols.as_slice());
-        list_names(&mut self.places, self.symbols.as_slice());
+        let symbols = self.symbols.as_slice();
+        list_entries(&mut self.functions, Index::Functions, symbols);
+        list_entries(&mut self.data, Index::Data, symbols);
+        list_entries(&mut self.names, Index::Names, symbols);
     }
 }
 

@@ -1,5 +1,7 @@
 //! Each public call once, through the traits' bounds, with calls that fail in mid-stream.
-use ks_io::{FileFault, Files, MemoryFiles, MemorySink, Sink, SinkFault, write_all};
+use ks_io::{
+    FileFault, Files, Lost, MemoryFiles, MemorySink, Sink, SinkFault, Wanted, load_all, write_all,
+};
 use std::test::Fail;
 
 fn loaded<F: Files>(
@@ -38,6 +40,37 @@ fn files_answer_by_name_limit_and_call(rt: HostRuntime) -> Result<(), Fail> {
     for (name, limit, answer, bytes) in table {
         assert_eq!(rt; loaded(&mut files, name, limit, &mut into), answer);
         assert_eq!(rt; into.as_slice(), bytes);
+    }
+    Ok(())
+}
+
+#[test]
+fn files_are_loaded_in_order_up_to_the_first_that_is_not(rt: HostRuntime) -> Result<(), Fail> {
+    let alloc = rt.alloc();
+    // the names, the number of the load that fails, and the bytes together, or the lost file and its fault
+    let table: [([&str; 3], u64, Result<&[u8], (usize, FileFault)>); 6] = [
+        (["a", "empty", "b"], 9, Ok(b"onetwo!")),
+        (["b", "b", "b"], 9, Ok(b"two!two!two!")),
+        (["a", "absent", "absent"], 2, Err((1, FileFault::Failed))),
+        (["a", "absent", "long"], 9, Err((1, FileFault::Missing))),
+        (["a", "b", "long"], 9, Err((2, FileFault::TooLong))),
+        (["absent", "b", "a"], 9, Err((0, FileFault::Missing))),
+    ];
+    for (names, failing, answer) in table {
+        let mut files = MemoryFiles::new(alloc, vec![in alloc; failing]?);
+        files.put("a", b"one")?;
+        files.put("b", b"two!")?;
+        files.put("long", b"three")?;
+        files.put("empty", b"")?;
+        let wanted = names.map(|name| Wanted { name, limit: 4 });
+        match (load_all(alloc, &mut files, &wanted), answer) {
+            (Ok(contents), Ok(bytes)) => {
+                let together = contents.concat(alloc)?;
+                assert_eq!(rt; together.as_slice(), bytes);
+            }
+            (Err(lost), Err((index, fault))) => assert_eq!(rt; lost, Lost { index, fault }),
+            (loaded, _) => assert!(rt; false, "{}", loaded.is_ok()),
+        }
     }
     Ok(())
 }

@@ -112,6 +112,10 @@ fn names_have_their_addresses(rt: HostRuntime) -> Result<(), Fail> {
     for row in &rows {
         assert!(rt; has_addresses(rt.alloc(), &table, row)?, "{}", row.1);
     }
+    let name = Name::from_slice(rt.alloc(), b"f")?;
+    for (address, told) in [(0x8, false), (0x10, false), (0x28, true), (0x30, true)] {
+        assert_eq!(rt; table.is_global(&name, address), told, "at {address}");
+    }
     assert!(rt; 4 <= table.len());
     table.remove_last(4);
     assert!(rt; has_addresses(rt.alloc(), &table, &(Kind::Function, "f", &[0x30]))?);

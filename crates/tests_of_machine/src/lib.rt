@@ -1,4 +1,4 @@
-//! Tests of instructions, steps, threads and sessions: `ia32_alu`, `ia32_decode`, `ia32_step`, `image_threads`, `session_lines`, `ksplice_session`.
+//! Tests of instructions, steps, threads and sessions: `ia32_alu`, `ia32_decode`, `ia32_step`, `image_threads`, `update_stack`, `ksplice_session`.
 //! They stand apart so that those crates are proved once, and not once more for their tests.
 #![tactic(auto)]
 

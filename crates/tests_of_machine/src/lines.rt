@@ -3,7 +3,7 @@ use ia32_alu::Flags;
 use ia32_step::{State, Thread};
 use image_memory::{FlatSpace, Kind, Piece, are_placed};
 use ks_base::{Fault, Line, ListOf, Range};
-use session_lines::{put_peek, put_spawned, put_stepped, put_threads, put_turns};
+use ksplice_session::{put_peek, put_spawned, put_stepped, put_threads, put_turns};
 use std::alloc::Global;
 use std::test::Fail;
 use symbol_table::{Symbol, SymbolTable};

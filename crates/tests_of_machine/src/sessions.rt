@@ -1,8 +1,8 @@
-//! A session of a small program: how many steps are made, and what they leave.
-use ia32_step::State;
+//! A session of a small program: the replies to a script, the system that it leaves, and the line of a lost file.
 use image_file::read_image;
-use ks_base::Name;
-use ksplice_session::Session;
+use ks_io::{FileFault, MemoryFiles, MemorySink};
+use ksplice_session::{Session, SessionEnd, run_session, write_file_line};
+use script_lines::read_script;
 use std::alloc::Global;
 use std::test::Fail;
 
@@ -25,32 +25,49 @@ fn session_of(alloc: Global) -> Option<Session> {
     Session::new(alloc, image).ok()
 }
 
-// Starts a thread at `main`.
-fn start(alloc: Global, session: &mut Session) -> Option<u32> {
-    let main = Name::from_slice(alloc, b"main").ok()?;
-    session.spawn(&main, 7).ok()
+// Runs a script over no files. The answer is how it ended and whether these are the replies.
+fn ends(
+    alloc: Global,
+    session: &mut Session,
+    script: &str,
+    replies: &str,
+) -> Option<(SessionEnd, bool)> {
+    let script = read_script(alloc, script.as_bytes()).ok()?;
+    let mut files = MemoryFiles::new(alloc, Vec::new(alloc));
+    let mut sink = MemorySink::new(alloc, Vec::new(alloc), 7);
+    let end = run_session(alloc, session, &script, &mut files, &mut sink);
+    Some((end, sink.taken() == replies.as_bytes()))
 }
 
 #[test]
-fn steps_of_a_thread(rt: HostRuntime) -> Result<(), Fail> {
+fn replies_to_a_script(rt: HostRuntime) -> Result<(), Fail> {
     let alloc = rt.alloc();
     let mut session = session_of(alloc).ok_or("no session")?;
-    assert_eq!(rt; start(alloc, &mut session), Some(0));
-    assert_eq!(rt; session.run_thread(0, 100), 5);
-    let thread = *session.threads().first().ok_or("no thread")?;
-    assert_eq!(rt; thread.state, State::Exited(1));
-    assert_eq!(rt; session.run_thread(0, 100), 0);
+    let script = "spawn main 7\nstep 0 2\nrr 1 100\nthreads\npeek 0x00100000 6\n";
+    let replies =
+        "spawned 0 0x00100010 main+0x0\nstepped 0 2 running 0x00100005 f+0x5\nrr 3\nthread 0 exited 0x00000001\nthreads 1\n0x00100000: b8 01 00 00 00 c3\n";
+    let end = ends(alloc, &mut session, script, replies).ok_or("no script")?;
+    assert!(rt; end == (SessionEnd::Done, true));
+    let system = session.system();
+    assert_eq!(rt; system.updates().len(), 0);
+    assert_eq!(rt; system.machine().threads().len(), 1);
+    let end = ends(
+        alloc,
+        &mut session,
+        "step 0 1\nrr 1 1\n",
+        "refused 30 no thread 0\nrr 0\n",
+    )
+    .ok_or("no script")?;
+    assert!(rt; end == (SessionEnd::SomeRefused, true));
     Ok(())
 }
 
 #[test]
-fn steps_in_turn(rt: HostRuntime) -> Result<(), Fail> {
+fn line_of_a_lost_file(rt: HostRuntime) -> Result<(), Fail> {
     let alloc = rt.alloc();
-    let mut session = session_of(alloc).ok_or("no session")?;
-    assert_eq!(rt; session.run_turns(1, 5), 0);
-    assert_eq!(rt; start(alloc, &mut session), Some(0));
-    assert_eq!(rt; start(alloc, &mut session), None);
-    assert_eq!(rt; session.run_turns(4, 2), 2);
-    assert_eq!(rt; session.run_turns(2, 100), 3);
+    let mut sink = MemorySink::new(alloc, Vec::new(alloc), 100);
+    assert!(rt; write_file_line(alloc, "x.o", FileFault::Missing, &mut sink).is_ok());
+    assert!(rt; write_file_line(alloc, "y.o", FileFault::TooLong, &mut sink).is_ok());
+    assert!(rt; sink.taken() == b"file x.o missing\nfile y.o too long\n".as_slice());
     Ok(())
 }

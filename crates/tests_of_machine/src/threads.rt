@@ -109,7 +109,7 @@ fn first_thread(rt: HostRuntime) -> Result<(), Fail> {
     let alloc = rt.alloc();
     let mut machine = machine_of(&rt, alloc)?;
     assert!(rt; starts(&mut machine, alloc, b"main") == Some(0));
-    assert!(rt; is_at_main(machine.threads().first().ok_or("no thread")?));
+    assert!(rt; is_at_main(machine.threads().get(0).ok_or("no thread")?));
     assert!(rt;
         first_frame(&machine)
             == [
@@ -238,7 +238,7 @@ fn added_symbols(rt: HostRuntime) -> Result<(), Fail> {
     let mut machine = machine_of(&rt, alloc)?;
     add_function(&mut machine, Name::from_slice(alloc, b"g")?, 0x0010_0010)?;
     assert!(rt; starts(&mut machine, alloc, b"g") == Some(0));
-    assert!(rt; is_at_main(machine.threads().first().ok_or("no thread")?));
+    assert!(rt; is_at_main(machine.threads().get(0).ok_or("no thread")?));
     add_function(&mut machine, Name::from_slice(alloc, b"f")?, 0x0010_0010)?;
     let two = "refused 19 two names f 0x00100000 0x00100010\n";
     assert!(rt; is_refused(&mut machine, alloc, b"f", two)?);

@@ -4,6 +4,7 @@ use Rattle.std.proofs.lemmas.List.{take-append-drop}
 use Rattle.std.proofs.lemmas.Grind.{common_steps}
 use Rattle.ks_io.specs.Outside.{grown}
 use Rattle.ks_io.specs.Fronts.{grown-append}
+use Rattle.ks_io.specs.KeptLaws.{SinkKept-trans}
 use Rattle.ks_io.proofs.writing.write_all.Goals as goal
 
 splits_further : (front rest piece : List ℕ) (n : ℕ) → front ++ rest ≡ piece → (front ++ take n rest) ++ drop n rest ≡ piece
@@ -18,7 +19,9 @@ loop-rest-preserved g c =
       front = before.front ++ take n c.loop-rest.rest.now;
       splits = grind (arith, common_steps, further);
       written = c.in_ok-count.ensures.took ∙ ap (λ was. grown was (take n c.loop-rest.rest.now)) before.written ∙ grown-append _ _ _;
-      never_falls = omega (arith, before.never_falls, c.write.ensures.never_falls);
-      quiet_kept = λ q. c.write.ensures.quiet_kept (before.quiet_kept q);
-      quiet_faults = λ q. c.write.ensures.quiet_faults (before.quiet_kept q) ∙ before.quiet_faults q;
+      kept = SinkKept-trans before.kept (record {
+        never_falls = c.write.ensures.never_falls;
+        quiet_kept = c.write.ensures.quiet_kept;
+        quiet_faults = c.write.ensures.quiet_faults;
+      });
     }

@@ -1,4 +1,5 @@
-use Rattle.std.proofs.Common.{◌≡◌, ◌≤◌, List, ℕ, ◌++◌, length}
+use Rattle.std.proofs.Common.{◌≡◌, List, ℕ, ◌++◌, length}
+use Rattle.ks_io.specs.Kept.{SinkKept}
 use Rattle.ks_io.specs.Outside.{grown}
 use Rattle.ks_io.proofs.writing.write_all.Given as goal
 
@@ -8,9 +9,7 @@ invariant-loop-rest g l = record {
   front : List ℕ;
   splits : front ++ l.rest ≡ l.piece;
   written : g.O.Sink.taken l.out ≡ grown (g.O.Sink.taken l.initial.out) front;
-  never_falls : g.O.Sink.faults l.initial.out ≤ g.O.Sink.faults l.out;
-  quiet_kept : g.O.Sink.quiet l.initial.out → g.O.Sink.quiet l.out;
-  quiet_faults : g.O.Sink.quiet l.initial.out → g.O.Sink.faults l.out ≡ g.O.Sink.faults l.initial.out;
+  kept : SinkKept g.O.Sink.faults g.O.Sink.quiet l.initial.out l.out;
 }
 
 abbrev pub decreases-loop-rest : goal.decreases-loop-rest

@@ -1,26 +1,17 @@
-use Rattle.ksplice_cli.specs.Calls.{found_file, object_limit}
-use Rattle.ksplice_cli.specs.Reply.{IsReply}
-use Rattle.ksplice_cli.proofs.BothLoads.{both_end, both_held, diff_tells}
+use Rattle.std.proofs.Common.{[], ◌∷◌, refl}
+use Rattle.ks_io.specs.Loads.{bytes_of}
+use Rattle.ksplice_cli.specs.Calls.{object_limit}
+use Rattle.ksplice_cli.specs.Words.{Diff}
+use Rattle.ksplice_cli.proofs.CallAnswers.{lost_answers, two_held, diff_answers}
 use Rattle.ksplice_cli.proofs.diffing.diff.Goals as goal
 
 pub returns-in-Ok-clause-answers : goal.returns-in-Ok-clause-answers
-returns-in-Ok-clause-answers g c = λ told is_told.
-    let held = c.in-Ok.ensures.loaded told is_told in
-    both_held (found_file object_limit (told c.args.pre.now)) c.args.pre.now (found_file object_limit (told c.args.post.now)) c.args.post.now IsReply _ _
-    (g.F.Files.counts c.args.files.now) (g.F.Files.counts c.load_both.new.files)
-    (g.O.Sink.taken c.args.out.now) (g.O.Sink.taken c.load_both.new.out) (g.O.Sink.taken c.print_difference.new.out) c.print_difference.result.code
-    held.0 held.1 c.in-Ok.ensures.untouched (rw (c.as_slice.ensures.value, c.as_slice-in-Ok.ensures.value) at c.print_difference.ensures.answer)
+returns-in-Ok-clause-answers g c =
+    diff_answers c.args.pre.now c.args.post.now c.deref.result.now c.deref-in-Ok.result.now (bytes_of c.in-Ok.held.items)
+    (two_held c.in-Ok.held.items c.index.result.now c.index-in-Ok.result.now _ _ c.in-Ok.ensures.loads.0 c.index.ensures c.deref.ensures.value c.index-in-Ok.ensures c.deref-in-Ok.ensures.value)
+    c.in-Ok.ensures.loads.1 c.print_difference.ensures.answer
 
 pub returns-in-Err-clause-answers : goal.returns-in-Err-clause-answers
-returns-in-Err-clause-answers g c = λ told is_told.
-    both_end (found_file object_limit (told c.args.pre.now)) c.args.pre.now (found_file object_limit (told c.args.post.now)) c.args.post.now IsReply
-    (g.F.Files.counts c.args.files.now) (g.F.Files.counts c.load_both.new.files) (g.O.Sink.taken c.args.out.now) (g.O.Sink.taken c.load_both.new.out) c.in-Err.status.code
-    (c.in-Err.ensures.ended told is_told)
-
-pub returns-in-Ok-clause-rises : goal.returns-in-Ok-clause-rises
-returns-in-Ok-clause-rises g c = λ told is_told.
-    diff_tells told c.args.pre.now c.args.post.now (g.F.Files.counts c.args.files.now) (g.F.Files.counts c.load_both.new.files) (c.in-Ok.ensures.rises told is_told)
-
-pub returns-in-Err-clause-rises : goal.returns-in-Err-clause-rises
-returns-in-Err-clause-rises g c = λ told is_told.
-    diff_tells told c.args.pre.now c.args.post.now (g.F.Files.counts c.args.files.now) (g.F.Files.counts c.load_both.new.files) (c.in-Err.ensures.rises told is_told)
+returns-in-Err-clause-answers g c =
+    lost_answers (Diff c.args.pre.now c.args.post.now) (record { name = c.args.pre; limit = object_limit } ∷ record { name = c.args.post; limit = object_limit } ∷ [])
+    c.in-Err.lost refl c.in-Err.ensures.loads c.end_with_file.ensures.answer

@@ -1,13 +1,14 @@
-use Rattle.std.proofs.Common.{ℕ, ◌≤◌, List, Option, length}
+use Rattle.std.proofs.Common.{ℕ, List, Option, length}
+use Rattle.ks_io.specs.Kept.{SinkKept}
 use Rattle.ksplice_cli.specs.Answer.{ComesOut, answer_of}
 use Rattle.ksplice_cli.proofs.image_code.print_listing.Given as goal
 
--- whatever comes out of the rest is the whole that comes out; a sink that fails nothing still does, and its count never fell
+-- whatever comes out of the rest is the whole that comes out
 abbrev pub invariant-loop-status : goal.invariant-loop-status
-invariant-loop-status g l =
-    ((now : Option (List ℕ)) (status : ℕ) → ComesOut (answer_of l.listing 0) (g.O.Sink.taken l.out) now status → ComesOut (answer_of l.fn.listing 0) (g.O.Sink.taken l.fn.out) now status)
-    × (g.O.Sink.faults l.fn.out ≤ g.O.Sink.faults l.out)
-    × (g.O.Sink.quiet l.fn.out → g.O.Sink.quiet l.out)
+invariant-loop-status g l = record {
+  comes_out : (now : Option (List ℕ)) (status : ℕ) → ComesOut (answer_of l.listing 0) (g.O.Sink.taken l.out) now status → ComesOut (answer_of l.fn.listing 0) (g.O.Sink.taken l.fn.out) now status;
+  kept : SinkKept g.O.Sink.faults g.O.Sink.quiet l.fn.out l.out;
+}
 
 abbrev pub decreases-loop-status : goal.decreases-loop-status
 decreases-loop-status g l = length l.listing

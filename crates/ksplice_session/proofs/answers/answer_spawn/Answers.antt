@@ -1,20 +1,25 @@
-use Rattle.std.specs.List.{slice_get}
-use Rattle.session_lines.specs.Lines.{spawned_line}
-use Rattle.ksplice_session.specs.Replies.{shown_thread}
+use Rattle.std.proofs.Common.{[], ◌∷◌, ◌∙◌, refl, sym, subst, ap}
 use Rattle.script_lines.specs.declared.types.Command.TheVariants.{Spawn}
-use Rattle.ksplice_session.proofs.AnswerLaws.{answers_run, answers_refused, spawn_done, spawn_refused}
+use Rattle.update_stack.specs.Events.{Spawn as SpawnEvent, Spawned, happened}
+use Rattle.ksplice_session.specs.Lines.{spawned_line}
+use Rattle.ksplice_session.specs.Replies.{Told, told_of, replied, shown}
+use Rattle.ksplice_session.specs.Answers.{Answers}
+use Rattle.ksplice_session.proofs.AnswerLaws.{told_answers, refused_answers, one_event, told_spawned, told_spawn_refused}
 use Rattle.ksplice_session.proofs.answers.answer_spawn.Goals as goal
 
 pub returns-in-Ok : goal.returns-in-Ok
 returns-in-Ok c =
+    let k = c.args.session.now in
     let now = c.spawn.new.self in
-    answers_run c.args.session.now now (Spawn c.args.name.now c.args.argument)
-    (shown_thread now.symbols (slice_get now.threads c.in-Ok.number) (spawned_line now.symbols)) c.spawned_reply.result c.run.result
-    (spawn_done c.args.session.now now c.args.name.now c.args.argument c.in-Ok.number c.in-Ok.ensures.started c.in-Ok.ensures.number)
-    c.spawned_reply.ensures.line c.spawned_reply.ensures.some c.run.ensures
+    let number = c.in-Ok.number in
+    let event = SpawnEvent c.args.name.now c.args.argument in
+    subst (λ (told : Told). Answers k told now c.told.result) (sym (told_spawned k now c.args.name.now c.args.argument number c.in-Ok.ensures.answered))
+    (told_answers k now (replied (event ∷ []) (shown now number spawned_line)) c.spawned_reply.result c.told.result refl c.spawned_reply.ensures
+    (one_event k event (happened now (Spawned number)) c.in-Ok.ensures.answered) c.told.ensures)
 
 pub returns-in-Err : goal.returns-in-Err
 returns-in-Err c =
-    answers_refused c.args.session.now c.spawn.new.self (Spawn c.args.name.now c.args.argument) c.in-Err.refusal c.answer_refused.result
-    (λ other. spawn_refused c.args.session.now c.args.name.now c.args.argument c.in-Err.refusal (c.in-Err.ensures.started other))
-    c.in-Err.ensures.refused c.answer_refused.ensures
+    refused_answers c.args.session.now c.spawn.new.self (told_of c.args.session.now (Spawn c.args.name.now c.args.argument) []) c.in-Err.refusal c.refused.result
+    c.in-Err.ensures.refused
+    (λ other. told_spawn_refused c.args.session.now c.args.name.now c.args.argument c.in-Err.refusal (c.in-Err.ensures.answered other))
+    c.refused.ensures

@@ -1,10 +1,14 @@
-use Rattle.session_lines.specs.Lines.{turns_line}
-use Rattle.script_lines.specs.declared.types.Command.TheVariants.{RoundRobin}
-use Rattle.ksplice_session.proofs.AnswerLaws.{answers_run, turns_made}
+use Rattle.std.proofs.Common.{[], refl, sym, subst}
+use Rattle.ksplice_session.specs.Running.{round_robin}
+use Rattle.ksplice_session.specs.Replies.{Told, turns_told}
+use Rattle.ksplice_session.specs.Answers.{Answers}
+use Rattle.ksplice_session.proofs.AnswerLaws.{told_answers, told_turns}
 use Rattle.ksplice_session.proofs.answers.answer_turns.Goals as goal
 
 pub returns : goal.returns
 returns c =
-    answers_run c.args.session.now c.run_turns-made.new.self (RoundRobin c.args.quantum c.args.steps) (turns_line c.run_turns-made.result) c.turns_reply.result c.run.result
-    (turns_made c.args.session.now c.run_turns-made.new.self c.args.quantum c.args.steps c.run_turns-made.result c.run_turns-made.ensures)
-    c.turns_reply.ensures.line c.turns_reply.ensures.some c.run.ensures
+    let k = c.args.session.now in
+    let now = c.run_turns-made.new.self in
+    subst (λ (told : Told). Answers k told now c.told.result) (sym (told_turns k c.args.quantum c.args.count))
+    (told_answers k now (turns_told (round_robin k c.args.quantum c.args.count)) c.turns_reply.result c.told.result refl
+    (rw (← c.run_turns-made.ensures.made) c.turns_reply.ensures) c.run_turns-made.ensures.after c.told.ensures)

@@ -1,19 +1,22 @@
-use Rattle.std.proofs.Common.{Bool, Result, sym, subst}
-use Rattle.ksplice_session.specs.declared.types.SessionEnd.{SessionEnd}
-use Rattle.ksplice_session.specs.LineEnds.{LineEnds}
-use Rattle.ksplice_session.proofs.SessionLaws.{line_answered, line_short}
+use Rattle.std.proofs.Common.{map}
+use Rattle.ks_io.specs.Loads.{needed_by}
+use Rattle.ksplice_session.proofs.SessionLaws.{line_held, line_lost}
+use Rattle.ksplice_session.proofs.running.run_line.Goals.{in-Ok, in-Err}
 use Rattle.ksplice_session.proofs.running.run_line.Goals as goal
 
-pub returns-in-Ok-clause-ends : goal.returns-in-Ok-clause-ends
-returns-in-Ok-clause-ends g c =
+pub returns-clause-ends : goal.returns-clause-ends
+returns-clause-ends g c =
+    let told = g.F.Files.told c.args.files.now in
+    let before = g.F.Files.counts c.args.files.now in
+    let after = g.F.Files.counts c.load_all.new.files in
     let old = g.O.Sink.taken c.args.out.now in
-    let new = g.O.Sink.taken c.write_all.new.out in
-    let P : Result Bool SessionEnd → Type 0 = λ r. LineEnds c.args.session.now c.args.command.now (g.O.Sink.taken c.args.out.now)
-    (g.O.Sink.taken c.write_all.new.out) c.answer.new.session r in
-    subst P (sym c.line_end.ensures)
-    (line_answered c.args.session.now c.answer.new.session c.args.command.now c.in-Ok.answer old new c.write_all.result c.in-Ok.ensures
-    (rw c.bytes.ensures at c.write_all.ensures.ok) (rw c.bytes.ensures at c.write_all.ensures.part))
-
-pub returns-in-Err-clause-ends : goal.returns-in-Err-clause-ends
-returns-in-Err-clause-ends g c =
-    line_short c.args.session.now c.answer.new.session c.args.command.now (g.O.Sink.taken c.args.out.now) c.in-Err.field-0 c.in-Err.ensures
+    elim c.match-load_all.branch [
+      | in-Ok w ↦
+          rw (w.session-is, w.out-is, w.result-is)
+          (line_held told c.args.session.now c.args.command.now (map needed_by c.files_of-wanted.result.now) w.in-Ok.field-0.items before after old (g.O.Sink.taken w.reply.new.out) w.reply.new.session
+          w.reply.result c.files_of-wanted.ensures w.in-Ok.ensures.loads w.reply.ensures.ends)
+      | in-Err w ↦
+          rw (w.session-is, w.out-is, w.result-is)
+          (line_lost told c.args.session.now c.args.command.now c.files_of-wanted.result.now _ w.in-Err.lost before after old (g.O.Sink.taken w.end_at_file.new.out) w.end_at_file.result
+          c.files_of-wanted.ensures w.in-Err.ensures.loads w.end_at_file.ensures.ends)
+    ]

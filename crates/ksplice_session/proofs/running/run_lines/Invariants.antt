@@ -1,11 +1,12 @@
-use Rattle.std.proofs.Common.{◌≡◌, ◌≤◌, take}
-use Rattle.ksplice_session.proofs.SessionLaws.{HaveRun}
+use Rattle.std.proofs.Common.{take}
+use Rattle.ks_io.specs.Kept.{FilesKept, SinkKept}
+use Rattle.ksplice_session.specs.ScriptEnds.{HaveRun}
 use Rattle.ksplice_session.proofs.running.run_lines.Given as goal
 
 abbrev pub invariant-loop-command : goal.invariant-loop-command
 invariant-loop-command g l = record {
-  ran : HaveRun l.fn.session (take l.command-index l.script) (g.O.Sink.taken l.fn.out) l.session (g.O.Sink.taken l.out) l.refused;
-  never_falls : g.O.Sink.faults l.fn.out ≤ g.O.Sink.faults l.out;
-  quiet_kept : g.O.Sink.quiet l.fn.out → g.O.Sink.quiet l.out;
-  quiet_faults : g.O.Sink.quiet l.fn.out → g.O.Sink.faults l.out ≡ g.O.Sink.faults l.fn.out;
+  ran : HaveRun (g.F.Files.told l.fn.files) l.fn.session (take l.command-index l.script) (g.F.Files.counts l.fn.files) (g.F.Files.counts l.files)
+      (g.O.Sink.taken l.fn.out) (g.O.Sink.taken l.out) l.session l.refused;
+  files : FilesKept g.F.Files.told g.F.Files.counts g.F.Files.quiet l.fn.files l.files;
+  out : SinkKept g.O.Sink.faults g.O.Sink.quiet l.fn.out l.out;
 }

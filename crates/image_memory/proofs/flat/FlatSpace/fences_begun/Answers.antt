@@ -1,10 +1,12 @@
 -- What halving finds, where the bases rise.
-use Rattle.std.proofs.Common.{rules, arith, leb, leb-true, leb-false}
+use Rattle.std.proofs.Common.{◌<◌, rules, arith, length, leb, leb-true, leb-false}
+use Rattle.std.specs.List.{AllWithin}
 use Rattle.std.specs.List.Sorted.{IsPartitionedBy}
 use Rattle.std.proofs.lemmas.List.Sorted.{IsPartitionPoint-from_clause, IsPartitionedBy-leb}
 use Rattle.image_memory.specs.Contents.{fence_range}
 use Rattle.image_memory.specs.declared.types.Fence.{Fence}
 use Rattle.image_memory.proofs.RangeLaws.{lows_rise}
+use Rattle.image_memory.proofs.ChangeLaws.{insert_is_put}
 use Rattle.image_memory.proofs.flat.FlatSpace.fences_begun.Goals as goal
 
 pub returns : goal.returns
@@ -17,8 +19,13 @@ returns c =
     let found = IsPartitionPoint-from_clause (λ fence. leb fence.range.low c.args.address) c.as_slice.result.now
     c.partition_point.result c.partition_point.ensures.partitioned parted (λ a r f' k. search rules) in
     let at = rw e at found in
+    let above : AllWithin (λ fence. c.args.address < fence.range.low) space.fences.items c.partition_point.result (length space.fences.items)
+    = λ k d l m. leb-false _ _ (at.1 k d l m) in
     record {
       bound = search rules;
       below = λ k d l m. leb-true _ _ (at.0 k d l m);
-      above = λ k d l m. leb-false _ _ (at.1 k d l (omega (arith, space.fences.ok.0)));
+      above = λ k d l m. above k d l (omega (arith, space.fences.ok.0));
+      put = λ fence same. insert_is_put fence_range fence space.fences.items c.partition_point.result (search rules)
+          (λ k d l. let h = leb-true _ _ (at.0 k d (omega arith) l) in omega arith)
+          (λ k d l m. let h = above k d l m in omega arith);
     }

@@ -1,4 +1,4 @@
-use Rattle.std.proofs.Common.{◌≡◌, ℕ, ◌++◌, ◌-◌, List, [], length, replicate, refl, sym, ap, ◌∙◌, append-nil}
+use Rattle.std.proofs.Common.{◌≡◌, ℕ, ◌++◌, ◌-◌, List, length, replicate, sym, ap, ◌∙◌, append-nil}
 use Rattle.image_memory.specs.declared.types.Window.{Window}
 use Rattle.image_memory.specs.Fetch.{shown}
 use Rattle.image_memory.proofs.types.Window.whole.Goals as goal

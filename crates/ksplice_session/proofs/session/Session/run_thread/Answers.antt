@@ -1,26 +1,35 @@
-use Rattle.std.proofs.Common.{◌≡◌, ◌+◌, ◌-◌, false, sym, ◌∙◌, ap, arith}
-use Rattle.ksplice_session.specs.CallTable.{CallTable}
-use Rattle.ksplice_session.specs.Running.{runs_at, run_thread}
-use Rattle.ksplice_session.proofs.TableLaws.{still}
-use Rattle.ksplice_session.proofs.RunLaws.{later, ended, thread_goes_on, thread_ends, thread_done}
+use Rattle.std.proofs.Common.{◌≡◌, ◌+◌, ◌-◌, suc, false, sym, ◌∙◌, arith}
+use Rattle.update_stack.specs.Events.{Step}
+use Rattle.ksplice_session.specs.Running.{thread_steps}
+use Rattle.ksplice_session.proofs.RunLaws.{begins, goes_on, has_gone, thread_goes_on, thread_ends, thread_done}
 use Rattle.ksplice_session.proofs.session.Session.run_thread.Goals as goal
+
+pub loop-made-init : goal.loop-made-init
+loop-made-init c =
+    let all : c.args.count - 0 ≡ c.args.count = omega arith in
+    rw all (begins c.args.self.now (thread_steps c.args.self.now c.args.thread c.args.count))
 
 pub loop-made-preserved : goal.loop-made-preserved
 loop-made-preserved c =
-    ap (λ (k : CallTable). later (c.loop-made.made + 1) (run_thread k c.args.thread (c.args.steps - (c.loop-made.made + 1)))) c.step.ensures.moved
-    ∙ thread_goes_on c.loop-made.self c.args.thread c.loop-made.made c.args.steps (omega arith) (sym c.step.ensures.runs ∙ c.if-not-step.false)
-    ∙ c.loop-made.invariant
+    let k = c.loop-made.self in
+    let m = c.args.count - (c.loop-made.made + 1) in
+    goes_on c.args.self.now (thread_steps c.args.self.now c.args.thread c.args.count) c.loop-made.made k c.step.new.self (Step c.args.thread)
+    (thread_steps k c.args.thread (c.args.count - c.loop-made.made)) (thread_steps c.step.new.self c.args.thread m)
+    (thread_goes_on k c.step.new.self c.args.thread (c.args.count - c.loop-made.made) m (omega arith) (sym c.step.ensures.runs ∙ c.if-not-step.false) c.step.ensures.after)
+    c.step.ensures.after c.loop-made.invariant
 
 pub returns-then-not-step : goal.returns-then-not-step
 returns-then-not-step c =
-    let ends : runs_at c.loop-made.self c.args.thread ≡ false = sym c.step.ensures.runs ∙ c.if-not-step.true in
-    ap (λ (k : CallTable). ended k c.loop-made.made) (c.step.ensures.moved ∙ still c.loop-made.self c.args.thread ends)
-    ∙ sym (thread_ends c.loop-made.self c.args.thread c.loop-made.made (c.args.steps - c.loop-made.made) ends)
-    ∙ c.loop-made.invariant
+    let k = c.loop-made.self in
+    let ends = thread_ends k c.step.new.self c.args.thread (c.args.count - c.loop-made.made) (sym c.step.ensures.runs ∙ c.if-not-step.true) c.step.ensures.after in
+    let gone = has_gone c.args.self.now (thread_steps c.args.self.now c.args.thread c.args.count) c.loop-made.made k
+    (thread_steps k c.args.thread (c.args.count - c.loop-made.made)) ends.0 c.loop-made.invariant in
+    record { made = gone.0; after = ends.1 ∙ gone.1 }
 
 pub returns : goal.returns
 returns c =
-    let all : c.args.steps ≡ c.loop-made.made = omega arith in
-    ap (ended c.loop-made.self) all
-    ∙ sym (thread_done c.loop-made.self c.args.thread c.loop-made.made (c.args.steps - c.loop-made.made) (omega arith))
-    ∙ c.loop-made.invariant
+    let k = c.loop-made.self in
+    let gone = has_gone c.args.self.now (thread_steps c.args.self.now c.args.thread c.args.count) c.loop-made.made k
+    (thread_steps k c.args.thread (c.args.count - c.loop-made.made)) (thread_done k c.args.thread (c.args.count - c.loop-made.made) (omega arith)) c.loop-made.invariant in
+    let all : c.args.count ≡ c.loop-made.made = omega arith in
+    record { made = all ∙ gone.0; after = gone.1 }

@@ -1,33 +1,32 @@
-use Rattle.std.proofs.Common.{◌≡◌, ◌+◌, ◌-◌, Bool, if◌then◌else◌, sym, ◌∙◌, ap, arith}
-use Rattle.image_threads.specs.Turning.{Schedule, after_turn}
-use Rattle.ksplice_session.specs.CallTable.{CallTable, table_moved}
-use Rattle.ksplice_session.specs.Running.{turn_in, thread_in, run_turns}
-use Rattle.ksplice_session.proofs.RunLaws.{later, ended, turns_go_on, turns_end, turns_done}
+use Rattle.std.proofs.Common.{◌≡◌, ◌+◌, ◌-◌, suc, false, sym, ◌∙◌, arith}
+use Rattle.ksplice_session.specs.Running.{turn_steps, round_robin}
+use Rattle.ksplice_session.proofs.RunLaws.{begins, has_gone, turns_on, turns_stop, turn_done}
 use Rattle.ksplice_session.proofs.session.Session.run_turns.Goals as goal
 
-pub loop-done-preserved : goal.loop-done-preserved
-loop-done-preserved c =
-    let k = c.loop-done.self in
-    let schedule = c.loop-done.turns in
-    let moved = table_moved k (thread_in (turn_in k schedule)) in
-    ap (λ (s : Schedule). later (c.loop-done.done + 1) (run_turns c.turn.new.self s (c.args.steps - (c.loop-done.done + 1)))) c.turn.ensures.schedule
-    ∙ ap (λ (k' : CallTable). later (c.loop-done.done + 1) (run_turns k' (after_turn schedule (turn_in k schedule)) (c.args.steps - (c.loop-done.done + 1))))
-    (c.turn.ensures.moved ∙ ap (λ (b : Bool). if b then moved else k) c.if-not-turn.false)
-    ∙ turns_go_on k schedule c.loop-done.done c.args.steps (omega arith) (sym c.turn.ensures.runs ∙ c.if-not-turn.false)
-    ∙ c.loop-done.invariant
+pub loop-made-init : goal.loop-made-init
+loop-made-init c = rw c.new-turns.ensures (record { left = omega arith; goes = begins c.args.self.now (round_robin c.args.self.now c.args.quantum c.args.count) })
+
+pub loop-made-preserved : goal.loop-made-preserved
+loop-made-preserved c =
+    let on = turns_on c.args.self.now (round_robin c.args.self.now c.args.quantum c.args.count) c.loop-made.made c.args.count c.loop-made.self c.turn.new.self
+    c.loop-made.turns c.turn.new.turns (omega arith) c.loop-made.invariant.left c.loop-made.invariant.goes (sym c.turn.ensures.runs ∙ c.if-not-turn.false)
+    c.turn.ensures.after c.turn.ensures.schedule in
+    record { left = on.0; goes = on.1 }
 
 pub returns-then-not-turn : goal.returns-then-not-turn
 returns-then-not-turn c =
-    let k = c.loop-done.self in
-    let schedule = c.loop-done.turns in
-    let moved = table_moved k (thread_in (turn_in k schedule)) in
-    ap (λ (k' : CallTable). ended k' c.loop-done.done) (c.turn.ensures.moved ∙ ap (λ (b : Bool). if b then moved else k) c.if-not-turn.true)
-    ∙ sym (turns_end k schedule c.loop-done.done (c.args.steps - c.loop-done.done) (sym c.turn.ensures.runs ∙ c.if-not-turn.true))
-    ∙ c.loop-done.invariant
+    let k = c.loop-made.self in
+    let s = c.loop-made.turns in
+    let ends = turns_stop k c.turn.new.self s (c.args.count - (c.loop-made.made + 1)) (omega (arith, c.loop-made.invariant.left)) (sym c.turn.ensures.runs ∙ c.if-not-turn.true) c.turn.ensures.after in
+    let gone = has_gone c.args.self.now (round_robin c.args.self.now c.args.quantum c.args.count) c.loop-made.made k
+    (turn_steps s.quantum s.left s.turn k) ends.0 c.loop-made.invariant.goes in
+    record { made = gone.0; after = ends.1 ∙ gone.1 }
 
 pub returns : goal.returns
 returns c =
-    let all : c.args.steps ≡ c.loop-done.done = omega arith in
-    ap (ended c.loop-done.self) all
-    ∙ sym (turns_done c.loop-done.self c.loop-done.turns c.loop-done.done (c.args.steps - c.loop-done.done) (omega arith))
-    ∙ c.loop-done.invariant
+    let k = c.loop-made.self in
+    let s = c.loop-made.turns in
+    let gone = has_gone c.args.self.now (round_robin c.args.self.now c.args.quantum c.args.count) c.loop-made.made k
+    (turn_steps s.quantum s.left s.turn k) (turn_done k s (omega (arith, c.loop-made.invariant.left))) c.loop-made.invariant.goes in
+    let all : c.args.count ≡ c.loop-made.made = omega arith in
+    record { made = all ∙ gone.0; after = gone.1 }

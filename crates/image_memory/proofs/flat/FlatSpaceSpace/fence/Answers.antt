@@ -1,0 +1,13 @@
+-- Retired ranges still ascend when one is put among them that meets none.
+use Rattle.std.proofs.Common.{List, ◌∙◌, refl, sym, subst, arith}
+use Rattle.image_memory.specs.Ranges.{Ascends}
+use Rattle.image_memory.specs.Contents.{fence_range}
+use Rattle.image_memory.specs.declared.types.Fence.{Fence}
+use Rattle.image_memory.proofs.ChangeLaws.{Ascends-put}
+use Rattle.image_memory.proofs.flat.FlatSpaceSpace.fence.Goals as goal
+
+pub invariant_of-self-clause-fenced : goal.invariant_of-self-clause-fenced
+invariant_of-self-clause-fenced c =
+    let P : List Fence → Type 0 = λ fs. Ascends fence_range 0 fs in
+    subst P (sym (c.insert_spare.ensures.items ∙ c.fences_begun-at.ensures.put _ refl))
+    (Ascends-put fence_range 0 _ c.args.self.now.fences.items (omega arith) c.requires.full c.requires.apart c.args.self.now.fenced)

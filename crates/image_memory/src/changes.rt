@@ -1,0 +1,79 @@
+//! Putting pieces and ranges in their places, and taking them out.
+ghost use Rattle.std.specs.Prelude.{◌≡◌, ◌≤◌, ◌<◌, ◌+◌, insert, position, map, vec_len, vec_capacity, IfOk, OnOk, OnErr};
+ghost use Rattle.std.specs.List.{Contains};
+ghost use Rattle.image_memory.specs.Ranges.{Ascends, are_same};
+ghost use Rattle.image_memory.specs.Contents.{piece_range};
+ghost use Rattle.image_memory.specs.Changes.{with_piece, without_first, ArePlaceable};
+
+use crate::lookup::begun;
+use crate::types::{Piece, Pieces};
+use ks_base::Range;
+use std::alloc::{AllocError, Global};
+
+/// Puts a piece among pieces that ascend, before the first that begins above it. Its place is found by halving.
+/// For want of memory the pieces are as before.
+pub fn put_piece(pieces: &mut Vec<Piece>, piece: Piece) -> Result<(), AllocError>
+    requires { Ascends piece_range 0 pieces.old.items }
+    ensures ok { OnOk result (pieces.new.items ≡ with_piece piece pieces.old.items) }
+    ensures err { OnErr result (pieces.new.items ≡ pieces.old.items) }
+{
+    pieces.reserve(1)?;
+    put_spare(pieces, piece);
+    Ok(())
+}
+
+// Puts a piece where there is room for it.
+pub(crate) fn put_spare(pieces: &mut Vec<Piece>, piece: Piece)
+    requires ascend { Ascends piece_range 0 pieces.old.items }
+    requires room { vec_len pieces.old < vec_capacity pieces.old }
+    ensures items { pieces.new.items ≡ with_piece piece pieces.old.items }
+    ensures len { vec_len pieces.new ≡ vec_len pieces.old + 1 }
+    ensures capacity { vec_capacity pieces.old ≤ vec_capacity pieces.new }
+{
+    let at = begun(pieces.as_slice(), u64::from(piece.base));
+    insert_spare(pieces, at, piece);
+}
+
+// Puts an item at a place where there is room for it.
+pub(crate) fn insert_spare<T: Drop>(items: &mut Vec<T>, at: usize, item: T)
+    requires within { at ≤ vec_len items.old }
+    requires room { vec_len items.old < vec_capacity items.old }
+    ensures items { items.new.items ≡ insert items.old.items at item }
+    ensures len { vec_len items.new ≡ vec_len items.old + 1 }
+    ensures capacity { vec_capacity items.old ≤ vec_capacity items.new }
+{
+    let _ = items.insert(at, item);
+}
+
+// The pieces' ranges in order.
+pub(crate) fn ranges_of(alloc: Global, pieces: &Pieces) -> Result<Vec<Range>, AllocError>
+    requires { ArePlaceable pieces.now }
+    ensures { IfOk result (λ ranges. ranges.items ≡ map piece_range pieces.now) }
+{
+    let mut ranges = Vec::new(alloc);
+    for piece in pieces.as_slice() {
+        ranges.push(piece.range())?;
+    }
+    Ok(ranges)
+}
+
+// Takes the first range out that is this one. It is found at once where ranges are taken in their order.
+pub(crate) fn take_first(ranges: &mut Vec<Range>, range: Range)
+    requires { Contains ranges.old.items range }
+    ensures items { ranges.new.items ≡ without_first range ranges.old.items }
+    ensures len { vec_len ranges.new + 1 ≡ vec_len ranges.old }
+{
+    let Some(at) = place_of(ranges.as_slice(), range) else {
+        unreachable!()
+    };
+    let _ = ranges.remove(at);
+}
+
+// The first place at which a range stands.
+fn place_of(ranges: &[Range], range: Range) -> Option<usize>
+    ensures { result ≡ position (λ other. are_same other range) ranges.now }
+{
+    ranges
+        .iter()
+        .position(|other| other.low == range.low && other.high == range.high)
+}

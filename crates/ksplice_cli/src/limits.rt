@@ -1,0 +1,10 @@
+//! The most bytes that each kind of file may have.
+
+/// The most bytes that an object file may have.
+pub const OBJECT_LIMIT: u32 = 8_388_608;
+
+/// The most bytes that an image file may have.
+pub const IMAGE_LIMIT: u32 = 33_554_432;
+
+/// The most bytes that a script may have.
+pub const SCRIPT_LIMIT: u32 = 1_048_576;

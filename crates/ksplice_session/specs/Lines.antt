@@ -1,0 +1,50 @@
+-- The lines that a session replies.
+use Rattle.std.specs.Prelude.{ℕ, List, [], ◌∷◌, ◌++◌, codes, length, Option, Some, None}
+use Rattle.std.specs.List.{flat_map, range_with_len}
+use Rattle.ks_base.specs.Text.{hex_text, byte_text, number_text}
+use Rattle.image_memory.specs.declared.types.Kind.{Kind}
+use Rattle.image_memory.specs.declared.types.Piece.{Piece}
+use Rattle.image_memory.specs.Contents.{look_at}
+use Rattle.symbol_table.specs.declared.symbols.Symbol.{Symbol}
+use Rattle.ia32_step.specs.declared.types.Thread.{Thread}
+use Rattle.ksplice_session.specs.Places.{place_text, state_text}
+
+-- a thread was started: its number, and where it stands
+unfoldable pub spawned_line : List Symbol → Thread → List ℕ
+spawned_line symbols thread =
+    codes "spawned " ++ number_text thread.number ++ codes " " ++ place_text symbols thread.pc ++ 10 ∷ []
+
+-- a thread made so many steps, and this is its state now
+unfoldable pub stepped_line : List Symbol → Thread → ℕ → List ℕ
+stepped_line symbols thread steps =
+    codes "stepped " ++ number_text thread.number ++ codes " " ++ number_text steps ++ codes " " ++ state_text symbols thread ++ 10 ∷ []
+
+-- the threads made so many steps in turn
+unfoldable pub turns_line : ℕ → List ℕ
+turns_line steps = codes "rr " ++ number_text steps ++ 10 ∷ []
+
+-- a thread's number and state
+unfoldable pub thread_line : List Symbol → Thread → List ℕ
+thread_line symbols thread =
+    codes "thread " ++ number_text thread.number ++ codes " " ++ state_text symbols thread ++ 10 ∷ []
+
+-- how many threads there are
+unfoldable pub count_line : ℕ → List ℕ
+count_line count = codes "threads " ++ number_text count ++ 10 ∷ []
+
+-- all threads by number, and how many they are
+unfoldable pub threads_lines : List Symbol → List Thread → List ℕ
+threads_lines symbols threads = flat_map (thread_line symbols) threads ++ count_line (length threads)
+
+-- a byte, and where no piece holds it two dashes
+abbrev pub peeked : Option (Kind × ℕ) → List ℕ
+peeked None = codes " --"
+peeked (Some seen) = codes " " ++ byte_text seen.1
+
+abbrev pub peeked_at : List Piece → ℕ → List ℕ
+peeked_at pieces address = peeked (look_at pieces address)
+
+-- so many bytes of memory from an address on
+unfoldable pub peek_line : List Piece → ℕ → ℕ → List ℕ
+peek_line pieces address count =
+    hex_text address ++ codes ":" ++ flat_map (peeked_at pieces) (range_with_len address count) ++ 10 ∷ []

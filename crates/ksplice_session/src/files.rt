@@ -1,0 +1,68 @@
+//! The files that the lines of a script load, and the line of one that can't be loaded.
+ghost use Rattle.std.specs.Prelude.{◌≡◌, ◌≢◌, IfOk, OnOk, OnErr, Err, IsErrOf, map};
+ghost use Rattle.ks_io.specs.Kept.{SinkKept};
+ghost use Rattle.ks_io.specs.Loads.{needed_by};
+ghost use Rattle.ks_io.specs.Outside.{Rose, TookPart, TookFront, grown};
+ghost use Rattle.ksplice_session.specs.Replies.{files_of};
+ghost use Rattle.ksplice_session.specs.Session.{fault_text, file_line};
+
+use ks_base::{Line, Name};
+use ks_io::{FileFault, Sink, SinkFault, Wanted, write_all};
+use script_lines::Command;
+use std::alloc::{AllocError, Global};
+
+/// The files that a line loads before it is run, in order. No line that is built so far loads one.
+#[tactic(auto, unfolding(crate::specs::Replies::files_of))]
+pub(crate) fn files_of(command: &Command) -> &'static [Wanted<'static>]
+    ensures { map needed_by result.now ≡ files_of command.now }
+{
+    match command {
+        Command::Spawn { .. }
+        | Command::Step { .. }
+        | Command::RoundRobin { .. }
+        | Command::Threads
+        | Command::Peek { .. } => &[],
+    }
+}
+
+/// Writes the line of a file that was not loaded, and why. `Err` is a fault of the sink, or want of memory; a part of
+/// the line may have come out then.
+pub fn write_file_line<O: Sink>(
+    alloc: Global,
+    name: &str,
+    fault: FileFault,
+    out: &mut O,
+) -> Result<(), SinkFault>
+    ensures ok { OnOk result (O.taken out.new ≡ grown (O.taken out.old) (file_line name.now fault)) }
+    ensures part { OnErr result (TookPart (O.taken out.old) (file_line name.now fault) (O.taken out.new)) }
+    ensures failed { IsErrOf result SinkFault.SinkFailed → Rose (O.faults out.old) (O.faults out.new) }
+    ensures kept { SinkKept O.faults O.quiet out.old out.new }
+    ensures quiet { O.quiet out.old → result ≢ Err SinkFault.SinkFailed }
+{
+    let line = file_line(alloc, name, fault)?;
+    write_all(out, line.bytes())
+}
+
+fn file_line(alloc: Global, name: &str, fault: FileFault) -> Result<Line, AllocError>
+    ensures { IfOk result (λ line. line ≡ file_line name.now fault) }
+{
+    let mut line = Line::new(alloc);
+    line.put_text("file ")?;
+    line.put_name(&Name::from_slice(alloc, name.as_bytes())?)?;
+    line.put_text(" ")?;
+    line.put_text(fault_word(fault))?;
+    line.put_text("\n")?;
+    Ok(line)
+}
+
+// Why a file was not loaded. Want of memory has no word.
+fn fault_word(fault: FileFault) -> &'static str
+    ensures { result.now ≡ fault_text fault }
+{
+    match fault {
+        FileFault::Missing => "missing",
+        FileFault::TooLong => "too long",
+        FileFault::Failed => "failed",
+        FileFault::Memory => "",
+    }
+}

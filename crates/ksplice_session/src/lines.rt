@@ -1,0 +1,156 @@
+//! The lines.
+ghost use Rattle.std.specs.Prelude.{◌≡◌, ◌++◌, ◌+◌, ◌≤◌, ◌<◌, ◌^◌, OnOk};
+ghost use Rattle.std.specs.List.{flat_map, range_with_len};
+ghost use Rattle.ksplice_session.specs.Lines.{spawned_line, stepped_line, turns_line, thread_line, count_line, threads_lines, peeked, peeked_at, peek_line};
+
+use crate::places::{put_place, put_state};
+use ia32_step::Thread;
+use image_memory::{Kind, Space};
+use ks_base::Line;
+use std::alloc::AllocError;
+use symbol_table::SymbolTable;
+
+/// A thread was started: `spawned`, its number, and where it stands.
+#[tactic(auto, unfolding(crate::specs::Lines::spawned_line))]
+pub fn put_spawned(
+    line: &mut Line,
+    symbols: &SymbolTable,
+    thread: &Thread,
+) -> Result<(), AllocError>
+    ensures { OnOk result (line.new ≡ line.old ++ spawned_line symbols.now.symbols thread.now) }
+{
+    line.put_text("spawned ")?;
+    line.put_number(u64::from(thread.number))?;
+    line.put_text(" ")?;
+    put_place(line, symbols, thread.pc)?;
+    line.put_text("\n")
+}
+
+/// A thread made steps: `stepped`, its number, how many, and its state now.
+#[tactic(auto, unfolding(crate::specs::Lines::stepped_line))]
+pub fn put_stepped(
+    line: &mut Line,
+    symbols: &SymbolTable,
+    thread: &Thread,
+    steps: u32,
+) -> Result<(), AllocError>
+    ensures { OnOk result (line.new ≡ line.old ++ stepped_line symbols.now.symbols thread.now steps) }
+{
+    line.put_text("stepped ")?;
+    line.put_number(u64::from(thread.number))?;
+    line.put_text(" ")?;
+    line.put_number(u64::from(steps))?;
+    line.put_text(" ")?;
+    put_state(line, symbols, thread)?;
+    line.put_text("\n")
+}
+
+/// The threads made steps in turn: `rr` and how many.
+#[tactic(auto, unfolding(crate::specs::Lines::turns_line))]
+pub fn put_turns(line: &mut Line, steps: u32) -> Result<(), AllocError>
+    ensures { OnOk result (line.new ≡ line.old ++ turns_line steps) }
+{
+    line.put_text("rr ")?;
+    line.put_number(u64::from(steps))?;
+    line.put_text("\n")
+}
+
+#[tactic(auto, unfolding(crate::specs::Lines::thread_line))]
+fn put_thread(line: &mut Line, symbols: &SymbolTable, thread: &Thread) -> Result<(), AllocError>
+    ensures { OnOk result (line.new ≡ line.old ++ thread_line symbols.now.symbols thread.now) }
+{
+    line.put_text("thread ")?;
+    line.put_number(u64::from(thread.number))?;
+    line.put_text(" ")?;
+    put_state(line, symbols, thread)?;
+    line.put_text("\n")
+}
+
+#[tactic(auto, unfolding(crate::specs::Lines::count_line))]
+fn put_count(line: &mut Line, count: usize) -> Result<(), AllocError>
+    ensures { OnOk result (line.new ≡ line.old ++ count_line count) }
+{
+    line.put_text("threads ")?;
+    line.put_number(count as u64)?;
+    line.put_text("\n")
+}
+
+fn put_each_thread(
+    line: &mut Line,
+    symbols: &SymbolTable,
+    threads: &[Thread],
+) -> Result<(), AllocError>
+    ensures { OnOk result (line.new ≡ line.old ++ flat_map (thread_line symbols.now.symbols) threads.now) }
+{
+    for thread in threads {
+        put_thread(line, symbols, thread)?;
+    }
+    Ok(())
+}
+
+/// Each thread in order: `thread`, its number and its state; then `threads` and how many they are.
+#[tactic(auto, unfolding(crate::specs::Lines::threads_lines))]
+pub fn put_threads(
+    line: &mut Line,
+    symbols: &SymbolTable,
+    threads: &[Thread],
+) -> Result<(), AllocError>
+    ensures { OnOk result (line.new ≡ line.old ++ threads_lines symbols.now.symbols threads.now) }
+{
+    put_each_thread(line, symbols, threads)?;
+    put_count(line, threads.len())
+}
+
+fn put_peeked(line: &mut Line, seen: Option<(Kind, u8)>) -> Result<(), AllocError>
+    ensures { OnOk result (line.new ≡ line.old ++ peeked seen) }
+{
+    match seen {
+        None => line.put_text(" --"),
+        Some((_, byte)) => {
+            line.put_text(" ")?;
+            line.put_byte(byte)
+        }
+    }
+}
+
+fn put_byte_at<S: Space>(line: &mut Line, space: &S, address: u64) -> Result<(), AllocError>
+    requires { address < 2 ^ 32 }
+    ensures { OnOk result (line.new ≡ line.old ++ peeked_at (S.contents space.now).pieces address) }
+{
+    put_peeked(line, space.look(address as u32))
+}
+
+fn put_each_byte<S: Space>(
+    line: &mut Line,
+    space: &S,
+    address: u32,
+    count: u32,
+) -> Result<(), AllocError>
+    requires { address + count ≤ 2 ^ 32 }
+    ensures { OnOk result (line.new
+        ≡ line.old ++ flat_map (peeked_at (S.contents space.now).pieces) (range_with_len address count)) }
+{
+    let low = u64::from(address);
+    for at in low..low + u64::from(count) {
+        put_byte_at(line, space, at)?;
+    }
+    Ok(())
+}
+
+/// The bytes from an address on, of which none lies above 0xFFFFFFFF: the address, a colon, and each byte in two
+/// digits, or two dashes where no piece holds it.
+#[tactic(auto, unfolding(crate::specs::Lines::peek_line))]
+pub fn put_peek<S: Space>(
+    line: &mut Line,
+    space: &S,
+    address: u32,
+    count: u32,
+) -> Result<(), AllocError>
+    requires { address + count ≤ 2 ^ 32 }
+    ensures { OnOk result (line.new ≡ line.old ++ peek_line (S.contents space.now).pieces address count) }
+{
+    line.put_hex(address)?;
+    line.put_text(":")?;
+    put_each_byte(line, space, address, count)?;
+    line.put_text("\n")
+}

@@ -1,0 +1,12 @@
+-- When two unknowns are one.
+use Rattle.std.specs.Prelude.{Bool, false, nat_eq}
+use Rattle.std.specs.Cmp.Lexicographic.{pointwise}
+use Rattle.symbol_table.specs.declared.values.Unknown.{Unknown}
+use Rattle.symbol_table.specs.declared.values.Unknown.TheVariants.{Code, Data, Outside}
+
+-- whether two unknowns are of one sort and have the same name
+abbrev pub same_unknown : Unknown → Unknown → Bool
+same_unknown (Code a) (Code b) = pointwise nat_eq a b
+same_unknown (Data a) (Data b) = pointwise nat_eq a b
+same_unknown (Outside a) (Outside b) = pointwise nat_eq a b
+same_unknown _ _ = false

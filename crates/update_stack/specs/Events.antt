@@ -1,0 +1,50 @@
+-- The events of the machine: what each answers, and what lists of them leave.
+use Rattle.std.specs.Prelude.{ℕ, List, length, Result, Ok, Err}
+use Rattle.std.specs.List.{fold}
+use Rattle.ks_base.specs.declared.refusals.Refusal.{Refusal}
+use Rattle.ia32_step.specs.declared.types.Outcome.{Outcome}
+use Rattle.update_stack.specs.CallTable.{CallTable}
+use Rattle.update_stack.specs.Steps.{moved, spawned}
+
+-- One event: a thread is started, or a thread makes one step. What is refused changes nothing.
+pub data Event : Type 0 where
+  Spawn : (name : List ℕ) (argument : ℕ) → Event
+  Step : (thread : ℕ) → Event
+
+-- what an event answers
+pub data Answer : Type 0 where
+  -- the thread's number
+  Spawned : (thread : ℕ) → Answer
+  Stepped : (outcome : Outcome) → Answer
+
+-- the machine after an event, and its answer
+pub record Happened : Type 0 where
+  pub machine : CallTable
+  pub answer : Answer
+
+abbrev pub happened : CallTable → Answer → Happened
+happened k answer = record { machine = k; answer = answer }
+
+-- the thread that was started is the last
+abbrev pub spawn_answered : ℕ → Result CallTable Refusal → Result Happened Refusal
+spawn_answered number (Err refusal) = Err refusal
+spawn_answered number (Ok now) = Ok (happened now (Spawned number))
+
+abbrev pub step_answered : Result (CallTable × Outcome) Refusal → Result Happened Refusal
+step_answered (Err refusal) = Err refusal
+step_answered (Ok left) = Ok (happened left.0 (Stepped left.1))
+
+unfoldable pub answered : CallTable → Event → Result Happened Refusal
+answered k (Spawn name argument) = spawn_answered (length k.threads) (spawned k name argument)
+answered k (Step thread) = step_answered (moved k thread)
+
+abbrev pub machine_after : CallTable → Result Happened Refusal → CallTable
+machine_after k (Err refusal) = k
+machine_after k (Ok now) = now.machine
+
+unfoldable pub after_event : CallTable → Event → CallTable
+after_event k event = machine_after k (answered k event)
+
+-- the machine after a list of events
+unfoldable pub after_events : CallTable → List Event → CallTable
+after_events k events = fold after_event k events

@@ -1,0 +1,38 @@
+-- When a system stands for the machine that never patches code: its code bytes are the machine's text, but for the jumps at homes.
+use Rattle.std.specs.Prelude.{◌≡◌, ℕ, List}
+use Rattle.std.specs.List.{fold}
+use Rattle.ks_base.specs.declared.places.Range.{Range}
+use Rattle.image_memory.specs.declared.types.Piece.{Piece}
+use Rattle.image_memory.specs.Contents.{Contents}
+use Rattle.symbol_table.specs.declared.symbols.Symbol.{Symbol}
+use Rattle.ia32_step.specs.declared.types.Thread.{Thread}
+use Rattle.image_threads.specs.Program.{Program}
+use Rattle.update_stack.specs.Jump.{with_jump}
+use Rattle.update_stack.specs.CallTable.{CallTable, bodies_in, contents_of}
+
+-- pieces with the jump to the newest base at the home of a row
+abbrev pub with_row : List Piece → ℕ × ℕ → List Piece
+with_row pieces row = with_jump row.0 row.1 pieces
+
+-- The memory that a system has for the machine: the machine's own, with the jump at the home of each row.
+unfoldable pub patched : CallTable → Contents
+patched k = record (contents_of k) { pieces = fold with_row k.pieces (bodies_in k.table) }
+
+-- what is seen of a program: memory, symbols, stacks and threads, and nothing of what is spare
+pub record Seen : Type 0 where
+  pub contents : Contents
+  pub symbols : List Symbol
+  pub stacks : List Range
+  pub threads : List Thread
+
+abbrev pub seen : Program → Seen
+seen program =
+    record { contents = program.contents; symbols = program.table.symbols; stacks = program.stacks; threads = program.threads }
+
+-- what is seen of a program that stands for the machine
+abbrev pub seen_of : CallTable → Seen
+seen_of k = record { contents = patched k; symbols = k.symbols; stacks = k.stacks; threads = k.threads }
+
+-- A program stands for the machine where this is what is seen of it.
+abbrev pub StandsFor : Program → CallTable → Type 0
+StandsFor program k = seen program ≡ seen_of k
