@@ -1,16 +1,16 @@
 //! Whole calls over files and a sink in memory.
+mod builder;
 mod images;
 mod objects;
-mod updates;
 
 use crate::answering::ksplice;
+use builder::object;
 use images::{LISTING, PROGRAM};
 use ks_io::{MemoryFiles, MemorySink};
-use objects::{A_CALL, ONE_FUNCTION, TWO_FUNCTIONS};
+use objects::OBJECTS;
 use std::alloc::Global;
 use std::process::Abort;
 use std::test::Fail;
-use updates::{A_TEXT, DATA, WORK_ALONE, WORK_AND_COLD};
 
 const USAGE: &str = "usage: ksplice diff PRE POST | code IMAGE NAME | run IMAGE SCRIPT\n";
 
@@ -26,21 +26,6 @@ rr 3
 0x00100000: b8 01
 ";
 
-/// Where the one function's constant stands, and its name.
-const CONSTANT: usize = 53;
-
-const NAME: usize = 109;
-
-/// Where the second function's name stands, and the last letter of its section's.
-const SECOND_NAME: usize = 147;
-
-const SECOND_SECTION: usize = 167;
-
-/// Where the first letter of the text stands, and the number in the data.
-const TEXT: usize = 60;
-
-const NUMBER: usize = 52;
-
 /// The sink's bytes and the status of a call, over files of which the numbered loads fail and a sink whose numbered
 /// writes fail and that takes at most so many bytes a write.
 fn answer(
@@ -51,24 +36,15 @@ fn answer(
 ) -> Result<(Vec<u8>, u8), Fail> {
     let (loads, writes) = failing;
     let mut files = MemoryFiles::new(alloc, loads);
-    let mut changed = ONE_FUNCTION;
-    changed[CONSTANT] = 2;
-    let mut renamed = ONE_FUNCTION;
-    renamed[NAME] = 7;
-    let mut other = TWO_FUNCTIONS;
-    other[SECOND_NAME] = b'h';
-    other[SECOND_SECTION] = b'h';
-    files.put("one", &ONE_FUNCTION)?;
-    files.put("two", &changed)?;
-    files.put("renamed", &renamed)?;
-    files.put("f and g", &TWO_FUNCTIONS)?;
-    files.put("f and h", &other)?;
-    files.put("call", &A_CALL)?;
+    for (name, sections) in OBJECTS {
+        if words.iter().any(|word| *word == name) {
+            files.put(name, object(alloc, sections)?.as_slice())?;
+        }
+    }
     files.put("empty", &[])?;
     files.put("program", &PROGRAM)?;
     files.put("cut", b"KIM1")?;
     put_scripts(&mut files)?;
-    put_updates(&mut files)?;
     if words.iter().any(|word| *word == "long name") {
         let long = vec![in alloc; 0u8; 8_388_609]?;
         files.put("long name", long.as_slice())?;
@@ -76,6 +52,10 @@ fn answer(
     if words.iter().any(|word| *word == "long script") {
         let long = vec![in alloc; b'#'; 1_048_577]?;
         files.put("long script", long.as_slice())?;
+    }
+    if words.iter().any(|word| *word == "cut object") {
+        let whole = object(alloc, &[])?;
+        files.put("cut object", whole.as_slice().get(..20).unwrap_or(&[]))?;
     }
     let mut all = Vec::new(alloc);
     for word in words {
@@ -94,24 +74,9 @@ fn put_scripts(files: &mut MemoryFiles) -> Result<(), Fail> {
     Ok(())
 }
 
-/// The files of objects with references and data.
-fn put_updates(files: &mut MemoryFiles) -> Result<(), Fail> {
-    let mut text = A_TEXT;
-    text[TEXT] = b'b';
-    let mut data = DATA;
-    data[NUMBER] = 2;
-    files.put("work and cold", &WORK_AND_COLD)?;
-    files.put("work", &WORK_ALONE)?;
-    files.put("text a", &A_TEXT)?;
-    files.put("text b", &text)?;
-    files.put("data", &DATA)?;
-    files.put("other data", &data)?;
-    Ok(())
-}
-
 #[test]
 fn answers(rt: HostRuntime) -> Result<(), Fail> {
-    let calls: [(&[&str], &str, u8); 22] = [
+    let calls: [(&[&str], &str, u8); 24] = [
         (&["diff", "one", "two"], "changed f\n", 0),
         (&["diff", "renamed", "two"], "changed \\x07\n", 0),
         (&["diff", "two", "renamed"], "changed f\n", 0),
@@ -122,6 +87,16 @@ fn answers(rt: HostRuntime) -> Result<(), Fail> {
         (&["diff", "one", "one"], "refused 12 no change\n", 3),
         (&["diff", "empty", "one"], "refused 1 not elf\n", 3),
         (&["diff", "one", "empty"], "refused 1 not elf\n", 3),
+        (
+            &["diff", "cut object", "one"],
+            "refused 3 bad header 20\n",
+            3,
+        ),
+        (
+            &["diff", "one", "cut object"],
+            "refused 3 bad header 20\n",
+            3,
+        ),
         (&["diff", "call", "one"], "refused 12 no change\n", 3),
         (&["diff", "call", "empty"], "refused 1 not elf\n", 3),
         (&["diff", "one", "call"], "added main\n", 0),
@@ -144,7 +119,7 @@ fn answers(rt: HostRuntime) -> Result<(), Fail> {
 
 #[test]
 fn updates_with_references_and_data(rt: HostRuntime) -> Result<(), Fail> {
-    let calls: [(&[&str], &str, u8); 5] = [
+    let calls: [(&[&str], &str, u8); 8] = [
         (
             &["diff", "work and cold", "work"],
             "changed work\ndropped work.cold\n",
@@ -166,6 +141,21 @@ fn updates_with_references_and_data(rt: HostRuntime) -> Result<(), Fail> {
             3,
         ),
         (&["diff", "text b", "text b"], "refused 12 no change\n", 3),
+        (
+            &["diff", "text a", "text moved"],
+            "refused 12 no change\n",
+            3,
+        ),
+        (
+            &["diff", "text moved", "text b"],
+            "changed f\ncarried .rodata.str1.1\n",
+            0,
+        ),
+        (
+            &["diff", "unit", "changed unit"],
+            "changed work\nchanged work.cold\ncarried .rodata.work\ncarried .rodata.str1.1\n",
+            0,
+        ),
     ];
     compare_answers(&rt, rt.alloc(), &calls)
 }
