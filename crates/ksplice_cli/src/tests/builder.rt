@@ -15,8 +15,8 @@ pub(crate) enum Kind {
     Comment,
 }
 
-/// A section. In its bytes the addends stand in the fields. A reference is its offset, its type, and the section that it
-/// goes to.
+/// A section. In its bytes the addends stand in the fields. A reference is its offset, its type, and the section that
+/// it goes to.
 #[derive(Clone, Copy)]
 pub(crate) struct Section {
     pub(crate) name: &'static str,
