@@ -1,17 +1,20 @@
 -- What the bytes at the front of a window spell: one instruction, where its line, and how long it is.
-use Rattle.std.specs.Prelude.{◌≡◌, ◌≤◌, ℕ, ◌+◌, Bool, true, false, ◌&&◌, not, List, Option, Some, None, take, length, nat_le, ◌==◌, if◌then◌else◌}
+use Rattle.std.specs.Prelude.{◌≡◌, ◌≤◌, ℕ, ◌+◌, Bool, true, false, ◌&&◌, not, List, Option, Some, None, take, length}
+use Rattle.std.specs.Prelude.{nat_le, ◌==◌, if◌then◌else◌}
 use Rattle.ia32_decode.specs.declared.opcode_table.Line.{Line}
 use Rattle.ia32_decode.specs.declared.opcode_table.Form.{Form}
 use Rattle.ia32_decode.specs.declared.opcode_table.Form.TheVariants.{Unlisted, Plain, Branch, ModRm, Memory, EndBranch}
 use Rattle.ia32_decode.specs.declared.opcode_table.Follows.{Follows}
-use Rattle.ia32_decode.specs.declared.opcode_table.Follows.TheVariants.{Nothing, Byte, SignedByte, Word, Dword, Address, Sized, Tested}
+use Rattle.ia32_decode.specs.declared.opcode_table.Follows.TheVariants.{Nothing, Byte, SignedByte, Word, Dword}
+use Rattle.ia32_decode.specs.declared.opcode_table.Follows.TheVariants.{Address, Sized, Tested}
 use Rattle.ia32_decode.specs.declared.opcode_table.Shape.{Shape}
 use Rattle.ia32_decode.specs.declared.heads.Head.{Head}
 use Rattle.ia32_decode.specs.declared.addressing.Addressing.{Addressing}
 use Rattle.ia32_decode.specs.declared.types.Width.{Width}
 use Rattle.ia32_decode.specs.declared.types.Fields.{Fields}
 use Rattle.ia32_decode.specs.declared.types.Decoded.{Decoded}
-use Rattle.ia32_decode.specs.Encoding.{byte_in, word_in, dword_in, extended, field_of, head_of, addressing_of, no_addressing}
+use Rattle.ia32_decode.specs.Encoding.{byte_in, word_in, dword_in, extended, field_of, head_of, addressing_of}
+use Rattle.ia32_decode.specs.Encoding.{no_addressing}
 use Rattle.ia32_decode.specs.Table.{row, shape_of, line_of, digit_allowed, width_of, follows_width}
 use Rattle.ia32_decode.specs.Instructions.{instr_of}
 
@@ -48,7 +51,8 @@ form_accepts EndBranch w head a = head.prefixes.repeat && byte_in w head.end == 
 
 -- the number at the end
 abbrev pub number_in : List ℕ → ℕ → ℕ → ℕ
-number_in w at width = if width == 1 then byte_in w at else if width == 2 then word_in w at else if width == 4 then dword_in w at else 0
+number_in w at width =
+    if width == 1 then byte_in w at else if width == 2 then word_in w at else if width == 4 then dword_in w at else 0
 
 abbrev pub value_in : Follows → List ℕ → ℕ → ℕ → ℕ
 value_in SignedByte w at width = extended (byte_in w at)
@@ -99,7 +103,8 @@ line_addressing shape w head = form_addressing shape.form w (opcode_end_of shape
 
 -- the instruction of a line that stands at an opcode
 abbrev pub completed : Line → List ℕ → Head → Addressing → Decoded
-completed line w head a = assembled line w head a (head_width (shape_of line) head) (number_width (shape_of line) head a)
+completed line w head a =
+    assembled line w head a (head_width (shape_of line) head) (number_width (shape_of line) head a)
 
 -- whether a line that stands at an opcode takes what follows it: its form, its digits, and the window's length
 abbrev pub accepts : Line → List ℕ → Head → Addressing → Bool

@@ -3,7 +3,8 @@ ghost use Rattle.std.specs.Prelude.{◌≡◌, ◌≤◌, ◌<◌, ◌+◌, ◌&
 ghost use Rattle.ia32_decode.specs.declared.types.Decoded.{Decoded};
 ghost use Rattle.ia32_decode.specs.Encoding.{head_of};
 ghost use Rattle.ia32_decode.specs.Table.{shape_of, digit_allowed};
-ghost use Rattle.ia32_decode.specs.Decode.{front_of, opcode_end_of, form_addressing, form_accepts, number_in, value_in, fields_of, read_front, decoded_from, Spells};
+ghost use Rattle.ia32_decode.specs.Decode.{front_of, opcode_end_of, form_addressing, form_accepts, number_in};
+ghost use Rattle.ia32_decode.specs.Decode.{value_in, fields_of, read_front, decoded_from, Spells};
 
 use crate::addressing::{Addressing, absent_addressing, addressing_at, field, sign_extended};
 use crate::heads::{Head, begins_with_prefix, byte_at, dword_at, plain_head, read_head, word_at};
@@ -69,7 +70,8 @@ fn form_takes(form: Form, window: &[u8], head: &Head, addressing: &Addressing) -
 
 /// Whether a line of a shape takes what follows its opcode.
 fn takes(shape: Shape, window: &[u8], head: &Head, addressing: &Addressing) -> bool
-    ensures { result ≡ (form_accepts shape.form window.now head.now addressing.now && digit_allowed shape.digits addressing.now.digit) }
+    ensures { result ≡ (form_accepts shape.form window.now head.now addressing.now
+        && digit_allowed shape.digits addressing.now.digit) }
 {
     form_takes(shape.form, window, head, addressing) && allows(shape.digits, addressing.digit)
 }
