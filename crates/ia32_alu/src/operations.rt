@@ -60,8 +60,8 @@ fn with_carry_of(flags: Flags, given: (u32, Flags)) -> (u32, Flags)
     )
 }
 
-/// An operation on two operands: its value, below 2 to the width, and the flags after it. Of the operands the lowest bits
-/// count. CMP and TEST give the first operand. The flags are those before, which ADC and SBB read.
+/// An operation on two operands: its value, below 2 to the width, and the flags after it. Of the operands the lowest
+/// bits count. CMP and TEST give the first operand. The flags are those before, which ADC and SBB read.
 pub fn binary(op: Binary, width: Width, a: u32, b: u32, flags: Flags) -> (u32, Flags)
     ensures value { result ≡ binary_of op (size width) a b flags }
     ensures small { result.0 < 2 ^ size width }
