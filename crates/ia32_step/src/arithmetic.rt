@@ -1,5 +1,5 @@
 //! Sums, differences, bitwise operations and shifts.
-ghost use Rattle.std.specs.Prelude.{◌≡◌, ◌%◌, Some, Ok, Err, MatchResult};
+ghost use Rattle.std.specs.Prelude.{◌≡◌, ◌%◌, Some, Ok};
 ghost use Rattle.ia32_alu.specs.declared.types.Shift.TheVariants.{Rol, Ror};
 ghost use Rattle.ia32_decode.specs.declared.types.Width.TheVariants.{Dword};
 ghost use Rattle.ia32_alu.specs.Arithmetic.{binary_of};
@@ -7,7 +7,10 @@ ghost use Rattle.ia32_decode.specs.declared.types.Register.TheVariants.{Eax};
 ghost use Rattle.ia32_decode.specs.declared.types.Operand.TheVariants as operands;
 ghost use Rattle.ia32_step.specs.Registers.{register_value};
 ghost use Rattle.ia32_step.specs.Operands.{number_at, source_value};
-ghost use Rattle.ia32_step.specs.Arithmetic.{alu_width, bits, binary_operation, settled, combined, tested, unary_counting, altered, stepped_shift, full_rotation, shifted_by, shifted, count_register};
+ghost use Rattle.ia32_step.specs.Arithmetic.{alu_width, bits, binary_operation, settled, combined, tested};
+ghost use Rattle.ia32_step.specs.Arithmetic.{unary_counting, altered, stepped_shift, full_rotation, shifted_by};
+ghost use Rattle.ia32_step.specs.Arithmetic.{shifted, count_register};
+ghost use Rattle.ia32_step.specs.inside.Comes.{Comes};
 
 use crate::operands::{operand_value, place_of, source_value, value_at};
 use crate::types::{Change, Context, Place};
@@ -62,7 +65,8 @@ fn settle(
 
 /// ADD, OR, ADC, SBB, AND, SUB, XOR and CMP of two numbers, of which the first stands at a place.
 fn work_out(change: &mut Change, operation: Arithmetic, width: Width, place: Place, a: u32, b: u32)
-    ensures { change.new ≡ settled operation width place (binary_of (binary_operation operation) (bits width) a b change.old.context.flags) change.old.context }
+    ensures { change.new ≡ settled operation width place
+        (binary_of (binary_operation operation) (bits width) a b change.old.context.flags) change.old.context }
 {
     let result_of = ia32_alu::binary(
         binary_operation(operation),
@@ -84,9 +88,10 @@ pub(crate) fn combine<S: Space>(
     operand: &Operand,
     source: &Source,
 ) -> Result<(), Fault>
-    ensures { MatchResult result
-        (λ _. Ok change.new ≡ combined (number_at (S.contents space.now).pieces) operation width operand.now (source_value (number_at (S.contents space.now).pieces) change.old.context width source.now) change.old.context)
-        (λ fault. Err fault ≡ combined (number_at (S.contents space.now).pieces) operation width operand.now (source_value (number_at (S.contents space.now).pieces) change.old.context width source.now) change.old.context) }
+    ensures { Comes result change.new
+        (combined (number_at (S.contents space.now).pieces) operation width operand.now
+        (source_value (number_at (S.contents space.now).pieces) change.old.context width source.now)
+        change.old.context) }
 {
     let place = place_of(&change.context, operand);
     let a = value_at(space, &change.context, width, place)?;
@@ -105,9 +110,9 @@ pub(crate) fn combine_immediate<S: Space>(
     operand: &Operand,
     immediate: u32,
 ) -> Result<(), Fault>
-    ensures { MatchResult result
-        (λ _. Ok change.new ≡ combined (number_at (S.contents space.now).pieces) operation width operand.now (Ok immediate) change.old.context)
-        (λ fault. Err fault ≡ combined (number_at (S.contents space.now).pieces) operation width operand.now (Ok immediate) change.old.context) }
+    ensures { Comes result change.new
+        (combined (number_at (S.contents space.now).pieces) operation width operand.now (Ok immediate)
+        change.old.context) }
 {
     let place = place_of(&change.context, operand);
     let a = value_at(space, &change.context, width, place)?;
@@ -124,9 +129,8 @@ pub(crate) fn test<S: Space>(
     operand: &Operand,
     b: u32,
 ) -> Result<(), Fault>
-    ensures { MatchResult result
-        (λ _. Ok change.new ≡ tested (number_at (S.contents space.now).pieces) width operand.now b change.old.context)
-        (λ fault. Err fault ≡ tested (number_at (S.contents space.now).pieces) width operand.now b change.old.context) }
+    ensures { Comes result change.new
+        (tested (number_at (S.contents space.now).pieces) width operand.now b change.old.context) }
 {
     let a = operand_value(space, &change.context, width, operand)?;
     let (_, flags) = ia32_alu::binary(
@@ -149,9 +153,9 @@ pub(crate) fn test_register<S: Space>(
     operand: &Operand,
     register: Register,
 ) -> Result<(), Fault>
-    ensures { MatchResult result
-        (λ _. Ok change.new ≡ tested (number_at (S.contents space.now).pieces) width operand.now (register_value change.old.context.registers width register) change.old.context)
-        (λ fault. Err fault ≡ tested (number_at (S.contents space.now).pieces) width operand.now (register_value change.old.context.registers width register) change.old.context) }
+    ensures { Comes result change.new
+        (tested (number_at (S.contents space.now).pieces) width operand.now
+        (register_value change.old.context.registers width register) change.old.context) }
 {
     let own = change.context.register(width, register);
     test(space, change, width, operand, own)
@@ -164,9 +168,8 @@ pub(crate) fn test_accumulator<S: Space>(
     width: Width,
     immediate: u32,
 ) -> Result<(), Fault>
-    ensures { MatchResult result
-        (λ _. Ok change.new ≡ tested (number_at (S.contents space.now).pieces) width (operands.Register Eax) immediate change.old.context)
-        (λ fault. Err fault ≡ tested (number_at (S.contents space.now).pieces) width (operands.Register Eax) immediate change.old.context) }
+    ensures { Comes result change.new
+        (tested (number_at (S.contents space.now).pieces) width (operands.Register Eax) immediate change.old.context) }
 {
     test(
         space,
@@ -195,9 +198,8 @@ pub(crate) fn alter<S: Space>(
     width: Width,
     operand: &Operand,
 ) -> Result<(), Fault>
-    ensures { MatchResult result
-        (λ _. Ok change.new ≡ altered (number_at (S.contents space.now).pieces) operation width operand.now change.old.context)
-        (λ fault. Err fault ≡ altered (number_at (S.contents space.now).pieces) operation width operand.now change.old.context) }
+    ensures { Comes result change.new
+        (altered (number_at (S.contents space.now).pieces) operation width operand.now change.old.context) }
 {
     let place = place_of(&change.context, operand);
     let a = value_at(space, &change.context, width, place)?;
@@ -215,9 +217,9 @@ pub(crate) fn count<S: Space>(
     width: Width,
     operand: &Operand,
 ) -> Result<(), Fault>
-    ensures { MatchResult result
-        (λ _. Ok change.new ≡ altered (number_at (S.contents space.now).pieces) (unary_counting operation) width operand.now change.old.context)
-        (λ fault. Err fault ≡ altered (number_at (S.contents space.now).pieces) (unary_counting operation) width operand.now change.old.context) }
+    ensures { Comes result change.new
+        (altered (number_at (S.contents space.now).pieces) (unary_counting operation) width operand.now
+        change.old.context) }
 {
     alter(space, change, counting(operation), width, operand)
 }
@@ -230,9 +232,9 @@ pub(crate) fn count_in_register<S: Space>(
     width: Width,
     register: Register,
 ) -> Result<(), Fault>
-    ensures { MatchResult result
-        (λ _. Ok change.new ≡ altered (number_at (S.contents space.now).pieces) (unary_counting operation) width (operands.Register register) change.old.context)
-        (λ fault. Err fault ≡ altered (number_at (S.contents space.now).pieces) (unary_counting operation) width (operands.Register register) change.old.context) }
+    ensures { Comes result change.new
+        (altered (number_at (S.contents space.now).pieces) (unary_counting operation) width (operands.Register register)
+        change.old.context) }
 {
     count(
         space,
@@ -276,9 +278,9 @@ fn shift_by<S: Space>(
 ) -> Result<(), Fault>
     requires left { operation ≡ Rol → width ≡ Dword }
     requires right { operation ≡ Ror → width ≡ Dword }
-    ensures { MatchResult result
-        (λ _. Ok change.new ≡ shifted_by (number_at (S.contents space.now).pieces) (Some operation) width operand.now count change.old.context)
-        (λ fault. Err fault ≡ shifted_by (number_at (S.contents space.now).pieces) (Some operation) width operand.now count change.old.context) }
+    ensures { Comes result change.new
+        (shifted_by (number_at (S.contents space.now).pieces) (Some operation) width operand.now count
+        change.old.context) }
 {
     let place = place_of(&change.context, operand);
     let a = value_at(space, &change.context, width, place)?;
@@ -304,9 +306,8 @@ pub(crate) fn shift<S: Space>(
     operand: &Operand,
     count: u8,
 ) -> Result<(), Fault>
-    ensures { MatchResult result
-        (λ _. Ok change.new ≡ shifted (number_at (S.contents space.now).pieces) operation width operand.now count change.old.context)
-        (λ fault. Err fault ≡ shifted (number_at (S.contents space.now).pieces) operation width operand.now count change.old.context) }
+    ensures { Comes result change.new
+        (shifted (number_at (S.contents space.now).pieces) operation width operand.now count change.old.context) }
 {
     match stepped_shift(operation, width) {
         None => Err(Fault::Unsupported),
@@ -331,9 +332,9 @@ pub(crate) fn shift_by_immediate<S: Space>(
     operand: &Operand,
     count: u32,
 ) -> Result<(), Fault>
-    ensures { MatchResult result
-        (λ _. Ok change.new ≡ shifted (number_at (S.contents space.now).pieces) operation width operand.now (count % 0x100) change.old.context)
-        (λ fault. Err fault ≡ shifted (number_at (S.contents space.now).pieces) operation width operand.now (count % 0x100) change.old.context) }
+    ensures { Comes result change.new
+        (shifted (number_at (S.contents space.now).pieces) operation width operand.now (count % 0x100)
+        change.old.context) }
 {
     shift(
         space,
@@ -353,9 +354,9 @@ pub(crate) fn shift_by_cl<S: Space>(
     width: Width,
     operand: &Operand,
 ) -> Result<(), Fault>
-    ensures { MatchResult result
-        (λ _. Ok change.new ≡ shifted (number_at (S.contents space.now).pieces) operation width operand.now (count_register change.old.context) change.old.context)
-        (λ fault. Err fault ≡ shifted (number_at (S.contents space.now).pieces) operation width operand.now (count_register change.old.context) change.old.context) }
+    ensures { Comes result change.new
+        (shifted (number_at (S.contents space.now).pieces) operation width operand.now
+        (count_register change.old.context) change.old.context) }
 {
     let count = count_register(&change.context);
     shift(space, change, operation, width, operand, count)

@@ -1,7 +1,9 @@
 //! What an instruction does, and which are not carried out.
-ghost use Rattle.std.specs.Prelude.{◌≡◌, Ok, Err, MatchResult};
+ghost use Rattle.std.specs.Prelude.{◌≡◌};
 ghost use Rattle.ia32_step.specs.Operands.{number_at};
-ghost use Rattle.ia32_step.specs.Exec.{unary_change, change_of, is_full, is_stepped, takes_repeat, refuses_prefixes, traps, is_memory, writes, takes_lock, executed};
+ghost use Rattle.ia32_step.specs.Exec.{unary_change, change_of, is_stepped, takes_repeat, refuses_prefixes, traps};
+ghost use Rattle.ia32_step.specs.Exec.{is_memory, writes, takes_lock, executed};
+ghost use Rattle.ia32_step.specs.inside.Comes.{Comes};
 
 use crate::arithmetic::{
     alter, combine, combine_immediate, count, count_in_register, shift, shift_by_cl,
@@ -30,9 +32,8 @@ fn unary_change<S: Space>(
     width: Width,
     operand: &Operand,
 ) -> Result<(), Fault>
-    ensures { MatchResult result
-        (λ _. Ok change.new ≡ unary_change (number_at (S.contents space.now).pieces) operation width operand.now change.old.context)
-        (λ fault. Err fault ≡ unary_change (number_at (S.contents space.now).pieces) operation width operand.now change.old.context) }
+    ensures { Comes result change.new
+        (unary_change (number_at (S.contents space.now).pieces) operation width operand.now change.old.context) }
 {
     match operation {
         Unary::Not => alter(space, change, ia32_alu::Unary::Not, width, operand),
@@ -47,9 +48,8 @@ fn unary_change<S: Space>(
 /// What an instruction does to a thread whose pc is the address after it.
 #[tactic(auto, unfolding(crate::specs::Exec::change_of, crate::specs::Stack::pushed, crate::specs::Operands::value_at))]
 fn change_of<S: Space>(space: &S, change: &mut Change, instr: &Instr) -> Result<(), Fault>
-    ensures { MatchResult result
-        (λ _. Ok change.new ≡ change_of (number_at (S.contents space.now).pieces) instr.now change.old.context)
-        (λ fault. Err fault ≡ change_of (number_at (S.contents space.now).pieces) instr.now change.old.context) }
+    ensures { Comes result change.new
+        (change_of (number_at (S.contents space.now).pieces) instr.now change.old.context) }
 {
     match instr {
         Instr::Arithmetic {
@@ -247,15 +247,6 @@ fn change_of<S: Space>(space: &S, change: &mut Change, instr: &Instr) -> Result<
     }
 }
 
-fn is_full(width: Width) -> bool
-    ensures { result ≡ is_full width }
-{
-    match width {
-        Width::Byte | Width::Word => false,
-        Width::Dword => true,
-    }
-}
-
 /// Whether an instruction is carried out or traps; of all others the length alone is known.
 #[tactic(auto, unfolding(crate::specs::Exec::is_stepped))]
 fn is_stepped(instr: &Instr) -> bool
@@ -286,7 +277,7 @@ fn is_stepped(instr: &Instr) -> bool
         | Instr::JumpOperand { width, .. }
         | Instr::CallOperand { width, .. }
         | Instr::Return { width }
-        | Instr::ReturnAndRelease { width, .. } => is_full(width),
+        | Instr::ReturnAndRelease { width, .. } => width.is_dword(),
         Instr::OpcodeOnly { .. }
         | Instr::Interrupt { .. }
         | Instr::LoopBranch { .. }
@@ -384,9 +375,8 @@ pub(crate) fn execute<S: Space>(
     change: &mut Change,
     decoded: &Decoded,
 ) -> Result<(), Fault>
-    ensures { MatchResult result
-        (λ _. Ok change.new ≡ executed (number_at (S.contents space.now).pieces) decoded.now change.old.context)
-        (λ fault. Err fault ≡ executed (number_at (S.contents space.now).pieces) decoded.now change.old.context) }
+    ensures { Comes result change.new
+        (executed (number_at (S.contents space.now).pieces) decoded.now change.old.context) }
 {
     if !is_stepped(&decoded.instr) || refuses_prefixes(&decoded.prefixes, &decoded.instr) {
         return Err(Fault::Unsupported);
