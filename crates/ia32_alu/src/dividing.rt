@@ -1,6 +1,6 @@
 //! Quotients.
-ghost use Rattle.std.specs.Prelude.{◌≡◌, ◌≢◌, ◌*◌, true, false, ℤ, pos, ◌<◌, ◌^◌, IfSome};
-ghost use Rattle.ia32_alu.specs.Numbers.{size, unsigned, signed};
+ghost use Rattle.std.specs.Prelude.{◌≡◌, ◌≢◌, true, false, pos, ◌<◌, ◌^◌, IfSome};
+ghost use Rattle.ia32_alu.specs.Numbers.{size, signed};
 ghost use Rattle.ia32_alu.specs.Products.{divided, quotient_of};
 
 use crate::settling::fits_as_signed;

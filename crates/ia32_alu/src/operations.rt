@@ -1,7 +1,7 @@
 //! Operations on two operands and on one.
 ghost use Rattle.std.specs.Prelude.{◌≡◌, ◌^◌, ◌-◌, bit_and, bit_or, bit_xor, ◌<◌};
 ghost use Rattle.ia32_alu.specs.Numbers.{size, unsigned};
-ghost use Rattle.ia32_alu.specs.Arithmetic.{bitwise, compared, keeping_carry, binary_of, unary_of};
+ghost use Rattle.ia32_alu.specs.Arithmetic.{bitwise, keeping_carry, binary_of, unary_of};
 
 use crate::adding::{add, subtract};
 use crate::settling::flags as flags_of_result;

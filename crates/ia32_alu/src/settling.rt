@@ -1,5 +1,5 @@
 //! The flags of a result.
-ghost use Rattle.std.specs.Prelude.{◌≡◌, ℤ, pos, neg_ℤ, ◌≤ℤ◌, ◌<ℤ◌, ℕ, ◌-◌, ◌^◌, not, ◌<◌};
+ghost use Rattle.std.specs.Prelude.{◌≡◌, ◌^◌, ◌<◌};
 ghost use Rattle.ia32_alu.specs.Numbers.{size, fits_unsigned, fits_signed, even_parity, flags_of};
 ghost use Rattle.ia32_alu.specs.Arithmetic.{settled};
 

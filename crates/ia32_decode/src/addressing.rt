@@ -1,6 +1,6 @@
 //! The ModRM byte with its SIB byte and displacement, in 32-bit addressing.
-ghost use Rattle.std.specs.Prelude.{◌≡◌, ◌≤◌, ◌<◌, ◌+◌, ◌*◌, ◌^◌, ◌%◌, ◌/◌, ◌==◌};
-ghost use Rattle.ia32_decode.specs.Encoding.{byte_in, extended, scale_of, mode, middle, lowest, has_sib, sib_length};
+ghost use Rattle.std.specs.Prelude.{◌≡◌, ◌≤◌, ◌+◌, ◌/◌};
+ghost use Rattle.ia32_decode.specs.Encoding.{byte_in, extended, scale_of, has_sib, sib_length};
 ghost use Rattle.ia32_decode.specs.Encoding.{base_number, lacks_base, base_of, index_of, displacement_width};
 ghost use Rattle.ia32_decode.specs.Encoding.{displacement_of, field_of, operand_of, addressing_with, addressing_of};
 ghost use Rattle.ia32_decode.specs.Encoding.{no_addressing};

@@ -1,8 +1,8 @@
 //! Decoding one instruction.
-ghost use Rattle.std.specs.Prelude.{◌≡◌, ◌≤◌, ◌<◌, ◌+◌, ◌&&◌, length, IfSome, IfNone};
+ghost use Rattle.std.specs.Prelude.{◌≡◌, ◌≤◌, ◌<◌, ◌&&◌, length, IfSome, IfNone};
 ghost use Rattle.ia32_decode.specs.declared.types.Decoded.{Decoded};
 ghost use Rattle.ia32_decode.specs.Encoding.{head_of};
-ghost use Rattle.ia32_decode.specs.Table.{shape_of, digit_allowed};
+ghost use Rattle.ia32_decode.specs.Table.{digit_allowed};
 ghost use Rattle.ia32_decode.specs.Decode.{front_of, opcode_end_of, form_addressing, form_accepts, number_in};
 ghost use Rattle.ia32_decode.specs.Decode.{value_in, fields_of, read_front, decoded_from, Spells};
 

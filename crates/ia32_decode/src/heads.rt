@@ -1,5 +1,5 @@
 //! The front of an instruction: its prefixes and its opcode.
-ghost use Rattle.std.specs.Prelude.{◌≡◌, ◌≤◌, ◌<◌, ◌+◌, ◌*◌, ◌^◌, length, take, not, [], false, IfSome};
+ghost use Rattle.std.specs.Prelude.{◌≡◌, ◌≤◌, ◌<◌, ◌^◌, length, not, [], false, IfSome};
 ghost use Rattle.std.specs.List.{position};
 ghost use Rattle.ia32_decode.specs.Encoding.{byte_in, word_in, dword_in, is_prefix, prefix_count, has_byte};
 ghost use Rattle.ia32_decode.specs.Encoding.{prefixes_of, head_after, head_of};

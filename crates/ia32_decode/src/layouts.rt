@@ -1,5 +1,5 @@
 //! How each line is laid out.
-ghost use Rattle.std.specs.Prelude.{◌≡◌, ◌<◌, ◌≤◌};
+ghost use Rattle.std.specs.Prelude.{◌≡◌, ◌≤◌};
 ghost use Rattle.ia32_decode.specs.Table.{shape_of, digit_allowed, width_of, full_width_of, follows_width};
 
 use crate::opcode_table::{Digits, Follows, Form, Line, Shape, Sizing};

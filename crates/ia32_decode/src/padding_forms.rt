@@ -1,7 +1,7 @@
 //! Which instructions are padding.
-ghost use Rattle.std.specs.Prelude.{◌≡◌, ◌==◌};
+ghost use Rattle.std.specs.Prelude.{◌≡◌};
 ghost use Rattle.ia32_decode.specs.Padding.{has_others, only_66, only_66_2e, one_2e_3e, same_register};
-ghost use Rattle.ia32_decode.specs.Padding.{is_base, has_index, is_alone, padding_form, is_padding_of};
+ghost use Rattle.ia32_decode.specs.Padding.{is_base, has_index, is_alone, is_padding_of};
 
 use crate::types::{Decoded, Index, Instr, Memory, Operand, Prefixes, Register};
 

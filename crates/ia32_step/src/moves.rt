@@ -1,11 +1,7 @@
 //! Moves, exchanges and extensions.
-ghost use Rattle.std.specs.Prelude.{◌≡◌, ◌<◌, ◌-◌, ◌^◌};
+ghost use Rattle.std.specs.Prelude.{◌≡◌, ◌-◌, ◌^◌};
 ghost use Rattle.ia32_alu.specs.Numbers.{highest, unsigned};
-ghost use Rattle.ia32_decode.specs.declared.types.Register.TheVariants.{Eax};
-ghost use Rattle.ia32_decode.specs.declared.types.Operand.TheVariants as operands;
-ghost use Rattle.ia32_step.specs.Registers.{with_register};
-ghost use Rattle.ia32_step.specs.Changes.{goes_on, putting};
-ghost use Rattle.ia32_step.specs.Operands.{number_at, place_of};
+ghost use Rattle.ia32_step.specs.Operands.{number_at};
 ghost use Rattle.ia32_step.specs.Arithmetic.{bits};
 ghost use Rattle.ia32_step.specs.Moves.{copied, accumulator_loaded, accumulator_stored, address_taken, exchanged};
 ghost use Rattle.ia32_step.specs.Moves.{exchanged_and_added, compared_and_exchanged, compare_exchanged, holds};
@@ -37,28 +33,6 @@ pub(crate) fn copy<S: Space>(
     let place = place_of(&change.context, destination);
     change.put(place, width, value);
     Ok(())
-}
-
-/// MOV of an immediate to an operand.
-pub(crate) fn put_immediate(
-    change: &mut Change,
-    width: Width,
-    destination: &Operand,
-    immediate: u32,
-)
-    ensures { change.new ≡ putting (place_of change.old.context.registers destination.now) width immediate
-        change.old.context }
-{
-    let place = place_of(&change.context, destination);
-    change.put(place, width, immediate);
-}
-
-/// MOV of an immediate to a register.
-pub(crate) fn load_immediate(change: &mut Change, width: Width, register: Register, immediate: u32)
-    ensures { change.new ≡ goes_on (with_register width register immediate change.old.context) }
-{
-    change.context.put_register(width, register, immediate);
-    change.go_on();
 }
 
 /// MOV to the accumulator from an address.
@@ -113,26 +87,6 @@ pub(crate) fn exchange<S: Space>(
     change.context.put_register(width, register, value);
     change.put(place, width, own);
     Ok(())
-}
-
-/// XCHG of the accumulator and a register.
-pub(crate) fn exchange_accumulator<S: Space>(
-    space: &S,
-    change: &mut Change,
-    width: Width,
-    register: Register,
-) -> Result<(), Fault>
-    ensures { Comes result change.new
-        (exchanged (number_at (S.contents space.now).pieces) width (operands.Register Eax) register
-        change.old.context) }
-{
-    exchange(
-        space,
-        change,
-        width,
-        &Operand::Register(Register::Eax),
-        register,
-    )
 }
 
 /// XADD.

@@ -1,9 +1,8 @@
 //! Products and quotients.
 ghost use Rattle.std.specs.Prelude.{◌≡◌, ◌<◌, ◌*◌, ◌^◌};
-ghost use Rattle.ia32_step.specs.Registers.{register_value};
 ghost use Rattle.ia32_step.specs.Operands.{number_at};
-ghost use Rattle.ia32_step.specs.Arithmetic.{bits, upper_register, with_double, double, with_product, multiplied};
-ghost use Rattle.ia32_step.specs.Arithmetic.{with_lower_product, product_taken, clear_flags, with_quotient, divided};
+ghost use Rattle.ia32_step.specs.Arithmetic.{bits, upper_register, with_double, double, multiplied};
+ghost use Rattle.ia32_step.specs.Arithmetic.{product_taken, clear_flags, with_quotient, divided};
 ghost use Rattle.ia32_step.specs.inside.Comes.{Comes};
 
 use crate::arithmetic::alu_width;
@@ -98,22 +97,6 @@ pub(crate) fn take_product<S: Space>(
     change.context.put_register(width, register, lower);
     change.go_on();
     Ok(())
-}
-
-/// IMUL of a register by an operand.
-pub(crate) fn multiply_register<S: Space>(
-    space: &S,
-    change: &mut Change,
-    width: Width,
-    register: Register,
-    operand: &Operand,
-) -> Result<(), Fault>
-    ensures { Comes result change.new
-        (product_taken (number_at (S.contents space.now).pieces) width register operand.now
-        (register_value change.old.context.registers width register) change.old.context) }
-{
-    let own = change.context.register(width, register);
-    take_product(space, change, width, register, operand, own)
 }
 
 fn clear_flags() -> Flags

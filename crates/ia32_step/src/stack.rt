@@ -1,9 +1,4 @@
 //! Pushes and pops of 32 bits.
-ghost use Rattle.std.specs.Prelude.{◌≡◌};
-ghost use Rattle.ia32_decode.specs.declared.types.Width.TheVariants.{Dword};
-ghost use Rattle.ia32_decode.specs.declared.types.Operand.TheVariants as operands;
-ghost use Rattle.ia32_step.specs.Registers.{register_value};
-ghost use Rattle.ia32_step.specs.Changes.{pushing};
 ghost use Rattle.ia32_step.specs.Operands.{number_at};
 ghost use Rattle.ia32_step.specs.Stack.{pushed, popped_to, left};
 ghost use Rattle.ia32_step.specs.inside.Comes.{Comes};
@@ -38,33 +33,6 @@ pub(crate) fn pop<S: Space>(space: &S, change: &mut Change, operand: &Operand) -
     Ok(())
 }
 
-/// PUSH of a register.
-pub(crate) fn push_register(change: &mut Change, register: Register)
-    ensures { change.new ≡ pushing (register_value change.old.context.registers Dword register) change.old.context }
-{
-    let own = change.context.register(Width::Dword, register);
-    change.push(own);
-}
-
-/// PUSH of an immediate.
-pub(crate) fn push_immediate(change: &mut Change, immediate: u32)
-    ensures { change.new ≡ pushing immediate change.old.context }
-{
-    change.push(immediate);
-}
-
-/// POP to a register.
-pub(crate) fn pop_register<S: Space>(
-    space: &S,
-    change: &mut Change,
-    register: Register,
-) -> Result<(), Fault>
-    ensures { Comes result change.new
-        (popped_to (number_at (S.contents space.now).pieces) (operands.Register register) change.old.context) }
-{
-    pop(space, change, &Operand::Register(register))
-}
-
 /// LEAVE.
 #[tactic(auto, unfolding(crate::specs::Stack::left))]
 pub(crate) fn leave<S: Space>(space: &S, change: &mut Change) -> Result<(), Fault>
@@ -72,5 +40,5 @@ pub(crate) fn leave<S: Space>(space: &S, change: &mut Change) -> Result<(), Faul
 {
     let base = change.context.register(Width::Dword, Register::Ebp);
     change.context.put_stack_top(base);
-    pop_register(space, change, Register::Ebp)
+    pop(space, change, &Operand::Register(Register::Ebp))
 }

@@ -19,9 +19,8 @@ impl Thread {
     fn context(&self) -> Context
         ensures { result ≡ context_of self.now }
     {
-        let registers = self.registers;
         Context {
-            registers,
+            registers: self.registers,
             pc: self.pc,
             flags: self.flags,
         }
