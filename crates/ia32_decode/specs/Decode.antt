@@ -5,8 +5,7 @@ use Rattle.ia32_decode.specs.declared.opcode_table.Line.{Line}
 use Rattle.ia32_decode.specs.declared.opcode_table.Form.{Form}
 use Rattle.ia32_decode.specs.declared.opcode_table.Form.TheVariants.{Unlisted, Plain, Branch, ModRm, Memory, EndBranch}
 use Rattle.ia32_decode.specs.declared.opcode_table.Follows.{Follows}
-use Rattle.ia32_decode.specs.declared.opcode_table.Follows.TheVariants.{Nothing, Byte, SignedByte, Word, Dword}
-use Rattle.ia32_decode.specs.declared.opcode_table.Follows.TheVariants.{Address, Sized, Tested}
+use Rattle.ia32_decode.specs.declared.opcode_table.Follows.TheVariants.{SignedByte, Address}
 use Rattle.ia32_decode.specs.declared.opcode_table.Shape.{Shape}
 use Rattle.ia32_decode.specs.declared.heads.Head.{Head}
 use Rattle.ia32_decode.specs.declared.addressing.Addressing.{Addressing}
@@ -25,20 +24,13 @@ front_of window = take 15 window
 -- the offset after the last opcode byte; FB of 0F 1E FB is one
 abbrev pub opcode_end_of : Form → ℕ → ℕ
 opcode_end_of EndBranch end = end + 1
-opcode_end_of Unlisted end = end
-opcode_end_of Plain end = end
-opcode_end_of Branch end = end
-opcode_end_of ModRm end = end
-opcode_end_of Memory end = end
+opcode_end_of form end = end
 
 -- what a ModRM byte says, where the form has one
 abbrev pub form_addressing : Form → List ℕ → ℕ → Addressing
 form_addressing ModRm w at = addressing_of w at
 form_addressing Memory w at = addressing_of w at
-form_addressing Unlisted w at = no_addressing at
-form_addressing Plain w at = no_addressing at
-form_addressing Branch w at = no_addressing at
-form_addressing EndBranch w at = no_addressing at
+form_addressing form w at = no_addressing at
 
 -- what a form refuses: prefix 66 before a branch, a register where memory is wanted, and 0F 1E but in F3 0F 1E FB
 abbrev pub form_accepts : Form → List ℕ → Head → Addressing → Bool
@@ -56,24 +48,12 @@ number_in w at width =
 
 abbrev pub value_in : Follows → List ℕ → ℕ → ℕ → ℕ
 value_in SignedByte w at width = extended (byte_in w at)
-value_in Nothing w at width = number_in w at width
-value_in Byte w at width = number_in w at width
-value_in Word w at width = number_in w at width
-value_in Dword w at width = number_in w at width
-value_in Address w at width = number_in w at width
-value_in Sized w at width = number_in w at width
-value_in Tested w at width = number_in w at width
+value_in follows w at width = number_in w at width
 
 -- an address that follows the opcode stands as a displacement
 abbrev pub fields_of : Follows → ℕ → Addressing → ℕ → Fields
 fields_of Address end a width = record { opcode_end = end; disp = field_of a.end width; imm = None }
-fields_of Nothing end a width = record { opcode_end = end; disp = a.displacement; imm = field_of a.end width }
-fields_of Byte end a width = record { opcode_end = end; disp = a.displacement; imm = field_of a.end width }
-fields_of SignedByte end a width = record { opcode_end = end; disp = a.displacement; imm = field_of a.end width }
-fields_of Word end a width = record { opcode_end = end; disp = a.displacement; imm = field_of a.end width }
-fields_of Dword end a width = record { opcode_end = end; disp = a.displacement; imm = field_of a.end width }
-fields_of Sized end a width = record { opcode_end = end; disp = a.displacement; imm = field_of a.end width }
-fields_of Tested end a width = record { opcode_end = end; disp = a.displacement; imm = field_of a.end width }
+fields_of follows end a width = record { opcode_end = end; disp = a.displacement; imm = field_of a.end width }
 
 -- a line's instruction, from its head, what its ModRM byte says, and the number at the end
 unfoldable pub assembled : Line → List ℕ → Head → Addressing → Width → ℕ → Decoded

@@ -33,11 +33,7 @@ fn opcode_end(form: Form, end: u32) -> u32
 {
     match form {
         Form::EndBranch => end + 1,
-        Form::Unlisted => end,
-        Form::Plain => end,
-        Form::Branch => end,
-        Form::ModRm => end,
-        Form::Memory => end,
+        _ => end,
     }
 }
 
@@ -50,7 +46,7 @@ fn addressing(form: Form, window: &[u8], at: u32) -> Addressing
 {
     match form {
         Form::ModRm | Form::Memory => addressing_at(window, at),
-        Form::Unlisted | Form::Plain | Form::Branch | Form::EndBranch => absent_addressing(at),
+        _ => absent_addressing(at),
     }
 }
 
@@ -99,13 +95,7 @@ fn trailing_value(follows: Follows, window: &[u8], at: u32, width: u32) -> u32
 {
     match follows {
         Follows::SignedByte => sign_extended(byte_at(window, at)),
-        Follows::Nothing
-        | Follows::Byte
-        | Follows::Word
-        | Follows::Dword
-        | Follows::Address
-        | Follows::Sized
-        | Follows::Tested => number(window, at, width),
+        _ => number(window, at, width),
     }
 }
 
@@ -137,13 +127,7 @@ fn fields(follows: Follows, end: u32, addressing: &Addressing, width: u32) -> Fi
 {
     match follows {
         Follows::Address => address_fields(end, addressing, width),
-        Follows::Nothing
-        | Follows::Byte
-        | Follows::SignedByte
-        | Follows::Word
-        | Follows::Dword
-        | Follows::Sized
-        | Follows::Tested => operand_fields(end, addressing, width),
+        _ => operand_fields(end, addressing, width),
     }
 }
 
@@ -185,6 +169,19 @@ fn read_after(window: &[u8], head: &Head) -> Option<Decoded>
     })
 }
 
+/// The instruction at the front of at most 15 bytes.
+#[inline(always)]
+fn read(front: &[u8]) -> Option<Decoded>
+    requires { length front.now ≤ 15 }
+    ensures { result ≡ read_front front.now }
+{
+    if begins_with_prefix(front) {
+        read_after(front, &read_head(front))
+    } else {
+        read_after(front, &plain_head(front))
+    }
+}
+
 /// The instruction that a front of the window spells, `None` exactly where no line of the opcode table spells
 /// one in at most 15 bytes. It takes no memory.
 #[inline(never)]
@@ -196,9 +193,5 @@ pub fn decode(window: &[u8]) -> Option<Decoded>
     ensures short { IfSome result (λ decoded. decoded.length ≤ 15) }
     ensures within { IfSome result (λ decoded. decoded.length ≤ length window.now) }
 {
-    let front = front(window);
-    if begins_with_prefix(front) {
-        return read_after(front, &read_head(front));
-    }
-    read_after(front, &plain_head(front))
+    read(front(window))
 }
