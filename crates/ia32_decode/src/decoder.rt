@@ -169,19 +169,6 @@ fn read_after(window: &[u8], head: &Head) -> Option<Decoded>
     })
 }
 
-/// The instruction at the front of at most 15 bytes.
-#[inline(always)]
-fn read(front: &[u8]) -> Option<Decoded>
-    requires { length front.now ≤ 15 }
-    ensures { result ≡ read_front front.now }
-{
-    if begins_with_prefix(front) {
-        read_after(front, &read_head(front))
-    } else {
-        read_after(front, &plain_head(front))
-    }
-}
-
 /// The instruction that a front of the window spells, `None` exactly where no line of the opcode table spells
 /// one in at most 15 bytes. It takes no memory.
 #[inline(never)]
@@ -193,5 +180,9 @@ pub fn decode(window: &[u8]) -> Option<Decoded>
     ensures short { IfSome result (λ decoded. decoded.length ≤ 15) }
     ensures within { IfSome result (λ decoded. decoded.length ≤ length window.now) }
 {
-    read(front(window))
+    let front = front(window);
+    if begins_with_prefix(front) {
+        return read_after(front, &read_head(front));
+    }
+    read_after(front, &plain_head(front))
 }
