@@ -1,5 +1,7 @@
-pub mod Arithmetic
-pub mod Conditions
+-- All of these are cited by public clauses, and are what a reader has to believe: bits as numbers and the flags of a
+-- result first, then a file for each public call.
 pub mod Numbers
-pub mod Products
+pub mod Arithmetic
 pub mod Shifts
+pub mod Products
+pub mod Conditions

@@ -1,6 +1,7 @@
 -- Operands of 8, 16 and 32 bits as numbers, unsigned and in two's complement (Intel SDM volume 1, section 4.2.1), and
 -- the flags of a result (section 3.4.3.1). A number of bits is called k.
-use Rattle.std.specs.Prelude.{ℕ, ◌-◌, ◌%◌, ◌^◌, Bool, true, false, ◌&&◌, not, ℤ, pos, ◌-ℤ◌, neg_ℤ, unsigned_abs, int_lt, int_le, count_ones, nat_le, ◌==◌, if◌then◌else◌}
+use Rattle.std.specs.Prelude.{ℕ, ◌-◌, ◌%◌, ◌^◌, Bool, true, false, ◌&&◌, not, ℤ, pos, ◌-ℤ◌, neg_ℤ, unsigned_abs}
+use Rattle.std.specs.Prelude.{int_lt, int_le, count_ones, nat_le, ◌==◌, if◌then◌else◌}
 use Rattle.std.specs.Int.{int_rem_euclid}
 use Rattle.ia32_alu.specs.declared.types.Width.{Width}
 use Rattle.ia32_alu.specs.declared.types.Width.TheVariants.{W8, W16, W32}

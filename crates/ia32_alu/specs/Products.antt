@@ -1,5 +1,6 @@
 -- MUL, IMUL, DIV and IDIV (Intel SDM volume 2). What is marked as own the manual leaves undefined.
-use Rattle.std.specs.Prelude.{ℕ, ◌*◌, Bool, true, false, not, ℤ, pos, ◌*ℤ◌, int_div, int_rem, Option, Some, None, ◌==◌, if◌then◌else◌}
+use Rattle.std.specs.Prelude.{ℕ, ◌*◌, Bool, true, false, not, ℤ, pos, ◌*ℤ◌, int_div, int_rem, Option, Some, None}
+use Rattle.std.specs.Prelude.{◌==◌, if◌then◌else◌}
 use Rattle.ia32_alu.specs.declared.types.Flags.{Flags}
 use Rattle.ia32_alu.specs.Numbers.{unsigned, signed, wrapped, fits_unsigned, fits_signed}
 
@@ -26,7 +27,8 @@ product_of sign k a b =
 -- the quotient, rounded toward zero, and the remainder, which has the dividend's sign; the divide error (#DE) where the
 -- divisor is 0 or the quotient doesn't fit k bits
 abbrev pub divided : Bool → ℕ → ℤ → ℤ → Option (ℕ × ℕ)
-divided sign k x y = if not (fits sign k (int_div x y)) then None else Some (wrapped k (int_div x y), wrapped k (int_rem x y))
+divided sign k x y =
+    if not (fits sign k (int_div x y)) then None else Some (wrapped k (int_div x y), wrapped k (int_rem x y))
 
 -- a dividend of 2 k bits by a divisor of k bits
 unfoldable pub quotient_of : Bool → ℕ → ℕ → ℕ → Option (ℕ × ℕ)

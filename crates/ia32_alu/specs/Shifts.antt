@@ -1,5 +1,5 @@
--- Shifts and rotations: SHL, SHR and SAR (Intel SDM volume 2, SAL/SAR/SHL/SHR), ROL and ROR (RCL/RCR/ROL/ROR). The count is
--- masked to 5 bits, and 0 changes nothing. What is marked as own the manual leaves undefined.
+-- Shifts and rotations: SHL, SHR and SAR (Intel SDM volume 2, SAL/SAR/SHL/SHR), ROL and ROR (RCL/RCR/ROL/ROR). The
+-- count is masked to 5 bits, and 0 changes nothing. What is marked as own the manual leaves undefined.
 use Rattle.std.specs.Prelude.{ℕ, ◌-◌, ◌*◌, ◌/◌, ◌%◌, ◌^◌, Bool, false, ◌&&◌, nat_lt, ◌==◌, if◌then◌else◌}
 use Rattle.std.specs.Int.{w32, int_shr, bit_at, rotate_left, rotate_right}
 use Rattle.ia32_alu.specs.declared.types.Flags.{Flags}
@@ -26,15 +26,15 @@ shifted_right k a c =
     let value : ℕ = unsigned k a / 2 ^ c in
     (value, flags_of k value (nat_lt c k && bit_at (unsigned k a) (c - 1) == 1) (c == 1 && highest k a))
 
--- The signed operand divided by 2 ^ c, rounded down. CF is bit c - 1 of the signed operand, the sign bit where c is k or
--- more: the lowest bit after one place less. OF is clear after one place, and after more (own).
+-- The signed operand divided by 2 ^ c, rounded down. CF is bit c - 1 of the signed operand, the sign bit where c is k
+-- or more: the lowest bit after one place less. OF is clear after one place, and after more (own).
 unfoldable pub shifted_right_signed : ℕ → ℕ → ℕ → ℕ × Flags
 shifted_right_signed k a c =
     let value : ℕ = wrapped k (int_shr (signed k a) c) in
     (value, flags_of k value (wrapped 1 (int_shr (signed k a) (c - 1)) == 1) false)
 
--- 32 bits turned around to the left. CF is the result's lowest bit. OF after one place: highest bit and CF differ; after
--- more: clear (own). ZF, SF and PF stay.
+-- 32 bits turned around to the left. CF is the result's lowest bit. OF after one place: highest bit and CF differ;
+-- after more: clear (own). ZF, SF and PF stay.
 unfoldable pub rotated_left : ℕ → ℕ → Flags → ℕ × Flags
 rotated_left a c flags =
     let value : ℕ = rotate_left w32 (unsigned 32 a) c in

@@ -9,7 +9,7 @@ use crate::widths::{cut, signed_value};
 
 /// The sum of two operands and a carry.
 #[tactic(auto, unfolding(crate::specs::Arithmetic::sum_of))]
-pub fn add(width: Width, a: u32, b: u32, carry: bool) -> (u32, Flags)
+pub(crate) fn add(width: Width, a: u32, b: u32, carry: bool) -> (u32, Flags)
     ensures value { result ≡ sum_of (size width) a b carry }
     ensures small { result.0 < 2 ^ size width }
 {
@@ -20,7 +20,7 @@ pub fn add(width: Width, a: u32, b: u32, carry: bool) -> (u32, Flags)
 
 /// The difference of two operands, less a borrow.
 #[tactic(auto, unfolding(crate::specs::Arithmetic::difference_of))]
-pub fn subtract(width: Width, a: u32, b: u32, borrow: bool) -> (u32, Flags)
+pub(crate) fn subtract(width: Width, a: u32, b: u32, borrow: bool) -> (u32, Flags)
     ensures value { result ≡ difference_of (size width) a b borrow }
     ensures small { result.0 < 2 ^ size width }
 {

@@ -1,5 +1,5 @@
 //! Conditions on the flags.
-ghost use Rattle.std.specs.Prelude.{◌≡◌, ◌<◌, ◌/◌, slice_index_or, false};
+ghost use Rattle.std.specs.Prelude.{◌≡◌, ◌<◌, slice_index_or, false};
 ghost use Rattle.ia32_alu.specs.Conditions.{even_conditions, condition_of};
 
 use crate::types::Flags;

@@ -1,6 +1,6 @@
 //! Quotients.
-ghost use Rattle.std.specs.Prelude.{◌≡◌, ◌≢◌, ◌*◌, true, false, ℤ, pos, ◌<◌, ◌^◌, IfSome};
-ghost use Rattle.ia32_alu.specs.Numbers.{size, unsigned, signed};
+ghost use Rattle.std.specs.Prelude.{◌≡◌, ◌≢◌, true, false, pos, ◌<◌, ◌^◌, IfSome};
+ghost use Rattle.ia32_alu.specs.Numbers.{size, signed};
 ghost use Rattle.ia32_alu.specs.Products.{divided, quotient_of};
 
 use crate::settling::fits_as_signed;
@@ -37,9 +37,9 @@ fn divide_signed(width: Width, dividend: i64, divisor: i64) -> Option<(u32, u32)
     }
 }
 
-/// DIV, or IDIV where `signed`: the quotient, rounded toward zero, and the remainder, which has the dividend's sign, each cut
-/// to the width. The dividend is the lowest bits of `high_low`, twice as many as the width, the divisor the lowest bits of
-/// `by`. None exactly where the divisor is 0 or the quotient doesn't fit the width.
+/// DIV, or IDIV where `signed`: the quotient, rounded toward zero, and the remainder, which has the dividend's sign,
+/// each cut to the width. The dividend is the lowest bits of `high_low`, twice as many as the width, the divisor the
+/// lowest bits of `by`. None exactly where the divisor is 0 or the quotient doesn't fit the width.
 #[tactic(auto, unfolding(crate::specs::Products::quotient_of))]
 pub fn divide(signed: bool, width: Width, high_low: u64, by: u32) -> Option<(u32, u32)>
     ensures value { result ≡ quotient_of signed (size width) high_low by }

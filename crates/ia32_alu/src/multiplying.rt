@@ -42,8 +42,8 @@ fn multiply_unsigned(width: Width, a: u32, b: u32) -> (u64, Flags)
     (cut_double(width, product), flags_of_product(wide))
 }
 
-/// MUL, or IMUL where `signed`: the product of the operands' lowest bits in twice as many bits, and the flags after it. CF
-/// and OF are set where the product doesn't fit the operands' width.
+/// MUL, or IMUL where `signed`: the product of the operands' lowest bits in twice as many bits, and the flags after it.
+/// CF and OF are set where the product doesn't fit the operands' width.
 pub fn multiply(signed: bool, width: Width, a: u32, b: u32) -> (u64, Flags)
     ensures value { result ≡ product_of signed (size width) a b }
     ensures small { result.0 < 2 ^ (2 * size width) }

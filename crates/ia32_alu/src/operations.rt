@@ -1,7 +1,7 @@
 //! Operations on two operands and on one.
 ghost use Rattle.std.specs.Prelude.{◌≡◌, ◌^◌, ◌-◌, bit_and, bit_or, bit_xor, ◌<◌};
 ghost use Rattle.ia32_alu.specs.Numbers.{size, unsigned};
-ghost use Rattle.ia32_alu.specs.Arithmetic.{bitwise, compared, keeping_carry, binary_of, unary_of};
+ghost use Rattle.ia32_alu.specs.Arithmetic.{bitwise, keeping_carry, binary_of, unary_of};
 
 use crate::adding::{add, subtract};
 use crate::settling::flags as flags_of_result;
@@ -60,8 +60,8 @@ fn with_carry_of(flags: Flags, given: (u32, Flags)) -> (u32, Flags)
     )
 }
 
-/// An operation on two operands: its value, below 2 to the width, and the flags after it. Of the operands the lowest bits
-/// count. CMP and TEST give the first operand. The flags are those before, which ADC and SBB read.
+/// An operation on two operands: its value, below 2 to the width, and the flags after it. Of the operands the lowest
+/// bits count. CMP and TEST give the first operand. The flags are those before, which ADC and SBB read.
 pub fn binary(op: Binary, width: Width, a: u32, b: u32, flags: Flags) -> (u32, Flags)
     ensures value { result ≡ binary_of op (size width) a b flags }
     ensures small { result.0 < 2 ^ size width }

@@ -1,5 +1,5 @@
 //! The flags of a result.
-ghost use Rattle.std.specs.Prelude.{◌≡◌, ℤ, pos, neg_ℤ, ◌≤ℤ◌, ◌<ℤ◌, ℕ, ◌-◌, ◌^◌, not, ◌<◌};
+ghost use Rattle.std.specs.Prelude.{◌≡◌, ◌^◌, ◌<◌};
 ghost use Rattle.ia32_alu.specs.Numbers.{size, fits_unsigned, fits_signed, even_parity, flags_of};
 ghost use Rattle.ia32_alu.specs.Arithmetic.{settled};
 
@@ -16,7 +16,7 @@ fn has_even_parity(value: u32) -> bool
 
 /// The flags of a result, beside a carry and an overflow.
 #[tactic(auto, unfolding(crate::specs::Numbers::flags_of))]
-pub fn flags(width: Width, value: u32, carry: bool, overflow: bool) -> Flags
+pub(crate) fn flags(width: Width, value: u32, carry: bool, overflow: bool) -> Flags
     ensures { result ≡ flags_of (size width) value carry overflow }
 {
     Flags {
@@ -30,7 +30,7 @@ pub fn flags(width: Width, value: u32, carry: bool, overflow: bool) -> Flags
 
 /// An unsigned number of this width.
 #[tactic(auto, unfolding(crate::specs::Numbers::fits_unsigned))]
-pub fn fits_as_unsigned(width: Width, z: i64) -> bool
+pub(crate) fn fits_as_unsigned(width: Width, z: i64) -> bool
     ensures { result ≡ fits_unsigned (size width) z }
 {
     0 <= z && z < modulus(width)
@@ -38,7 +38,7 @@ pub fn fits_as_unsigned(width: Width, z: i64) -> bool
 
 /// A signed number of this width.
 #[tactic(auto, unfolding(crate::specs::Numbers::fits_signed))]
-pub fn fits_as_signed(width: Width, z: i64) -> bool
+pub(crate) fn fits_as_signed(width: Width, z: i64) -> bool
     ensures { result ≡ fits_signed (size width) z }
 {
     -half(width) <= z && z < half(width)
@@ -46,7 +46,7 @@ pub fn fits_as_signed(width: Width, z: i64) -> bool
 
 /// The result of one computation, made on the operands as unsigned numbers and as signed ones.
 #[tactic(auto, unfolding(crate::specs::Arithmetic::settled))]
-pub fn settle(width: Width, unsigned: i64, signed: i64) -> (u32, Flags)
+pub(crate) fn settle(width: Width, unsigned: i64, signed: i64) -> (u32, Flags)
     ensures value { result ≡ settled (size width) unsigned signed }
     ensures small { result.0 < 2 ^ size width }
 {

@@ -4,7 +4,8 @@ ghost use Rattle.std.specs.Int.{bit_at};
 ghost use Rattle.ia32_alu.specs.declared.types.Width.TheVariants.{W32};
 ghost use Rattle.ia32_alu.specs.declared.types.Shift.TheVariants.{Rol, Ror};
 ghost use Rattle.ia32_alu.specs.Numbers.{size, unsigned, wrapped, highest, differ};
-ghost use Rattle.ia32_alu.specs.Shifts.{shifted_left, shifted_right, shifted_right_signed, rotated_left, rotated_right, moved, shift_of};
+ghost use Rattle.ia32_alu.specs.Shifts.{shifted_left, shifted_right, shifted_right_signed, rotated_left};
+ghost use Rattle.ia32_alu.specs.Shifts.{rotated_right, moved, shift_of};
 
 use crate::settling::flags as flags_of_result;
 use crate::types::{Flags, Shift, Width};

@@ -5,7 +5,7 @@ ghost use Rattle.ia32_alu.specs.Numbers.{size, unsigned, highest, signed, wrappe
 use crate::types::Width;
 
 /// How many bits there are.
-pub fn bit_count(width: Width) -> u32
+pub(crate) fn bit_count(width: Width) -> u32
     ensures value { result ≡ size width }
     ensures bound { result ≤ 32 }
 {
@@ -17,7 +17,7 @@ pub fn bit_count(width: Width) -> u32
 }
 
 /// The lowest bits, as an unsigned number.
-pub fn cut(width: Width, a: u32) -> u32
+pub(crate) fn cut(width: Width, a: u32) -> u32
     ensures value { result ≡ unsigned (size width) a }
     ensures small { result < 2 ^ size width }
 {
@@ -29,7 +29,7 @@ pub fn cut(width: Width, a: u32) -> u32
 }
 
 /// The lowest bits of a wide number.
-pub fn cut_wide(width: Width, a: u64) -> u32
+pub(crate) fn cut_wide(width: Width, a: u64) -> u32
     ensures value { result ≡ unsigned (size width) a }
     ensures small { result < 2 ^ size width }
 {
@@ -41,7 +41,7 @@ pub fn cut_wide(width: Width, a: u64) -> u32
 }
 
 /// Twice the lowest bits of a wide number.
-pub fn cut_double(width: Width, a: u64) -> u64
+pub(crate) fn cut_double(width: Width, a: u64) -> u64
     ensures value { result ≡ unsigned (2 * size width) a }
     ensures small { result < 2 ^ (2 * size width) }
 {
@@ -53,7 +53,7 @@ pub fn cut_double(width: Width, a: u64) -> u64
 }
 
 /// The first number that is too large.
-pub fn modulus(width: Width) -> i64
+pub(crate) fn modulus(width: Width) -> i64
     ensures { result ≡ pos (2 ^ size width) }
 {
     match width {
@@ -65,7 +65,7 @@ pub fn modulus(width: Width) -> i64
 
 /// An unsigned number that is too large.
 #[tactic(auto, unfolding(crate::specs::Numbers::fits_unsigned))]
-pub fn is_wide(width: Width, n: u64) -> bool
+pub(crate) fn is_wide(width: Width, n: u64) -> bool
     ensures { result ≡ not (fits_unsigned (size width) (pos n)) }
 {
     match width {
@@ -76,7 +76,7 @@ pub fn is_wide(width: Width, n: u64) -> bool
 }
 
 /// The first signed number that is too large.
-pub fn half(width: Width) -> i64
+pub(crate) fn half(width: Width) -> i64
     ensures { result ≡ pos (2 ^ (size width - 1)) }
 {
     match width {
@@ -88,7 +88,7 @@ pub fn half(width: Width) -> i64
 
 /// The highest bit.
 #[tactic(auto, unfolding(crate::specs::Numbers::highest))]
-pub fn is_negative(width: Width, a: u32) -> bool
+pub(crate) fn is_negative(width: Width, a: u32) -> bool
     ensures { result ≡ highest (size width) a }
 {
     match width {
@@ -100,7 +100,7 @@ pub fn is_negative(width: Width, a: u32) -> bool
 
 /// The lowest bits, as a signed number.
 #[tactic(auto, unfolding(crate::specs::Numbers::highest, crate::specs::Numbers::signed))]
-pub fn signed_value(width: Width, a: u32) -> i64
+pub(crate) fn signed_value(width: Width, a: u32) -> i64
     ensures value { result ≡ signed (size width) a }
     ensures low { neg_ℤ (pos 0x8000_0000) ≤ℤ result }
     ensures high { result <ℤ pos 0x8000_0000 }
@@ -114,7 +114,7 @@ pub fn signed_value(width: Width, a: u32) -> i64
 
 /// Twice the lowest bits of a wide number, as a signed number.
 #[tactic(auto, unfolding(crate::specs::Numbers::highest, crate::specs::Numbers::signed))]
-pub fn signed_double(width: Width, a: u64) -> i64
+pub(crate) fn signed_double(width: Width, a: u64) -> i64
     ensures { result ≡ signed (2 * size width) a }
 {
     match width {
@@ -126,7 +126,7 @@ pub fn signed_double(width: Width, a: u64) -> i64
 
 /// The lowest bits of an integer.
 #[tactic(auto, unfolding(crate::specs::Numbers::wrapped))]
-pub fn wrap(width: Width, z: i64) -> u32
+pub(crate) fn wrap(width: Width, z: i64) -> u32
     ensures value { result ≡ wrapped (size width) z }
     ensures small { result < 2 ^ size width }
 {
@@ -139,7 +139,7 @@ pub fn wrap(width: Width, z: i64) -> u32
 
 /// Twice the lowest bits of an integer.
 #[tactic(auto, unfolding(crate::specs::Numbers::wrapped))]
-pub fn wrap_double(width: Width, z: i64) -> u64
+pub(crate) fn wrap_double(width: Width, z: i64) -> u64
     ensures value { result ≡ wrapped (2 * size width) z }
     ensures small { result < 2 ^ (2 * size width) }
 {

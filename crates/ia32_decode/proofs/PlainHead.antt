@@ -16,7 +16,8 @@ pub head_of_plain : (w : List ℕ) → is_prefix (byte_in w 0) ≡ false → hea
 head_of_plain w other = rw (none_counted w other)
 
 -- the last of some bytes, or one of those before it
-either : (b k : ℕ) (before same : Bool) → b == k ≡ same → before || same ≡ true → line_of false k ≡ NoLine → (before ≡ true → line_of false b ≡ NoLine) → line_of false b ≡ NoLine
+either : (b k : ℕ) (before same : Bool) → b == k ≡ same → before || same ≡ true → line_of false k ≡ NoLine
+    → (before ≡ true → line_of false b ≡ NoLine) → line_of false b ≡ NoLine
 either b k true same is any at others = others refl
 either b k false true is any at others = ap (line_of false) (eqb-true b k is) ∙ at
 either b k false false is any at others = others any
@@ -24,9 +25,12 @@ either b k false false is any at others = others any
 prefix_unlisted : (b : ℕ) → is_prefix b ≡ true → line_of false b ≡ NoLine
 unfolding line_of row
 prefix_unlisted b any =
-    either b 0x65 _ _ refl any refl (λ any. either b 0x64 _ _ refl any refl (λ any. either b 0x3E _ _ refl any refl (λ any.
-    either b 0x36 _ _ refl any refl (λ any. either b 0x2E _ _ refl any refl (λ any. either b 0x26 _ _ refl any refl (λ any.
-    either b 0xF3 _ _ refl any refl (λ any. either b 0xF2 _ _ refl any refl (λ any. either b 0xF0 _ _ refl any refl (λ any.
+    either b 0x65 _ _ refl any refl
+    (λ any. either b 0x64 _ _ refl any refl (λ any. either b 0x3E _ _ refl any refl (λ any.
+    either b 0x36 _ _ refl any refl
+    (λ any. either b 0x2E _ _ refl any refl (λ any. either b 0x26 _ _ refl any refl (λ any.
+    either b 0xF3 _ _ refl any refl
+    (λ any. either b 0xF2 _ _ refl any refl (λ any. either b 0xF0 _ _ refl any refl (λ any.
     ap (line_of false) (eqb-true b 0x66 any) ∙ refl)))))))))
 
 pub listed_plain : (b : ℕ) → (line_of false b ≡ NoLine → ⊥) → is_prefix b ≡ false

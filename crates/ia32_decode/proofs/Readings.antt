@@ -1,5 +1,7 @@
 -- The definition by the opcode's line and the one by some line give the same instructions.
-use Rattle.std.proofs.Common.{ap, ◌≡◌, ℕ, zero, suc, take, lit<, ◌+◌, ◌<◌, ◌≤◌, List, [], ◌∷◌, length, get_or, cond, ◌⊎◌, inl, inr, Option, Some, None, nat_le, IfSome, IfNone, refl, sym, subst, ◌∙◌, arith, true, false, Bool}
+use Rattle.std.proofs.Common.{ap, ◌≡◌, ℕ, zero, suc, take, lit<, ◌+◌, ◌<◌, ◌≤◌, List, [], ◌∷◌, length, get_or, cond}
+use Rattle.std.proofs.Common.{◌⊎◌, inl, inr, Option, Some, None, nat_le, IfSome, IfNone, refl, sym, subst, ◌∙◌, arith}
+use Rattle.std.proofs.Common.{true, false, Bool}
 use Rattle.ia32_decode.specs.declared.opcode_table.Line.{Line}
 use Rattle.ia32_decode.specs.declared.opcode_table.Line.TheVariants.{NoLine}
 use Rattle.std.specs.Prelude.{◌==◌}
@@ -10,7 +12,8 @@ use Rattle.ia32_decode.specs.declared.types.Prefixes.{Prefixes}
 use Rattle.ia32_decode.specs.declared.heads.Head.{Head}
 use Rattle.ia32_decode.specs.Table.{line_of, row}
 use Rattle.ia32_decode.specs.Encoding.{byte_in, head_of, head_after}
-use Rattle.ia32_decode.specs.Decode.{Spells, front_of, stands_at, takes_rest, spelled, decoded_from, read_front, read_line, read_with}
+use Rattle.ia32_decode.specs.Decode.{Spells, front_of, stands_at, takes_rest, spelled, decoded_from, read_front}
+use Rattle.ia32_decode.specs.Decode.{read_line, read_with}
 use Rattle.ia32_decode.proofs.Lookup.{line_of_unique, line_of_stands}
 
 -- a choice made twice
@@ -32,7 +35,11 @@ not_chosen true true x is p q = cc
 not_chosen true false x is p q = cc
 not_chosen false b x is p q = cc
 
-read_front_is : (w : List ℕ) → read_front w ≡ twice (takes_rest (line_of (head_of w).escaped (head_of w).opcode) w) (nat_le (spelled (line_of (head_of w).escaped (head_of w).opcode) w).length (length w)) (spelled (line_of (head_of w).escaped (head_of w).opcode) w)
+read_front_is : (w : List ℕ)
+    → read_front w
+    ≡ twice (takes_rest (line_of (head_of w).escaped (head_of w).opcode) w)
+    (nat_le (spelled (line_of (head_of w).escaped (head_of w).opcode) w).length (length w))
+    (spelled (line_of (head_of w).escaped (head_of w).opcode) w)
 unfolding read_front read_line read_with
 read_front_is w = refl
 
@@ -47,7 +54,8 @@ found : (window : List ℕ) (d : Decoded) → read_front (front_of window) ≡ S
 found window d is =
     let w : List ℕ = front_of window in
     let line : Line = line_of (head_of w).escaped (head_of w).opcode in
-    let c : Chosen (takes_rest line w) (nat_le (spelled line w).length (length w)) (spelled line w) d = chosen _ _ _ _ (sym (read_front_is w) ∙ is) in
+    let c : Chosen (takes_rest line w) (nat_le (spelled line w).length (length w)) (spelled line w) d =
+    chosen _ _ _ _ (sym (read_front_is w) ∙ is) in
     record {
       line = line;
       stands = stands_or line w (line_of_stands (head_of w).escaped (head_of w).opcode) c.first;
@@ -56,7 +64,8 @@ found window d is =
       meaning = sym c.same;
     }
   where
-    stands_or : (line : Line) (w : List ℕ) → (stands_at line w ≡ true) ⊎ (line ≡ NoLine) → takes_rest line w ≡ true → stands_at line w ≡ true
+    stands_or : (line : Line) (w : List ℕ) → (stands_at line w ≡ true) ⊎ (line ≡ NoLine) → takes_rest line w ≡ true
+        → stands_at line w ≡ true
     stands_or line w (inl stands) takes = stands
     stands_or line w (inr is) takes = absurd (no_line line w is takes)
 
@@ -70,41 +79,56 @@ either false x y p q = q
 
 opcode_below : (w : List ℕ) (p : Prefixes) (n : ℕ) → ((i : ℕ) → byte_in w i < 256) → (head_after w p n).opcode < 256
 unfolding head_after
-opcode_below w p n bytes = either (byte_in w n == 0x0F) (record { prefixes = p; escaped = true; opcode = byte_in w (n + 1); end = n + 2 }) (record { prefixes = p; escaped = false; opcode = byte_in w n; end = n + 1 }) (bytes (n + 1)) (bytes n)
+opcode_below w p n bytes =
+    either (byte_in w n == 0x0F) (record { prefixes = p; escaped = true; opcode = byte_in w (n + 1); end = n + 2 })
+    (record { prefixes = p; escaped = false; opcode = byte_in w n; end = n + 1 }) (bytes (n + 1)) (bytes n)
 
 -- the bytes of a front are those of the list, and then 0
-pub front_bytes : (n : ℕ) (bytes : List ℕ) (i : ℕ) → ((k : ℕ) → get_or bytes k 0 < 256) → get_or (take n bytes) i 0 < 256
+pub front_bytes : (n : ℕ) (bytes : List ℕ) (i : ℕ) → ((k : ℕ) → get_or bytes k 0 < 256)
+    → get_or (take n bytes) i 0 < 256
 front_bytes zero bytes i small = lit< tt
 front_bytes (suc n) [] i small = lit< tt
 front_bytes (suc n) (x ∷ xs) zero small = small 0
 front_bytes (suc n) (x ∷ xs) (suc i) small = front_bytes n xs i (λ k. small (suc k))
 
-refused : (window : List ℕ) (d : Decoded) → ((i : ℕ) → byte_in (front_of window) i < 256) → read_front (front_of window) ≡ None → Spells window d → ⊥
+refused : (window : List ℕ) (d : Decoded) → ((i : ℕ) → byte_in (front_of window) i < 256)
+    → read_front (front_of window) ≡ None → Spells window d → ⊥
 refused window d bytes is s =
     let w : List ℕ = front_of window in
-    let same : line_of (head_of w).escaped (head_of w).opcode ≡ s.line = line_of_unique s.line _ _ (opcode_below w _ _ bytes) s.stands in
+    let same : line_of (head_of w).escaped (head_of w).opcode ≡ s.line =
+    line_of_unique s.line _ _ (opcode_below w _ _ bytes) s.stands in
     let none : twice (takes_rest s.line w) (nat_le (spelled s.line w).length (length w)) (spelled s.line w) ≡ None =
-    subst (λ (l : Line). twice (takes_rest l w) (nat_le (spelled l w).length (length w)) (spelled l w) ≡ None) same (sym (read_front_is w) ∙ is) in
+    subst (λ (l : Line). twice (takes_rest l w) (nat_le (spelled l w).length (length w)) (spelled l w) ≡ None) same
+    (sym (read_front_is w) ∙ is) in
     not_chosen _ _ _ none s.takes (le-leb _ _ (subst (λ (x : Decoded). x.length ≤ length w) s.meaning s.whole))
 
-pub refused_of : (window : List ℕ) (o : Option Decoded) → ((i : ℕ) → byte_in (front_of window) i < 256) → o ≡ decoded_from window → IfNone o ((d : Decoded) → Spells window d → ⊥)
+pub refused_of : (window : List ℕ) (o : Option Decoded) → ((i : ℕ) → byte_in (front_of window) i < 256)
+    → o ≡ decoded_from window → IfNone o ((d : Decoded) → Spells window d → ⊥)
 refused_of window None bytes is = λ d. refused window d bytes (sym is)
 refused_of window (Some d) bytes is = tt
 
 pub short_of : (window : List ℕ) (o : Option Decoded) → o ≡ decoded_from window → IfSome o (λ d. d.length ≤ 15)
 short_of window None is = tt
-short_of window (Some d) is = let s : Spells window d = found window d (sym is) in let h : d.length ≤ length (front_of window) = s.whole in omega (arith, length-take 15 window, h)
+short_of window (Some d) is =
+    let s : Spells window d = found window d (sym is) in let h : d.length ≤ length (front_of window) = s.whole in
+    omega (arith, length-take 15 window, h)
 
-pub within_of : (window : List ℕ) (o : Option Decoded) → o ≡ decoded_from window → IfSome o (λ d. d.length ≤ length window)
+pub within_of : (window : List ℕ) (o : Option Decoded) → o ≡ decoded_from window
+    → IfSome o (λ d. d.length ≤ length window)
 within_of window None is = tt
-within_of window (Some d) is = let s : Spells window d = found window d (sym is) in let h : d.length ≤ length (front_of window) = s.whole in omega (arith, length-take 15 window, h)
+within_of window (Some d) is =
+    let s : Spells window d = found window d (sym is) in let h : d.length ≤ length (front_of window) = s.whole in
+    omega (arith, length-take 15 window, h)
 
 -- at most one line fits
-pub same_line : (window : List ℕ) (one other : Decoded) (s : Spells window one) (t : Spells window other) → ((i : ℕ) → byte_in window i < 256) → s.line ≡ t.line
+pub same_line : (window : List ℕ) (one other : Decoded) (s : Spells window one) (t : Spells window other)
+    → ((i : ℕ) → byte_in window i < 256) → s.line ≡ t.line
 same_line window one other s t bytes =
     let w : List ℕ = front_of window in
     let below : (head_of w).opcode < 256 = opcode_below w _ _ (λ i. front_bytes 15 window i bytes) in
     sym (line_of_unique s.line _ _ below s.stands) ∙ line_of_unique t.line _ _ below t.stands
 
-pub same_reading : (window : List ℕ) (one other : Decoded) (s : Spells window one) (t : Spells window other) → ((i : ℕ) → byte_in window i < 256) → one ≡ other
-same_reading window one other s t bytes = s.meaning ∙ ap (λ (l : Line). spelled l (front_of window)) (same_line window one other s t bytes) ∙ sym t.meaning
+pub same_reading : (window : List ℕ) (one other : Decoded) (s : Spells window one) (t : Spells window other)
+    → ((i : ℕ) → byte_in window i < 256) → one ≡ other
+same_reading window one other s t bytes =
+    s.meaning ∙ ap (λ (l : Line). spelled l (front_of window)) (same_line window one other s t bytes) ∙ sym t.meaning

@@ -2,7 +2,8 @@
 use Rattle.std.specs.Prelude.{ℕ, Bool, true, false, ◌==◌, Option, Some, None}
 use Rattle.ia32_decode.specs.declared.types.Prefixes.{Prefixes}
 use Rattle.ia32_decode.specs.declared.types.Instr.{Instr}
-use Rattle.ia32_decode.specs.declared.types.Instr.TheVariants.{Call as IsCall, Jump as IsJump, JumpIf as IsJumpIf, LoopBranch as IsLoopBranch}
+use Rattle.ia32_decode.specs.declared.types.Instr.TheVariants.{Call as IsCall, Jump as IsJump, JumpIf as IsJumpIf}
+use Rattle.ia32_decode.specs.declared.types.Instr.TheVariants.{LoopBranch as IsLoopBranch}
 use Rattle.ia32_decode.specs.declared.types.Decoded.{Decoded}
 use Rattle.ia32_decode.specs.declared.types.BranchKind.{BranchKind}
 use Rattle.ia32_decode.specs.declared.types.BranchKind.TheVariants.{Call, Jump, JumpIf, Loop}
@@ -13,8 +14,10 @@ use Rattle.ia32_decode.specs.Encoding.{condition_number}
 unfoldable pub branch_in : Prefixes → Instr → Option Branch
 branch_in prefixes (IsCall relative) = Some (record { kind = Call; prefixes = prefixes; displacement = relative })
 branch_in prefixes (IsJump relative) = Some (record { kind = Jump; prefixes = prefixes; displacement = relative })
-branch_in prefixes (IsJumpIf condition relative) = Some (record { kind = JumpIf condition; prefixes = prefixes; displacement = relative })
-branch_in prefixes (IsLoopBranch opcode relative) = Some (record { kind = Loop opcode; prefixes = prefixes; displacement = relative })
+branch_in prefixes (IsJumpIf condition relative) =
+    Some (record { kind = JumpIf condition; prefixes = prefixes; displacement = relative })
+branch_in prefixes (IsLoopBranch opcode relative) =
+    Some (record { kind = Loop opcode; prefixes = prefixes; displacement = relative })
 branch_in prefixes _ = None
 
 abbrev pub branch_of : Decoded → Option Branch

@@ -1,17 +1,19 @@
 -- What the bytes at the front of a window spell: one instruction, where its line, and how long it is.
-use Rattle.std.specs.Prelude.{◌≡◌, ◌≤◌, ℕ, ◌+◌, Bool, true, false, ◌&&◌, not, List, Option, Some, None, take, length, nat_le, ◌==◌, if◌then◌else◌}
+use Rattle.std.specs.Prelude.{◌≡◌, ◌≤◌, ℕ, ◌+◌, Bool, true, false, ◌&&◌, not, List, Option, Some, None, take, length}
+use Rattle.std.specs.Prelude.{nat_le, ◌==◌, if◌then◌else◌}
 use Rattle.ia32_decode.specs.declared.opcode_table.Line.{Line}
 use Rattle.ia32_decode.specs.declared.opcode_table.Form.{Form}
 use Rattle.ia32_decode.specs.declared.opcode_table.Form.TheVariants.{Unlisted, Plain, Branch, ModRm, Memory, EndBranch}
 use Rattle.ia32_decode.specs.declared.opcode_table.Follows.{Follows}
-use Rattle.ia32_decode.specs.declared.opcode_table.Follows.TheVariants.{Nothing, Byte, SignedByte, Word, Dword, Address, Sized, Tested}
+use Rattle.ia32_decode.specs.declared.opcode_table.Follows.TheVariants.{SignedByte, Address}
 use Rattle.ia32_decode.specs.declared.opcode_table.Shape.{Shape}
 use Rattle.ia32_decode.specs.declared.heads.Head.{Head}
 use Rattle.ia32_decode.specs.declared.addressing.Addressing.{Addressing}
 use Rattle.ia32_decode.specs.declared.types.Width.{Width}
 use Rattle.ia32_decode.specs.declared.types.Fields.{Fields}
 use Rattle.ia32_decode.specs.declared.types.Decoded.{Decoded}
-use Rattle.ia32_decode.specs.Encoding.{byte_in, word_in, dword_in, extended, field_of, head_of, addressing_of, no_addressing}
+use Rattle.ia32_decode.specs.Encoding.{byte_in, word_in, dword_in, extended, field_of, head_of, addressing_of}
+use Rattle.ia32_decode.specs.Encoding.{no_addressing}
 use Rattle.ia32_decode.specs.Table.{row, shape_of, line_of, digit_allowed, width_of, follows_width}
 use Rattle.ia32_decode.specs.Instructions.{instr_of}
 
@@ -22,20 +24,13 @@ front_of window = take 15 window
 -- the offset after the last opcode byte; FB of 0F 1E FB is one
 abbrev pub opcode_end_of : Form → ℕ → ℕ
 opcode_end_of EndBranch end = end + 1
-opcode_end_of Unlisted end = end
-opcode_end_of Plain end = end
-opcode_end_of Branch end = end
-opcode_end_of ModRm end = end
-opcode_end_of Memory end = end
+opcode_end_of form end = end
 
 -- what a ModRM byte says, where the form has one
 abbrev pub form_addressing : Form → List ℕ → ℕ → Addressing
 form_addressing ModRm w at = addressing_of w at
 form_addressing Memory w at = addressing_of w at
-form_addressing Unlisted w at = no_addressing at
-form_addressing Plain w at = no_addressing at
-form_addressing Branch w at = no_addressing at
-form_addressing EndBranch w at = no_addressing at
+form_addressing form w at = no_addressing at
 
 -- what a form refuses: prefix 66 before a branch, a register where memory is wanted, and 0F 1E but in F3 0F 1E FB
 abbrev pub form_accepts : Form → List ℕ → Head → Addressing → Bool
@@ -48,28 +43,17 @@ form_accepts EndBranch w head a = head.prefixes.repeat && byte_in w head.end == 
 
 -- the number at the end
 abbrev pub number_in : List ℕ → ℕ → ℕ → ℕ
-number_in w at width = if width == 1 then byte_in w at else if width == 2 then word_in w at else if width == 4 then dword_in w at else 0
+number_in w at width =
+    if width == 1 then byte_in w at else if width == 2 then word_in w at else if width == 4 then dword_in w at else 0
 
 abbrev pub value_in : Follows → List ℕ → ℕ → ℕ → ℕ
 value_in SignedByte w at width = extended (byte_in w at)
-value_in Nothing w at width = number_in w at width
-value_in Byte w at width = number_in w at width
-value_in Word w at width = number_in w at width
-value_in Dword w at width = number_in w at width
-value_in Address w at width = number_in w at width
-value_in Sized w at width = number_in w at width
-value_in Tested w at width = number_in w at width
+value_in follows w at width = number_in w at width
 
 -- an address that follows the opcode stands as a displacement
 abbrev pub fields_of : Follows → ℕ → Addressing → ℕ → Fields
 fields_of Address end a width = record { opcode_end = end; disp = field_of a.end width; imm = None }
-fields_of Nothing end a width = record { opcode_end = end; disp = a.displacement; imm = field_of a.end width }
-fields_of Byte end a width = record { opcode_end = end; disp = a.displacement; imm = field_of a.end width }
-fields_of SignedByte end a width = record { opcode_end = end; disp = a.displacement; imm = field_of a.end width }
-fields_of Word end a width = record { opcode_end = end; disp = a.displacement; imm = field_of a.end width }
-fields_of Dword end a width = record { opcode_end = end; disp = a.displacement; imm = field_of a.end width }
-fields_of Sized end a width = record { opcode_end = end; disp = a.displacement; imm = field_of a.end width }
-fields_of Tested end a width = record { opcode_end = end; disp = a.displacement; imm = field_of a.end width }
+fields_of follows end a width = record { opcode_end = end; disp = a.displacement; imm = field_of a.end width }
 
 -- a line's instruction, from its head, what its ModRM byte says, and the number at the end
 unfoldable pub assembled : Line → List ℕ → Head → Addressing → Width → ℕ → Decoded
@@ -99,7 +83,8 @@ line_addressing shape w head = form_addressing shape.form w (opcode_end_of shape
 
 -- the instruction of a line that stands at an opcode
 abbrev pub completed : Line → List ℕ → Head → Addressing → Decoded
-completed line w head a = assembled line w head a (head_width (shape_of line) head) (number_width (shape_of line) head a)
+completed line w head a =
+    assembled line w head a (head_width (shape_of line) head) (number_width (shape_of line) head a)
 
 -- whether a line that stands at an opcode takes what follows it: its form, its digits, and the window's length
 abbrev pub accepts : Line → List ℕ → Head → Addressing → Bool

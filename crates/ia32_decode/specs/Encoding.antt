@@ -2,12 +2,16 @@
 -- (Intel SDM volume 2, sections 2.1.1 to 2.1.5). A byte past the end of the window counts as 0, so that each part is
 -- defined at every window. An instruction with such a byte is longer than the window, and so isn't decoded; a byte
 -- behind an instruction, as the one after a ModRM byte that has no SIB byte, counts for nothing.
-use Rattle.std.specs.Prelude.{ℕ, ◌+◌, ◌*◌, ◌/◌, ◌%◌, Bool, true, false, ◌&&◌, ◌||◌, not, List, [], ◌∷◌, Option, Some, None, take, length, unwrap_or, nat_lt, ◌==◌, if◌then◌else◌}
+use Rattle.std.specs.Prelude.{ℕ, ◌+◌, ◌*◌, ◌/◌, ◌%◌, Bool, true, false, ◌&&◌, ◌||◌, not, List, [], ◌∷◌, Option, Some}
+use Rattle.std.specs.Prelude.{None, take, length, unwrap_or, nat_lt, ◌==◌, if◌then◌else◌}
 use Rattle.std.specs.List.{list_any, slice_index_or, position}
 use Rattle.ia32_decode.specs.declared.types.Register.{Register}
 use Rattle.ia32_decode.specs.declared.types.Register.TheVariants.{Eax, Ecx, Edx, Ebx, Esp, Ebp, Esi, Edi}
 use Rattle.ia32_decode.specs.declared.types.Condition.{Condition}
-use Rattle.ia32_decode.specs.declared.types.Condition.TheVariants.{Overflow, NoOverflow, Below, AboveOrEqual, Equal, NotEqual, BelowOrEqual, Above, Sign, NoSign, Parity, NoParity, Less, GreaterOrEqual, LessOrEqual, Greater}
+use Rattle.ia32_decode.specs.declared.types.Condition.TheVariants.{Overflow, NoOverflow, Below, AboveOrEqual, Equal}
+use Rattle.ia32_decode.specs.declared.types.Condition.TheVariants.{NotEqual, BelowOrEqual, Above, Sign, NoSign}
+use Rattle.ia32_decode.specs.declared.types.Condition.TheVariants.{Parity, NoParity, Less, GreaterOrEqual}
+use Rattle.ia32_decode.specs.declared.types.Condition.TheVariants.{LessOrEqual, Greater}
 use Rattle.ia32_decode.specs.declared.types.Index.{Index}
 use Rattle.ia32_decode.specs.declared.types.Memory.{Memory}
 use Rattle.ia32_decode.specs.declared.types.Operand.{Operand}
@@ -32,7 +36,9 @@ abbrev pub extended : ℕ → ℕ
 extended byte = if nat_lt byte 0x80 then byte else byte + 0xFFFFFF00
 
 abbrev pub is_prefix : ℕ → Bool
-is_prefix byte = byte == 0x66 || byte == 0xF0 || byte == 0xF2 || byte == 0xF3 || byte == 0x26 || byte == 0x2E || byte == 0x36 || byte == 0x3E || byte == 0x64 || byte == 0x65
+is_prefix byte =
+    byte == 0x66 || byte == 0xF0 || byte == 0xF2 || byte == 0xF3 || byte == 0x26 || byte == 0x2E || byte == 0x36
+    || byte == 0x3E || byte == 0x64 || byte == 0x65
 
 -- how many prefixes stand at the front: the place of the first byte that isn't one
 unfoldable pub prefix_count : List ℕ → ℕ
@@ -140,7 +146,9 @@ base_of m s = if lacks_base m s then None else Some (register_of (base_number m 
 
 -- index 100 is no index
 abbrev pub index_of : ℕ → ℕ → Option Index
-index_of m s = if has_sib m && not (middle s == 4) then Some (record { register = register_of (middle s); scale = scale_of s }) else None
+index_of m s =
+    if has_sib m && not (middle s == 4) then Some (record { register = register_of (middle s); scale = scale_of s })
+    else None
 
 -- mod 01 has a displacement of 8 bits, mod 10 one of 32 bits
 abbrev pub displacement_width : ℕ → ℕ → ℕ
@@ -160,7 +168,11 @@ operand_of m memory = if mode m == 3 then InRegister (register_of (lowest m)) el
 -- a ModRM byte m with the byte s after it and a displacement at an offset
 unfoldable pub addressing_with : List ℕ → ℕ → ℕ → ℕ → Addressing
 addressing_with w m s at =
-    let memory : Memory = record { base = base_of m s; index = index_of m s; displacement = displacement_of w at (displacement_width m s) } in
+    let memory : Memory = record {
+      base = base_of m s;
+      index = index_of m s;
+      displacement = displacement_of w at (displacement_width m s);
+    } in
     record {
       is_register = mode m == 3;
       digit = middle m;

@@ -3,8 +3,7 @@ use Rattle.std.specs.Prelude.{Bool, true, false, ◌&&◌, ◌||◌, not, Option
 use Rattle.ia32_decode.specs.declared.types.Prefixes.{Prefixes}
 use Rattle.ia32_decode.specs.declared.types.Register.{Register}
 use Rattle.ia32_decode.specs.Encoding.{register_number}
-use Rattle.ia32_decode.specs.declared.types.Width.{Width}
-use Rattle.ia32_decode.specs.declared.types.Width.TheVariants.{Byte, Word, Dword}
+use Rattle.ia32_decode.specs.Widths.{is_dword}
 use Rattle.ia32_decode.specs.declared.types.Index.{Index}
 use Rattle.ia32_decode.specs.declared.types.Memory.{Memory}
 use Rattle.ia32_decode.specs.declared.types.Operand.{Operand}
@@ -15,7 +14,8 @@ use Rattle.ia32_decode.specs.declared.types.Decoded.{Decoded}
 
 -- whether there is a prefix other than 66, 2E and 3E
 abbrev pub has_others : Prefixes → Bool
-has_others p = p.lock || p.repeat_not_equal || p.repeat || p.extra_segment || p.stack_segment || p.segment_f || p.segment_g
+has_others p =
+    p.lock || p.repeat_not_equal || p.repeat || p.extra_segment || p.stack_segment || p.segment_f || p.segment_g
 
 -- any number of 66
 abbrev pub only_66 : Prefixes → Bool
@@ -28,11 +28,6 @@ only_66_2e p = not (has_others p) && not p.data_segment
 -- at most one prefix, which is 2E or 3E
 abbrev pub one_2e_3e : Prefixes → Bool
 one_2e_3e p = nat_le p.count 1 && not (has_others p) && not p.operand_size
-
-abbrev pub is_dword : Width → Bool
-is_dword Byte = false
-is_dword Word = false
-is_dword Dword = true
 
 -- both operands are one register
 abbrev pub same_register : Operand → Operand → Bool
@@ -58,8 +53,10 @@ is_alone r m = is_base r m.base && not (has_index m.index) && m.displacement == 
 unfoldable pub padding_form : Instr → Decoded → Bool
 padding_form Nop d = only_66 d.prefixes
 padding_form (NopOperand operand) d = only_66_2e d.prefixes
-padding_form (Move width destination source) d = d.prefixes.count == 0 && is_dword width && same_register destination source
-padding_form (LoadAddress width destination memory) d = one_2e_3e d.prefixes && is_some d.fields.disp && is_alone destination memory
+padding_form (Move width destination source) d =
+    d.prefixes.count == 0 && is_dword width && same_register destination source
+padding_form (LoadAddress width destination memory) d =
+    one_2e_3e d.prefixes && is_some d.fields.disp && is_alone destination memory
 padding_form _ d = false
 
 abbrev pub is_padding_of : Decoded → Bool

@@ -1,6 +1,9 @@
 //! The ModRM byte with its SIB byte and displacement, in 32-bit addressing.
-ghost use Rattle.std.specs.Prelude.{◌≡◌, ◌≤◌, ◌<◌, ◌+◌, ◌*◌, ◌^◌, ◌%◌, ◌/◌, ◌==◌};
-ghost use Rattle.ia32_decode.specs.Encoding.{byte_in, extended, scale_of, mode, middle, lowest, has_sib, sib_length, base_number, lacks_base, base_of, index_of, displacement_width, displacement_of, field_of, operand_of, addressing_with, addressing_of, no_addressing};
+ghost use Rattle.std.specs.Prelude.{◌≡◌, ◌≤◌, ◌+◌, ◌/◌};
+ghost use Rattle.ia32_decode.specs.Encoding.{byte_in, extended, scale_of, has_sib, sib_length};
+ghost use Rattle.ia32_decode.specs.Encoding.{base_number, lacks_base, base_of, index_of, displacement_width};
+ghost use Rattle.ia32_decode.specs.Encoding.{displacement_of, field_of, operand_of, addressing_with, addressing_of};
+ghost use Rattle.ia32_decode.specs.Encoding.{no_addressing};
 
 use crate::heads::{byte_at, dword_at};
 use crate::types::{Field, Index, Memory, Operand, Register};
@@ -10,7 +13,7 @@ static SCALES: [u32; 4] = [1, 2, 4, 8];
 
 /// What a ModRM byte says, with what belongs to it.
 #[derive(Clone, Copy)]
-pub struct Addressing {
+pub(crate) struct Addressing {
     /// mod is 11.
     pub is_register: bool,
     /// The middle field: a digit or a register's number.
@@ -26,7 +29,7 @@ pub struct Addressing {
 }
 
 /// A byte, sign-extended to 32 bits.
-pub fn sign_extended(byte: u8) -> u32
+pub(crate) fn sign_extended(byte: u8) -> u32
     ensures { result ≡ extended byte }
 {
     if byte < 0x80 {
@@ -127,7 +130,7 @@ fn displacement(window: &[u8], at: u32, width: u32) -> u32
 }
 
 /// The bytes of a number, none where it has none.
-pub fn field(at: u32, width: u32) -> Option<Field>
+pub(crate) fn field(at: u32, width: u32) -> Option<Field>
     ensures { result ≡ field_of at width }
 {
     if width == 0 {
@@ -197,7 +200,7 @@ fn register_parts(window: &[u8], modrm: u8, at: u32) -> Addressing
 
 /// The ModRM byte at an offset, with its SIB byte and displacement.
 #[inline(always)]
-pub fn addressing_at(window: &[u8], at: u32) -> Addressing
+pub(crate) fn addressing_at(window: &[u8], at: u32) -> Addressing
     requires { at ≤ 20 }
     ensures value { result ≡ addressing_of window.now at }
     ensures bound { result.end ≤ at + 6 }
@@ -213,7 +216,7 @@ pub fn addressing_at(window: &[u8], at: u32) -> Addressing
 
 /// What stands for it where there is no ModRM byte.
 #[tactic(auto, unfolding(crate::specs::Encoding::no_addressing))]
-pub fn absent_addressing(at: u32) -> Addressing
+pub(crate) fn absent_addressing(at: u32) -> Addressing
     ensures value { result ≡ no_addressing at }
     ensures bound { result.end ≡ at }
 {

@@ -54,7 +54,7 @@ impl Decoded {
     }
 }
 
-// A direct branch of a kind.
+/// A direct branch of a kind.
 fn branch_to(kind: BranchKind, prefixes: Prefixes, displacement: u32) -> Option<Branch>
     ensures { result ≡ Some (record { kind = kind; prefixes = prefixes; displacement = displacement }) }
 {

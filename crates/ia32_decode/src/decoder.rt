@@ -1,9 +1,10 @@
 //! Decoding one instruction.
-ghost use Rattle.std.specs.Prelude.{◌≡◌, ◌≤◌, ◌<◌, ◌+◌, ◌&&◌, length, IfSome, IfNone};
+ghost use Rattle.std.specs.Prelude.{◌≡◌, ◌≤◌, ◌<◌, ◌&&◌, length, IfSome, IfNone};
 ghost use Rattle.ia32_decode.specs.declared.types.Decoded.{Decoded};
 ghost use Rattle.ia32_decode.specs.Encoding.{head_of};
-ghost use Rattle.ia32_decode.specs.Table.{shape_of, digit_allowed};
-ghost use Rattle.ia32_decode.specs.Decode.{front_of, opcode_end_of, form_addressing, form_accepts, number_in, value_in, fields_of, read_front, decoded_from, Spells};
+ghost use Rattle.ia32_decode.specs.Table.{digit_allowed};
+ghost use Rattle.ia32_decode.specs.Decode.{front_of, opcode_end_of, form_addressing, form_accepts, number_in};
+ghost use Rattle.ia32_decode.specs.Decode.{value_in, fields_of, read_front, decoded_from, Spells};
 
 use crate::addressing::{Addressing, absent_addressing, addressing_at, field, sign_extended};
 use crate::heads::{Head, begins_with_prefix, byte_at, dword_at, plain_head, read_head, word_at};
@@ -32,11 +33,7 @@ fn opcode_end(form: Form, end: u32) -> u32
 {
     match form {
         Form::EndBranch => end + 1,
-        Form::Unlisted => end,
-        Form::Plain => end,
-        Form::Branch => end,
-        Form::ModRm => end,
-        Form::Memory => end,
+        _ => end,
     }
 }
 
@@ -49,7 +46,7 @@ fn addressing(form: Form, window: &[u8], at: u32) -> Addressing
 {
     match form {
         Form::ModRm | Form::Memory => addressing_at(window, at),
-        Form::Unlisted | Form::Plain | Form::Branch | Form::EndBranch => absent_addressing(at),
+        _ => absent_addressing(at),
     }
 }
 
@@ -69,7 +66,8 @@ fn form_takes(form: Form, window: &[u8], head: &Head, addressing: &Addressing) -
 
 /// Whether a line of a shape takes what follows its opcode.
 fn takes(shape: Shape, window: &[u8], head: &Head, addressing: &Addressing) -> bool
-    ensures { result ≡ (form_accepts shape.form window.now head.now addressing.now && digit_allowed shape.digits addressing.now.digit) }
+    ensures { result ≡ (form_accepts shape.form window.now head.now addressing.now
+        && digit_allowed shape.digits addressing.now.digit) }
 {
     form_takes(shape.form, window, head, addressing) && allows(shape.digits, addressing.digit)
 }
@@ -97,13 +95,7 @@ fn trailing_value(follows: Follows, window: &[u8], at: u32, width: u32) -> u32
 {
     match follows {
         Follows::SignedByte => sign_extended(byte_at(window, at)),
-        Follows::Nothing
-        | Follows::Byte
-        | Follows::Word
-        | Follows::Dword
-        | Follows::Address
-        | Follows::Sized
-        | Follows::Tested => number(window, at, width),
+        _ => number(window, at, width),
     }
 }
 
@@ -135,13 +127,7 @@ fn fields(follows: Follows, end: u32, addressing: &Addressing, width: u32) -> Fi
 {
     match follows {
         Follows::Address => address_fields(end, addressing, width),
-        Follows::Nothing
-        | Follows::Byte
-        | Follows::SignedByte
-        | Follows::Word
-        | Follows::Dword
-        | Follows::Sized
-        | Follows::Tested => operand_fields(end, addressing, width),
+        _ => operand_fields(end, addressing, width),
     }
 }
 

@@ -1,14 +1,15 @@
 //! The front of an instruction: its prefixes and its opcode.
-ghost use Rattle.std.specs.Prelude.{◌≡◌, ◌≤◌, ◌<◌, ◌+◌, ◌*◌, ◌^◌, length, take, not, [], false, IfSome};
+ghost use Rattle.std.specs.Prelude.{◌≡◌, ◌≤◌, ◌<◌, ◌^◌, length, not, [], false, IfSome};
 ghost use Rattle.std.specs.List.{position};
-ghost use Rattle.ia32_decode.specs.Encoding.{byte_in, word_in, dword_in, is_prefix, prefix_count, has_byte, prefixes_of, head_after, head_of};
+ghost use Rattle.ia32_decode.specs.Encoding.{byte_in, word_in, dword_in, is_prefix, prefix_count, has_byte};
+ghost use Rattle.ia32_decode.specs.Encoding.{prefixes_of, head_after, head_of};
 
 use crate::opcode_table::{Line, line_at};
 use crate::types::Prefixes;
 
 /// The prefixes and the opcode of an instruction.
 #[derive(Clone, Copy)]
-pub struct Head {
+pub(crate) struct Head {
     /// The prefixes.
     pub prefixes: Prefixes,
     /// The opcode stands after a byte 0F.
@@ -20,7 +21,7 @@ pub struct Head {
 }
 
 /// The byte at an offset, 0 past the end.
-pub fn byte_at(window: &[u8], i: u32) -> u8
+pub(crate) fn byte_at(window: &[u8], i: u32) -> u8
     ensures { result ≡ byte_in window.now i }
 {
     window.get(i as usize).copied().unwrap_or(0)
@@ -28,7 +29,7 @@ pub fn byte_at(window: &[u8], i: u32) -> u8
 
 /// The two bytes at an offset as a number.
 #[tactic(auto, unfolding(crate::specs::Encoding::word_in))]
-pub fn word_at(window: &[u8], i: u32) -> u32
+pub(crate) fn word_at(window: &[u8], i: u32) -> u32
     requires { i ≤ 100 }
     ensures value { result ≡ word_in window.now i }
     ensures bound { result < 2 ^ 16 }
@@ -40,7 +41,7 @@ pub fn word_at(window: &[u8], i: u32) -> u32
 
 /// The four bytes at an offset as a number.
 #[tactic(auto, unfolding(crate::specs::Encoding::dword_in))]
-pub fn dword_at(window: &[u8], i: u32) -> u32
+pub(crate) fn dword_at(window: &[u8], i: u32) -> u32
     requires { i ≤ 90 }
     ensures { result ≡ dword_in window.now i }
 {
@@ -156,7 +157,7 @@ fn opcode_after(window: &[u8], prefixes: Prefixes, n: u32) -> Head
 /// The prefixes and the opcode at the front of a window.
 #[cold]
 #[inline(never)]
-pub fn read_head(window: &[u8]) -> Head
+pub(crate) fn read_head(window: &[u8]) -> Head
     requires { length window.now ≤ 15 }
     ensures value { result ≡ head_of window.now }
     ensures bound { result.end ≤ 17 }
@@ -168,7 +169,7 @@ pub fn read_head(window: &[u8]) -> Head
 
 /// Whether a window begins with a prefix. No prefix stands in the opcode table, in which the byte is looked up in any
 /// case: so it alone answers for most instructions.
-pub fn begins_with_prefix(window: &[u8]) -> bool
+pub(crate) fn begins_with_prefix(window: &[u8]) -> bool
     ensures { result ≡ is_prefix (byte_in window.now 0) }
 {
     let byte = byte_at(window, 0);
@@ -181,7 +182,7 @@ pub fn begins_with_prefix(window: &[u8]) -> bool
 /// The opcode at the front of a window that doesn't begin with a prefix. Most don't, and ten looks for prefixes
 /// among no bytes would take longer than all else here.
 #[tactic(auto, using(crate::proofs::PlainHead::head_of_plain))]
-pub fn plain_head(window: &[u8]) -> Head
+pub(crate) fn plain_head(window: &[u8]) -> Head
     requires { is_prefix (byte_in window.now 0) ≡ false }
     ensures value { result ≡ head_of window.now }
     ensures bound { result.end ≤ 17 }

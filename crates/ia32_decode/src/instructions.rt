@@ -1,7 +1,8 @@
 //! The instruction that each line of the opcode table means.
 ghost use Rattle.std.specs.Prelude.{◌≡◌};
 ghost use Rattle.ia32_decode.specs.Encoding.{register_of};
-ghost use Rattle.ia32_decode.specs.Instructions.{arithmetic_of, shift_of, unary_operation_of, condition_of, counting_of, unary_of, counting_operand_of, group_five_of, instr_of};
+ghost use Rattle.ia32_decode.specs.Instructions.{arithmetic_of, shift_of, unary_operation_of, condition_of};
+ghost use Rattle.ia32_decode.specs.Instructions.{counting_of, unary_of, counting_operand_of, group_five_of, instr_of};
 
 use crate::opcode_table::Line;
 use crate::types::{
@@ -66,7 +67,7 @@ static CONDITIONS: [Condition; 16] = [
 
 /// What the bytes of an instruction give to its operands.
 #[derive(Clone, Copy)]
-pub struct Parts {
+pub(crate) struct Parts {
     /// The opcode.
     pub opcode: u8,
     /// How wide the operands are.
@@ -201,61 +202,61 @@ fn low_register(parts: &Parts) -> Register
 /// The instruction of a line, by one arm for each line of the opcode table.
 #[inline(always)]
 #[tactic(auto, unfolding(crate::specs::Instructions::instr_of))]
-pub fn build(line: Line, parts: &Parts) -> Instr
+pub(crate) fn build(line: Line, parts: &Parts) -> Instr
     ensures { result ≡ instr_of line parts.now }
 {
     match line {
-        Line::ArithTo => Instr::Arithmetic {
+        Line::AluTo => Instr::Arithmetic {
             operation: arithmetic_at(parts.opcode / 8),
             width: parts.width,
             destination: parts.operand,
             source: Source::Operand(Operand::Register(register(parts))),
         },
-        Line::ArithFrom => Instr::Arithmetic {
+        Line::AluFrom => Instr::Arithmetic {
             operation: arithmetic_at(parts.opcode / 8),
             width: parts.width,
             destination: Operand::Register(register(parts)),
             source: Source::Operand(parts.operand),
         },
-        Line::ArithAcc => Instr::Arithmetic {
+        Line::AluEax => Instr::Arithmetic {
             operation: arithmetic_at(parts.opcode / 8),
             width: parts.width,
             destination: Operand::Register(Register::Eax),
             source: Source::Immediate(parts.value),
         },
-        Line::IncReg => Instr::CountRegister {
+        Line::Inc => Instr::CountRegister {
             operation: Counting::Increment,
             width: parts.width,
             register: low_register(parts),
         },
-        Line::DecReg => Instr::CountRegister {
+        Line::Dec => Instr::CountRegister {
             operation: Counting::Decrement,
             width: parts.width,
             register: low_register(parts),
         },
-        Line::PushReg => Instr::PushRegister {
+        Line::Push => Instr::PushRegister {
             width: parts.width,
             register: low_register(parts),
         },
-        Line::PopReg => Instr::PopRegister {
+        Line::Pop => Instr::PopRegister {
             width: parts.width,
             register: low_register(parts),
         },
-        Line::PushImm | Line::PushByte => Instr::PushImmediate {
+        Line::PushNumber | Line::PushByte => Instr::PushImmediate {
             width: parts.width,
             immediate: parts.value,
         },
-        Line::MulImm | Line::MulByte => Instr::MultiplyImmediate {
+        Line::ImulNumber | Line::ImulByte => Instr::MultiplyImmediate {
             width: parts.width,
             destination: register(parts),
             source: parts.operand,
             immediate: parts.value,
         },
-        Line::JumpIf | Line::JumpIfFar => Instr::JumpIf {
+        Line::JccShort | Line::Jcc => Instr::JumpIf {
             condition: condition_at(parts.opcode),
             relative: parts.value,
         },
-        Line::ArithImm | Line::ArithByte => Instr::ArithmeticImmediate {
+        Line::AluNumber | Line::AluByte => Instr::ArithmeticImmediate {
             operation: arithmetic_at(parts.digit),
             width: parts.width,
             destination: parts.operand,
@@ -266,55 +267,55 @@ pub fn build(line: Line, parts: &Parts) -> Instr
             left: parts.operand,
             right: register(parts),
         },
-        Line::Exchange => Instr::Exchange {
+        Line::Xchg => Instr::Exchange {
             width: parts.width,
             operand: parts.operand,
             register: register(parts),
         },
-        Line::MoveTo => Instr::Move {
+        Line::MovTo => Instr::Move {
             width: parts.width,
             destination: parts.operand,
             source: Operand::Register(register(parts)),
         },
-        Line::MoveFrom => Instr::Move {
+        Line::MovFrom => Instr::Move {
             width: parts.width,
             destination: Operand::Register(register(parts)),
             source: parts.operand,
         },
-        Line::LoadAddr => Instr::LoadAddress {
+        Line::Lea => Instr::LoadAddress {
             width: parts.width,
             destination: register(parts),
             memory: parts.memory,
         },
-        Line::PopRm => Instr::PopOperand {
+        Line::PopOperand => Instr::PopOperand {
             width: parts.width,
             operand: parts.operand,
         },
         Line::Nop => Instr::Nop,
-        Line::XchgAcc => Instr::ExchangeAccumulator {
+        Line::XchgEax => Instr::ExchangeAccumulator {
             width: parts.width,
             register: low_register(parts),
         },
-        Line::ExtendAcc => Instr::ExtendAccumulator { width: parts.width },
-        Line::SpreadSign => Instr::SpreadSign { width: parts.width },
-        Line::LoadAcc => Instr::LoadAccumulator {
+        Line::Cwde => Instr::ExtendAccumulator { width: parts.width },
+        Line::Cdq => Instr::SpreadSign { width: parts.width },
+        Line::LoadEax => Instr::LoadAccumulator {
             width: parts.width,
             address: parts.value,
         },
-        Line::StoreAcc => Instr::StoreAccumulator {
+        Line::StoreEax => Instr::StoreAccumulator {
             width: parts.width,
             address: parts.value,
         },
-        Line::TestAcc => Instr::TestAccumulator {
+        Line::TestEax => Instr::TestAccumulator {
             width: parts.width,
             immediate: parts.value,
         },
-        Line::ByteReg | Line::FullReg => Instr::MoveToRegister {
+        Line::MovByte | Line::MovFull => Instr::MoveToRegister {
             width: parts.width,
             register: low_register(parts),
             immediate: parts.value,
         },
-        Line::ShiftImm => Instr::ShiftByImmediate {
+        Line::ShiftByte => Instr::ShiftByImmediate {
             operation: shift_at(parts.digit),
             width: parts.width,
             operand: parts.operand,
@@ -330,12 +331,12 @@ pub fn build(line: Line, parts: &Parts) -> Instr
             width: parts.width,
             operand: parts.operand,
         },
-        Line::RetBytes => Instr::ReturnAndRelease {
+        Line::RetWord => Instr::ReturnAndRelease {
             width: parts.width,
             bytes: parts.value,
         },
         Line::Ret => Instr::Return { width: parts.width },
-        Line::MoveImm => Instr::MoveImmediate {
+        Line::MovNumber => Instr::MoveImmediate {
             width: parts.width,
             destination: parts.operand,
             immediate: parts.value,
@@ -344,20 +345,20 @@ pub fn build(line: Line, parts: &Parts) -> Instr
         Line::Call => Instr::Call {
             relative: parts.value,
         },
-        Line::Jump | Line::JumpShort => Instr::Jump {
+        Line::Jmp | Line::JmpShort => Instr::Jump {
             relative: parts.value,
         },
-        Line::UnaryRm => unary_at(parts),
-        Line::CountByte => counting_at(parts),
-        Line::GroupFull => group_five_at(parts),
-        Line::Break => Instr::Breakpoint,
-        Line::Single => Instr::OpcodeOnly {
+        Line::GroupThree => unary_at(parts),
+        Line::GroupFour => counting_at(parts),
+        Line::GroupFive => group_five_at(parts),
+        Line::Int3 => Instr::Breakpoint,
+        Line::OpcodeOnly => Instr::OpcodeOnly {
             opcode: parts.opcode,
         },
         Line::Int => Instr::Interrupt {
             vector: parts.value,
         },
-        Line::LoopShort => Instr::LoopBranch {
+        Line::Loop => Instr::LoopBranch {
             opcode: parts.opcode,
             relative: parts.value,
         },
@@ -365,69 +366,69 @@ pub fn build(line: Line, parts: &Parts) -> Instr
             opcode: parts.opcode,
             operand: parts.operand,
         },
-        Line::Endbr => Instr::EndBranch,
-        Line::NopRm => Instr::NopOperand {
+        Line::Endbr32 => Instr::EndBranch,
+        Line::NopOperand => Instr::NopOperand {
             operand: parts.operand,
         },
-        Line::MoveIf => Instr::MoveIf {
+        Line::Cmovcc => Instr::MoveIf {
             condition: condition_at(parts.opcode),
             width: parts.width,
             destination: register(parts),
             source: parts.operand,
         },
-        Line::SetIf => Instr::SetIf {
+        Line::Setcc => Instr::SetIf {
             condition: condition_at(parts.opcode),
             operand: parts.operand,
         },
-        Line::MulReg => Instr::Multiply {
+        Line::Imul => Instr::Multiply {
             width: parts.width,
             destination: register(parts),
             source: parts.operand,
         },
-        Line::CmpXchg => Instr::CompareExchange {
+        Line::Cmpxchg => Instr::CompareExchange {
             width: parts.width,
             operand: parts.operand,
             register: register(parts),
         },
-        Line::XchgAdd => Instr::ExchangeAdd {
+        Line::Xadd => Instr::ExchangeAdd {
             width: parts.width,
             operand: parts.operand,
             register: register(parts),
         },
-        Line::ZeroByte => Instr::ZeroExtend {
+        Line::MovzxByte => Instr::ZeroExtend {
             from: Width::Byte,
             width: parts.width,
             destination: register(parts),
             source: parts.operand,
         },
-        Line::ZeroWord => Instr::ZeroExtend {
+        Line::MovzxWord => Instr::ZeroExtend {
             from: Width::Word,
             width: parts.width,
             destination: register(parts),
             source: parts.operand,
         },
-        Line::SignByte => Instr::SignExtend {
+        Line::MovsxByte => Instr::SignExtend {
             from: Width::Byte,
             width: parts.width,
             destination: register(parts),
             source: parts.operand,
         },
-        Line::SignWord => Instr::SignExtend {
+        Line::MovsxWord => Instr::SignExtend {
             from: Width::Word,
             width: parts.width,
             destination: register(parts),
             source: parts.operand,
         },
         Line::Ud2 | Line::NoLine => Instr::Undefined,
-        Line::TwoSingle => Instr::SecondOpcodeOnly {
+        Line::SecondOnly => Instr::SecondOpcodeOnly {
             opcode: parts.opcode,
         },
-        Line::TwoRm => Instr::SecondOperand {
+        Line::SecondRm => Instr::SecondOperand {
             opcode: parts.opcode,
             operand: parts.operand,
             register: register(parts),
         },
-        Line::TwoShift => Instr::DoubleShift {
+        Line::ShiftPair => Instr::DoubleShift {
             opcode: parts.opcode,
             operand: parts.operand,
             register: register(parts),
@@ -438,7 +439,7 @@ pub fn build(line: Line, parts: &Parts) -> Instr
             operand: parts.operand,
             bit: parts.value,
         },
-        Line::CmpXchg8 => Instr::CompareExchangeWide {
+        Line::Cmpxchg8b => Instr::CompareExchangeWide {
             memory: parts.memory,
         },
     }

@@ -1,6 +1,6 @@
 //! How each line is laid out.
-ghost use Rattle.std.specs.Prelude.{◌≡◌, ◌<◌, ◌≤◌};
-ghost use Rattle.ia32_decode.specs.Table.{shape_of, digit_allowed, width_of, full_width_of, bytes_in, follows_width};
+ghost use Rattle.std.specs.Prelude.{◌≡◌, ◌≤◌};
+ghost use Rattle.ia32_decode.specs.Table.{shape_of, digit_allowed, width_of, full_width_of, follows_width};
 
 use crate::opcode_table::{Digits, Follows, Form, Line, Shape, Sizing};
 use crate::types::Width;
@@ -17,100 +17,99 @@ fn laid_out(form: Form, sizing: Sizing, digits: Digits, follows: Follows) -> Sha
     }
 }
 
-/// How a line is laid out.
+/// How a line is laid out: an arm for each row of the table, in the order of its definition.
 #[inline(always)]
 #[tactic(auto, unfolding(crate::specs::Table::row))]
-pub fn shape_at(line: Line) -> Shape
+pub(crate) fn shape_at(line: Line) -> Shape
     ensures { result ≡ shape_of line }
 {
     match line {
         Line::NoLine => laid_out(Form::Unlisted, Sizing::Full, Digits::Any, Follows::Nothing),
-        Line::ArithTo
-        | Line::ArithFrom
-        | Line::Test
-        | Line::Exchange
-        | Line::MoveTo
-        | Line::MoveFrom => laid_out(Form::ModRm, Sizing::LowBit, Digits::Any, Follows::Nothing),
-        Line::ArithAcc | Line::TestAcc => {
-            laid_out(Form::Plain, Sizing::LowBit, Digits::Any, Follows::Sized)
-        }
-        Line::IncReg
-        | Line::DecReg
-        | Line::PushReg
-        | Line::PopReg
-        | Line::Nop
-        | Line::XchgAcc
-        | Line::ExtendAcc
-        | Line::SpreadSign
-        | Line::Ret
-        | Line::Leave
-        | Line::Break
-        | Line::Single
-        | Line::Ud2
-        | Line::TwoSingle => laid_out(Form::Plain, Sizing::Full, Digits::Any, Follows::Nothing),
-        Line::PushImm | Line::FullReg => {
-            laid_out(Form::Plain, Sizing::Full, Digits::Any, Follows::Sized)
-        }
+        Line::AluTo => laid_out(Form::ModRm, Sizing::LowBit, Digits::Any, Follows::Nothing),
+        Line::AluFrom => laid_out(Form::ModRm, Sizing::LowBit, Digits::Any, Follows::Nothing),
+        Line::AluEax => laid_out(Form::Plain, Sizing::LowBit, Digits::Any, Follows::Sized),
+        Line::Inc => laid_out(Form::Plain, Sizing::Full, Digits::Any, Follows::Nothing),
+        Line::Dec => laid_out(Form::Plain, Sizing::Full, Digits::Any, Follows::Nothing),
+        Line::Push => laid_out(Form::Plain, Sizing::Full, Digits::Any, Follows::Nothing),
+        Line::Pop => laid_out(Form::Plain, Sizing::Full, Digits::Any, Follows::Nothing),
+        Line::PushNumber => laid_out(Form::Plain, Sizing::Full, Digits::Any, Follows::Sized),
         Line::PushByte => laid_out(Form::Plain, Sizing::Full, Digits::Any, Follows::SignedByte),
-        Line::MulImm => laid_out(Form::ModRm, Sizing::Full, Digits::Any, Follows::Sized),
-        Line::MulByte | Line::ArithByte => {
-            laid_out(Form::ModRm, Sizing::Full, Digits::Any, Follows::SignedByte)
-        }
-        Line::JumpIf | Line::JumpShort | Line::LoopShort => {
-            laid_out(Form::Branch, Sizing::Full, Digits::Any, Follows::SignedByte)
-        }
-        Line::ArithImm => laid_out(Form::ModRm, Sizing::LowBit, Digits::Any, Follows::Sized),
-        Line::LoadAddr => laid_out(Form::Memory, Sizing::Full, Digits::Any, Follows::Nothing),
-        Line::PopRm | Line::NopRm => {
-            laid_out(Form::ModRm, Sizing::Full, Digits::Zero, Follows::Nothing)
-        }
-        Line::LoadAcc | Line::StoreAcc => {
-            laid_out(Form::Plain, Sizing::LowBit, Digits::Any, Follows::Address)
-        }
-        Line::ByteReg => laid_out(Form::Plain, Sizing::Byte, Digits::Any, Follows::Sized),
-        Line::ShiftImm => laid_out(Form::ModRm, Sizing::LowBit, Digits::NotSix, Follows::Byte),
-        Line::ShiftOne | Line::ShiftCl => {
-            laid_out(
-                Form::ModRm,
-                Sizing::LowBit,
-                Digits::NotSix,
-                Follows::Nothing,
-            )
-        }
-        Line::RetBytes => laid_out(Form::Plain, Sizing::Full, Digits::Any, Follows::Word),
-        Line::MoveImm => laid_out(Form::ModRm, Sizing::LowBit, Digits::Zero, Follows::Sized),
-        Line::Call | Line::Jump | Line::JumpIfFar => {
-            laid_out(Form::Branch, Sizing::Full, Digits::Any, Follows::Dword)
-        }
-        Line::UnaryRm => laid_out(Form::ModRm, Sizing::LowBit, Digits::NotOne, Follows::Tested),
-        Line::CountByte => laid_out(
+        Line::ImulNumber => laid_out(Form::ModRm, Sizing::Full, Digits::Any, Follows::Sized),
+        Line::ImulByte => laid_out(Form::ModRm, Sizing::Full, Digits::Any, Follows::SignedByte),
+        Line::JccShort => laid_out(Form::Branch, Sizing::Full, Digits::Any, Follows::SignedByte),
+        Line::AluNumber => laid_out(Form::ModRm, Sizing::LowBit, Digits::Any, Follows::Sized),
+        Line::AluByte => laid_out(Form::ModRm, Sizing::Full, Digits::Any, Follows::SignedByte),
+        Line::Test => laid_out(Form::ModRm, Sizing::LowBit, Digits::Any, Follows::Nothing),
+        Line::Xchg => laid_out(Form::ModRm, Sizing::LowBit, Digits::Any, Follows::Nothing),
+        Line::MovTo => laid_out(Form::ModRm, Sizing::LowBit, Digits::Any, Follows::Nothing),
+        Line::MovFrom => laid_out(Form::ModRm, Sizing::LowBit, Digits::Any, Follows::Nothing),
+        Line::Lea => laid_out(Form::Memory, Sizing::Full, Digits::Any, Follows::Nothing),
+        Line::PopOperand => laid_out(Form::ModRm, Sizing::Full, Digits::Zero, Follows::Nothing),
+        Line::Nop => laid_out(Form::Plain, Sizing::Full, Digits::Any, Follows::Nothing),
+        Line::XchgEax => laid_out(Form::Plain, Sizing::Full, Digits::Any, Follows::Nothing),
+        Line::Cwde => laid_out(Form::Plain, Sizing::Full, Digits::Any, Follows::Nothing),
+        Line::Cdq => laid_out(Form::Plain, Sizing::Full, Digits::Any, Follows::Nothing),
+        Line::LoadEax => laid_out(Form::Plain, Sizing::LowBit, Digits::Any, Follows::Address),
+        Line::StoreEax => laid_out(Form::Plain, Sizing::LowBit, Digits::Any, Follows::Address),
+        Line::TestEax => laid_out(Form::Plain, Sizing::LowBit, Digits::Any, Follows::Sized),
+        Line::MovByte => laid_out(Form::Plain, Sizing::Byte, Digits::Any, Follows::Sized),
+        Line::MovFull => laid_out(Form::Plain, Sizing::Full, Digits::Any, Follows::Sized),
+        Line::ShiftByte => laid_out(Form::ModRm, Sizing::LowBit, Digits::NotSix, Follows::Byte),
+        Line::ShiftOne => laid_out(
+            Form::ModRm,
+            Sizing::LowBit,
+            Digits::NotSix,
+            Follows::Nothing,
+        ),
+        Line::ShiftCl => laid_out(
+            Form::ModRm,
+            Sizing::LowBit,
+            Digits::NotSix,
+            Follows::Nothing,
+        ),
+        Line::RetWord => laid_out(Form::Plain, Sizing::Full, Digits::Any, Follows::Word),
+        Line::Ret => laid_out(Form::Plain, Sizing::Full, Digits::Any, Follows::Nothing),
+        Line::MovNumber => laid_out(Form::ModRm, Sizing::LowBit, Digits::Zero, Follows::Sized),
+        Line::Leave => laid_out(Form::Plain, Sizing::Full, Digits::Any, Follows::Nothing),
+        Line::Call => laid_out(Form::Branch, Sizing::Full, Digits::Any, Follows::Dword),
+        Line::Jmp => laid_out(Form::Branch, Sizing::Full, Digits::Any, Follows::Dword),
+        Line::JmpShort => laid_out(Form::Branch, Sizing::Full, Digits::Any, Follows::SignedByte),
+        Line::GroupThree => laid_out(Form::ModRm, Sizing::LowBit, Digits::NotOne, Follows::Tested),
+        Line::GroupFour => laid_out(
             Form::ModRm,
             Sizing::Byte,
             Digits::ZeroOrOne,
             Follows::Nothing,
         ),
-        Line::GroupFull => laid_out(
+        Line::GroupFive => laid_out(
             Form::ModRm,
             Sizing::Full,
-            Digits::GroupFive,
+            Digits::OfGroupFive,
             Follows::Nothing,
         ),
+        Line::Endbr32 => laid_out(Form::EndBranch, Sizing::Full, Digits::Any, Follows::Nothing),
+        Line::NopOperand => laid_out(Form::ModRm, Sizing::Full, Digits::Zero, Follows::Nothing),
+        Line::Cmovcc => laid_out(Form::ModRm, Sizing::Full, Digits::Any, Follows::Nothing),
+        Line::Jcc => laid_out(Form::Branch, Sizing::Full, Digits::Any, Follows::Dword),
+        Line::Setcc => laid_out(Form::ModRm, Sizing::Byte, Digits::Any, Follows::Nothing),
+        Line::Imul => laid_out(Form::ModRm, Sizing::Full, Digits::Any, Follows::Nothing),
+        Line::Cmpxchg => laid_out(Form::ModRm, Sizing::Full, Digits::Any, Follows::Nothing),
+        Line::Xadd => laid_out(Form::ModRm, Sizing::Full, Digits::Any, Follows::Nothing),
+        Line::MovzxByte => laid_out(Form::ModRm, Sizing::Full, Digits::Any, Follows::Nothing),
+        Line::MovzxWord => laid_out(Form::ModRm, Sizing::Full, Digits::Any, Follows::Nothing),
+        Line::MovsxByte => laid_out(Form::ModRm, Sizing::Full, Digits::Any, Follows::Nothing),
+        Line::MovsxWord => laid_out(Form::ModRm, Sizing::Full, Digits::Any, Follows::Nothing),
+        Line::Int3 => laid_out(Form::Plain, Sizing::Full, Digits::Any, Follows::Nothing),
+        Line::Ud2 => laid_out(Form::Plain, Sizing::Full, Digits::Any, Follows::Nothing),
+        Line::OpcodeOnly => laid_out(Form::Plain, Sizing::Full, Digits::Any, Follows::Nothing),
         Line::Int => laid_out(Form::Plain, Sizing::Full, Digits::Any, Follows::Byte),
-        Line::Float
-        | Line::MoveIf
-        | Line::MulReg
-        | Line::CmpXchg
-        | Line::XchgAdd
-        | Line::ZeroByte
-        | Line::ZeroWord
-        | Line::SignByte
-        | Line::SignWord
-        | Line::TwoRm => laid_out(Form::ModRm, Sizing::Full, Digits::Any, Follows::Nothing),
-        Line::SetIf => laid_out(Form::ModRm, Sizing::Byte, Digits::Any, Follows::Nothing),
-        Line::Endbr => laid_out(Form::EndBranch, Sizing::Full, Digits::Any, Follows::Nothing),
-        Line::TwoShift => laid_out(Form::ModRm, Sizing::Full, Digits::Any, Follows::Byte),
+        Line::Loop => laid_out(Form::Branch, Sizing::Full, Digits::Any, Follows::SignedByte),
+        Line::Float => laid_out(Form::ModRm, Sizing::Full, Digits::Any, Follows::Nothing),
+        Line::SecondOnly => laid_out(Form::Plain, Sizing::Full, Digits::Any, Follows::Nothing),
+        Line::SecondRm => laid_out(Form::ModRm, Sizing::Full, Digits::Any, Follows::Nothing),
+        Line::ShiftPair => laid_out(Form::ModRm, Sizing::Full, Digits::Any, Follows::Byte),
         Line::BitTest => laid_out(Form::ModRm, Sizing::Full, Digits::FourUp, Follows::Byte),
-        Line::CmpXchg8 => laid_out(Form::Memory, Sizing::Full, Digits::One, Follows::Nothing),
+        Line::Cmpxchg8b => laid_out(Form::Memory, Sizing::Full, Digits::One, Follows::Nothing),
     }
 }
 
@@ -126,13 +125,13 @@ fn lists(digits: Digits, digit: u8) -> bool
         Digits::ZeroOrOne => digit <= 1,
         Digits::NotSix => digit != 6,
         Digits::NotOne => digit != 1,
-        Digits::GroupFive => digit <= 2 || digit == 4 || digit == 6,
+        Digits::OfGroupFive => digit <= 2 || digit == 4 || digit == 6,
         Digits::FourUp => 4 <= digit,
     }
 }
 
 /// Whether a digit is listed.
-pub fn allows(digits: Digits, digit: u8) -> bool
+pub(crate) fn allows(digits: Digits, digit: u8) -> bool
     ensures { result ≡ digit_allowed digits digit }
 {
     match digits {
@@ -149,7 +148,7 @@ fn full_width(small: bool) -> Width
 }
 
 /// How wide the operands are. `small` says that there is a prefix 66.
-pub fn width(sizing: Sizing, opcode: u8, small: bool) -> Width
+pub(crate) fn width(sizing: Sizing, opcode: u8, small: bool) -> Width
     ensures { result ≡ width_of sizing opcode small }
 {
     match sizing {
@@ -165,19 +164,8 @@ pub fn width(sizing: Sizing, opcode: u8, small: bool) -> Width
     }
 }
 
-/// How many bytes an operand has.
-fn bytes(width: Width) -> u32
-    ensures { result ≡ bytes_in width }
-{
-    match width {
-        Width::Byte => 1,
-        Width::Word => 2,
-        Width::Dword => 4,
-    }
-}
-
 /// How many bytes the number at the end has.
-pub fn trailing_width(follows: Follows, width: Width, digit: u8) -> u32
+pub(crate) fn trailing_width(follows: Follows, width: Width, digit: u8) -> u32
     ensures value { result ≡ follows_width follows width digit }
     ensures bound { result ≤ 4 }
 {
@@ -188,7 +176,7 @@ pub fn trailing_width(follows: Follows, width: Width, digit: u8) -> u32
         Follows::Word => 2,
         Follows::Dword => 4,
         Follows::Address => 4,
-        Follows::Sized => bytes(width),
-        Follows::Tested => { if digit == 0 { bytes(width) } else { 0 } }
+        Follows::Sized => width.byte_count(),
+        Follows::Tested => { if digit == 0 { width.byte_count() } else { 0 } }
     }
 }

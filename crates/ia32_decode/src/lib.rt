@@ -15,6 +15,7 @@ mod opcode_table;
 mod padding_forms;
 mod registers;
 mod types;
+mod widths;
 
 pub use decoder::decode;
 pub use laws::{

@@ -1,8 +1,9 @@
 //! Which instructions are padding.
-ghost use Rattle.std.specs.Prelude.{◌≡◌, ◌==◌};
-ghost use Rattle.ia32_decode.specs.Padding.{has_others, only_66, only_66_2e, one_2e_3e, is_dword, same_register, is_base, has_index, is_alone, padding_form, is_padding_of};
+ghost use Rattle.std.specs.Prelude.{◌≡◌};
+ghost use Rattle.ia32_decode.specs.Padding.{has_others, only_66, only_66_2e, one_2e_3e, same_register};
+ghost use Rattle.ia32_decode.specs.Padding.{is_base, has_index, is_alone, is_padding_of};
 
-use crate::types::{Decoded, Index, Instr, Memory, Operand, Prefixes, Register, Width};
+use crate::types::{Decoded, Index, Instr, Memory, Operand, Prefixes, Register};
 
 /// Whether there is a prefix other than 66, 2E and 3E.
 fn has_other_prefixes(prefixes: Prefixes) -> bool
@@ -36,17 +37,6 @@ fn takes_one_2e_or_3e(prefixes: Prefixes) -> bool
     ensures { result ≡ one_2e_3e prefixes }
 {
     prefixes.count <= 1 && !has_other_prefixes(prefixes) && !prefixes.operand_size
-}
-
-/// 32 bits.
-fn is_full(width: Width) -> bool
-    ensures { result ≡ is_dword width }
-{
-    match width {
-        Width::Byte => false,
-        Width::Word => false,
-        Width::Dword => true,
-    }
 }
 
 /// Whether both operands are one register.
@@ -104,7 +94,7 @@ pub fn is_padding(decoded: &Decoded) -> bool
             destination,
             source,
         } => {
-            decoded.prefixes.count == 0 && is_full(width) && is_same_register(destination, source)
+            decoded.prefixes.count == 0 && width.is_dword() && is_same_register(destination, source)
         }
         Instr::LoadAddress {
             destination,

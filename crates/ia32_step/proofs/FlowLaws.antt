@@ -1,5 +1,7 @@
 -- Why the step of a call and of a return is what the laws say.
-use Rattle.std.proofs.Common.{◌≡◌, ℕ, zero, suc, ◌+◌, ◌-◌, ◌≤◌, ◌<◌, ◌%◌, ◌^◌, Bool, true, false, cond, if◌then◌else◌, ◌==◌, ◌||◌, ◌&&◌, not, List, [], ◌∷◌, length, get_or, Option, Some, None, Result, Ok, Err, IsSomeAnd, refl, sym, ap, subst, ◌∙◌, arith}
+use Rattle.std.proofs.Common.{◌≡◌, ℕ, zero, suc, ◌+◌, ◌-◌, ◌≤◌, ◌<◌, ◌%◌, ◌^◌, Bool, true, false, cond, if◌then◌else◌}
+use Rattle.std.proofs.Common.{◌==◌, ◌||◌, ◌&&◌, not, List, [], ◌∷◌, length, get_or, Option, Some, None, Result, Ok}
+use Rattle.std.proofs.Common.{Err, IsSomeAnd, refl, sym, ap, subst, ◌∙◌, arith}
 use Rattle.std.specs.Int.{w32, to_le_bytes, from_le_bytes}
 use Rattle.std.specs.Option.{option_map, unwrap_or}
 use Rattle.std.specs.List.{All}
@@ -16,7 +18,8 @@ use Rattle.image_memory.specs.declared.types.Window.{Window}
 use Rattle.image_memory.specs.Ranges.{lies_in}
 use Rattle.image_memory.specs.Contents.{Contents, ArePlaced, piece_range, holding, byte_in}
 use Rattle.image_memory.specs.Fetch.{fetched, window_at}
-use Rattle.image_memory.specs.Access.{kind_of, unreadable, unwritable, read_fault, write_fault, first_fault, byte_at, bytes_at, new_byte, overlaid, overlaid_piece, written, dword_at}
+use Rattle.image_memory.specs.Access.{kind_of, unreadable, unwritable, read_fault, write_fault, first_fault, byte_at}
+use Rattle.image_memory.specs.Access.{bytes_at, new_byte, overlaid, overlaid_piece, written, dword_at}
 use Rattle.ia32_alu.specs.declared.types.Flags.{Flags}
 use Rattle.ia32_alu.specs.Arithmetic.{binary_of}
 use Rattle.ia32_alu.specs.declared.types.Binary.TheVariants as binary
@@ -37,7 +40,15 @@ use Rattle.ia32_decode.specs.declared.types.Operand.{Operand}
 use Rattle.ia32_decode.specs.declared.types.Operand.TheVariants as operands
 use Rattle.ia32_decode.specs.declared.types.Decoded.{Decoded}
 use Rattle.ia32_decode.specs.declared.types.Instr.{Instr}
-use Rattle.ia32_decode.specs.declared.types.Instr.TheVariants.{Arithmetic, CountRegister, PushRegister, PopRegister, MultiplyImmediate, JumpIf, ArithmeticImmediate, Test, Exchange, Move, PopOperand, ExchangeAccumulator, LoadAccumulator, TestAccumulator, ShiftByImmediate, ShiftByOne, ShiftByCl, ReturnAndRelease, Return, MoveImmediate, Leave, Call, TestImmediate, Unary, CountOperand, CallOperand, JumpOperand, PushOperand, MoveIf, SetIf, Multiply, CompareExchange, ExchangeAdd, ZeroExtend, SignExtend}
+use Rattle.ia32_decode.specs.declared.types.Instr.TheVariants.{Arithmetic, CountRegister, PushRegister, PopRegister}
+use Rattle.ia32_decode.specs.declared.types.Instr.TheVariants.{MultiplyImmediate, JumpIf, ArithmeticImmediate, Test}
+use Rattle.ia32_decode.specs.declared.types.Instr.TheVariants.{Exchange, Move, PopOperand, ExchangeAccumulator}
+use Rattle.ia32_decode.specs.declared.types.Instr.TheVariants.{LoadAccumulator, TestAccumulator, ShiftByImmediate}
+use Rattle.ia32_decode.specs.declared.types.Instr.TheVariants.{ShiftByOne, ShiftByCl, ReturnAndRelease, Return}
+use Rattle.ia32_decode.specs.declared.types.Instr.TheVariants.{MoveImmediate, Leave, Call, TestImmediate, Unary}
+use Rattle.ia32_decode.specs.declared.types.Instr.TheVariants.{CountOperand, CallOperand, JumpOperand, PushOperand}
+use Rattle.ia32_decode.specs.declared.types.Instr.TheVariants.{MoveIf, SetIf, Multiply, CompareExchange, ExchangeAdd}
+use Rattle.ia32_decode.specs.declared.types.Instr.TheVariants.{ZeroExtend, SignExtend}
 use Rattle.ia32_decode.specs.Decode.{decoded_from}
 use Rattle.ia32_step.specs.declared.types.Context.{Context}
 use Rattle.ia32_step.specs.declared.types.Place.{Place}
@@ -50,18 +61,23 @@ use Rattle.ia32_step.specs.declared.types.Outcome.TheVariants.{Moved}
 use Rattle.ia32_step.specs.Registers.{register_value, registers_with, stack_top, accumulator}
 use Rattle.ia32_step.specs.Operands.{Reader, given, place_of, operand_value, source_value, number_at, unless_fault}
 use Rattle.ia32_step.specs.Changes.{at_address, above, below, putting, popped, raised}
-use Rattle.ia32_step.specs.Arithmetic.{bits, settled, combined, tested, altered, unary_counting, stepped_shift, shifted_by, shifted, count_register, multiplied, product_taken, with_quotient, divided}
-use Rattle.ia32_step.specs.Moves.{copied, accumulator_loaded, exchanged, exchanged_and_added, compared_and_exchanged, compare_exchanged, holds, copied_if, zero_extended_to, sign_extended_to}
+use Rattle.ia32_step.specs.Arithmetic.{bits, settled, combined, tested, altered, unary_counting, stepped_shift}
+use Rattle.ia32_step.specs.Arithmetic.{shifted_by, shifted, count_register, multiplied, product_taken, with_quotient}
+use Rattle.ia32_step.specs.Arithmetic.{divided}
+use Rattle.ia32_step.specs.Moves.{copied, accumulator_loaded, exchanged, exchanged_and_added, compared_and_exchanged}
+use Rattle.ia32_step.specs.Moves.{compare_exchanged, holds, copied_if, zero_extended_to, sign_extended_to}
 use Rattle.ia32_step.specs.Stack.{pushed, popped_to, left}
 use Rattle.ia32_step.specs.Branches.{jumped_if, jumped_to, called, called_to, returned}
 use Rattle.ia32_step.specs.Exec.{unary_change, change_of, is_stepped, refuses_prefixes, traps, takes_lock, executed}
-use Rattle.ia32_step.specs.Step.{Left, context_of, store_fault, unless_barred, done, change_in, carried_out, next_change, exits, stepped}
+use Rattle.ia32_step.specs.Step.{Left, context_of, store_fault, unless_barred, done, change_in, carried_out}
+use Rattle.ia32_step.specs.Step.{next_change, exits, stepped}
 use Rattle.ia32_step.specs.Threads.{esp_of}
 use Rattle.ia32_step.specs.Frames.{decoded_in, instruction_at, IsCalled, IsReturned}
 use Rattle.ia32_step.proofs.Keeping.{as_long}
 use Rattle.ia32_step.proofs.CodeLaws.{each_good}
 
--- what an instruction's change says of how it goes on: a call is the one change of calls, and a return goes on at what it popped
+-- what an instruction's change says of how it goes on: a call is the one change of calls, and a return goes on at what
+-- it popped
 abbrev ByFlow : Reader → Context → Change → Flow → Type 0
 ByFlow read context change flows.Plain = Unit {0}
 ByFlow read context change flows.Call = (target : ℕ) × (change ≡ called target context)
@@ -72,15 +88,18 @@ Tells read context (Err fault) = Unit {0}
 Tells read context (Ok change) = ByFlow read context change change.flow
 
 module _ (read : Reader) (context : Context) where
-  after_read : (r : Result ℕ Fault) (next : ℕ → Result Change Fault) → ((x : ℕ) → r ≡ Ok x → Tells read context (next x)) → Tells read context (given r next)
+  after_read : (r : Result ℕ Fault) (next : ℕ → Result Change Fault)
+      → ((x : ℕ) → r ≡ Ok x → Tells read context (next x)) → Tells read context (given r next)
   after_read (Err fault) next h = tt
   after_read (Ok x) next h = h x refl
 
-  by_place : (place : Place) (width : Width) (v : ℕ) (after : Context) → Tells read context (Ok (putting place width v after))
+  by_place : (place : Place) (width : Width) (v : ℕ) (after : Context)
+      → Tells read context (Ok (putting place width v after))
   by_place (InRegister r) width v after = tt
   by_place (InMemory address) width v after = tt
 
-  by_settling : (operation : Operation) (width : Width) (place : Place) (result : ℕ × Flags) → Tells read context (Ok (settled operation width place result context))
+  by_settling : (operation : Operation) (width : Width) (place : Place) (result : ℕ × Flags)
+      → Tells read context (Ok (settled operation width place result context))
   by_settling Cmp width place result = tt
   by_settling Add width place result = by_place place width _ _
   by_settling Or width place result = by_place place width _ _
@@ -90,34 +109,43 @@ module _ (read : Reader) (context : Context) where
   by_settling Sub width place result = by_place place width _ _
   by_settling Xor width place result = by_place place width _ _
 
-  by_combining : (operation : Operation) (width : Width) (operand : Operand) (source : Result ℕ Fault) → Tells read context (combined read operation width operand source context)
+  by_combining : (operation : Operation) (width : Width) (operand : Operand) (source : Result ℕ Fault)
+      → Tells read context (combined read operation width operand source context)
   unfolding combined
   by_combining operation width operand source =
-      after_read (operand_value read context width operand) _ (λ a _. after_read source _ (λ b _. by_settling operation width (place_of context.registers operand) _))
+      after_read (operand_value read context width operand) _
+      (λ a _. after_read source _ (λ b _. by_settling operation width (place_of context.registers operand) _))
 
   by_test : (width : Width) (operand : Operand) (b : ℕ) → Tells read context (tested read width operand b context)
   unfolding tested
   by_test width operand b = after_read (operand_value read context width operand) _ (λ a _. tt)
 
-  by_altering : (operation : AluUnary) (width : Width) (operand : Operand) → Tells read context (altered read operation width operand context)
+  by_altering : (operation : AluUnary) (width : Width) (operand : Operand)
+      → Tells read context (altered read operation width operand context)
   unfolding altered
   by_altering operation width operand =
-      after_read (operand_value read context width operand) _ (λ a _. by_place (place_of context.registers operand) width _ _)
+      after_read (operand_value read context width operand) _
+      (λ a _. by_place (place_of context.registers operand) width _ _)
 
-  by_shift : (operation : Option AluShift) (width : Width) (operand : Operand) (count : ℕ) → Tells read context (shifted_by read operation width operand count context)
+  by_shift : (operation : Option AluShift) (width : Width) (operand : Operand) (count : ℕ)
+      → Tells read context (shifted_by read operation width operand count context)
   by_shift None width operand count = tt
   by_shift (Some operation) width operand count =
-      after_read (operand_value read context width operand) _ (λ a _. by_place (place_of context.registers operand) width _ _)
+      after_read (operand_value read context width operand) _
+      (λ a _. by_place (place_of context.registers operand) width _ _)
 
-  by_shifting : (operation : Shift) (width : Width) (operand : Operand) (count : ℕ) → Tells read context (shifted read operation width operand count context)
+  by_shifting : (operation : Shift) (width : Width) (operand : Operand) (count : ℕ)
+      → Tells read context (shifted read operation width operand count context)
   unfolding shifted
   by_shifting operation width operand count = by_shift (stepped_shift operation width) width operand count
 
-  by_multiplying : (sign : Bool) (width : Width) (operand : Operand) → Tells read context (multiplied read sign width operand context)
+  by_multiplying : (sign : Bool) (width : Width) (operand : Operand)
+      → Tells read context (multiplied read sign width operand context)
   unfolding multiplied
   by_multiplying sign width operand = after_read (operand_value read context width operand) _ (λ a _. tt)
 
-  by_product : (width : Width) (r : Register) (operand : Operand) (b : ℕ) → Tells read context (product_taken read width r operand b context)
+  by_product : (width : Width) (r : Register) (operand : Operand) (b : ℕ)
+      → Tells read context (product_taken read width r operand b context)
   unfolding product_taken
   by_product width r operand b = after_read (operand_value read context width operand) _ (λ a _. tt)
 
@@ -125,11 +153,13 @@ module _ (read : Reader) (context : Context) where
   by_quotient width None = tt
   by_quotient width (Some both) = tt
 
-  by_dividing : (sign : Bool) (width : Width) (operand : Operand) → Tells read context (divided read sign width operand context)
+  by_dividing : (sign : Bool) (width : Width) (operand : Operand)
+      → Tells read context (divided read sign width operand context)
   unfolding divided
   by_dividing sign width operand = after_read (operand_value read context width operand) _ (λ a _. by_quotient width _)
 
-  by_unary : (operation : UnaryOperation) (width : Width) (operand : Operand) → Tells read context (unary_change read operation width operand context)
+  by_unary : (operation : UnaryOperation) (width : Width) (operand : Operand)
+      → Tells read context (unary_change read operation width operand context)
   unfolding unary_change
   by_unary Not width operand = by_altering alu.Not width operand
   by_unary Neg width operand = by_altering alu.Neg width operand
@@ -138,47 +168,61 @@ module _ (read : Reader) (context : Context) where
   by_unary Div width operand = by_dividing false width operand
   by_unary Idiv width operand = by_dividing true width operand
 
-  by_copying : (width : Width) (destination source : Operand) → Tells read context (copied read width destination source context)
+  by_copying : (width : Width) (destination source : Operand)
+      → Tells read context (copied read width destination source context)
   unfolding copied
   by_copying width destination source =
-      after_read (operand_value read context width source) _ (λ v _. by_place (place_of context.registers destination) width _ _)
+      after_read (operand_value read context width source) _
+      (λ v _. by_place (place_of context.registers destination) width _ _)
 
   by_loading : (width : Width) (address : ℕ) → Tells read context (accumulator_loaded read width address context)
   unfolding accumulator_loaded
   by_loading width address = after_read (read width address) _ (λ v _. tt)
 
-  by_exchange : (width : Width) (operand : Operand) (r : Register) → Tells read context (exchanged read width operand r context)
+  by_exchange : (width : Width) (operand : Operand) (r : Register)
+      → Tells read context (exchanged read width operand r context)
   unfolding exchanged
   by_exchange width operand r =
-      after_read (operand_value read context width operand) _ (λ v _. by_place (place_of context.registers operand) width _ _)
+      after_read (operand_value read context width operand) _
+      (λ v _. by_place (place_of context.registers operand) width _ _)
 
-  by_adding : (width : Width) (operand : Operand) (r : Register) → Tells read context (exchanged_and_added read width operand r context)
+  by_adding : (width : Width) (operand : Operand) (r : Register)
+      → Tells read context (exchanged_and_added read width operand r context)
   unfolding exchanged_and_added
   by_adding width operand r =
-      after_read (operand_value read context width operand) _ (λ a _. by_place (place_of context.registers operand) width _ _)
+      after_read (operand_value read context width operand) _
+      (λ a _. by_place (place_of context.registers operand) width _ _)
 
-  by_choice : (b : Bool) (x y : Change) → Tells read context (Ok x) → Tells read context (Ok y) → Tells read context (Ok (if b then x else y))
+  by_choice : (b : Bool) (x y : Change) → Tells read context (Ok x) → Tells read context (Ok y)
+      → Tells read context (Ok (if b then x else y))
   by_choice true x y h k = h
   by_choice false x y h k = k
 
-  by_comparison : (place : Place) (width : Width) (a v : ℕ) (compared : ℕ × Flags) → Tells read context (Ok (compared_and_exchanged place width a v compared context))
-  by_comparison place width a v compared = by_choice compared.1.zf _ _ (by_place place width v _) (by_place place width a _)
+  by_comparison : (place : Place) (width : Width) (a v : ℕ) (compared : ℕ × Flags)
+      → Tells read context (Ok (compared_and_exchanged place width a v compared context))
+  by_comparison place width a v compared =
+      by_choice compared.1.zf _ _ (by_place place width v _) (by_place place width a _)
 
-  by_comparing : (width : Width) (operand : Operand) (r : Register) → Tells read context (compare_exchanged read width operand r context)
+  by_comparing : (width : Width) (operand : Operand) (r : Register)
+      → Tells read context (compare_exchanged read width operand r context)
   unfolding compare_exchanged
   by_comparing width operand r =
-      after_read (operand_value read context width operand) _ (λ a _. by_comparison (place_of context.registers operand) width a _
+      after_read (operand_value read context width operand) _
+      (λ a _. by_comparison (place_of context.registers operand) width a _
       (binary_of binary.Cmp (bits width) (accumulator context width) a context.flags))
 
-  by_copying_if : (condition : Condition) (width : Width) (r : Register) (source : Operand) → Tells read context (copied_if read condition width r source context)
+  by_copying_if : (condition : Condition) (width : Width) (r : Register) (source : Operand)
+      → Tells read context (copied_if read condition width r source context)
   unfolding copied_if
   by_copying_if condition width r source = after_read (operand_value read context width source) _ (λ v _. tt)
 
-  by_zeros : (from width : Width) (r : Register) (source : Operand) → Tells read context (zero_extended_to read from width r source context)
+  by_zeros : (from width : Width) (r : Register) (source : Operand)
+      → Tells read context (zero_extended_to read from width r source context)
   unfolding zero_extended_to
   by_zeros from width r source = after_read (operand_value read context from source) _ (λ v _. tt)
 
-  by_sign : (from width : Width) (r : Register) (source : Operand) → Tells read context (sign_extended_to read from width r source context)
+  by_sign : (from width : Width) (r : Register) (source : Operand)
+      → Tells read context (sign_extended_to read from width r source context)
   unfolding sign_extended_to
   by_sign from width r source = after_read (operand_value read context from source) _ (λ v _. tt)
 
@@ -188,7 +232,8 @@ module _ (read : Reader) (context : Context) where
 
   by_pop : (operand : Operand) (other : Context) → Tells read context (popped_to read operand other)
   unfolding popped_to
-  by_pop operand other = after_read (popped read other) _ (λ v _. by_place (place_of (raised 0 other).registers operand) Dword _ _)
+  by_pop operand other =
+      after_read (popped read other) _ (λ v _. by_place (place_of (raised 0 other).registers operand) Dword _ _)
 
   by_leaving : Tells read context (left read context)
   unfolding left
@@ -211,7 +256,8 @@ module _ (read : Reader) (context : Context) where
 
   by_instruction : (instr : Instr) → Tells read context (change_of read instr context)
   unfolding change_of
-  by_instruction (Arithmetic operation width destination source) = by_combining operation width destination (source_value read context width source)
+  by_instruction (Arithmetic operation width destination source) =
+      by_combining operation width destination (source_value read context width source)
   by_instruction (ArithmeticImmediate operation width destination n) = by_combining operation width destination (Ok n)
   by_instruction (CountRegister operation width r) = by_altering (unary_counting operation) width (operands.Register r)
   by_instruction (CountOperand operation width operand) = by_altering (unary_counting operation) width operand
@@ -257,18 +303,22 @@ unless read context false fault r h = h
 abbrev found : Thread → Decoded → Context
 found thread d = at_address (above thread.pc d.length) (context_of thread)
 
-by_decoded : (read : Reader) (thread : Thread) (d : Decoded) → Tells read (found thread d) (executed read d (context_of thread))
+by_decoded : (read : Reader) (thread : Thread) (d : Decoded)
+    → Tells read (found thread d) (executed read d (context_of thread))
 unfolding executed
 by_decoded read thread d =
     unless read (found thread d) (not (is_stepped d.instr) || refuses_prefixes d.prefixes d.instr) Unsupported _
     (unless read (found thread d) (traps d.instr) Trap _
-    (unless read (found thread d) (d.prefixes.lock && not (takes_lock d.instr)) BadLock _ (by_instruction read (found thread d) d.instr)))
+    (unless read (found thread d) (d.prefixes.lock && not (takes_lock d.instr)) BadLock _
+    (by_instruction read (found thread d) d.instr)))
 
 -- the bytes that were written stand where they were
-new_inside : (start : ℕ) (bytes : List ℕ) (a b : ℕ) → start ≤ a → a < start + length bytes → new_byte start bytes a b ≡ get_or bytes (a - start) 0
+new_inside : (start : ℕ) (bytes : List ℕ) (a b : ℕ) → start ≤ a → a < start + length bytes
+    → new_byte start bytes a b ≡ get_or bytes (a - start) 0
 new_inside start bytes a b l m = grind (arith, nat_tests)
 
-byte_overlaid : (start : ℕ) (bytes : List ℕ) (address : ℕ) (xs : List ℕ) (k : ℕ) → k < length xs → start ≤ address + k → address + k < start + length bytes
+byte_overlaid : (start : ℕ) (bytes : List ℕ) (address : ℕ) (xs : List ℕ) (k : ℕ) → k < length xs → start ≤ address + k
+    → address + k < start + length bytes
     → get_or (overlaid start bytes address xs) k 0 ≡ get_or bytes (address + k - start) 0
 unfolding overlaid
 byte_overlaid start bytes address [] k l from to = absurd (omega arith)
@@ -277,19 +327,25 @@ byte_overlaid start bytes address (x ∷ xs) zero l from to =
     new_inside start bytes address x (omega arith) (omega arith) ∙ ap (λ a. get_or bytes (a - start) 0) same
 byte_overlaid start bytes address (x ∷ xs) (suc k) l from to =
     let same : address + 1 + k ≡ address + suc k = omega arith in
-    byte_overlaid start bytes (address + 1) xs k (omega arith) (omega arith) (omega arith) ∙ ap (λ a. get_or bytes (a - start) 0) same
+    byte_overlaid start bytes (address + 1) xs k (omega arith) (omega arith) (omega arith)
+    ∙ ap (λ a. get_or bytes (a - start) 0) same
 
-byte_written : (start : ℕ) (bytes : List ℕ) (pieces : List Piece) (a : ℕ) → start ≤ a → a < start + length bytes → write_fault pieces a ≡ None
+byte_written : (start : ℕ) (bytes : List ℕ) (pieces : List Piece) (a : ℕ) → start ≤ a → a < start + length bytes
+    → write_fault pieces a ≡ None
     → byte_at (written start bytes pieces) a ≡ get_or bytes (a - start) 0
 byte_written start bytes [] a from to good = cc
 byte_written start bytes (x ∷ xs) a from to good =
     rw (as_long start bytes x.base x.bytes)
-    (elim (lies_in a (piece_range x)) as (λ b. lies_in a (piece_range x) ≡ b → unwritable (option_map kind_of (cond b (Some x) (holding xs a))) ≡ None
-    → unwrap_or (option_map (byte_in a) (cond b (Some (overlaid_piece start bytes x)) (holding (written start bytes xs) a))) 0 ≡ get_or bytes (a - start) 0) [
+    (elim (lies_in a (piece_range x)) as
+    (λ b. lies_in a (piece_range x) ≡ b → unwritable (option_map kind_of (cond b (Some x) (holding xs a))) ≡ None
+    → unwrap_or
+    (option_map (byte_in a) (cond b (Some (overlaid_piece start bytes x)) (holding (written start bytes xs) a))) 0
+    ≡ get_or bytes (a - start) 0) [
       | true ↦ λ here _.
           let inside = bounds a x.base (x.base + length x.bytes) here in
           let back : x.base + (a - x.base) ≡ a = omega arith in
-          byte_overlaid start bytes x.base x.bytes (a - x.base) (omega arith) (omega arith) (omega arith) ∙ ap (λ n. get_or bytes (n - start) 0) back
+          byte_overlaid start bytes x.base x.bytes (a - x.base) (omega arith) (omega arith) (omega arith)
+          ∙ ap (λ n. get_or bytes (n - start) 0) back
       | false ↦ λ _ later. byte_written start bytes xs a from to later
     ] refl good)
   where
@@ -309,7 +365,8 @@ get_or-bytes_at pieces a (suc n) (suc k) l =
     let e : (a + 1) + k ≡ a + suc k = omega arith in
     rw e at (get_or-bytes_at pieces (a + 1) n k (omega arith))
 
-written_back : (start : ℕ) (bytes : List ℕ) (pieces : List Piece) → first_fault (write_fault pieces) start (length bytes) ≡ None
+written_back : (start : ℕ) (bytes : List ℕ) (pieces : List Piece)
+    → first_fault (write_fault pieces) start (length bytes) ≡ None
     → bytes_at (written start bytes pieces) start (length bytes) ≡ bytes
 written_back start bytes pieces good =
     ext_get_or 0 _ bytes (length-bytes_at (written start bytes pieces) start (length bytes)) (λ k l.
@@ -331,7 +388,8 @@ kinds_written : (start : ℕ) (bytes : List ℕ) (pieces : List Piece) (a : ℕ)
 kinds_written start bytes [] a = refl
 kinds_written start bytes (x ∷ xs) a =
     rw (as_long start bytes x.base x.bytes)
-    (elim (lies_in a (piece_range x)) as (λ b. option_map kind_of (cond b (Some (overlaid_piece start bytes x)) (holding (written start bytes xs) a))
+    (elim (lies_in a (piece_range x)) as
+    (λ b. option_map kind_of (cond b (Some (overlaid_piece start bytes x)) (holding (written start bytes xs) a))
     ≡ option_map kind_of (cond b (Some x) (holding xs a))) [ true ↦ refl | false ↦ kinds_written start bytes xs a ])
 
 read_where_written : (kind : Option Kind) → unwritable kind ≡ None → unreadable kind ≡ None
@@ -369,31 +427,39 @@ call_done contents thread d target long good =
     record {
       esp = top ∙ ap (λ esp. below esp 4) (same_top thread d);
       readable = rw top (read_back contents.pieces (below (stack_top (found thread d)) 4) 4 _ good);
-      pushed = ap (dword_at _) top ∙ dword_back contents.pieces (below (stack_top (found thread d)) 4) (above thread.pc d.length) (omega arith) good;
+      pushed = ap (dword_at _) top
+          ∙ dword_back contents.pieces (below (stack_top (found thread d)) 4) (above thread.pc d.length) (omega arith)
+          good;
     }
 
 call_barred : (fault : Option Fault) (contents : Contents) (thread : Thread) (d : Decoded) (change : Change)
     → length thread.registers ≡ 8 → store_fault contents change.store ≡ fault
     → ByFlow (number_at contents.pieces) (found thread d) change change.flow
-    → (unless_barred fault contents thread change).outcome ≡ Moved flows.Call → IsCalled thread d (unless_barred fault contents thread change)
+    → (unless_barred fault contents thread change).outcome ≡ Moved flows.Call
+    → IsCalled thread d (unless_barred fault contents thread change)
 call_barred (Some fault) contents thread d change long bad tells out = cc
 call_barred None contents thread d change long good tells out =
     let flow : change.flow ≡ flows.Call = cc in
     let is = subst (ByFlow (number_at contents.pieces) (found thread d) change) flow tells in
-    subst (λ (c : Change). store_fault contents c.store ≡ None → IsCalled thread d (unless_barred None contents thread c)) (sym is.1)
+    subst (λ (c : Change). store_fault contents c.store ≡ None
+    → IsCalled thread d (unless_barred None contents thread c)) (sym is.1)
     (call_done contents thread d is.0 long) good
 
-call_of : (contents : Contents) (thread : Thread) (d : Decoded) (change : Result Change Fault) → length thread.registers ≡ 8
-    → Tells (number_at contents.pieces) (found thread d) change → (done contents thread change).outcome ≡ Moved flows.Call
+call_of : (contents : Contents) (thread : Thread) (d : Decoded) (change : Result Change Fault)
+    → length thread.registers ≡ 8
+    → Tells (number_at contents.pieces) (found thread d) change
+    → (done contents thread change).outcome ≡ Moved flows.Call
     → IsCalled thread d (done contents thread change)
 call_of contents thread d (Err fault) long tells out = cc
 call_of contents thread d (Ok change) long tells out =
     call_barred (store_fault contents change.store) contents thread d change long refl tells out
 
 pub calls : (contents : Contents) (thread : Thread) (d : Decoded) → length thread.registers ≡ 8
-    → (carried_out contents thread (Some d)).outcome ≡ Moved flows.Call → IsCalled thread d (carried_out contents thread (Some d))
+    → (carried_out contents thread (Some d)).outcome ≡ Moved flows.Call
+    → IsCalled thread d (carried_out contents thread (Some d))
 calls contents thread d long out =
-    call_of contents thread d (executed (number_at contents.pieces) d (context_of thread)) long (by_decoded (number_at contents.pieces) thread d) out
+    call_of contents thread d (executed (number_at contents.pieces) d (context_of thread)) long
+    (by_decoded (number_at contents.pieces) thread d) out
 
 number_read : (fault : Option Fault) (x y : ℕ) → unless_fault fault x ≡ Ok y → y ≡ x
 number_read None x y h = cc
@@ -411,34 +477,42 @@ return_barred (Some fault) contents thread d change tells out = cc
 return_barred None contents thread d change tells out =
     let flow : change.flow ≡ flows.Return = cc in
     let is = subst (ByFlow (number_at contents.pieces) (found thread d) change) flow tells in
-    dword_read contents.pieces (stack_top (found thread d)) change.context.pc is ∙ ap (dword_at contents.pieces) (same_top thread d)
+    dword_read contents.pieces (stack_top (found thread d)) change.context.pc is
+    ∙ ap (dword_at contents.pieces) (same_top thread d)
 
 return_of : (contents : Contents) (thread : Thread) (d : Decoded) (change : Result Change Fault)
-    → Tells (number_at contents.pieces) (found thread d) change → (done contents thread change).outcome ≡ Moved flows.Return
+    → Tells (number_at contents.pieces) (found thread d) change
+    → (done contents thread change).outcome ≡ Moved flows.Return
     → IsReturned contents.pieces thread (done contents thread change)
 return_of contents thread d (Err fault) tells out = cc
 return_of contents thread d (Ok change) tells out =
     return_barred (store_fault contents change.store) contents thread d change tells out
 
 pub returns : (contents : Contents) (thread : Thread) (d : Decoded)
-    → (carried_out contents thread (Some d)).outcome ≡ Moved flows.Return → IsReturned contents.pieces thread (carried_out contents thread (Some d))
+    → (carried_out contents thread (Some d)).outcome ≡ Moved flows.Return
+    → IsReturned contents.pieces thread (carried_out contents thread (Some d))
 returns contents thread d out =
-    return_of contents thread d (executed (number_at contents.pieces) d (context_of thread)) (by_decoded (number_at contents.pieces) thread d) out
+    return_of contents thread d (executed (number_at contents.pieces) d (context_of thread))
+    (by_decoded (number_at contents.pieces) thread d) out
 
 -- what is carried out in a step is the instruction fetched
 call_decoded : (contents : Contents) (thread : Thread) (decoded : Option Decoded) → length thread.registers ≡ 8
-    → (carried_out contents thread decoded).outcome ≡ Moved flows.Call → IsSomeAnd decoded (λ d. IsCalled thread d (carried_out contents thread decoded))
+    → (carried_out contents thread decoded).outcome ≡ Moved flows.Call
+    → IsSomeAnd decoded (λ d. IsCalled thread d (carried_out contents thread decoded))
 call_decoded contents thread None long out = cc
 call_decoded contents thread (Some d) long out = calls contents thread d long out
 
 call_fetched : (contents : Contents) (thread : Thread) (window : Result Window Fault) → length thread.registers ≡ 8
     → (done contents thread (change_in contents.pieces (context_of thread) window)).outcome ≡ Moved flows.Call
-    → IsSomeAnd (decoded_in window) (λ d. IsCalled thread d (done contents thread (change_in contents.pieces (context_of thread) window)))
+    → IsSomeAnd (decoded_in window)
+    (λ d. IsCalled thread d (done contents thread (change_in contents.pieces (context_of thread) window)))
 call_fetched contents thread (Err fault) long out = cc
-call_fetched contents thread (Ok window) long out = call_decoded contents thread (decoded_from (fetched window)) long out
+call_fetched contents thread (Ok window) long out =
+    call_decoded contents thread (decoded_from (fetched window)) long out
 
 return_decoded : (contents : Contents) (thread : Thread) (decoded : Option Decoded)
-    → (carried_out contents thread decoded).outcome ≡ Moved flows.Return → IsReturned contents.pieces thread (carried_out contents thread decoded)
+    → (carried_out contents thread decoded).outcome ≡ Moved flows.Return
+    → IsReturned contents.pieces thread (carried_out contents thread decoded)
 return_decoded contents thread None out = cc
 return_decoded contents thread (Some d) out = returns contents thread d out
 
@@ -448,13 +522,17 @@ return_fetched : (contents : Contents) (thread : Thread) (window : Result Window
 return_fetched contents thread (Err fault) out = cc
 return_fetched contents thread (Ok window) out = return_decoded contents thread (decoded_from (fetched window)) out
 
-pub step_calls : (contents : Contents) (thread : Thread) → length thread.registers ≡ 8 → (stepped contents thread).outcome ≡ Moved flows.Call
+pub step_calls : (contents : Contents) (thread : Thread) → length thread.registers ≡ 8
+    → (stepped contents thread).outcome ≡ Moved flows.Call
     → IsSomeAnd (instruction_at contents thread.pc) (λ d. IsCalled thread d (stepped contents thread))
 unfolding stepped next_change
 step_calls contents thread long =
     elim (thread.pc == 0xFFFF_0000)
-    as (λ b. (if b then exits contents thread else done contents thread (next_change contents thread)).outcome ≡ Moved flows.Call
-    → IsSomeAnd (instruction_at contents thread.pc) (λ d. IsCalled thread d (if b then exits contents thread else done contents thread (next_change contents thread)))) [
+    as (λ b. (if b then exits contents thread else done contents thread (next_change contents thread)).outcome
+    ≡ Moved flows.Call
+    → IsSomeAnd (instruction_at contents thread.pc)
+    (λ d.
+    IsCalled thread d (if b then exits contents thread else done contents thread (next_change contents thread)))) [
       | true ↦ λ out. cc
       | false ↦ call_fetched contents thread (window_at contents thread.pc) long
     ]
@@ -464,18 +542,23 @@ pub step_returns : (contents : Contents) (thread : Thread) → (stepped contents
 unfolding stepped next_change
 step_returns contents thread =
     elim (thread.pc == 0xFFFF_0000)
-    as (λ b. (if b then exits contents thread else done contents thread (next_change contents thread)).outcome ≡ Moved flows.Return
-    → IsReturned contents.pieces thread (if b then exits contents thread else done contents thread (next_change contents thread))) [
+    as (λ b. (if b then exits contents thread else done contents thread (next_change contents thread)).outcome
+    ≡ Moved flows.Return
+    → IsReturned contents.pieces thread
+    (if b then exits contents thread else done contents thread (next_change contents thread))) [
       | true ↦ λ out. cc
       | false ↦ return_fetched contents thread (window_at contents thread.pc)
     ]
 
 -- what can be read lies below where the pieces end
-read_below : (limit : ℕ) (pieces : List Piece) (a : ℕ) → All (λ piece. (piece_range piece).high ≤ limit) pieces → read_fault pieces a ≡ None → a < limit
+read_below : (limit : ℕ) (pieces : List Piece) (a : ℕ) → All (λ piece. (piece_range piece).high ≤ limit) pieces
+    → read_fault pieces a ≡ None → a < limit
 read_below limit [] a low good = cc
 read_below limit (x ∷ xs) a low good =
     let P : Piece → Type 0 = λ piece. (piece_range piece).high ≤ limit in
-    elim (lies_in a (piece_range x)) as (λ b. lies_in a (piece_range x) ≡ b → unreadable (option_map kind_of (cond b (Some x) (holding xs a))) ≡ None → a < limit) [
+    elim (lies_in a (piece_range x)) as
+    (λ b. lies_in a (piece_range x) ≡ b → unreadable (option_map kind_of (cond b (Some x) (holding xs a))) ≡ None
+    → a < limit) [
       | true ↦ λ here _.
           let first : (piece_range x).high ≤ limit = All-head P x xs low in
           grind (arith, nat_tests)
@@ -483,10 +566,13 @@ read_below limit (x ∷ xs) a low good =
     ] refl good
 
 -- so ESP doesn't go round below 0 at a call
-pub call_falls : (thread : Thread) (call : Decoded) (after : Left) → IsCalled thread call after → ArePlaced after.contents.pieces
+pub call_falls : (thread : Thread) (call : Decoded) (after : Left) → IsCalled thread call after
+    → ArePlaced after.contents.pieces
     → esp_of thread < 2 ^ 32 → esp_of after.thread + 4 ≡ esp_of thread
 call_falls thread call after is placed small =
     let esp = is.esp in
-    let good = each_good (read_fault after.contents.pieces) (esp_of after.thread) 4 (esp_of after.thread) is.readable (omega arith) (omega arith) in
+    let good =
+    each_good (read_fault after.contents.pieces) (esp_of after.thread) 4 (esp_of after.thread) is.readable
+    (omega arith) (omega arith) in
     let low = read_below 0xFFFF_0000 after.contents.pieces (esp_of after.thread) placed.end_below good in
     omega arith

@@ -1,5 +1,6 @@
 -- What each step keeps.
-use Rattle.std.proofs.Common.{◌≡◌, ℕ, suc, ◌+◌, ◌==◌, Bool, true, false, if◌then◌else◌, List, [], ◌∷◌, length, map, Option, Some, None, Result, Ok, Err, refl, ap, ◌∙◌}
+use Rattle.std.proofs.Common.{◌≡◌, ℕ, suc, ◌+◌, ◌==◌, Bool, true, false, if◌then◌else◌, List, [], ◌∷◌, length, map}
+use Rattle.std.proofs.Common.{Option, Some, None, Result, Ok, Err, refl, ap, ◌∙◌}
 use Rattle.ks_base.specs.declared.places.Range.{Range}
 use Rattle.ks_base.specs.declared.refusals.Fault.{Fault}
 use Rattle.image_memory.specs.declared.types.Kind.{Kind}
@@ -9,18 +10,22 @@ use Rattle.image_memory.specs.Access.{overlaid, overlaid_piece, written}
 use Rattle.ia32_step.specs.declared.types.Store.{Store}
 use Rattle.ia32_step.specs.declared.types.Thread.{Thread}
 use Rattle.ia32_step.specs.declared.types.Change.{Change}
-use Rattle.ia32_step.specs.Step.{Left, shape, store_fault, after_store, unless_barred, done, next_change, exits, stepped}
+use Rattle.ia32_step.specs.Step.{Left, shape, store_fault, after_store, unless_barred, done, next_change, exits}
+use Rattle.ia32_step.specs.Step.{stepped}
 
-pub as_long : (start : ℕ) (bytes : List ℕ) (address : ℕ) (old : List ℕ) → length (overlaid start bytes address old) ≡ length old
+pub as_long : (start : ℕ) (bytes : List ℕ) (address : ℕ) (old : List ℕ)
+    → length (overlaid start bytes address old) ≡ length old
 unfolding overlaid
 as_long start bytes address [] = refl
 as_long start bytes address (b ∷ bs) = ap suc (as_long start bytes (address + 1) bs)
 
 same_shape : (start : ℕ) (bytes : List ℕ) (piece : Piece) → shape (overlaid_piece start bytes piece) ≡ shape piece
 same_shape start bytes piece =
-    ap (λ (n : ℕ). (piece.kind, record { low = piece.base; high = piece.base + n })) (as_long start bytes piece.base piece.bytes)
+    ap (λ (n : ℕ). (piece.kind, record { low = piece.base; high = piece.base + n }))
+    (as_long start bytes piece.base piece.bytes)
 
-same_shapes : (start : ℕ) (bytes : List ℕ) (pieces : List Piece) → map shape (written start bytes pieces) ≡ map shape pieces
+same_shapes : (start : ℕ) (bytes : List ℕ) (pieces : List Piece)
+    → map shape (written start bytes pieces) ≡ map shape pieces
 same_shapes start bytes [] = refl
 same_shapes start bytes (piece ∷ pieces) =
     ap (λ (s : Kind × Range). s ∷ map shape (written start bytes pieces)) (same_shape start bytes piece)
@@ -33,7 +38,8 @@ pub record Keeps (contents : Contents) (thread : Thread) (left : Left) : Type 0 
   pub fences : left.contents.fences ≡ contents.fences
   pub shapes : map shape left.contents.pieces ≡ map shape contents.pieces
 
-stored : (contents : Contents) (store : Option Store) → map shape (after_store contents store).pieces ≡ map shape contents.pieces
+stored : (contents : Contents) (store : Option Store)
+    → map shape (after_store contents store).pieces ≡ map shape contents.pieces
 stored contents None = refl
 stored contents (Some store) = same_shapes _ _ contents.pieces
 
@@ -41,15 +47,19 @@ fenced : (contents : Contents) (store : Option Store) → (after_store contents 
 fenced contents None = refl
 fenced contents (Some store) = refl
 
-barred : (fault : Option Fault) (contents : Contents) (thread : Thread) (change : Change) → Keeps contents thread (unless_barred fault contents thread change)
+barred : (fault : Option Fault) (contents : Contents) (thread : Thread) (change : Change)
+    → Keeps contents thread (unless_barred fault contents thread change)
 barred (Some fault) contents thread change = record { number = refl; stack = refl; fences = refl; shapes = refl }
-barred None contents thread change = record { number = refl; stack = refl; fences = fenced contents change.store; shapes = stored contents change.store }
+barred None contents thread change =
+    record { number = refl; stack = refl; fences = fenced contents change.store; shapes = stored contents change.store }
 
-after : (contents : Contents) (thread : Thread) (change : Result Change Fault) → Keeps contents thread (done contents thread change)
+after : (contents : Contents) (thread : Thread) (change : Result Change Fault)
+    → Keeps contents thread (done contents thread change)
 after contents thread (Err fault) = record { number = refl; stack = refl; fences = refl; shapes = refl }
 after contents thread (Ok change) = barred (store_fault contents change.store) contents thread change
 
-either : (ends : Bool) (contents : Contents) (thread : Thread) → Keeps contents thread (if ends then exits contents thread else done contents thread (next_change contents thread))
+either : (ends : Bool) (contents : Contents) (thread : Thread)
+    → Keeps contents thread (if ends then exits contents thread else done contents thread (next_change contents thread))
 either true contents thread = record { number = refl; stack = refl; fences = refl; shapes = refl }
 either false contents thread = after contents thread (next_change contents thread)
 

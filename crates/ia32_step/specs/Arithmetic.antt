@@ -61,7 +61,8 @@ unfoldable pub combined : Reader → Arithmetic → Width → Operand → Result
 combined read operation width operand source context =
     given (operand_value read context width operand) (λ a.
     given source (λ b.
-    Ok (settled operation width (place_of context.registers operand) (binary_of (binary_operation operation) (bits width) a b context.flags) context)))
+    Ok (settled operation width (place_of context.registers operand)
+    (binary_of (binary_operation operation) (bits width) a b context.flags) context)))
 
 -- TEST sets the flags alone
 unfoldable pub tested : Reader → Width → Operand → ℕ → Context → Result Change Fault
@@ -121,7 +122,8 @@ upper_register Dword = Edx
 -- a number of twice the width in the two registers
 abbrev pub with_double : Width → ℕ → Context → Context
 with_double width n context =
-    with_register width (upper_register width) (n / 2 ^ bits width) (with_register width Eax (n % 2 ^ bits width) context)
+    with_register width (upper_register width) (n / 2 ^ bits width)
+    (with_register width Eax (n % 2 ^ bits width) context)
 
 abbrev pub double : Context → Width → ℕ
 double context width =
@@ -138,7 +140,8 @@ multiplied read sign width operand context =
 
 -- IMUL with two or three operands: a register takes the product's lower half
 abbrev pub with_lower_product : Width → Register → ℕ × Flags → Context → Context
-with_lower_product width r product context = with_register width r (product.0 % 2 ^ bits width) (with_flags product.1 context)
+with_lower_product width r product context =
+    with_register width r (product.0 % 2 ^ bits width) (with_flags product.1 context)
 
 unfoldable pub product_taken : Reader → Width → Register → Operand → ℕ → Context → Result Change Fault
 product_taken read width r operand b context =
@@ -153,7 +156,9 @@ clear_flags = record { cf = false; pf = false; zf = false; sf = false; of = fals
 abbrev pub with_quotient : Width → Option (ℕ × ℕ) → Context → Result Change Fault
 with_quotient width None context = Err Divide
 with_quotient width (Some both) context =
-    Ok (goes_on (with_register width (upper_register width) both.1 (with_register width Eax both.0 (with_flags clear_flags context))))
+    Ok (goes_on
+    (with_register width (upper_register width) both.1
+    (with_register width Eax both.0 (with_flags clear_flags context))))
 
 -- DIV and IDIV
 unfoldable pub divided : Reader → Bool → Width → Operand → Context → Result Change Fault

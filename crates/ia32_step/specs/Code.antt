@@ -13,7 +13,8 @@ code_pieces pieces = filter (λ piece. is_code piece.kind) pieces
 
 -- each piece of code stays as it was, at its place among the pieces, and so do all of them in order
 pub record KeepsCode (before after : List Piece) : Type 0 where
-  pub each : (i : ℕ) (piece : Piece) → slice_get before i ≡ Some piece → IsTrue (is_code piece.kind) → slice_get after i ≡ Some piece
+  pub each : (i : ℕ) (piece : Piece) → slice_get before i ≡ Some piece → IsTrue (is_code piece.kind)
+      → slice_get after i ≡ Some piece
   pub whole : code_pieces after ≡ code_pieces before
 
 -- zeros in place of code

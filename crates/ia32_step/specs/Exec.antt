@@ -6,6 +6,7 @@ use Rattle.ia32_alu.specs.declared.types.Unary.TheVariants as alu
 use Rattle.ia32_decode.specs.declared.types.Register.TheVariants.{Eax}
 use Rattle.ia32_decode.specs.declared.types.Width.{Width}
 use Rattle.ia32_decode.specs.declared.types.Width.TheVariants.{Byte, Word, Dword}
+use Rattle.ia32_decode.specs.Widths.{is_dword}
 use Rattle.ia32_decode.specs.declared.types.Arithmetic.{Arithmetic as Operation}
 use Rattle.ia32_decode.specs.declared.types.Arithmetic.TheVariants.{Cmp}
 use Rattle.ia32_decode.specs.declared.types.Unary.{Unary as UnaryOperation}
@@ -13,7 +14,21 @@ use Rattle.ia32_decode.specs.declared.types.Unary.TheVariants.{Not, Neg, Mul, Im
 use Rattle.ia32_decode.specs.declared.types.Operand.{Operand}
 use Rattle.ia32_decode.specs.declared.types.Operand.TheVariants as operands
 use Rattle.ia32_decode.specs.declared.types.Instr.{Instr}
-use Rattle.ia32_decode.specs.declared.types.Instr.TheVariants.{Arithmetic, CountRegister, PushRegister, PopRegister, PushImmediate, MultiplyImmediate, JumpIf, ArithmeticImmediate, Test, Exchange, Move, LoadAddress, PopOperand, Nop, ExchangeAccumulator, ExtendAccumulator, SpreadSign, LoadAccumulator, StoreAccumulator, TestAccumulator, MoveToRegister, ShiftByImmediate, ShiftByOne, ShiftByCl, ReturnAndRelease, Return, MoveImmediate, Leave, Call, Jump, TestImmediate, Unary, CountOperand, CallOperand, JumpOperand, PushOperand, EndBranch, NopOperand, MoveIf, SetIf, Multiply, CompareExchange, ExchangeAdd, ZeroExtend, SignExtend, Breakpoint, Undefined, OpcodeOnly, Interrupt, LoopBranch, FloatingPoint, SecondOpcodeOnly, SecondOperand, DoubleShift, BitTest, CompareExchangeWide}
+use Rattle.ia32_decode.specs.declared.types.Instr.TheVariants.{Arithmetic, CountRegister, PushRegister, PopRegister}
+use Rattle.ia32_decode.specs.declared.types.Instr.TheVariants.{PushImmediate, MultiplyImmediate, JumpIf}
+use Rattle.ia32_decode.specs.declared.types.Instr.TheVariants.{ArithmeticImmediate, Test, Exchange, Move, LoadAddress}
+use Rattle.ia32_decode.specs.declared.types.Instr.TheVariants.{PopOperand, Nop, ExchangeAccumulator}
+use Rattle.ia32_decode.specs.declared.types.Instr.TheVariants.{ExtendAccumulator, SpreadSign, LoadAccumulator}
+use Rattle.ia32_decode.specs.declared.types.Instr.TheVariants.{StoreAccumulator, TestAccumulator, MoveToRegister}
+use Rattle.ia32_decode.specs.declared.types.Instr.TheVariants.{ShiftByImmediate, ShiftByOne, ShiftByCl}
+use Rattle.ia32_decode.specs.declared.types.Instr.TheVariants.{ReturnAndRelease, Return, MoveImmediate, Leave, Call}
+use Rattle.ia32_decode.specs.declared.types.Instr.TheVariants.{Jump, TestImmediate, Unary, CountOperand, CallOperand}
+use Rattle.ia32_decode.specs.declared.types.Instr.TheVariants.{JumpOperand, PushOperand, EndBranch, NopOperand}
+use Rattle.ia32_decode.specs.declared.types.Instr.TheVariants.{MoveIf, SetIf, Multiply, CompareExchange, ExchangeAdd}
+use Rattle.ia32_decode.specs.declared.types.Instr.TheVariants.{ZeroExtend, SignExtend, Breakpoint, Undefined}
+use Rattle.ia32_decode.specs.declared.types.Instr.TheVariants.{OpcodeOnly, Interrupt, LoopBranch, FloatingPoint}
+use Rattle.ia32_decode.specs.declared.types.Instr.TheVariants.{SecondOpcodeOnly, SecondOperand, DoubleShift, BitTest}
+use Rattle.ia32_decode.specs.declared.types.Instr.TheVariants.{CompareExchangeWide}
 use Rattle.ia32_decode.specs.declared.types.Prefixes.{Prefixes}
 use Rattle.ia32_decode.specs.declared.types.Decoded.{Decoded}
 use Rattle.ia32_step.specs.declared.types.Context.{Context}
@@ -21,8 +36,11 @@ use Rattle.ia32_step.specs.declared.types.Change.{Change}
 use Rattle.ia32_step.specs.Registers.{register_value, with_register}
 use Rattle.ia32_step.specs.Operands.{Reader, place_of, source_value}
 use Rattle.ia32_step.specs.Changes.{goes_on, at_address, above, putting, pushing}
-use Rattle.ia32_step.specs.Arithmetic.{combined, tested, unary_counting, altered, stepped_shift, shifted, count_register, multiplied, product_taken, divided}
-use Rattle.ia32_step.specs.Moves.{copied, accumulator_loaded, accumulator_stored, address_taken, exchanged, exchanged_and_added, compare_exchanged, copied_if, set_by, zero_extended_to, sign_extended_to, accumulator_extended, sign_spread}
+use Rattle.ia32_step.specs.Arithmetic.{combined, tested, unary_counting, altered, stepped_shift, shifted}
+use Rattle.ia32_step.specs.Arithmetic.{count_register, multiplied, product_taken, divided}
+use Rattle.ia32_step.specs.Moves.{copied, accumulator_loaded, accumulator_stored, address_taken, exchanged}
+use Rattle.ia32_step.specs.Moves.{exchanged_and_added, compare_exchanged, copied_if, set_by, zero_extended_to}
+use Rattle.ia32_step.specs.Moves.{sign_extended_to, accumulator_extended, sign_spread}
 use Rattle.ia32_step.specs.Stack.{pushed, popped_to, left}
 use Rattle.ia32_step.specs.Branches.{jumped_by, jumped_if, jumped_to, called_by, called_to, returned}
 
@@ -35,8 +53,8 @@ unary_change read Imul width operand context = multiplied read true width operan
 unary_change read Div width operand context = divided read false width operand context
 unary_change read Idiv width operand context = divided read true width operand context
 
--- What an instruction does to a thread whose pc is the address after it. Pushes, pops, LEAVE, RET and indirect jumps and
--- calls are those of 32 bits: no others come here.
+-- What an instruction does to a thread whose pc is the address after it. Pushes, pops, LEAVE, RET and indirect jumps
+-- and calls are those of 32 bits: no others come here.
 unfoldable pub change_of : Reader → Instr → Context → Result Change Fault
 change_of read (Arithmetic operation width destination source) context =
     combined read operation width destination (source_value read context width source) context
@@ -104,62 +122,32 @@ change_of read (DoubleShift opcode operand r count) context = Err Unsupported
 change_of read (BitTest digit operand bit) context = Err Unsupported
 change_of read (CompareExchangeWide memory) context = Err Unsupported
 
--- a push, a pop, LEAVE, RET, and an indirect jump or call are carried out at 32 bits alone (own)
-abbrev pub is_full : Width → Bool
-is_full Byte = false
-is_full Word = false
-is_full Dword = true
-
--- whether an instruction is carried out or traps; of all others the length alone is known
+-- Whether an instruction is carried out or traps. A shift is where its value and flags are defined; a push, a pop,
+-- LEAVE, RET, and an indirect jump or call at 32 bits alone (own). Of those that never are the length alone is known.
 unfoldable pub is_stepped : Instr → Bool
 is_stepped (ShiftByImmediate operation width operand count) = not (is_none (stepped_shift operation width))
 is_stepped (ShiftByOne operation width operand) = not (is_none (stepped_shift operation width))
 is_stepped (ShiftByCl operation width operand) = not (is_none (stepped_shift operation width))
-is_stepped (PushRegister width r) = is_full width
-is_stepped (PushImmediate width n) = is_full width
-is_stepped (PushOperand width operand) = is_full width
-is_stepped (PopRegister width r) = is_full width
-is_stepped (PopOperand width operand) = is_full width
-is_stepped (Leave width) = is_full width
-is_stepped (JumpOperand width operand) = is_full width
-is_stepped (CallOperand width operand) = is_full width
-is_stepped (Return width) = is_full width
-is_stepped (ReturnAndRelease width n) = is_full width
-is_stepped (Arithmetic operation width destination source) = true
-is_stepped (ArithmeticImmediate operation width destination n) = true
-is_stepped (CountRegister operation width r) = true
-is_stepped (CountOperand operation width operand) = true
-is_stepped (Unary operation width operand) = true
-is_stepped (Test width operand r) = true
-is_stepped (TestAccumulator width n) = true
-is_stepped (TestImmediate width operand n) = true
-is_stepped (MultiplyImmediate width r source n) = true
-is_stepped (Multiply width r source) = true
-is_stepped (Move width destination source) = true
-is_stepped (MoveImmediate width destination n) = true
-is_stepped (MoveToRegister width r n) = true
-is_stepped (LoadAccumulator width address) = true
-is_stepped (StoreAccumulator width address) = true
-is_stepped (LoadAddress width r memory) = true
-is_stepped (Exchange width operand r) = true
-is_stepped (ExchangeAccumulator width r) = true
-is_stepped (ExchangeAdd width operand r) = true
-is_stepped (CompareExchange width operand r) = true
-is_stepped (MoveIf condition width r source) = true
-is_stepped (SetIf condition operand) = true
-is_stepped (ZeroExtend from width r source) = true
-is_stepped (SignExtend from width r source) = true
-is_stepped (ExtendAccumulator width) = true
-is_stepped (SpreadSign width) = true
-is_stepped (JumpIf condition relative) = true
-is_stepped (Jump relative) = true
-is_stepped (Call relative) = true
-is_stepped Nop = true
-is_stepped EndBranch = true
-is_stepped (NopOperand operand) = true
-is_stepped Breakpoint = true
-is_stepped Undefined = true
-is_stepped other = false
+is_stepped (PushRegister width r) = is_dword width
+is_stepped (PushImmediate width n) = is_dword width
+is_stepped (PushOperand width operand) = is_dword width
+is_stepped (PopRegister width r) = is_dword width
+is_stepped (PopOperand width operand) = is_dword width
+is_stepped (Leave width) = is_dword width
+is_stepped (JumpOperand width operand) = is_dword width
+is_stepped (CallOperand width operand) = is_dword width
+is_stepped (Return width) = is_dword width
+is_stepped (ReturnAndRelease width n) = is_dword width
+is_stepped (OpcodeOnly opcode) = false
+is_stepped (Interrupt vector) = false
+is_stepped (LoopBranch opcode relative) = false
+is_stepped (FloatingPoint opcode operand) = false
+is_stepped (SecondOpcodeOnly opcode) = false
+is_stepped (SecondOperand opcode operand r) = false
+is_stepped (DoubleShift opcode operand r count) = false
+is_stepped (BitTest digit operand bit) = false
+is_stepped (CompareExchangeWide memory) = false
+is_stepped other = true
 
 -- where the prefix F3 may stand: F3 90 is PAUSE, before C3 it has no effect (own), and F3 0F 1E FB is ENDBR32
 abbrev pub takes_repeat : Instr → Bool
@@ -168,11 +156,12 @@ takes_repeat (Return width) = true
 takes_repeat EndBranch = true
 takes_repeat other = false
 
--- whether there is a prefix with which nothing is carried out: F2, 64 or 65, or F3 elsewhere (own). The prefixes 26, 2E, 36
--- and 3E have no effect (own).
+-- whether there is a prefix with which nothing is carried out: F2, 64 or 65, or F3 elsewhere (own). The prefixes 26,
+-- 2E, 36 and 3E have no effect (own).
 unfoldable pub refuses_prefixes : Prefixes → Instr → Bool
 refuses_prefixes prefixes instr =
-    prefixes.repeat_not_equal || prefixes.segment_f || prefixes.segment_g || (prefixes.repeat && not (takes_repeat instr))
+    prefixes.repeat_not_equal || prefixes.segment_f || prefixes.segment_g
+    || (prefixes.repeat && not (takes_repeat instr))
 
 abbrev pub traps : Instr → Bool
 traps Breakpoint = true
@@ -200,8 +189,8 @@ takes_lock (CompareExchange width operand r) = is_memory operand
 takes_lock (ExchangeAdd width operand r) = is_memory operand
 takes_lock other = false
 
--- What an instruction does, or the first of its faults in this order (own): it isn't carried out, it traps, it has a LOCK
--- prefix where none may stand, and then those of its reads and of a division. What it writes is tried after that.
+-- What an instruction does, or the first of its faults in this order (own): it isn't carried out, it traps, it has a
+-- LOCK prefix where none may stand, and then those of its reads and of a division. What it writes is tried after that.
 unfoldable pub executed : Reader → Decoded → Context → Result Change Fault
 executed read d context =
     if not (is_stepped d.instr) || refuses_prefixes d.prefixes d.instr then Err Unsupported

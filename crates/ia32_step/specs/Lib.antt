@@ -1,3 +1,5 @@
+-- Public clauses cite `Step` (what a step leaves, by the files before it), `Threads`, `Code` and `Frames`: these and
+-- the files before them are what a reader has to believe. What is `inside` only the code's own clauses cite.
 pub mod Registers
 pub mod Operands
 pub mod Changes
@@ -10,3 +12,4 @@ pub mod Step
 pub mod Threads
 pub mod Code
 pub mod Frames
+pub mod inside

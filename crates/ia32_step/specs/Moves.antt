@@ -45,17 +45,19 @@ address_taken width r memory context = goes_on (with_register width r (address_o
 unfoldable pub exchanged : Reader → Width → Operand → Register → Context → Result Change Fault
 exchanged read width operand r context =
     given (operand_value read context width operand) (λ v.
-    Ok (putting (place_of context.registers operand) width (register_value context.registers width r) (with_register width r v context)))
+    Ok (putting (place_of context.registers operand) width (register_value context.registers width r)
+    (with_register width r v context)))
 
 -- XADD: the register takes what the operand held, and then the operand the sum
 unfoldable pub exchanged_and_added : Reader → Width → Operand → Register → Context → Result Change Fault
 exchanged_and_added read width operand r context =
     given (operand_value read context width operand) (λ a.
-    let sum : ℕ × Flags = binary_of binary.Add (bits width) a (register_value context.registers width r) context.flags in
+    let sum : ℕ × Flags =
+    binary_of binary.Add (bits width) a (register_value context.registers width r) context.flags in
     Ok (putting (place_of context.registers operand) width sum.0 (with_register width r a (with_flags sum.1 context))))
 
--- Where the accumulator equals the operand, the operand takes what the register holds. Otherwise the accumulator takes what
--- the operand held, and the operand the same again, for it must be writable in both cases.
+-- Where the accumulator equals the operand, the operand takes what the register holds. Otherwise the accumulator takes
+-- what the operand held, and the operand the same again, for it must be writable in both cases.
 abbrev pub compared_and_exchanged : Place → Width → ℕ → ℕ → ℕ × Flags → Context → Change
 compared_and_exchanged place width a v compared context =
     if compared.1.zf then putting place width v (with_flags compared.1 context)
@@ -65,7 +67,8 @@ compared_and_exchanged place width a v compared context =
 unfoldable pub compare_exchanged : Reader → Width → Operand → Register → Context → Result Change Fault
 compare_exchanged read width operand r context =
     given (operand_value read context width operand) (λ a.
-    Ok (compared_and_exchanged (place_of context.registers operand) width a (register_value context.registers width r) (binary_of binary.Cmp (bits width) (accumulator context width) a context.flags) context))
+    Ok (compared_and_exchanged (place_of context.registers operand) width a (register_value context.registers width r)
+    (binary_of binary.Cmp (bits width) (accumulator context width) a context.flags) context))
 
 -- whether a condition holds of the flags
 abbrev pub holds : Condition → Flags → Bool
@@ -93,7 +96,8 @@ zero_extended_to read from width r source context =
 
 unfoldable pub sign_extended_to : Reader → Width → Width → Register → Operand → Context → Result Change Fault
 sign_extended_to read from width r source context =
-    given (operand_value read context from source) (λ v. Ok (goes_on (with_register width r (sign_extended (bits from) v) context)))
+    given (operand_value read context from source)
+    (λ v. Ok (goes_on (with_register width r (sign_extended (bits from) v) context)))
 
 -- what is extended: AL to AX, and AX to EAX; there is no such instruction at 8 bits
 abbrev pub half : Width → Width
@@ -109,4 +113,5 @@ accumulator_extended width context =
 -- CWD and CDQ: the accumulator's sign in each bit of DX or EDX
 abbrev pub sign_spread : Width → Context → Change
 sign_spread width context =
-    goes_on (with_register width Edx (if highest (bits width) (accumulator context width) then 0xFFFF_FFFF else 0) context)
+    goes_on (with_register width Edx (if highest (bits width) (accumulator context width) then 0xFFFF_FFFF else 0)
+    context)

@@ -7,6 +7,7 @@ use Rattle.image_memory.specs.Access.{first_fault, read_fault, bytes_at}
 use Rattle.ia32_decode.specs.declared.types.Register.{Register}
 use Rattle.ia32_decode.specs.declared.types.Width.{Width}
 use Rattle.ia32_decode.specs.declared.types.Width.TheVariants.{Byte, Word, Dword}
+use Rattle.ia32_decode.specs.Widths.{byte_count}
 use Rattle.ia32_decode.specs.declared.types.Index.{Index}
 use Rattle.ia32_decode.specs.declared.types.Memory.{Memory}
 use Rattle.ia32_decode.specs.declared.types.Operand.{Operand}
@@ -42,11 +43,6 @@ abbrev pub place_of : List ℕ → Operand → Place
 place_of registers (operands.Register r) = InRegister r
 place_of registers (operands.Memory memory) = InMemory (address_of registers memory)
 
-abbrev pub byte_count : Width → ℕ
-byte_count Byte = 1
-byte_count Word = 2
-byte_count Dword = 4
-
 -- the number that bytes spell, and the bytes that spell a number's lowest bits; the lowest byte comes first
 abbrev pub number_of : Width → List ℕ → ℕ
 number_of Byte bytes = slice_index bytes 0
@@ -70,7 +66,8 @@ number_at pieces width address =
     (first_fault (read_fault pieces) address (byte_count width))
     (number_of width (bytes_at pieces address (byte_count width)))
 
--- What an instruction sees of memory: the number of a width at an address, or why it can't be read. It sees nothing else.
+-- What an instruction sees of memory: the number of a width at an address, or why it can't be read. It sees nothing
+-- else.
 abbrev pub Reader : Type 0
 Reader = Width → ℕ → Result ℕ Fault
 

@@ -9,8 +9,8 @@ use Rattle.ia32_decode.specs.declared.types.Width.TheVariants.{Byte, Word, Dword
 use Rattle.ia32_decode.specs.Encoding.{register_number}
 use Rattle.ia32_step.specs.declared.types.Context.{Context}
 
--- At 8 bits the numbers 0 to 3 name AL, CL, DL and BL, the lowest bytes of the first four registers, and 4 to 7 name AH,
--- CH, DH and BH, the bytes above these.
+-- At 8 bits the numbers 0 to 3 name AL, CL, DL and BL, the lowest bytes of the first four registers, and 4 to 7 name
+-- AH, CH, DH and BH, the bytes above these.
 abbrev pub byte_value : List ℕ → ℕ → ℕ
 byte_value registers n =
     if nat_lt n 4 then slice_index registers n % 0x100 else slice_index registers (n - 4) / 0x100 % 0x100

@@ -15,7 +15,8 @@ use Rattle.ia32_step.specs.Changes.{putting, pushing, popped, raised}
 unfoldable pub pushed : Reader → Operand → Context → Result Change Fault
 pushed read operand context = given (operand_value read context Dword operand) (λ v. Ok (pushing v context))
 
--- POP: where the operand stands is found after ESP has risen, and then it takes the number, so POP ESP leaves that in ESP
+-- POP: where the operand stands is found after ESP has risen, and then it takes the number, so POP ESP leaves that in
+-- ESP
 unfoldable pub popped_to : Reader → Operand → Context → Result Change Fault
 popped_to read operand context =
     given (popped read context) (λ v.

@@ -19,7 +19,8 @@ use Rattle.ia32_step.specs.declared.types.Outcome.TheVariants.{Moved, Exited, St
 use Rattle.ia32_step.specs.declared.types.Store.{Store}
 use Rattle.ia32_step.specs.declared.types.Change.{Change}
 use Rattle.ia32_step.specs.Registers.{accumulator}
-use Rattle.ia32_step.specs.Operands.{number_at, byte_count, spelled}
+use Rattle.ia32_decode.specs.Widths.{byte_count}
+use Rattle.ia32_step.specs.Operands.{number_at, spelled}
 use Rattle.ia32_step.specs.Exec.{executed}
 use Rattle.ia32_decode.specs.declared.types.Width.TheVariants.{Dword}
 
@@ -59,7 +60,11 @@ after_store contents (Some store) = after_write contents store.address (spelled 
 abbrev pub unless_barred : Option Fault → Contents → Thread → Change → Left
 unless_barred (Some fault) contents thread change = stops contents thread fault
 unless_barred None contents thread change =
-    record { contents = after_store contents change.store; thread = resumed thread change.context; outcome = Moved change.flow }
+    record {
+      contents = after_store contents change.store;
+      thread = resumed thread change.context;
+      outcome = Moved change.flow;
+    }
 
 -- what an instruction does is done whole, or the thread stops
 abbrev pub done : Contents → Thread → Result Change Fault → Left
@@ -78,8 +83,8 @@ abbrev pub change_in : List Piece → Context → Result Window Fault → Result
 change_in pieces context (Err fault) = Err fault
 change_in pieces context (Ok window) = change_by pieces context (decoded_from (fetched window))
 
--- what the instruction does that is fetched at a thread's pc, or why there is none, or the first of its faults but those of
--- what it writes
+-- what the instruction does that is fetched at a thread's pc, or why there is none, or the first of its faults but
+-- those of what it writes
 unfoldable pub next_change : Contents → Thread → Result Change Fault
 next_change contents thread = change_in contents.pieces (context_of thread) (window_at contents thread.pc)
 
@@ -90,8 +95,8 @@ exited thread = record thread { state = states.Exited (accumulator (context_of t
 abbrev pub exits : Contents → Thread → Left
 exits contents thread = left_by contents (exited thread) (Exited (accumulator (context_of thread) Dword))
 
--- One step of a running thread. At 0xFFFF0000, to which the function returns that it was started at, it ends; elsewhere it carries out the instruction
--- that is fetched at its pc.
+-- One step of a running thread. At 0xFFFF0000, to which the function returns that it was started at, it ends; elsewhere
+-- it carries out the instruction that is fetched at its pc.
 unfoldable pub stepped : Contents → Thread → Left
 stepped contents thread =
     if thread.pc == 0xFFFF_0000 then exits contents thread

@@ -1,13 +1,12 @@
 //! Sums, differences, bitwise operations and shifts.
-ghost use Rattle.std.specs.Prelude.{◌≡◌, ◌%◌, Some, Ok, Err, MatchResult};
+ghost use Rattle.std.specs.Prelude.{◌≡◌, Some};
 ghost use Rattle.ia32_alu.specs.declared.types.Shift.TheVariants.{Rol, Ror};
 ghost use Rattle.ia32_decode.specs.declared.types.Width.TheVariants.{Dword};
-ghost use Rattle.ia32_alu.specs.Arithmetic.{binary_of};
-ghost use Rattle.ia32_decode.specs.declared.types.Register.TheVariants.{Eax};
-ghost use Rattle.ia32_decode.specs.declared.types.Operand.TheVariants as operands;
-ghost use Rattle.ia32_step.specs.Registers.{register_value};
 ghost use Rattle.ia32_step.specs.Operands.{number_at, source_value};
-ghost use Rattle.ia32_step.specs.Arithmetic.{alu_width, bits, binary_operation, settled, combined, tested, unary_counting, altered, stepped_shift, full_rotation, shifted_by, shifted, count_register};
+ghost use Rattle.ia32_step.specs.Arithmetic.{alu_width, binary_operation, settled, combined, tested};
+ghost use Rattle.ia32_step.specs.Arithmetic.{unary_counting, altered, stepped_shift, full_rotation, shifted_by};
+ghost use Rattle.ia32_step.specs.Arithmetic.{shifted, count_register};
+ghost use Rattle.ia32_step.specs.inside.Comes.{Comes};
 
 use crate::operands::{operand_value, place_of, source_value, value_at};
 use crate::types::{Change, Context, Place};
@@ -60,20 +59,6 @@ fn settle(
     }
 }
 
-/// ADD, OR, ADC, SBB, AND, SUB, XOR and CMP of two numbers, of which the first stands at a place.
-fn work_out(change: &mut Change, operation: Arithmetic, width: Width, place: Place, a: u32, b: u32)
-    ensures { change.new ≡ settled operation width place (binary_of (binary_operation operation) (bits width) a b change.old.context.flags) change.old.context }
-{
-    let result_of = ia32_alu::binary(
-        binary_operation(operation),
-        alu_width(width),
-        a,
-        b,
-        change.context.flags,
-    );
-    settle(change, operation, width, place, result_of)
-}
-
 /// ADD, OR, ADC, SBB, AND, SUB, XOR and CMP of two operands.
 #[tactic(auto, unfolding(crate::specs::Arithmetic::combined))]
 pub(crate) fn combine<S: Space>(
@@ -84,34 +69,22 @@ pub(crate) fn combine<S: Space>(
     operand: &Operand,
     source: &Source,
 ) -> Result<(), Fault>
-    ensures { MatchResult result
-        (λ _. Ok change.new ≡ combined (number_at (S.contents space.now).pieces) operation width operand.now (source_value (number_at (S.contents space.now).pieces) change.old.context width source.now) change.old.context)
-        (λ fault. Err fault ≡ combined (number_at (S.contents space.now).pieces) operation width operand.now (source_value (number_at (S.contents space.now).pieces) change.old.context width source.now) change.old.context) }
+    ensures { Comes result change.new
+        (combined (number_at (S.contents space.now).pieces) operation width operand.now
+        (source_value (number_at (S.contents space.now).pieces) change.old.context width source.now)
+        change.old.context) }
 {
     let place = place_of(&change.context, operand);
     let a = value_at(space, &change.context, width, place)?;
     let b = source_value(space, &change.context, width, source)?;
-    work_out(change, operation, width, place, a, b);
-    Ok(())
-}
-
-/// ADD, OR, ADC, SBB, AND, SUB, XOR and CMP of an operand and an immediate.
-#[tactic(auto, unfolding(crate::specs::Arithmetic::combined))]
-pub(crate) fn combine_immediate<S: Space>(
-    space: &S,
-    change: &mut Change,
-    operation: Arithmetic,
-    width: Width,
-    operand: &Operand,
-    immediate: u32,
-) -> Result<(), Fault>
-    ensures { MatchResult result
-        (λ _. Ok change.new ≡ combined (number_at (S.contents space.now).pieces) operation width operand.now (Ok immediate) change.old.context)
-        (λ fault. Err fault ≡ combined (number_at (S.contents space.now).pieces) operation width operand.now (Ok immediate) change.old.context) }
-{
-    let place = place_of(&change.context, operand);
-    let a = value_at(space, &change.context, width, place)?;
-    work_out(change, operation, width, place, a, immediate);
+    let result_of = ia32_alu::binary(
+        binary_operation(operation),
+        alu_width(width),
+        a,
+        b,
+        change.context.flags,
+    );
+    settle(change, operation, width, place, result_of);
     Ok(())
 }
 
@@ -124,9 +97,8 @@ pub(crate) fn test<S: Space>(
     operand: &Operand,
     b: u32,
 ) -> Result<(), Fault>
-    ensures { MatchResult result
-        (λ _. Ok change.new ≡ tested (number_at (S.contents space.now).pieces) width operand.now b change.old.context)
-        (λ fault. Err fault ≡ tested (number_at (S.contents space.now).pieces) width operand.now b change.old.context) }
+    ensures { Comes result change.new
+        (tested (number_at (S.contents space.now).pieces) width operand.now b change.old.context) }
 {
     let a = operand_value(space, &change.context, width, operand)?;
     let (_, flags) = ia32_alu::binary(
@@ -141,43 +113,7 @@ pub(crate) fn test<S: Space>(
     Ok(())
 }
 
-/// TEST of an operand and a register.
-pub(crate) fn test_register<S: Space>(
-    space: &S,
-    change: &mut Change,
-    width: Width,
-    operand: &Operand,
-    register: Register,
-) -> Result<(), Fault>
-    ensures { MatchResult result
-        (λ _. Ok change.new ≡ tested (number_at (S.contents space.now).pieces) width operand.now (register_value change.old.context.registers width register) change.old.context)
-        (λ fault. Err fault ≡ tested (number_at (S.contents space.now).pieces) width operand.now (register_value change.old.context.registers width register) change.old.context) }
-{
-    let own = change.context.register(width, register);
-    test(space, change, width, operand, own)
-}
-
-/// TEST of the accumulator and an immediate.
-pub(crate) fn test_accumulator<S: Space>(
-    space: &S,
-    change: &mut Change,
-    width: Width,
-    immediate: u32,
-) -> Result<(), Fault>
-    ensures { MatchResult result
-        (λ _. Ok change.new ≡ tested (number_at (S.contents space.now).pieces) width (operands.Register Eax) immediate change.old.context)
-        (λ fault. Err fault ≡ tested (number_at (S.contents space.now).pieces) width (operands.Register Eax) immediate change.old.context) }
-{
-    test(
-        space,
-        change,
-        width,
-        &Operand::Register(Register::Eax),
-        immediate,
-    )
-}
-
-fn counting(operation: Counting) -> ia32_alu::Unary
+pub(crate) fn counting(operation: Counting) -> ia32_alu::Unary
     ensures { result ≡ unary_counting operation }
 {
     match operation {
@@ -195,9 +131,8 @@ pub(crate) fn alter<S: Space>(
     width: Width,
     operand: &Operand,
 ) -> Result<(), Fault>
-    ensures { MatchResult result
-        (λ _. Ok change.new ≡ altered (number_at (S.contents space.now).pieces) operation width operand.now change.old.context)
-        (λ fault. Err fault ≡ altered (number_at (S.contents space.now).pieces) operation width operand.now change.old.context) }
+    ensures { Comes result change.new
+        (altered (number_at (S.contents space.now).pieces) operation width operand.now change.old.context) }
 {
     let place = place_of(&change.context, operand);
     let a = value_at(space, &change.context, width, place)?;
@@ -205,42 +140,6 @@ pub(crate) fn alter<S: Space>(
     change.context.flags = flags;
     change.put(place, width, value);
     Ok(())
-}
-
-/// INC or DEC of an operand.
-pub(crate) fn count<S: Space>(
-    space: &S,
-    change: &mut Change,
-    operation: Counting,
-    width: Width,
-    operand: &Operand,
-) -> Result<(), Fault>
-    ensures { MatchResult result
-        (λ _. Ok change.new ≡ altered (number_at (S.contents space.now).pieces) (unary_counting operation) width operand.now change.old.context)
-        (λ fault. Err fault ≡ altered (number_at (S.contents space.now).pieces) (unary_counting operation) width operand.now change.old.context) }
-{
-    alter(space, change, counting(operation), width, operand)
-}
-
-/// INC or DEC of a register.
-pub(crate) fn count_in_register<S: Space>(
-    space: &S,
-    change: &mut Change,
-    operation: Counting,
-    width: Width,
-    register: Register,
-) -> Result<(), Fault>
-    ensures { MatchResult result
-        (λ _. Ok change.new ≡ altered (number_at (S.contents space.now).pieces) (unary_counting operation) width (operands.Register register) change.old.context)
-        (λ fault. Err fault ≡ altered (number_at (S.contents space.now).pieces) (unary_counting operation) width (operands.Register register) change.old.context) }
-{
-    count(
-        space,
-        change,
-        operation,
-        width,
-        &Operand::Register(register),
-    )
 }
 
 fn rotation(operation: ia32_alu::Shift, width: Width) -> Option<ia32_alu::Shift>
@@ -276,9 +175,9 @@ fn shift_by<S: Space>(
 ) -> Result<(), Fault>
     requires left { operation ≡ Rol → width ≡ Dword }
     requires right { operation ≡ Ror → width ≡ Dword }
-    ensures { MatchResult result
-        (λ _. Ok change.new ≡ shifted_by (number_at (S.contents space.now).pieces) (Some operation) width operand.now count change.old.context)
-        (λ fault. Err fault ≡ shifted_by (number_at (S.contents space.now).pieces) (Some operation) width operand.now count change.old.context) }
+    ensures { Comes result change.new
+        (shifted_by (number_at (S.contents space.now).pieces) (Some operation) width operand.now count
+        change.old.context) }
 {
     let place = place_of(&change.context, operand);
     let a = value_at(space, &change.context, width, place)?;
@@ -304,9 +203,8 @@ pub(crate) fn shift<S: Space>(
     operand: &Operand,
     count: u8,
 ) -> Result<(), Fault>
-    ensures { MatchResult result
-        (λ _. Ok change.new ≡ shifted (number_at (S.contents space.now).pieces) operation width operand.now count change.old.context)
-        (λ fault. Err fault ≡ shifted (number_at (S.contents space.now).pieces) operation width operand.now count change.old.context) }
+    ensures { Comes result change.new
+        (shifted (number_at (S.contents space.now).pieces) operation width operand.now count change.old.context) }
 {
     match stepped_shift(operation, width) {
         None => Err(Fault::Unsupported),
@@ -316,47 +214,8 @@ pub(crate) fn shift<S: Space>(
 
 /// CL.
 #[tactic(auto, unfolding(crate::specs::Registers::register_value))]
-fn count_register(context: &Context) -> u8
+pub(crate) fn count_register(context: &Context) -> u8
     ensures { result ≡ count_register context.now }
 {
     (context.register(Width::Dword, Register::Ecx) % 0x100) as u8
-}
-
-/// A shift or rotate by the lowest byte of an immediate.
-pub(crate) fn shift_by_immediate<S: Space>(
-    space: &S,
-    change: &mut Change,
-    operation: Shift,
-    width: Width,
-    operand: &Operand,
-    count: u32,
-) -> Result<(), Fault>
-    ensures { MatchResult result
-        (λ _. Ok change.new ≡ shifted (number_at (S.contents space.now).pieces) operation width operand.now (count % 0x100) change.old.context)
-        (λ fault. Err fault ≡ shifted (number_at (S.contents space.now).pieces) operation width operand.now (count % 0x100) change.old.context) }
-{
-    shift(
-        space,
-        change,
-        operation,
-        width,
-        operand,
-        (count % 0x100) as u8,
-    )
-}
-
-/// A shift or rotate by CL.
-pub(crate) fn shift_by_cl<S: Space>(
-    space: &S,
-    change: &mut Change,
-    operation: Shift,
-    width: Width,
-    operand: &Operand,
-) -> Result<(), Fault>
-    ensures { MatchResult result
-        (λ _. Ok change.new ≡ shifted (number_at (S.contents space.now).pieces) operation width operand.now (count_register change.old.context) change.old.context)
-        (λ fault. Err fault ≡ shifted (number_at (S.contents space.now).pieces) operation width operand.now (count_register change.old.context) change.old.context) }
-{
-    let count = count_register(&change.context);
-    shift(space, change, operation, width, operand, count)
 }

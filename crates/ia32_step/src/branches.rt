@@ -1,7 +1,9 @@
 //! Jumps, calls and returns, of a thread whose pc is the address after the instruction.
-ghost use Rattle.std.specs.Prelude.{◌≡◌, Ok, Err, MatchResult};
+ghost use Rattle.std.specs.Prelude.{◌≡◌};
 ghost use Rattle.ia32_step.specs.Operands.{number_at};
-ghost use Rattle.ia32_step.specs.Branches.{jumped_by, jumped_if, jumped_to, called, called_by, called_to, returning, returned};
+ghost use Rattle.ia32_step.specs.Branches.{jumped_by, jumped_if, jumped_to, called, called_by, called_to, returning};
+ghost use Rattle.ia32_step.specs.Branches.{returned};
+ghost use Rattle.ia32_step.specs.inside.Comes.{Comes};
 
 use crate::changes::above;
 use crate::moves::holds;
@@ -36,9 +38,8 @@ pub(crate) fn jump_to<S: Space>(
     change: &mut Change,
     operand: &Operand,
 ) -> Result<(), Fault>
-    ensures { MatchResult result
-        (λ _. Ok change.new ≡ jumped_to (number_at (S.contents space.now).pieces) operand.now change.old.context)
-        (λ fault. Err fault ≡ jumped_to (number_at (S.contents space.now).pieces) operand.now change.old.context) }
+    ensures { Comes result change.new
+        (jumped_to (number_at (S.contents space.now).pieces) operand.now change.old.context) }
 {
     let target = operand_value(space, &change.context, Width::Dword, operand)?;
     change.context.pc = target;
@@ -70,9 +71,8 @@ pub(crate) fn call_to<S: Space>(
     change: &mut Change,
     operand: &Operand,
 ) -> Result<(), Fault>
-    ensures { MatchResult result
-        (λ _. Ok change.new ≡ called_to (number_at (S.contents space.now).pieces) operand.now change.old.context)
-        (λ fault. Err fault ≡ called_to (number_at (S.contents space.now).pieces) operand.now change.old.context) }
+    ensures { Comes result change.new
+        (called_to (number_at (S.contents space.now).pieces) operand.now change.old.context) }
 {
     let callee = operand_value(space, &change.context, Width::Dword, operand)?;
     call(change, callee);
@@ -91,9 +91,8 @@ fn go_back(change: &mut Change, bytes: u32, target: u32)
 /// RET, which raises ESP by a number of further bytes.
 #[tactic(auto, unfolding(crate::specs::Branches::returned))]
 pub(crate) fn return_from<S: Space>(space: &S, change: &mut Change, bytes: u32) -> Result<(), Fault>
-    ensures { MatchResult result
-        (λ _. Ok change.new ≡ returned (number_at (S.contents space.now).pieces) bytes change.old.context)
-        (λ fault. Err fault ≡ returned (number_at (S.contents space.now).pieces) bytes change.old.context) }
+    ensures { Comes result change.new
+        (returned (number_at (S.contents space.now).pieces) bytes change.old.context) }
 {
     let target = change.context.popped(space)?;
     go_back(change, bytes, target);

@@ -1,23 +1,23 @@
 //! What an instruction does, and which are not carried out.
-ghost use Rattle.std.specs.Prelude.{◌≡◌, Ok, Err, MatchResult};
+ghost use Rattle.std.specs.Prelude.{◌≡◌};
 ghost use Rattle.ia32_step.specs.Operands.{number_at};
-ghost use Rattle.ia32_step.specs.Exec.{unary_change, change_of, is_full, is_stepped, takes_repeat, refuses_prefixes, traps, is_memory, writes, takes_lock, executed};
+ghost use Rattle.ia32_step.specs.Exec.{unary_change, change_of, is_stepped, takes_repeat, refuses_prefixes, traps};
+ghost use Rattle.ia32_step.specs.Exec.{is_memory, writes, takes_lock, executed};
+ghost use Rattle.ia32_step.specs.inside.Comes.{Comes};
 
-use crate::arithmetic::{
-    alter, combine, combine_immediate, count, count_in_register, shift, shift_by_cl,
-    shift_by_immediate, stepped_shift, test, test_accumulator, test_register,
-};
+use crate::arithmetic::{alter, combine, count_register, counting, shift, stepped_shift, test};
 use crate::branches::{call_by, call_to, jump_by, jump_if, jump_to, return_from};
 use crate::changes::above;
 use crate::moves::{
-    compare_exchange, copy, copy_if, exchange, exchange_accumulator, exchange_and_add,
-    extend_accumulator, load_accumulator, load_immediate, put_immediate, set_by, sign_extend,
-    spread_sign, store_accumulator, take_address, zero_extend,
+    compare_exchange, copy, copy_if, exchange, exchange_and_add, extend_accumulator,
+    load_accumulator, set_by, sign_extend, spread_sign, store_accumulator, take_address,
+    zero_extend,
 };
-use crate::products::{divide, multiply, multiply_register, take_product};
-use crate::stack::{leave, pop, pop_register, push, push_immediate, push_register};
+use crate::operands::place_of;
+use crate::products::{divide, multiply, take_product};
+use crate::stack::{leave, pop, push};
 use crate::types::{Change, Context};
-use ia32_decode::{Arithmetic, Decoded, Instr, Operand, Prefixes, Unary, Width};
+use ia32_decode::{Arithmetic, Decoded, Instr, Operand, Prefixes, Register, Source, Unary, Width};
 use image_memory::Space;
 use ks_base::Fault;
 
@@ -30,9 +30,8 @@ fn unary_change<S: Space>(
     width: Width,
     operand: &Operand,
 ) -> Result<(), Fault>
-    ensures { MatchResult result
-        (λ _. Ok change.new ≡ unary_change (number_at (S.contents space.now).pieces) operation width operand.now change.old.context)
-        (λ fault. Err fault ≡ unary_change (number_at (S.contents space.now).pieces) operation width operand.now change.old.context) }
+    ensures { Comes result change.new
+        (unary_change (number_at (S.contents space.now).pieces) operation width operand.now change.old.context) }
 {
     match operation {
         Unary::Not => alter(space, change, ia32_alu::Unary::Not, width, operand),
@@ -47,9 +46,8 @@ fn unary_change<S: Space>(
 /// What an instruction does to a thread whose pc is the address after it.
 #[tactic(auto, unfolding(crate::specs::Exec::change_of, crate::specs::Stack::pushed, crate::specs::Operands::value_at))]
 fn change_of<S: Space>(space: &S, change: &mut Change, instr: &Instr) -> Result<(), Fault>
-    ensures { MatchResult result
-        (λ _. Ok change.new ≡ change_of (number_at (S.contents space.now).pieces) instr.now change.old.context)
-        (λ fault. Err fault ≡ change_of (number_at (S.contents space.now).pieces) instr.now change.old.context) }
+    ensures { Comes result change.new
+        (change_of (number_at (S.contents space.now).pieces) instr.now change.old.context) }
 {
     match instr {
         Instr::Arithmetic {
@@ -63,25 +61,47 @@ fn change_of<S: Space>(space: &S, change: &mut Change, instr: &Instr) -> Result<
             width,
             destination,
             immediate,
-        } => combine_immediate(space, change, *operation, *width, destination, *immediate),
+        } => combine(
+            space,
+            change,
+            *operation,
+            *width,
+            destination,
+            &Source::Immediate(*immediate),
+        ),
         Instr::CountRegister {
             operation,
             width,
             register,
-        } => count_in_register(space, change, *operation, *width, *register),
+        } => alter(
+            space,
+            change,
+            counting(*operation),
+            *width,
+            &Operand::Register(*register),
+        ),
         Instr::CountOperand {
             operation,
             width,
             operand,
-        } => count(space, change, *operation, *width, operand),
+        } => alter(space, change, counting(*operation), *width, operand),
         Instr::Unary {
             operation,
             width,
             operand,
         } => unary_change(space, change, *operation, *width, operand),
-        Instr::Test { width, left, right } => test_register(space, change, *width, left, *right),
+        Instr::Test { width, left, right } => {
+            let own = change.context.register(*width, *right);
+            test(space, change, *width, left, own)
+        }
         Instr::TestAccumulator { width, immediate } => {
-            test_accumulator(space, change, *width, *immediate)
+            test(
+                space,
+                change,
+                *width,
+                &Operand::Register(Register::Eax),
+                *immediate,
+            )
         }
         Instr::TestImmediate {
             width,
@@ -98,13 +118,23 @@ fn change_of<S: Space>(space: &S, change: &mut Change, instr: &Instr) -> Result<
             width,
             destination,
             source,
-        } => multiply_register(space, change, *width, *destination, source),
+        } => {
+            let own = change.context.register(*width, *destination);
+            take_product(space, change, *width, *destination, source, own)
+        }
         Instr::ShiftByImmediate {
             operation,
             width,
             operand,
             count,
-        } => shift_by_immediate(space, change, *operation, *width, operand, *count),
+        } => shift(
+            space,
+            change,
+            *operation,
+            *width,
+            operand,
+            (*count % 0x100) as u8,
+        ),
         Instr::ShiftByOne {
             operation,
             width,
@@ -114,7 +144,10 @@ fn change_of<S: Space>(space: &S, change: &mut Change, instr: &Instr) -> Result<
             operation,
             width,
             operand,
-        } => shift_by_cl(space, change, *operation, *width, operand),
+        } => {
+            let count = count_register(&change.context);
+            shift(space, change, *operation, *width, operand, count)
+        }
         Instr::Move {
             width,
             destination,
@@ -125,7 +158,8 @@ fn change_of<S: Space>(space: &S, change: &mut Change, instr: &Instr) -> Result<
             destination,
             immediate,
         } => {
-            put_immediate(change, *width, destination, *immediate);
+            let place = place_of(&change.context, destination);
+            change.put(place, *width, *immediate);
             Ok(())
         }
         Instr::MoveToRegister {
@@ -133,7 +167,8 @@ fn change_of<S: Space>(space: &S, change: &mut Change, instr: &Instr) -> Result<
             register,
             immediate,
         } => {
-            load_immediate(change, *width, *register, *immediate);
+            change.context.put_register(*width, *register, *immediate);
+            change.go_on();
             Ok(())
         }
         Instr::LoadAccumulator { width, address } => {
@@ -157,7 +192,13 @@ fn change_of<S: Space>(space: &S, change: &mut Change, instr: &Instr) -> Result<
             register,
         } => exchange(space, change, *width, operand, *register),
         Instr::ExchangeAccumulator { width, register } => {
-            exchange_accumulator(space, change, *width, *register)
+            exchange(
+                space,
+                change,
+                *width,
+                &Operand::Register(Register::Eax),
+                *register,
+            )
         }
         Instr::ExchangeAdd {
             width,
@@ -200,15 +241,16 @@ fn change_of<S: Space>(space: &S, change: &mut Change, instr: &Instr) -> Result<
             Ok(())
         }
         Instr::PushRegister { register, .. } => {
-            push_register(change, *register);
+            let own = change.context.register(Width::Dword, *register);
+            change.push(own);
             Ok(())
         }
         Instr::PushImmediate { immediate, .. } => {
-            push_immediate(change, *immediate);
+            change.push(*immediate);
             Ok(())
         }
         Instr::PushOperand { operand, .. } => push(space, change, operand),
-        Instr::PopRegister { register, .. } => pop_register(space, change, *register),
+        Instr::PopRegister { register, .. } => pop(space, change, &Operand::Register(*register)),
         Instr::PopOperand { operand, .. } => pop(space, change, operand),
         Instr::Leave { .. } => leave(space, change),
         Instr::JumpIf {
@@ -247,15 +289,6 @@ fn change_of<S: Space>(space: &S, change: &mut Change, instr: &Instr) -> Result<
     }
 }
 
-fn is_full(width: Width) -> bool
-    ensures { result ≡ is_full width }
-{
-    match width {
-        Width::Byte | Width::Word => false,
-        Width::Dword => true,
-    }
-}
-
 /// Whether an instruction is carried out or traps; of all others the length alone is known.
 #[tactic(auto, unfolding(crate::specs::Exec::is_stepped))]
 fn is_stepped(instr: &Instr) -> bool
@@ -286,7 +319,7 @@ fn is_stepped(instr: &Instr) -> bool
         | Instr::JumpOperand { width, .. }
         | Instr::CallOperand { width, .. }
         | Instr::Return { width }
-        | Instr::ReturnAndRelease { width, .. } => is_full(width),
+        | Instr::ReturnAndRelease { width, .. } => width.is_dword(),
         Instr::OpcodeOnly { .. }
         | Instr::Interrupt { .. }
         | Instr::LoopBranch { .. }
@@ -384,9 +417,8 @@ pub(crate) fn execute<S: Space>(
     change: &mut Change,
     decoded: &Decoded,
 ) -> Result<(), Fault>
-    ensures { MatchResult result
-        (λ _. Ok change.new ≡ executed (number_at (S.contents space.now).pieces) decoded.now change.old.context)
-        (λ fault. Err fault ≡ executed (number_at (S.contents space.now).pieces) decoded.now change.old.context) }
+    ensures { Comes result change.new
+        (executed (number_at (S.contents space.now).pieces) decoded.now change.old.context) }
 {
     if !is_stepped(&decoded.instr) || refuses_prefixes(&decoded.prefixes, &decoded.instr) {
         return Err(Fault::Unsupported);

@@ -23,7 +23,8 @@ ghost use Rattle.ia32_step.specs.declared.types.Flow.TheVariants.{Call, Return};
 pub fn steps_keep()
     ensures number { (contents : Contents) (thread : Thread) → (stepped contents thread).thread.number ≡ thread.number }
     ensures stack { (contents : Contents) (thread : Thread) → (stepped contents thread).thread.stack ≡ thread.stack }
-    ensures fences { (contents : Contents) (thread : Thread) → (stepped contents thread).contents.fences ≡ contents.fences }
+    ensures fences { (contents : Contents) (thread : Thread) →
+        (stepped contents thread).contents.fences ≡ contents.fences }
     ensures shapes { (contents : Contents) (thread : Thread) →
         map shape (stepped contents thread).contents.pieces ≡ map shape contents.pieces }
 {}
@@ -32,8 +33,8 @@ pub fn steps_keep()
 pub fn steps_leave_code()
     ensures steps { (contents : Contents) (thread : Thread) → ArePlaced contents.pieces →
         KeepsCode contents.pieces (stepped contents thread).contents.pieces }
-    ensures changes { (contents : Contents) (thread : Thread) (change : Result Change Fault) → ArePlaced contents.pieces →
-        KeepsCode contents.pieces (done contents thread change).contents.pieces }
+    ensures changes { (contents : Contents) (thread : Thread) (change : Result Change Fault) →
+        ArePlaced contents.pieces → KeepsCode contents.pieces (done contents thread change).contents.pieces }
 {}
 
 /// Bytes of code have no say in what an instruction does, only in which is fetched. On memories that differ in code
@@ -42,10 +43,12 @@ pub fn steps_leave_code()
 pub fn code_bytes_have_no_say()
     ensures changes { (a b : List Piece) → SameData a b → (context : Context) (decoded : Option Decoded) →
         change_by a context decoded ≡ change_by b context decoded }
-    ensures faults { (a b : Contents) → SameData a.pieces b.pieces → (store : Option Store) → store_fault a store ≡ store_fault b store }
+    ensures faults { (a b : Contents) → SameData a.pieces b.pieces → (store : Option Store) →
+        store_fault a store ≡ store_fault b store }
     ensures left { (a b : Contents) → SameData a.pieces b.pieces → (thread : Thread) (change : Result Change Fault) →
         SameLeft (done a thread change) (done b thread change) }
-    ensures instructions { (a b : Contents) → SameData a.pieces b.pieces → (thread : Thread) (decoded : Option Decoded) →
+    ensures instructions { (a b : Contents) → SameData a.pieces b.pieces →
+        (thread : Thread) (decoded : Option Decoded) →
         SameLeft (carried_out a thread decoded) (carried_out b thread decoded) }
     ensures written { (pieces : List Piece) (start : ℕ) (bytes : List ℕ) → ArePlaced pieces →
         ((a : ℕ) → start ≤ a → a < start + length bytes → option_map kind_of (holding pieces a) ≡ Some Code) →

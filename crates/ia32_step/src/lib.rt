@@ -16,7 +16,7 @@ mod products;
 mod registers;
 mod stack;
 mod step;
-pub mod types;
+mod types;
 
 pub use laws::{calls_and_returns, code_bytes_have_no_say, steps_keep, steps_leave_code};
 pub use step::step_thread;

@@ -1,13 +1,13 @@
 //! Moves, exchanges and extensions.
-ghost use Rattle.std.specs.Prelude.{◌≡◌, ◌<◌, ◌-◌, ◌^◌, Ok, Err, MatchResult};
+ghost use Rattle.std.specs.Prelude.{◌≡◌, ◌-◌, ◌^◌};
 ghost use Rattle.ia32_alu.specs.Numbers.{highest, unsigned};
-ghost use Rattle.ia32_decode.specs.declared.types.Register.TheVariants.{Eax};
-ghost use Rattle.ia32_decode.specs.declared.types.Operand.TheVariants as operands;
-ghost use Rattle.ia32_step.specs.Registers.{with_register};
-ghost use Rattle.ia32_step.specs.Changes.{goes_on, putting};
-ghost use Rattle.ia32_step.specs.Operands.{number_at, place_of};
+ghost use Rattle.ia32_step.specs.Operands.{number_at};
 ghost use Rattle.ia32_step.specs.Arithmetic.{bits};
-ghost use Rattle.ia32_step.specs.Moves.{copied, accumulator_loaded, accumulator_stored, address_taken, exchanged, exchanged_and_added, compared_and_exchanged, compare_exchanged, holds, copied_if, set_by, sign_extended, zero_extended_to, sign_extended_to, half, accumulator_extended, sign_spread};
+ghost use Rattle.ia32_step.specs.Moves.{copied, accumulator_loaded, accumulator_stored, address_taken, exchanged};
+ghost use Rattle.ia32_step.specs.Moves.{exchanged_and_added, compared_and_exchanged, compare_exchanged, holds};
+ghost use Rattle.ia32_step.specs.Moves.{copied_if, set_by, sign_extended, zero_extended_to, sign_extended_to, half};
+ghost use Rattle.ia32_step.specs.Moves.{accumulator_extended, sign_spread};
+ghost use Rattle.ia32_step.specs.inside.Comes.{Comes};
 
 use crate::arithmetic::alu_width;
 use crate::operands::{address_of, number_at, operand_value, place_of, value_at};
@@ -26,35 +26,13 @@ pub(crate) fn copy<S: Space>(
     destination: &Operand,
     source: &Operand,
 ) -> Result<(), Fault>
-    ensures { MatchResult result
-        (λ _. Ok change.new ≡ copied (number_at (S.contents space.now).pieces) width destination.now source.now change.old.context)
-        (λ fault. Err fault ≡ copied (number_at (S.contents space.now).pieces) width destination.now source.now change.old.context) }
+    ensures { Comes result change.new
+        (copied (number_at (S.contents space.now).pieces) width destination.now source.now change.old.context) }
 {
     let value = operand_value(space, &change.context, width, source)?;
     let place = place_of(&change.context, destination);
     change.put(place, width, value);
     Ok(())
-}
-
-/// MOV of an immediate to an operand.
-pub(crate) fn put_immediate(
-    change: &mut Change,
-    width: Width,
-    destination: &Operand,
-    immediate: u32,
-)
-    ensures { change.new ≡ putting (place_of change.old.context.registers destination.now) width immediate change.old.context }
-{
-    let place = place_of(&change.context, destination);
-    change.put(place, width, immediate);
-}
-
-/// MOV of an immediate to a register.
-pub(crate) fn load_immediate(change: &mut Change, width: Width, register: Register, immediate: u32)
-    ensures { change.new ≡ goes_on (with_register width register immediate change.old.context) }
-{
-    change.context.put_register(width, register, immediate);
-    change.go_on();
 }
 
 /// MOV to the accumulator from an address.
@@ -65,9 +43,8 @@ pub(crate) fn load_accumulator<S: Space>(
     width: Width,
     address: u32,
 ) -> Result<(), Fault>
-    ensures { MatchResult result
-        (λ _. Ok change.new ≡ accumulator_loaded (number_at (S.contents space.now).pieces) width address change.old.context)
-        (λ fault. Err fault ≡ accumulator_loaded (number_at (S.contents space.now).pieces) width address change.old.context) }
+    ensures { Comes result change.new
+        (accumulator_loaded (number_at (S.contents space.now).pieces) width address change.old.context) }
 {
     let value = number_at(space, width, address)?;
     change.context.put_register(width, Register::Eax, value);
@@ -101,9 +78,8 @@ pub(crate) fn exchange<S: Space>(
     operand: &Operand,
     register: Register,
 ) -> Result<(), Fault>
-    ensures { MatchResult result
-        (λ _. Ok change.new ≡ exchanged (number_at (S.contents space.now).pieces) width operand.now register change.old.context)
-        (λ fault. Err fault ≡ exchanged (number_at (S.contents space.now).pieces) width operand.now register change.old.context) }
+    ensures { Comes result change.new
+        (exchanged (number_at (S.contents space.now).pieces) width operand.now register change.old.context) }
 {
     let place = place_of(&change.context, operand);
     let value = value_at(space, &change.context, width, place)?;
@@ -111,26 +87,6 @@ pub(crate) fn exchange<S: Space>(
     change.context.put_register(width, register, value);
     change.put(place, width, own);
     Ok(())
-}
-
-/// XCHG of the accumulator and a register.
-pub(crate) fn exchange_accumulator<S: Space>(
-    space: &S,
-    change: &mut Change,
-    width: Width,
-    register: Register,
-) -> Result<(), Fault>
-    ensures { MatchResult result
-        (λ _. Ok change.new ≡ exchanged (number_at (S.contents space.now).pieces) width (operands.Register Eax) register change.old.context)
-        (λ fault. Err fault ≡ exchanged (number_at (S.contents space.now).pieces) width (operands.Register Eax) register change.old.context) }
-{
-    exchange(
-        space,
-        change,
-        width,
-        &Operand::Register(Register::Eax),
-        register,
-    )
 }
 
 /// XADD.
@@ -142,9 +98,8 @@ pub(crate) fn exchange_and_add<S: Space>(
     operand: &Operand,
     register: Register,
 ) -> Result<(), Fault>
-    ensures { MatchResult result
-        (λ _. Ok change.new ≡ exchanged_and_added (number_at (S.contents space.now).pieces) width operand.now register change.old.context)
-        (λ fault. Err fault ≡ exchanged_and_added (number_at (S.contents space.now).pieces) width operand.now register change.old.context) }
+    ensures { Comes result change.new
+        (exchanged_and_added (number_at (S.contents space.now).pieces) width operand.now register change.old.context) }
 {
     let place = place_of(&change.context, operand);
     let a = value_at(space, &change.context, width, place)?;
@@ -185,9 +140,8 @@ pub(crate) fn compare_exchange<S: Space>(
     operand: &Operand,
     register: Register,
 ) -> Result<(), Fault>
-    ensures { MatchResult result
-        (λ _. Ok change.new ≡ compare_exchanged (number_at (S.contents space.now).pieces) width operand.now register change.old.context)
-        (λ fault. Err fault ≡ compare_exchanged (number_at (S.contents space.now).pieces) width operand.now register change.old.context) }
+    ensures { Comes result change.new
+        (compare_exchanged (number_at (S.contents space.now).pieces) width operand.now register change.old.context) }
 {
     let place = place_of(&change.context, operand);
     let a = value_at(space, &change.context, width, place)?;
@@ -220,9 +174,8 @@ pub(crate) fn copy_if<S: Space>(
     register: Register,
     source: &Operand,
 ) -> Result<(), Fault>
-    ensures { MatchResult result
-        (λ _. Ok change.new ≡ copied_if (number_at (S.contents space.now).pieces) condition width register source.now change.old.context)
-        (λ fault. Err fault ≡ copied_if (number_at (S.contents space.now).pieces) condition width register source.now change.old.context) }
+    ensures { Comes result change.new
+        (copied_if (number_at (S.contents space.now).pieces) condition width register source.now change.old.context) }
 {
     let taken = operand_value(space, &change.context, width, source)?;
     if holds(condition, change.context.flags) {
@@ -296,9 +249,8 @@ pub(crate) fn zero_extend<S: Space>(
     register: Register,
     source: &Operand,
 ) -> Result<(), Fault>
-    ensures { MatchResult result
-        (λ _. Ok change.new ≡ zero_extended_to (number_at (S.contents space.now).pieces) from width register source.now change.old.context)
-        (λ fault. Err fault ≡ zero_extended_to (number_at (S.contents space.now).pieces) from width register source.now change.old.context) }
+    ensures { Comes result change.new
+        (zero_extended_to (number_at (S.contents space.now).pieces) from width register source.now change.old.context) }
 {
     let value = operand_value(space, &change.context, from, source)?;
     change.context.put_register(width, register, value);
@@ -316,9 +268,8 @@ pub(crate) fn sign_extend<S: Space>(
     register: Register,
     source: &Operand,
 ) -> Result<(), Fault>
-    ensures { MatchResult result
-        (λ _. Ok change.new ≡ sign_extended_to (number_at (S.contents space.now).pieces) from width register source.now change.old.context)
-        (λ fault. Err fault ≡ sign_extended_to (number_at (S.contents space.now).pieces) from width register source.now change.old.context) }
+    ensures { Comes result change.new
+        (sign_extended_to (number_at (S.contents space.now).pieces) from width register source.now change.old.context) }
 {
     let value = operand_value(space, &change.context, from, source)?;
     change

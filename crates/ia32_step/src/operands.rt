@@ -1,7 +1,8 @@
 //! Where operands stand, and what they hold.
 ghost use Rattle.std.specs.Prelude.{◌≡◌};
 ghost use Rattle.ia32_decode.specs.declared.types.Width.TheVariants.{Byte, Word, Dword};
-ghost use Rattle.ia32_step.specs.Operands.{base_part, index_part, address_of, place_of, number_at, value_at, operand_value, source_value};
+ghost use Rattle.ia32_step.specs.Operands.{base_part, index_part, address_of, place_of, number_at, value_at};
+ghost use Rattle.ia32_step.specs.Operands.{operand_value, source_value};
 
 use crate::types::{Context, Place};
 use ia32_decode::{Index, Memory, Operand, Register, Source, Width};

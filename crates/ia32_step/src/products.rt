@@ -1,8 +1,9 @@
 //! Products and quotients.
-ghost use Rattle.std.specs.Prelude.{◌≡◌, ◌<◌, ◌*◌, ◌^◌, Ok, Err, MatchResult};
-ghost use Rattle.ia32_step.specs.Registers.{register_value};
+ghost use Rattle.std.specs.Prelude.{◌≡◌, ◌<◌, ◌*◌, ◌^◌};
 ghost use Rattle.ia32_step.specs.Operands.{number_at};
-ghost use Rattle.ia32_step.specs.Arithmetic.{bits, upper_register, with_double, double, with_product, multiplied, with_lower_product, product_taken, clear_flags, with_quotient, divided};
+ghost use Rattle.ia32_step.specs.Arithmetic.{bits, upper_register, with_double, double, multiplied};
+ghost use Rattle.ia32_step.specs.Arithmetic.{product_taken, clear_flags, with_quotient, divided};
+ghost use Rattle.ia32_step.specs.inside.Comes.{Comes};
 
 use crate::arithmetic::alu_width;
 use crate::operands::operand_value;
@@ -60,9 +61,8 @@ pub(crate) fn multiply<S: Space>(
     width: Width,
     operand: &Operand,
 ) -> Result<(), Fault>
-    ensures { MatchResult result
-        (λ _. Ok change.new ≡ multiplied (number_at (S.contents space.now).pieces) signed width operand.now change.old.context)
-        (λ fault. Err fault ≡ multiplied (number_at (S.contents space.now).pieces) signed width operand.now change.old.context) }
+    ensures { Comes result change.new
+        (multiplied (number_at (S.contents space.now).pieces) signed width operand.now change.old.context) }
 {
     let b = operand_value(space, &change.context, width, operand)?;
     let (product, flags) = ia32_alu::multiply(
@@ -87,9 +87,8 @@ pub(crate) fn take_product<S: Space>(
     operand: &Operand,
     b: u32,
 ) -> Result<(), Fault>
-    ensures { MatchResult result
-        (λ _. Ok change.new ≡ product_taken (number_at (S.contents space.now).pieces) width register operand.now b change.old.context)
-        (λ fault. Err fault ≡ product_taken (number_at (S.contents space.now).pieces) width register operand.now b change.old.context) }
+    ensures { Comes result change.new
+        (product_taken (number_at (S.contents space.now).pieces) width register operand.now b change.old.context) }
 {
     let a = operand_value(space, &change.context, width, operand)?;
     let (product, flags) = ia32_alu::multiply(true, alu_width(width), a, b);
@@ -98,22 +97,6 @@ pub(crate) fn take_product<S: Space>(
     change.context.put_register(width, register, lower);
     change.go_on();
     Ok(())
-}
-
-/// IMUL of a register by an operand.
-pub(crate) fn multiply_register<S: Space>(
-    space: &S,
-    change: &mut Change,
-    width: Width,
-    register: Register,
-    operand: &Operand,
-) -> Result<(), Fault>
-    ensures { MatchResult result
-        (λ _. Ok change.new ≡ product_taken (number_at (S.contents space.now).pieces) width register operand.now (register_value change.old.context.registers width register) change.old.context)
-        (λ fault. Err fault ≡ product_taken (number_at (S.contents space.now).pieces) width register operand.now (register_value change.old.context.registers width register) change.old.context) }
-{
-    let own = change.context.register(width, register);
-    take_product(space, change, width, register, operand, own)
 }
 
 fn clear_flags() -> Flags
@@ -129,9 +112,7 @@ fn clear_flags() -> Flags
 }
 
 fn settle_quotient(change: &mut Change, width: Width, both: Option<(u32, u32)>) -> Result<(), Fault>
-    ensures { MatchResult result
-        (λ _. Ok change.new ≡ with_quotient width both change.old.context)
-        (λ fault. Err fault ≡ with_quotient width both change.old.context) }
+    ensures { Comes result change.new (with_quotient width both change.old.context) }
 {
     match both {
         None => Err(Fault::Divide),
@@ -156,9 +137,8 @@ pub(crate) fn divide<S: Space>(
     width: Width,
     operand: &Operand,
 ) -> Result<(), Fault>
-    ensures { MatchResult result
-        (λ _. Ok change.new ≡ divided (number_at (S.contents space.now).pieces) signed width operand.now change.old.context)
-        (λ fault. Err fault ≡ divided (number_at (S.contents space.now).pieces) signed width operand.now change.old.context) }
+    ensures { Comes result change.new
+        (divided (number_at (S.contents space.now).pieces) signed width operand.now change.old.context) }
 {
     let by = operand_value(space, &change.context, width, operand)?;
     let both = ia32_alu::divide(signed, alu_width(width), double(&change.context, width), by);

@@ -1,6 +1,8 @@
 //! The registers of a thread at each width.
 ghost use Rattle.std.specs.Prelude.{◌≡◌, ◌<◌};
-ghost use Rattle.ia32_step.specs.Registers.{byte_value, register_value, with_lowest_byte, with_second_byte, with_lower_half, with_byte, with_word, with_register, accumulator, stack_top, with_stack_top};
+ghost use Rattle.ia32_step.specs.Registers.{byte_value, register_value, with_lowest_byte, with_second_byte};
+ghost use Rattle.ia32_step.specs.Registers.{with_lower_half, with_byte, with_word, with_register, accumulator};
+ghost use Rattle.ia32_step.specs.Registers.{stack_top, with_stack_top};
 
 use crate::types::Context;
 use ia32_decode::{Register, Width};

@@ -1,11 +1,7 @@
 //! Pushes and pops of 32 bits.
-ghost use Rattle.std.specs.Prelude.{◌≡◌, Ok, Err, MatchResult};
-ghost use Rattle.ia32_decode.specs.declared.types.Width.TheVariants.{Dword};
-ghost use Rattle.ia32_decode.specs.declared.types.Operand.TheVariants as operands;
-ghost use Rattle.ia32_step.specs.Registers.{register_value};
-ghost use Rattle.ia32_step.specs.Changes.{pushing};
 ghost use Rattle.ia32_step.specs.Operands.{number_at};
 ghost use Rattle.ia32_step.specs.Stack.{pushed, popped_to, left};
+ghost use Rattle.ia32_step.specs.inside.Comes.{Comes};
 
 use crate::operands::{operand_value, place_of};
 use crate::types::{Change, Context};
@@ -16,9 +12,8 @@ use ks_base::Fault;
 /// PUSH of an operand.
 #[tactic(auto, unfolding(crate::specs::Stack::pushed))]
 pub(crate) fn push<S: Space>(space: &S, change: &mut Change, operand: &Operand) -> Result<(), Fault>
-    ensures { MatchResult result
-        (λ _. Ok change.new ≡ pushed (number_at (S.contents space.now).pieces) operand.now change.old.context)
-        (λ fault. Err fault ≡ pushed (number_at (S.contents space.now).pieces) operand.now change.old.context) }
+    ensures { Comes result change.new
+        (pushed (number_at (S.contents space.now).pieces) operand.now change.old.context) }
 {
     let value = operand_value(space, &change.context, Width::Dword, operand)?;
     change.push(value);
@@ -28,9 +23,8 @@ pub(crate) fn push<S: Space>(space: &S, change: &mut Change, operand: &Operand) 
 /// POP to an operand.
 #[tactic(auto, unfolding(crate::specs::Stack::popped_to))]
 pub(crate) fn pop<S: Space>(space: &S, change: &mut Change, operand: &Operand) -> Result<(), Fault>
-    ensures { MatchResult result
-        (λ _. Ok change.new ≡ popped_to (number_at (S.contents space.now).pieces) operand.now change.old.context)
-        (λ fault. Err fault ≡ popped_to (number_at (S.contents space.now).pieces) operand.now change.old.context) }
+    ensures { Comes result change.new
+        (popped_to (number_at (S.contents space.now).pieces) operand.now change.old.context) }
 {
     let value = change.context.popped(space)?;
     change.context.raise(0);
@@ -39,42 +33,12 @@ pub(crate) fn pop<S: Space>(space: &S, change: &mut Change, operand: &Operand) -
     Ok(())
 }
 
-/// PUSH of a register.
-pub(crate) fn push_register(change: &mut Change, register: Register)
-    ensures { change.new ≡ pushing (register_value change.old.context.registers Dword register) change.old.context }
-{
-    let own = change.context.register(Width::Dword, register);
-    change.push(own);
-}
-
-/// PUSH of an immediate.
-pub(crate) fn push_immediate(change: &mut Change, immediate: u32)
-    ensures { change.new ≡ pushing immediate change.old.context }
-{
-    change.push(immediate);
-}
-
-/// POP to a register.
-pub(crate) fn pop_register<S: Space>(
-    space: &S,
-    change: &mut Change,
-    register: Register,
-) -> Result<(), Fault>
-    ensures { MatchResult result
-        (λ _. Ok change.new ≡ popped_to (number_at (S.contents space.now).pieces) (operands.Register register) change.old.context)
-        (λ fault. Err fault ≡ popped_to (number_at (S.contents space.now).pieces) (operands.Register register) change.old.context) }
-{
-    pop(space, change, &Operand::Register(register))
-}
-
 /// LEAVE.
 #[tactic(auto, unfolding(crate::specs::Stack::left))]
 pub(crate) fn leave<S: Space>(space: &S, change: &mut Change) -> Result<(), Fault>
-    ensures { MatchResult result
-        (λ _. Ok change.new ≡ left (number_at (S.contents space.now).pieces) change.old.context)
-        (λ fault. Err fault ≡ left (number_at (S.contents space.now).pieces) change.old.context) }
+    ensures { Comes result change.new (left (number_at (S.contents space.now).pieces) change.old.context) }
 {
     let base = change.context.register(Width::Dword, Register::Ebp);
     change.context.put_stack_top(base);
-    pop_register(space, change, Register::Ebp)
+    pop(space, change, &Operand::Register(Register::Ebp))
 }

@@ -1,10 +1,12 @@
 //! One step of a thread.
-ghost use Rattle.std.specs.Prelude.{◌≡◌, Some, None, Ok, Err, OnOk, OnErr, MatchResult};
+ghost use Rattle.std.specs.Prelude.{◌≡◌, Some, OnOk, OnErr};
 ghost use Rattle.ia32_step.specs.Registers.{accumulator};
-ghost use Rattle.ia32_step.specs.Step.{left_by, context_of, resumed, stopped, exited, store_fault, after_store, unless_barred, change_by, next_change, stepped};
+ghost use Rattle.ia32_step.specs.Step.{left_by, context_of, resumed, stopped, exited, store_fault, after_store};
+ghost use Rattle.ia32_step.specs.Step.{unless_barred, change_by, next_change, stepped};
 ghost use Rattle.ia32_decode.specs.declared.types.Width.TheVariants.{Dword};
 ghost use Rattle.ia32_step.specs.declared.types.State.TheVariants.{Running};
 ghost use Rattle.ia32_step.specs.declared.types.Outcome.TheVariants.{Stopped, Exited};
+ghost use Rattle.ia32_step.specs.inside.Comes.{Comes, fault_of};
 
 use crate::exec::execute;
 use crate::types::{Change, Context, Flow, Outcome, State, Store, Thread};
@@ -17,9 +19,8 @@ impl Thread {
     fn context(&self) -> Context
         ensures { result ≡ context_of self.now }
     {
-        let registers = self.registers;
         Context {
-            registers,
+            registers: self.registers,
             pc: self.pc,
             flags: self.flags,
         }
@@ -39,9 +40,7 @@ impl Thread {
 fn write_store<S: Space>(space: &mut S, store: &Store) -> Result<(), Fault>
     ensures ok { OnOk result (S.contents space.new ≡ after_store (S.contents space.old) (Some store.now)) }
     ensures err { OnErr result (S.contents space.new ≡ S.contents space.old) }
-    ensures cause { MatchResult result
-        (λ _. store_fault (S.contents space.old) (Some store.now) ≡ None)
-        (λ f. store_fault (S.contents space.old) (Some store.now) ≡ Some f) }
+    ensures cause { store_fault (S.contents space.old) (Some store.now) ≡ fault_of result }
     ensures room { S.room space.new ≡ S.room space.old }
 {
     match store.width {
@@ -76,7 +75,8 @@ fn exit(thread: &mut Thread) -> Outcome
 /// Does what an instruction does, or stops the thread where its number can't be written.
 fn carry_out<S: Space>(space: &mut S, thread: &mut Thread, change: &Change) -> Outcome
     ensures left { left_by (S.contents space.new) thread.new result
-        ≡ unless_barred (store_fault (S.contents space.old) change.now.store) (S.contents space.old) thread.old change.now }
+        ≡ unless_barred (store_fault (S.contents space.old) change.now.store) (S.contents space.old) thread.old
+        change.now }
     ensures room { S.room space.new ≡ S.room space.old }
 {
     if let Some(store) = &change.store {
@@ -94,9 +94,7 @@ fn do_decoded<S: Space>(
     change: &mut Change,
     decoded: Option<Decoded>,
 ) -> Result<(), Fault>
-    ensures { MatchResult result
-        (λ _. Ok change.new ≡ change_by (S.contents space.now).pieces change.old.context decoded)
-        (λ fault. Err fault ≡ change_by (S.contents space.now).pieces change.old.context decoded) }
+    ensures { Comes result change.new (change_by (S.contents space.now).pieces change.old.context decoded) }
 {
     match &decoded {
         None => Err(Fault::Undecoded),
@@ -108,9 +106,7 @@ fn do_decoded<S: Space>(
 #[tactic(auto, unfolding(crate::specs::Step::next_change))]
 fn do_next<S: Space>(space: &S, thread: &Thread, change: &mut Change) -> Result<(), Fault>
     requires { change.old.context ≡ context_of thread.now }
-    ensures { MatchResult result
-        (λ _. Ok change.new ≡ next_change (S.contents space.now) thread.now)
-        (λ fault. Err fault ≡ next_change (S.contents space.now) thread.now) }
+    ensures { Comes result change.new (next_change (S.contents space.now) thread.now) }
 {
     let window = space.window(thread.pc)?;
     do_decoded(

@@ -36,7 +36,7 @@ pub type Threads = ListOf<Thread>;
 
 /// What the processor holds of a thread.
 #[derive(Clone, Copy)]
-pub struct Context {
+pub(crate) struct Context {
     /// The general registers by number.
     pub registers: [u32; 8],
     /// The address of the next instruction.
@@ -69,7 +69,7 @@ pub enum Outcome {
 
 /// Where an operand stands.
 #[derive(Clone, Copy)]
-pub enum Place {
+pub(crate) enum Place {
     /// In a register.
     InRegister(Register),
     /// In memory, at an address.
@@ -78,7 +78,7 @@ pub enum Place {
 
 /// A number that is to be written to memory.
 #[derive(Clone, Copy)]
-pub struct Store {
+pub(crate) struct Store {
     /// The address of its lowest byte.
     pub address: u32,
     /// How wide it is.
@@ -89,7 +89,7 @@ pub struct Store {
 
 /// What an instruction does where no fault stops it.
 #[derive(Clone, Copy)]
-pub struct Change {
+pub(crate) struct Change {
     /// What the processor holds after it.
     pub context: Context,
     /// How it goes on.

@@ -1,317 +1,254 @@
 //! Against a processor: each row is what an instruction gave that was run natively on an x86-64.
 //!
-//! Flags are numbers of five bits: OF, SF, ZF, PF and CF. Left out, since the manual leaves them undefined: OF of a shift or
+//! Flags are named by the letters O, S, Z, P and C. Left out, since the manual leaves them undefined: OF of a shift or
 //! rotation by more than one place, CF of SHL and SHR by the width or more, SF, ZF and PF of a product.
+use crate::flags::{defined_of, flags};
+use ia32_alu::Binary::{Adc, Add, And, Cmp, Or, Sbb, Sub, Test, Xor};
+use ia32_alu::Shift::{Rol, Ror, Sar, Shl, Shr};
+use ia32_alu::Unary::{Dec, Inc, Neg, Not};
+use ia32_alu::Width::{W8, W16, W32};
 use ia32_alu::{
     Binary, Flags, Shift, Unary, Width, binary, condition, divide, multiply, shift, unary,
 };
-use std::process::Abort;
 
-// Width, two operands, flags before, value and flags after.
-static ADD: [[u32; 6]; 5] = [
-    [8, 0x7F, 0x01, 0b00000, 0x80, 0b11000],
-    [8, 0x180, 0x280, 0b00000, 0x00, 0b10111],
-    [16, 0xFFFF, 0x01, 0b11111, 0x00, 0b00111],
-    [32, 0x7FFFFFFF, 0x7FFFFFFF, 0b00000, 0xFFFFFFFE, 0b11000],
-    [32, 0xFFFFFFFF, 0xFFFFFFFF, 0b00000, 0xFFFFFFFE, 0b01001],
+type Text = &'static str;
+
+// Operation, width, two operands, flags before, value and flags after.
+static BINARY: [(Binary, Width, u32, u32, Text, u32, Text); 33] = [
+    (Add, W8, 0x7F, 0x01, "", 0x80, "OS"),
+    (Add, W8, 0x180, 0x280, "", 0x00, "OZPC"),
+    (Add, W16, 0xFFFF, 0x01, "OSZPC", 0x00, "ZPC"),
+    (Add, W32, 0x7FFFFFFF, 0x7FFFFFFF, "", 0xFFFFFFFE, "OS"),
+    (Add, W32, 0xFFFFFFFF, 0xFFFFFFFF, "", 0xFFFFFFFE, "SC"),
+    (Adc, W8, 0xFF, 0xFF, "C", 0xFF, "SPC"),
+    (Adc, W16, 0x7FFF, 0x8000, "C", 0x00, "ZPC"),
+    (Adc, W32, 0xFFFFFFFF, 0x00, "C", 0x00, "ZPC"),
+    (Adc, W32, 0x80000000, 0x80000000, "", 0x00, "OZPC"),
+    (Sub, W8, 0x00, 0x01, "", 0xFF, "SPC"),
+    (Sub, W8, 0x80, 0x01, "", 0x7F, "O"),
+    (Sub, W16, 0x1234, 0x1234, "", 0x00, "ZP"),
+    (Sub, W32, 0x7FFFFFFF, 0xFFFFFFFF, "", 0x80000000, "OSPC"),
+    (Sbb, W8, 0x00, 0xFF, "C", 0x00, "ZPC"),
+    (Sbb, W8, 0x80, 0x7F, "C", 0x00, "OZP"),
+    (Sbb, W16, 0x00, 0x00, "C", 0xFFFF, "SPC"),
+    (Sbb, W32, 0x80000000, 0x00, "C", 0x7FFFFFFF, "OP"),
+    (Cmp, W8, 0x80, 0x01, "", 0x80, "O"),
+    (Cmp, W8, 0x101, 0x02, "", 0x01, "SPC"),
+    (Cmp, W32, 0x03, 0x80000000, "", 0x03, "OSPC"),
+    (Cmp, W32, 0xFFFFFFFF, 0x01, "OSZPC", 0xFFFFFFFF, "S"),
+    (And, W8, 0xF0, 0xCF, "OSZPC", 0xC0, "SP"),
+    (And, W16, 0xAAAA, 0x5555, "", 0x00, "ZP"),
+    (And, W32, 0xF0F0F0F0, 0x80000003, "OC", 0x80000000, "SP"),
+    (Or, W8, 0x50, 0x0F, "OSZPC", 0x5F, "P"),
+    (Or, W16, 0x8000, 0x101, "", 0x8101, "S"),
+    (Or, W32, 0x00, 0x00, "OC", 0x00, "ZP"),
+    (Xor, W8, 0xFF, 0x01, "OSZPC", 0xFE, "S"),
+    (Xor, W16, 0x1234, 0x1234, "", 0x00, "ZP"),
+    (Xor, W32, 0x80000000, 0x1010101, "OC", 0x81010101, "S"),
+    (Test, W8, 0x81, 0x80, "OSZPC", 0x81, "S"),
+    (Test, W16, 0xFF, 0xFF00, "", 0xFF, "ZP"),
+    (Test, W32, 0x80000007, 0xFFFFFFFF, "OC", 0x80000007, "S"),
 ];
 
-static ADC: [[u32; 6]; 4] = [
-    [8, 0xFF, 0xFF, 0b00001, 0xFF, 0b01011],
-    [16, 0x7FFF, 0x8000, 0b00001, 0x00, 0b00111],
-    [32, 0xFFFFFFFF, 0x00, 0b00001, 0x00, 0b00111],
-    [32, 0x80000000, 0x80000000, 0b00000, 0x00, 0b10111],
+// Operation, width, operand, flags before, value and flags after.
+static UNARY: [(Unary, Width, u32, Text, u32, Text); 16] = [
+    (Inc, W8, 0x7F, "", 0x80, "OS"),
+    (Inc, W8, 0xFF, "C", 0x00, "ZPC"),
+    (Inc, W16, 0xFFFF, "", 0x00, "ZP"),
+    (Inc, W32, 0x7FFFFFFF, "C", 0x80000000, "OSPC"),
+    (Dec, W8, 0x80, "", 0x7F, "O"),
+    (Dec, W8, 0x00, "", 0xFF, "SP"),
+    (Dec, W16, 0x01, "C", 0x00, "ZPC"),
+    (Dec, W32, 0x80000000, "OSZPC", 0x7FFFFFFF, "OPC"),
+    (Not, W8, 0x0F, "", 0xF0, ""),
+    (Not, W16, 0xFFFF, "OSZPC", 0x00, "OSZPC"),
+    (Not, W32, 0x12345678, "OZC", 0xEDCBA987, "OZC"),
+    (Neg, W8, 0x80, "", 0x80, "OSC"),
+    (Neg, W8, 0x00, "OSZPC", 0x00, "ZP"),
+    (Neg, W16, 0x01, "", 0xFFFF, "SPC"),
+    (Neg, W32, 0x80000000, "", 0x80000000, "OSPC"),
+    (Neg, W32, 0xFFFFFFFF, "", 0x01, "C"),
 ];
 
-static SUB: [[u32; 6]; 4] = [
-    [8, 0x00, 0x01, 0b00000, 0xFF, 0b01011],
-    [8, 0x80, 0x01, 0b00000, 0x7F, 0b10000],
-    [16, 0x1234, 0x1234, 0b00000, 0x00, 0b00110],
-    [32, 0x7FFFFFFF, 0xFFFFFFFF, 0b00000, 0x80000000, 0b11011],
+// Shift, width, operand, count, flags before, value, flags after, and which flags are defined.
+static SHIFTS: [(Shift, Width, u32, u8, Text, u32, Text, Text); 26] = [
+    (Shl, W8, 0x81, 1, "", 0x02, "OC", "OSZPC"),
+    (Shl, W8, 0x81, 7, "", 0x80, "S", "SZPC"),
+    (Shl, W8, 0x01, 8, "", 0x00, "ZP", "SZP"),
+    (Shl, W8, 0xFF, 9, "", 0x00, "ZP", "SZP"),
+    (Shl, W16, 0xFFFF, 16, "", 0x00, "ZP", "SZP"),
+    (Shl, W32, 0xC0000001, 1, "", 0x80000002, "SC", "OSZPC"),
+    (Shl, W32, 0x03, 31, "", 0x80000000, "SPC", "SZPC"),
+    (Shl, W32, 0x03, 33, "", 0x06, "P", "OSZPC"),
+    (
+        Shl, W32, 0x80000000, 0, "OSZPC", 0x80000000, "OSZPC", "OSZPC",
+    ),
+    (Shr, W8, 0x81, 1, "", 0x40, "OC", "OSZPC"),
+    (Shr, W8, 0x81, 8, "", 0x00, "ZP", "SZP"),
+    (Shr, W8, 0xFF, 20, "OSZPC", 0x00, "ZP", "SZP"),
+    (Shr, W16, 0x8000, 15, "", 0x01, "", "SZPC"),
+    (Shr, W32, 0x80000001, 1, "", 0x40000000, "OPC", "OSZPC"),
+    (Shr, W32, 0xC0000000, 31, "", 0x01, "C", "SZPC"),
+    (Shr, W32, 0xC0000000, 63, "", 0x01, "C", "SZPC"),
+    (Shr, W32, 0x05, 0, "OC", 0x05, "OC", "OSZPC"),
+    (Sar, W8, 0x81, 1, "", 0xC0, "SPC", "OSZPC"),
+    (Sar, W8, 0x80, 7, "", 0xFF, "SP", "SZPC"),
+    (Sar, W8, 0x80, 8, "", 0xFF, "SPC", "SZPC"),
+    (Sar, W8, 0x81, 31, "", 0xFF, "SPC", "SZPC"),
+    (Sar, W8, 0x7F, 9, "OSZPC", 0x00, "ZP", "SZPC"),
+    (Sar, W16, 0x8001, 2, "", 0xE000, "SP", "SZPC"),
+    (Sar, W32, 0x80000000, 31, "", 0xFFFFFFFF, "SP", "SZPC"),
+    (Sar, W32, 0xFFFFFFFE, 1, "OSZPC", 0xFFFFFFFF, "SP", "OSZPC"),
+    (Sar, W32, 0x80000000, 0, "O", 0x80000000, "O", "OSZPC"),
 ];
 
-static SBB: [[u32; 6]; 4] = [
-    [8, 0x00, 0xFF, 0b00001, 0x00, 0b00111],
-    [8, 0x80, 0x7F, 0b00001, 0x00, 0b10110],
-    [16, 0x00, 0x00, 0b00001, 0xFFFF, 0b01011],
-    [32, 0x80000000, 0x00, 0b00001, 0x7FFFFFFF, 0b10010],
+// The same of rotations, which are of 32 bits.
+static ROTATIONS: [(Shift, u32, u8, Text, u32, Text, Text); 9] = [
+    (Rol, 0x80000001, 1, "", 0x03, "OC", "OSZPC"),
+    (Rol, 0x40000000, 1, "OSZP", 0x80000000, "OSZP", "OSZPC"),
+    (Rol, 0x12345678, 8, "SZP", 0x34567812, "SZP", "SZPC"),
+    (Rol, 0xFFFFFFFF, 0, "OSZPC", 0xFFFFFFFF, "OSZPC", "OSZPC"),
+    (Rol, 0x80000000, 33, "SZPC", 0x01, "OSZPC", "OSZPC"),
+    (Ror, 0x01, 1, "", 0x80000000, "OC", "OSZPC"),
+    (Ror, 0x80000000, 1, "SZP", 0x40000000, "OSZP", "OSZPC"),
+    (Ror, 0x12345678, 8, "OSZPC", 0x78123456, "SZP", "SZPC"),
+    (Ror, 0xC0000000, 32, "SC", 0xC0000000, "SC", "OSZPC"),
 ];
 
-static CMP: [[u32; 6]; 4] = [
-    [8, 0x80, 0x01, 0b00000, 0x80, 0b10000],
-    [8, 0x101, 0x02, 0b00000, 0x01, 0b01011],
-    [32, 0x03, 0x80000000, 0b00000, 0x03, 0b11011],
-    [32, 0xFFFFFFFF, 0x01, 0b11111, 0xFFFFFFFF, 0b01000],
+// Signed or not, width, two operands, product, and which of OF and CF are set after it.
+static PRODUCTS: [(bool, Width, u32, u32, u64, Text); 11] = [
+    (false, W8, 0xFF, 0xFF, 0xFE01, "OC"),
+    (false, W8, 0x10, 0x0F, 0xF0, ""),
+    (false, W16, 0x100, 0x100, 0x10000, "OC"),
+    (false, W32, 0xFFFFFFFF, 0xFFFFFFFF, 0xFFFFFFFE00000001, "OC"),
+    (false, W32, 0xFFFFFFFF, 0x01, 0xFFFFFFFF, ""),
+    (true, W8, 0xFF, 0x80, 0x80, "OC"),
+    (true, W8, 0x80, 0x80, 0x4000, "OC"),
+    (true, W16, 0xFFFF, 0x7FFF, 0xFFFF8001, ""),
+    (true, W32, 0x80000000, 0x80000000, 0x4000000000000000, "OC"),
+    (true, W32, 0xFFFFFFFF, 0xFFFFFFFF, 0x1, ""),
+    (true, W32, 0x80000000, 0x01, 0xFFFFFFFF80000000, ""),
 ];
 
-static AND: [[u32; 6]; 3] = [
-    [8, 0xF0, 0xCF, 0b11111, 0xC0, 0b01010],
-    [16, 0xAAAA, 0x5555, 0b00000, 0x00, 0b00110],
-    [32, 0xF0F0F0F0, 0x80000003, 0b10001, 0x80000000, 0b01010],
+// Signed or not, width, dividend, divisor, and the quotient and the remainder, if there is one.
+static QUOTIENTS: [(bool, Width, u64, u32, Option<(u32, u32)>); 16] = [
+    (false, W8, 0xFEFF, 0xFF, Some((0xFF, 0xFE))),
+    (false, W8, 0xFF00, 0xFF, None),
+    (
+        false,
+        W32,
+        0xFFFFFFFEFFFFFFFF,
+        0xFFFFFFFF,
+        Some((0xFFFFFFFF, 0xFFFFFFFE)),
+    ),
+    (false, W32, 0x100000000, 0x01, None),
+    (false, W32, 0x64, 0x00, None),
+    (true, W8, 0xFF9C, 0x07, Some((0xF2, 0xFE))),
+    (true, W8, 0xFF80, 0xFF, None),
+    (true, W8, 0xFF80, 0x01, Some((0x80, 0x00))),
+    (true, W8, 0xC000, 0x80, None),
+    (true, W16, 0xFFFFFF9C, 0xFFF9, Some((0x0E, 0xFFFE))),
+    (true, W32, 0x8000000000000000, 0xFFFFFFFF, None),
+    (
+        true,
+        W32,
+        0xFFFFFFFFFFFFFFF9,
+        0x02,
+        Some((0xFFFFFFFD, 0xFFFFFFFF)),
+    ),
+    (true, W32, 0x7, 0xFFFFFFFE, Some((0xFFFFFFFD, 0x01))),
+    (true, W32, 0x80000000, 0xFFFFFFFF, Some((0x80000000, 0x00))),
+    (
+        true,
+        W32,
+        0xFFFFFFFF80000000,
+        0x01,
+        Some((0x80000000, 0x00)),
+    ),
+    (true, W32, 0x5, 0x00, None),
 ];
 
-static OR: [[u32; 6]; 3] = [
-    [8, 0x50, 0x0F, 0b11111, 0x5F, 0b00010],
-    [16, 0x8000, 0x101, 0b00000, 0x8101, 0b01000],
-    [32, 0x00, 0x00, 0b10001, 0x00, 0b00110],
-];
-
-static XOR: [[u32; 6]; 3] = [
-    [8, 0xFF, 0x01, 0b11111, 0xFE, 0b01000],
-    [16, 0x1234, 0x1234, 0b00000, 0x00, 0b00110],
-    [32, 0x80000000, 0x1010101, 0b10001, 0x81010101, 0b01000],
-];
-
-static TEST: [[u32; 6]; 3] = [
-    [8, 0x81, 0x80, 0b11111, 0x81, 0b01000],
-    [16, 0xFF, 0xFF00, 0b00000, 0xFF, 0b00110],
-    [32, 0x80000007, 0xFFFFFFFF, 0b10001, 0x80000007, 0b01000],
-];
-
-// Width, operand, flags before, value and flags after.
-static INC: [[u32; 5]; 4] = [
-    [8, 0x7F, 0b00000, 0x80, 0b11000],
-    [8, 0xFF, 0b00001, 0x00, 0b00111],
-    [16, 0xFFFF, 0b00000, 0x00, 0b00110],
-    [32, 0x7FFFFFFF, 0b00001, 0x80000000, 0b11011],
-];
-
-static DEC: [[u32; 5]; 4] = [
-    [8, 0x80, 0b00000, 0x7F, 0b10000],
-    [8, 0x00, 0b00000, 0xFF, 0b01010],
-    [16, 0x01, 0b00001, 0x00, 0b00111],
-    [32, 0x80000000, 0b11111, 0x7FFFFFFF, 0b10011],
-];
-
-static NOT: [[u32; 5]; 3] = [
-    [8, 0x0F, 0b00000, 0xF0, 0b00000],
-    [16, 0xFFFF, 0b11111, 0x00, 0b11111],
-    [32, 0x12345678, 0b10101, 0xEDCBA987, 0b10101],
-];
-
-static NEG: [[u32; 5]; 5] = [
-    [8, 0x80, 0b00000, 0x80, 0b11001],
-    [8, 0x00, 0b11111, 0x00, 0b00110],
-    [16, 0x01, 0b00000, 0xFFFF, 0b01011],
-    [32, 0x80000000, 0b00000, 0x80000000, 0b11011],
-    [32, 0xFFFFFFFF, 0b00000, 0x01, 0b00001],
-];
-
-// Width, operand, count, flags before, value, flags after, and which flags are defined.
-static SHL: [[u32; 7]; 9] = [
-    [8, 0x81, 1, 0b00000, 0x02, 0b10001, 0b11111],
-    [8, 0x81, 7, 0b00000, 0x80, 0b01000, 0b01111],
-    [8, 0x01, 8, 0b00000, 0x00, 0b00110, 0b01110],
-    [8, 0xFF, 9, 0b00000, 0x00, 0b00110, 0b01110],
-    [16, 0xFFFF, 16, 0b00000, 0x00, 0b00110, 0b01110],
-    [32, 0xC0000001, 1, 0b00000, 0x80000002, 0b01001, 0b11111],
-    [32, 0x03, 31, 0b00000, 0x80000000, 0b01011, 0b01111],
-    [32, 0x03, 33, 0b00000, 0x06, 0b00010, 0b11111],
-    [32, 0x80000000, 0, 0b11111, 0x80000000, 0b11111, 0b11111],
-];
-
-static SHR: [[u32; 7]; 8] = [
-    [8, 0x81, 1, 0b00000, 0x40, 0b10001, 0b11111],
-    [8, 0x81, 8, 0b00000, 0x00, 0b00110, 0b01110],
-    [8, 0xFF, 20, 0b11111, 0x00, 0b00110, 0b01110],
-    [16, 0x8000, 15, 0b00000, 0x01, 0b00000, 0b01111],
-    [32, 0x80000001, 1, 0b00000, 0x40000000, 0b10011, 0b11111],
-    [32, 0xC0000000, 31, 0b00000, 0x01, 0b00001, 0b01111],
-    [32, 0xC0000000, 63, 0b00000, 0x01, 0b00001, 0b01111],
-    [32, 0x05, 0, 0b10001, 0x05, 0b10001, 0b11111],
-];
-
-static SAR: [[u32; 7]; 9] = [
-    [8, 0x81, 1, 0b00000, 0xC0, 0b01011, 0b11111],
-    [8, 0x80, 7, 0b00000, 0xFF, 0b01010, 0b01111],
-    [8, 0x80, 8, 0b00000, 0xFF, 0b01011, 0b01111],
-    [8, 0x81, 31, 0b00000, 0xFF, 0b01011, 0b01111],
-    [8, 0x7F, 9, 0b11111, 0x00, 0b00110, 0b01111],
-    [16, 0x8001, 2, 0b00000, 0xE000, 0b01010, 0b01111],
-    [32, 0x80000000, 31, 0b00000, 0xFFFFFFFF, 0b01010, 0b01111],
-    [32, 0xFFFFFFFE, 1, 0b11111, 0xFFFFFFFF, 0b01010, 0b11111],
-    [32, 0x80000000, 0, 0b10000, 0x80000000, 0b10000, 0b11111],
-];
-
-static ROL: [[u32; 7]; 5] = [
-    [32, 0x80000001, 1, 0b00000, 0x03, 0b10001, 0b11111],
-    [32, 0x40000000, 1, 0b11110, 0x80000000, 0b11110, 0b11111],
-    [32, 0x12345678, 8, 0b01110, 0x34567812, 0b01110, 0b01111],
-    [32, 0xFFFFFFFF, 0, 0b11111, 0xFFFFFFFF, 0b11111, 0b11111],
-    [32, 0x80000000, 33, 0b01111, 0x01, 0b11111, 0b11111],
-];
-
-static ROR: [[u32; 7]; 4] = [
-    [32, 0x01, 1, 0b00000, 0x80000000, 0b10001, 0b11111],
-    [32, 0x80000000, 1, 0b01110, 0x40000000, 0b11110, 0b11111],
-    [32, 0x12345678, 8, 0b11111, 0x78123456, 0b01110, 0b01111],
-    [32, 0xC0000000, 32, 0b01001, 0xC0000000, 0b01001, 0b11111],
-];
-
-// Signed or not, width, two operands, the product's two halves, and OF and CF after.
-static PRODUCTS: [[u32; 7]; 11] = [
-    [0, 8, 0xFF, 0xFF, 0x00, 0xFE01, 0b10001],
-    [0, 8, 0x10, 0x0F, 0x00, 0xF0, 0b00000],
-    [0, 16, 0x100, 0x100, 0x00, 0x10000, 0b10001],
-    [0, 32, 0xFFFFFFFF, 0xFFFFFFFF, 0xFFFFFFFE, 0x01, 0b10001],
-    [0, 32, 0xFFFFFFFF, 0x01, 0x00, 0xFFFFFFFF, 0b00000],
-    [1, 8, 0xFF, 0x80, 0x00, 0x80, 0b10001],
-    [1, 8, 0x80, 0x80, 0x00, 0x4000, 0b10001],
-    [1, 16, 0xFFFF, 0x7FFF, 0x00, 0xFFFF8001, 0b00000],
-    [1, 32, 0x80000000, 0x80000000, 0x40000000, 0x00, 0b10001],
-    [1, 32, 0xFFFFFFFF, 0xFFFFFFFF, 0x00, 0x01, 0b00000],
-    [1, 32, 0x80000000, 0x01, 0xFFFFFFFF, 0x80000000, 0b00000],
-];
-
-// Signed or not, width, the dividend's two halves, divisor, whether there is a quotient, quotient and remainder.
-static QUOTIENTS: [[u32; 8]; 16] = [
-    [0, 8, 0x00, 0xFEFF, 0xFF, 1, 0xFF, 0xFE],
-    [0, 8, 0x00, 0xFF00, 0xFF, 0, 0x00, 0x00],
-    [
-        0, 32, 0xFFFFFFFE, 0xFFFFFFFF, 0xFFFFFFFF, 1, 0xFFFFFFFF, 0xFFFFFFFE,
-    ],
-    [0, 32, 0x01, 0x00, 0x01, 0, 0x00, 0x00],
-    [0, 32, 0x00, 0x64, 0x00, 0, 0x00, 0x00],
-    [1, 8, 0x00, 0xFF9C, 0x07, 1, 0xF2, 0xFE],
-    [1, 8, 0x00, 0xFF80, 0xFF, 0, 0x00, 0x00],
-    [1, 8, 0x00, 0xFF80, 0x01, 1, 0x80, 0x00],
-    [1, 8, 0x00, 0xC000, 0x80, 0, 0x00, 0x00],
-    [1, 16, 0x00, 0xFFFFFF9C, 0xFFF9, 1, 0x0E, 0xFFFE],
-    [1, 32, 0x80000000, 0x00, 0xFFFFFFFF, 0, 0x00, 0x00],
-    [
-        1, 32, 0xFFFFFFFF, 0xFFFFFFF9, 0x02, 1, 0xFFFFFFFD, 0xFFFFFFFF,
-    ],
-    [1, 32, 0x00, 0x07, 0xFFFFFFFE, 1, 0xFFFFFFFD, 0x01],
-    [1, 32, 0x00, 0x80000000, 0xFFFFFFFF, 1, 0x80000000, 0x00],
-    [1, 32, 0xFFFFFFFF, 0x80000000, 0x01, 1, 0x80000000, 0x00],
-    [1, 32, 0x00, 0x05, 0x00, 0, 0x00, 0x00],
-];
-
-// Of each condition, at which flags it holds: bit n for the flags of number n.
+// Of each condition, at which flags it holds: bit n for the flags of the number n, whose bits are OF, SF, ZF, PF and
+// CF.
 static CONDITIONS: [u32; 16] = [
     0xFFFF0000, 0x0000FFFF, 0xAAAAAAAA, 0x55555555, 0xF0F0F0F0, 0x0F0F0F0F, 0xFAFAFAFA, 0x05050505,
     0xFF00FF00, 0x00FF00FF, 0xCCCCCCCC, 0x33333333, 0x00FFFF00, 0xFF0000FF, 0xF0FFFFF0, 0x0F00000F,
 ];
 
-fn width(bits: u32) -> Width {
-    match bits {
-        8 => Width::W8,
-        16 => Width::W16,
-        _ => Width::W32,
-    }
-}
-
-fn flags(bits: u32) -> Flags {
-    Flags {
-        cf: bits % 2 == 1,
-        pf: bits / 2 % 2 == 1,
-        zf: bits / 4 % 2 == 1,
-        sf: bits / 8 % 2 == 1,
-        of: bits / 16 % 2 == 1,
-    }
-}
-
-fn bits(flags: Flags) -> u32 {
-    let low = u32::from(flags.cf) | u32::from(flags.pf) << 1 | u32::from(flags.zf) << 2;
-    low | u32::from(flags.sf) << 3 | u32::from(flags.of) << 4
-}
-
-fn wide(high: u32, low: u32) -> u64 {
-    u64::from(high) << 32 | u64::from(low)
-}
-
-fn binary_agrees(rt: &impl Abort, op: Binary, rows: &[[u32; 6]]) {
-    for row in rows {
-        let [size, a, b, before, value, after] = *row;
-        let (given, changed) = binary(op, width(size), a, b, flags(before));
-        assert_eq!(rt; given, value, "{op:?} {row:?}");
-        assert_eq!(rt; bits(changed), after, "{op:?} {row:?}");
-    }
-}
-
-fn unary_agrees(rt: &impl Abort, op: Unary, rows: &[[u32; 5]]) {
-    for row in rows {
-        let [size, a, before, value, after] = *row;
-        let (given, changed) = unary(op, width(size), a, flags(before));
-        assert_eq!(rt; given, value, "{op:?} {row:?}");
-        assert_eq!(rt; bits(changed), after, "{op:?} {row:?}");
-    }
-}
-
-// Rotations are of 32 bits, whatever the row says.
-fn moved(op: Shift, size: u32, a: u32, count: u32, before: u32) -> (u32, Flags) {
-    let by = (count % 256) as u8;
-    match op {
-        Shift::Rol | Shift::Ror => shift(op, Width::W32, a, by, flags(before)),
-        Shift::Shl | Shift::Shr | Shift::Sar => shift(op, width(size), a, by, flags(before)),
-    }
-}
-
-fn shift_agrees(rt: &impl Abort, op: Shift, rows: &[[u32; 7]]) {
-    for row in rows {
-        let [size, a, count, before, value, after, defined] = *row;
-        let (given, changed) = moved(op, size, a, count, before);
-        assert_eq!(rt; given, value, "{op:?} {row:?}");
-        assert_eq!(rt; bits(changed) & defined, after, "{op:?} {row:?}");
-    }
-}
-
 #[test]
 fn operations(rt: HostRuntime) {
-    binary_agrees(&rt, Binary::Add, &ADD);
-    binary_agrees(&rt, Binary::Adc, &ADC);
-    binary_agrees(&rt, Binary::Sub, &SUB);
-    binary_agrees(&rt, Binary::Sbb, &SBB);
-    binary_agrees(&rt, Binary::Cmp, &CMP);
-    binary_agrees(&rt, Binary::And, &AND);
-    binary_agrees(&rt, Binary::Or, &OR);
-    binary_agrees(&rt, Binary::Xor, &XOR);
-    binary_agrees(&rt, Binary::Test, &TEST);
-    unary_agrees(&rt, Unary::Inc, &INC);
-    unary_agrees(&rt, Unary::Dec, &DEC);
-    unary_agrees(&rt, Unary::Not, &NOT);
-    unary_agrees(&rt, Unary::Neg, &NEG);
+    for row in &BINARY {
+        let (operation, width, a, b, before, value, after) = *row;
+        let given = binary(operation, width, a, b, flags(before));
+        assert_eq!(rt; given, (value, flags(after)), "{row:?}");
+    }
+    for row in &UNARY {
+        let (operation, width, a, before, value, after) = *row;
+        let given = unary(operation, width, a, flags(before));
+        assert_eq!(rt; given, (value, flags(after)), "{row:?}");
+    }
 }
 
 #[test]
 fn shifts(rt: HostRuntime) {
-    shift_agrees(&rt, Shift::Shl, &SHL);
-    shift_agrees(&rt, Shift::Shr, &SHR);
-    shift_agrees(&rt, Shift::Sar, &SAR);
-    shift_agrees(&rt, Shift::Rol, &ROL);
-    shift_agrees(&rt, Shift::Ror, &ROR);
+    for row in &SHIFTS {
+        let (operation, width, a, count, before, value, after, defined) = *row;
+        let (given, changed) = match operation {
+            Shl | Shr | Sar => shift(operation, width, a, count, flags(before)),
+            Rol | Ror => shift(operation, W32, a, count, flags(before)),
+        };
+        assert_eq!(rt; given, value, "{row:?}");
+        assert_eq!(rt;
+            defined_of(changed, flags(defined)),
+            flags(after),
+            "{row:?}"
+        );
+    }
+    for row in &ROTATIONS {
+        let (operation, a, count, before, value, after, defined) = *row;
+        let (given, changed) = shift(operation, W32, a, count, flags(before));
+        assert_eq!(rt; given, value, "{row:?}");
+        assert_eq!(rt;
+            defined_of(changed, flags(defined)),
+            flags(after),
+            "{row:?}"
+        );
+    }
 }
 
 #[test]
 fn products(rt: HostRuntime) {
     for row in &PRODUCTS {
-        let [signed, size, a, b, high, low, after] = *row;
-        let (given, changed) = multiply(signed == 1, width(size), a, b);
-        assert_eq!(rt; given, wide(high, low), "{row:?}");
-        assert_eq!(rt; bits(changed), after, "{row:?}");
+        let (signed, width, a, b, product, after) = *row;
+        let given = multiply(signed, width, a, b);
+        assert_eq!(rt; given, (product, flags(after)), "{row:?}");
     }
 }
 
 #[test]
 fn quotients(rt: HostRuntime) {
     for row in &QUOTIENTS {
-        let [signed, size, high, low, by, fits, quotient, remainder] = *row;
-        let given = divide(signed == 1, width(size), wide(high, low), by);
-        let expected = if fits == 1 {
-            Some((quotient, remainder))
-        } else {
-            None
-        };
-        assert_eq!(rt; given, expected, "{row:?}");
+        let (signed, width, dividend, divisor, both) = *row;
+        assert_eq!(rt; divide(signed, width, dividend, divisor), both, "{row:?}");
+    }
+}
+
+fn flags_of_number(number: u32) -> Flags {
+    Flags {
+        cf: number % 2 == 1,
+        pf: number / 2 % 2 == 1,
+        zf: number / 4 % 2 == 1,
+        sf: number / 8 % 2 == 1,
+        of: number / 16 % 2 == 1,
     }
 }
 
 #[test]
 fn conditions(rt: HostRuntime) {
     for (nibble, row) in CONDITIONS.iter().enumerate() {
-        for before in 0..32 {
-            let holds = condition((nibble % 16) as u8, flags(before));
-            assert_eq!(rt; holds, (*row >> before) % 2 == 1, "{nibble} {before}");
+        for number in 0..32 {
+            let holds = condition((nibble % 16) as u8, flags_of_number(number));
+            assert_eq!(rt; holds, (*row >> number) % 2 == 1, "{nibble} {number}");
         }
     }
 }

@@ -1,165 +1,68 @@
+//! What is decoded, how long it is, where its fields stand, and what is padding.
 use ia32_decode::{Decoded, Field, Instr, Operand, Register, Width, decode, is_padding};
 
-/// Bytes alone in the window, how long their instruction is (0: none), and whether it is padding.
-struct Row {
-    bytes: &'static [u8],
-    length: u32,
-    padding: bool,
-}
-
-static ROWS: [Row; 23] = [
-    Row {
-        bytes: &[0x90],
-        length: 1,
-        padding: true,
-    },
-    Row {
-        bytes: &[0x66, 0x90],
-        length: 2,
-        padding: true,
-    },
-    Row {
-        bytes: &[0x8B, 0xF6],
-        length: 2,
-        padding: true,
-    },
-    Row {
-        bytes: &[0x8D, 0xB6, 0, 0, 0, 0],
-        length: 6,
-        padding: true,
-    },
-    Row {
-        bytes: &[0x8D, 0x74, 0x26, 0],
-        length: 4,
-        padding: true,
-    },
-    Row {
-        bytes: &[0x2E, 0x8D, 0xB4, 0x26, 0, 0, 0, 0],
-        length: 8,
-        padding: true,
-    },
-    Row {
-        bytes: &[0x0F, 0x1F, 0x44, 0, 0],
-        length: 5,
-        padding: true,
-    },
-    Row {
-        bytes: &[
-            0x66, 0x66, 0x66, 0x66, 0x66, 0x66, 0x66, 0x66, 0x66, 0x66, 0x66, 0x66, 0x66, 0x66,
-            0x90,
-        ],
-        length: 15,
-        padding: true,
-    },
-    Row {
-        bytes: &[
-            0x66, 0x66, 0x66, 0x66, 0x66, 0x66, 0x66, 0x66, 0x66, 0x66, 0x66, 0x66, 0x66, 0x66,
-            0x66, 0x90,
-        ],
-        length: 0,
-        padding: false,
-    },
-    Row {
-        bytes: &[
-            0x66, 0x66, 0x66, 0x66, 0x66, 0x66, 0x66, 0x66, 0x66, 0x66, 0x66, 0x66, 0x66, 0x66,
-            0x66,
-        ],
-        length: 0,
-        padding: false,
-    },
-    Row {
-        bytes: &[0x66, 0xB8, 1, 0],
-        length: 4,
-        padding: false,
-    },
-    Row {
-        bytes: &[0xC7, 5, 0, 0, 0x20, 0, 1, 0, 0, 0],
-        length: 10,
-        padding: false,
-    },
-    Row {
-        bytes: &[0xFF, 0x24, 0x85, 0, 0, 0x18, 0],
-        length: 7,
-        padding: false,
-    },
-    Row {
-        bytes: &[0x66, 0xE9, 0, 0],
-        length: 0,
-        padding: false,
-    },
-    Row {
-        bytes: &[0x67, 0x90],
-        length: 0,
-        padding: false,
-    },
-    Row {
-        bytes: &[0x0F, 0xFF],
-        length: 0,
-        padding: false,
-    },
-    Row {
-        bytes: &[0xF3, 0x0F, 0x1E, 0xFB],
-        length: 4,
-        padding: false,
-    },
-    Row {
-        bytes: &[0x0F, 0x1E, 0xFB],
-        length: 0,
-        padding: false,
-    },
-    Row {
-        bytes: &[0x8D, 0xC0],
-        length: 0,
-        padding: false,
-    },
-    Row {
-        bytes: &[0x89, 0xC8],
-        length: 2,
-        padding: false,
-    },
-    Row {
-        bytes: &[0xF6, 0x04, 0x24, 1, 0xC3],
-        length: 4,
-        padding: false,
-    },
-    Row {
-        bytes: &[0xF6, 0x1C, 0x24, 1],
-        length: 3,
-        padding: false,
-    },
-    Row {
-        bytes: &[0x0F],
-        length: 0,
-        padding: false,
-    },
+// Padding, of which each is its whole window.
+static PADDING: [&[u8]; 8] = [
+    &[0x90],
+    &[0x66, 0x90],
+    &[0x8B, 0xF6],
+    &[0x8D, 0xB6, 0, 0, 0, 0],
+    &[0x8D, 0x74, 0x26, 0],
+    &[0x2E, 0x8D, 0xB4, 0x26, 0, 0, 0, 0],
+    &[0x0F, 0x1F, 0x44, 0, 0],
+    // 14 prefixes
+    &[
+        0x66, 0x66, 0x66, 0x66, 0x66, 0x66, 0x66, 0x66, 0x66, 0x66, 0x66, 0x66, 0x66, 0x66, 0x90,
+    ],
 ];
 
-fn length_of(decoded: Option<Decoded>) -> u32 {
-    match decoded {
-        Some(decoded) => decoded.length,
-        None => 0,
-    }
-}
+// Windows at whose front no instruction stands.
+static UNDECODED: [&[u8]; 8] = [
+    // 15 prefixes, with a byte after them and without
+    &[
+        0x66, 0x66, 0x66, 0x66, 0x66, 0x66, 0x66, 0x66, 0x66, 0x66, 0x66, 0x66, 0x66, 0x66, 0x66,
+        0x90,
+    ],
+    &[
+        0x66, 0x66, 0x66, 0x66, 0x66, 0x66, 0x66, 0x66, 0x66, 0x66, 0x66, 0x66, 0x66, 0x66, 0x66,
+    ],
+    &[0x66, 0xE9, 0, 0],
+    &[0x67, 0x90],
+    &[0x0F, 0xFF],
+    &[0x0F, 0x1E, 0xFB],
+    &[0x8D, 0xC0],
+    &[0x0F],
+];
 
-fn is_padded(decoded: Option<Decoded>) -> bool {
-    match decoded {
-        Some(decoded) => is_padding(&decoded),
-        None => false,
-    }
-}
+// Instructions that are no padding, each at the front of a window: how long they are.
+static OTHERS: [(&[u8], u32); 7] = [
+    (&[0x66, 0xB8, 1, 0], 4),
+    (&[0xC7, 5, 0, 0, 0x20, 0, 1, 0, 0, 0], 10),
+    (&[0xFF, 0x24, 0x85, 0, 0, 0x18, 0], 7),
+    (&[0xF3, 0x0F, 0x1E, 0xFB], 4),
+    (&[0x89, 0xC8], 2),
+    (&[0xF6, 0x04, 0x24, 1, 0xC3], 4), // test byte [esp], 1 and ret
+    (&[0xF6, 0x1C, 0x24, 1], 3), // neg byte [esp]
+];
 
-fn displacement_of(decoded: Option<Decoded>) -> Option<Field> {
-    match decoded {
-        Some(decoded) => decoded.fields.disp,
+/// How long the instruction is, and whether it is padding.
+fn told(window: &[u8]) -> Option<(u32, bool)> {
+    match decode(window) {
+        Some(decoded) => Some((decoded.length, is_padding(&decoded))),
         None => None,
     }
 }
 
-fn immediate_of(decoded: Option<Decoded>) -> Option<Field> {
-    match decoded {
-        Some(decoded) => decoded.fields.imm,
+/// Where the displacement and the immediate stand, as offset and width.
+fn fields_of(window: &[u8]) -> Option<(Option<Field>, Option<Field>)> {
+    match decode(window) {
+        Some(decoded) => Some((decoded.fields.disp, decoded.fields.imm)),
         None => None,
     }
+}
+
+fn field(offset: u32, width: u32) -> Option<Field> {
+    Some(Field { offset, width })
 }
 
 /// The displacement of a MOV from memory.
@@ -193,57 +96,31 @@ fn pushed(decoded: Option<Decoded>) -> Option<(Width, Register)> {
 
 #[test]
 fn lengths_and_padding(rt: HostRuntime) {
-    for row in &ROWS {
-        let decoded = decode(row.bytes);
-        assert_eq!(rt; length_of(decoded), row.length);
-        assert_eq!(rt; is_padded(decoded), row.padding);
+    for window in &PADDING {
+        assert_eq!(rt;
+            told(window),
+            Some((window.len() as u32, true)),
+            "{window:?}"
+        );
+    }
+    for window in &UNDECODED {
+        assert_eq!(rt; told(window), None, "{window:?}");
+    }
+    for (window, length) in &OTHERS {
+        assert_eq!(rt; told(window), Some((*length, false)), "{window:?}");
     }
 }
 
 #[test]
 fn fields(rt: HostRuntime) {
-    let moved = decode(&[0xC7, 5, 0, 0, 0x20, 0, 1, 0, 0, 0]);
-    assert_eq!(rt;
-        displacement_of(moved),
-        Some(Field {
-            offset: 2,
-            width: 4
-        })
-    );
-    assert_eq!(rt;
-        immediate_of(moved),
-        Some(Field {
-            offset: 6,
-            width: 4
-        })
-    );
-    let small = decode(&[0x66, 0xB8, 1, 0]);
-    assert_eq!(rt; displacement_of(small), None);
-    assert_eq!(rt;
-        immediate_of(small),
-        Some(Field {
-            offset: 2,
-            width: 2
-        })
-    );
-    let jump = decode(&[0xFF, 0x24, 0x85, 0, 0, 0x18, 0]);
-    assert_eq!(rt;
-        displacement_of(jump),
-        Some(Field {
-            offset: 3,
-            width: 4
-        })
-    );
-    assert_eq!(rt; immediate_of(jump), None);
-    let load = decode(&[0xA1, 0, 0, 0x18, 0]);
-    assert_eq!(rt;
-        displacement_of(load),
-        Some(Field {
-            offset: 1,
-            width: 4
-        })
-    );
-    assert_eq!(rt; immediate_of(load), None);
+    let moved = fields_of(&[0xC7, 5, 0, 0, 0x20, 0, 1, 0, 0, 0]);
+    assert_eq!(rt; moved, Some((field(2, 4), field(6, 4))));
+    let small = fields_of(&[0x66, 0xB8, 1, 0]);
+    assert_eq!(rt; small, Some((None, field(2, 2))));
+    let jump = fields_of(&[0xFF, 0x24, 0x85, 0, 0, 0x18, 0]);
+    assert_eq!(rt; jump, Some((field(3, 4), None)));
+    let load = fields_of(&[0xA1, 0, 0, 0x18, 0]);
+    assert_eq!(rt; load, Some((field(1, 4), None)));
 }
 
 #[test]

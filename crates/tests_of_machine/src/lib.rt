@@ -1,4 +1,5 @@
-//! Tests of instructions, steps, threads and sessions: `ia32_alu`, `ia32_decode`, `ia32_step`, `image_threads`, `update_stack`, `ksplice_session`.
+//! Tests of instructions, steps, threads and sessions: `ia32_alu`, `ia32_decode`, `ia32_step`, `image_threads`,
+//! `update_stack`, `ksplice_session`.
 //! They stand apart so that those crates are proved once, and not once more for their tests.
 #![tactic(auto)]
 
@@ -6,6 +7,8 @@
 mod arithmetic;
 #[cfg(test)]
 mod decoding;
+#[cfg(test)]
+mod flags;
 #[cfg(test)]
 mod lines;
 #[cfg(test)]

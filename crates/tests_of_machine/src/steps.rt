@@ -1,7 +1,9 @@
-//! Against a processor: each row is what one instruction did that was single-stepped natively on an x86-64 in 32-bit mode.
+//! Against a processor: each row is what one instruction did that was single-stepped natively on an x86-64 in 32-bit
+//! mode. Flags are named by the letters O, S, Z, P and C.
 ghost use Rattle.std.specs.Prelude.{◌≡◌};
 ghost use Rattle.ia32_step.specs.declared.types.State.TheVariants.{Running};
 
+use crate::flags::{defined_of, flags};
 use ia32_alu::Flags;
 use ia32_step::{Flow, Outcome, State, Thread, step_thread};
 use image_memory::{FlatSpace, Kind, Piece, Pieces, Space, are_placed};
@@ -10,193 +12,164 @@ use std::alloc::Global;
 use std::process::Abort;
 use std::test::Fail;
 
-// Before each row: the registers, the dword at 0x00200000, and the two of the stack at 0x00400000.
+// Where the numbers of BEFORE stand: the registers, the dword at 0x00200000, the two of the stack at 0x00400000, and
+// the pc.
+const EAX: usize = 0;
+
+const ECX: usize = 1;
+
+const EDX: usize = 2;
+
+const EBX: usize = 3;
+
+const ESP: usize = 4;
+
+const EBP: usize = 5;
+
+const ESI: usize = 6;
+
+const EDI: usize = 7;
+
+const DATA: usize = 8;
+
+const LOW: usize = 9;
+
+const HIGH: usize = 10;
+
+const PC: usize = 11;
+
+// What they are before each row.
 static BEFORE: [u32; 12] = [
     0x8000FF81, 0x00000103, 0x00000000, 0x00200000, 0x00400004, 0x00400000, 0xFFFFFFFE, 0x7FFFFFFF,
-    0x81234567, 0x00100123, 0x00200000, 0,
+    0x81234567, 0x00100123, 0x00200000, 0x00100000,
 ];
 
-// The instruction's bytes, in two numbers with the lowest byte first; the flags before it, as five bits OF, SF, ZF, PF and CF;
-// which of the flags after it count, since the manual leaves the others undefined; the pc and the flags after it; and twice
-// which number of BEFORE it changed and to what, 11 for none.
-static ROWS: [[u32; 10]; 59] = [
-    [
-        0x00000300, 0, 0b00000, 0b11111, 0x100002, 0b01010, 8, 0x812345E8, 11, 0,
-    ],
-    [
-        0x0000CE13, 0, 0b00001, 0b11111, 0x100002, 0b00001, 1, 0x102, 11, 0,
-    ],
-    [
-        0x0001632A, 0, 0b00000, 0b11111, 0x100003, 0b01000, 0, 0x8000BA81, 11, 0,
-    ],
-    [
-        0xFFDA8366, 0, 0b00001, 0b11111, 0x100004, 0b00111, 11, 0, 11, 0,
-    ],
-    [
-        0x45673B81, 0x8123, 0b00000, 0b11111, 0x100006, 0b00110, 11, 0, 11, 0,
-    ],
-    [
-        0x00000047, 0, 0b00001, 0b11111, 0x100001, 0b11011, 7, 0x80000000, 11, 0,
-    ],
-    [
-        0x00034BFE, 0, 0b00000, 0b11111, 0x100003, 0b01000, 8, 0x80234567, 11, 0,
-    ],
-    [
-        0x00000054, 0, 0b00000, 0b11111, 0x100001, 0b00000, 4, 0x400000, 9, 0x400004,
-    ],
-    [
-        0x0000005C, 0, 0b00000, 0b11111, 0x100001, 0b00000, 4, 0x200000, 11, 0,
-    ],
-    [
-        0xFC2474FF, 0, 0b00000, 0b11111, 0x100004, 0b00000, 4, 0x400000, 11, 0,
-    ],
-    [
-        0xF824448F, 0, 0b00000, 0b11111, 0x100004, 0b00000, 4, 0x400008, 9, 0x200000,
-    ],
-    [
-        0x0000FE6A, 0, 0b00000, 0b11111, 0x100002, 0b00000, 4, 0x400000, 9, 0xFFFFFFFE,
-    ],
-    [
-        0x00FD136B, 0, 0b00000, 0b10001, 0x100003, 0b10001, 2, 0x7C962FCB, 11, 0,
-    ],
-    [
-        0xC8AF0F66, 0, 0b11111, 0b10001, 0x100004, 0b10001, 1, 0x7F83, 11, 0,
-    ],
-    [
-        0x0000057C, 0, 0b01000, 0b11111, 0x100007, 0b01000, 11, 0, 11, 0,
-    ],
-    [
-        0x10008C0F, 0, 0b11000, 0b11111, 0x100006, 0b11000, 11, 0, 11, 0,
-    ],
-    [
-        0x0000C884, 0, 0b00000, 0b11111, 0x100002, 0b00000, 11, 0, 11, 0,
-    ],
-    [
-        0x0000C486, 0, 0b00000, 0b11111, 0x100002, 0b00000, 0, 0x800081FF, 11, 0,
-    ],
-    [
-        0x00002387, 0, 0b00000, 0b11111, 0x100002, 0b00000, 4, 0x81234567, 8, 0x400004,
-    ],
-    [
-        0x00026B8A, 0, 0b00000, 0b11111, 0x100003, 0b00000, 1, 0x2303, 11, 0,
-    ],
-    [
-        0x003B8966, 0, 0b00000, 0b11111, 0x100003, 0b00000, 8, 0x8123FFFF, 11, 0,
-    ],
-    [
-        0xF8BB448D, 0, 0b00000, 0b11111, 0x100004, 0b00000, 0, 0x1FFFF4, 11, 0,
-    ],
-    [
-        0x00000096, 0, 0b00000, 0b11111, 0x100001, 0b00000, 0, 0xFFFFFFFE, 6, 0x8000FF81,
-    ],
-    [
-        0x00000098, 0, 0b00000, 0b11111, 0x100001, 0b00000, 0, 0xFFFFFF81, 11, 0,
-    ],
-    [
-        0x00000099, 0, 0b00000, 0b11111, 0x100001, 0b00000, 2, 0xFFFFFFFF, 11, 0,
-    ],
-    [
-        0x00009866, 0, 0b00000, 0b11111, 0x100002, 0b00000, 11, 0, 11, 0,
-    ],
-    [
-        0x00009966, 0, 0b00000, 0b11111, 0x100002, 0b00000, 2, 0xFFFF, 11, 0,
-    ],
-    [
-        0x200003A0, 0, 0b00000, 0b11111, 0x100005, 0b00000, 11, 0, 11, 0,
-    ],
-    [
-        0x200000A3, 0, 0b00000, 0b11111, 0x100005, 0b00000, 8, 0x8000FF81, 11, 0,
-    ],
-    [
-        0x00005AB7, 0, 0b00000, 0b11111, 0x100002, 0b00000, 3, 0x205A00, 11, 0,
-    ],
-    [
-        0x001F3BC1, 0, 0b00000, 0b01111, 0x100003, 0b01010, 8, 0xFFFFFFFF, 11, 0,
-    ],
-    [
-        0x0000C7D1, 0, 0b00000, 0b11111, 0x100002, 0b10000, 7, 0xFFFFFFFE, 11, 0,
-    ],
-    [
-        0x0000E1D3, 0, 0b00000, 0b01111, 0x100002, 0b00010, 1, 0x818, 11, 0,
-    ],
-    [
-        0x002BD166, 0, 0b00000, 0b11111, 0x100003, 0b00001, 8, 0x812322B3, 11, 0,
-    ],
-    [
-        0x0000CED1, 0, 0b00000, 0b11111, 0x100002, 0b10000, 6, 0x7FFFFFFF, 11, 0,
-    ],
-    [
-        0x00202BC1, 0, 0b11111, 0b11111, 0x100003, 0b11111, 11, 0, 11, 0,
-    ],
-    [
-        0x000000C3, 0, 0b00000, 0b11111, 0x200000, 0b00000, 4, 0x400008, 11, 0,
-    ],
-    [
-        0x000004C2, 0, 0b00000, 0b11111, 0x200000, 0b00000, 4, 0x40000C, 11, 0,
-    ],
-    [
-        0x000703C6, 0, 0b00000, 0b11111, 0x100003, 0b00000, 8, 0x81234507, 11, 0,
-    ],
-    [
-        0x000000C9, 0, 0b00000, 0b11111, 0x100001, 0b00000, 5, 0x100123, 11, 0,
-    ],
-    [
-        0x000010E8, 0, 0b00000, 0b11111, 0x100015, 0b00000, 4, 0x400000, 9, 0x100005,
-    ],
-    [
-        0x000013FF, 0, 0b00000, 0b11111, 0x81234567, 0b00000, 4, 0x400000, 9, 0x100002,
-    ],
-    [
-        0x0000D4FF, 0, 0b00000, 0b11111, 0x400004, 0b00000, 4, 0x400000, 9, 0x100002,
-    ],
-    [
-        0x0000E1FF, 0, 0b00000, 0b11111, 0x103, 0b00000, 11, 0, 11, 0,
-    ],
-    [
-        0x00001BF7, 0, 0b00000, 0b11111, 0x100002, 0b00011, 8, 0x7EDCBA99, 11, 0,
-    ],
-    [
-        0x0000D1F6, 0, 0b00000, 0b11111, 0x100002, 0b00000, 1, 0x1FC, 11, 0,
-    ],
-    [
-        0x000023F6, 0, 0b00000, 0b10001, 0x100002, 0b10001, 0, 0x800033E7, 11, 0,
-    ],
-    [
-        0x0000EEF7, 0, 0b00000, 0b10001, 0x100002, 0b10001, 0, 0xFFFE00FE, 11, 0,
-    ],
-    [
-        0x00F1F766, 0, 0b00000, 0b00000, 0x100003, 0b00000, 0, 0x800000FC, 2, 0x8D,
-    ],
-    [
-        0x0000F9F6, 0, 0b00000, 0b00000, 0x100002, 0b00000, 0, 0x8000FFD6, 11, 0,
-    ],
-    [
-        0x00039C0F, 0, 0b01000, 0b11111, 0x100003, 0b01000, 8, 0x81234501, 11, 0,
-    ],
-    [
-        0x000B4C0F, 0, 0b11000, 0b11111, 0x100003, 0b11000, 11, 0, 11, 0,
-    ],
-    [
-        0x000BB10F, 0, 0b00000, 0b11111, 0x100003, 0b01001, 0, 0x81234567, 11, 0,
-    ],
-    [
-        0x00C8B10F, 0, 0b00000, 0b11111, 0x100003, 0b00110, 0, 0x103, 11, 0,
-    ],
-    [
-        0x001BC10F, 0, 0b00000, 0b11111, 0x100003, 0b01000, 3, 0x81234567, 8, 0x81434567,
-    ],
-    [
-        0x00C9C10F, 0, 0b00000, 0b11111, 0x100003, 0b00010, 1, 0x206, 11, 0,
-    ],
-    [
-        0x0343B60F, 0, 0b00000, 0b11111, 0x100004, 0b00000, 0, 0x81, 11, 0,
-    ],
-    [
-        0xD4BE0F66, 0, 0b00000, 0b11111, 0x100004, 0b00000, 2, 0xFFFF, 11, 0,
-    ],
-    [
-        0x0003FFF0, 0, 0b00000, 0b11111, 0x100003, 0b01000, 8, 0x81234568, 11, 0,
-    ],
+/// What one instruction did: its bytes, the flags that were set before and after it, and what of BEFORE it changed. The
+/// pc is among this where it isn't the address after the instruction.
+type Row = (
+    &'static [u8],
+    &'static str,
+    &'static str,
+    &'static [(usize, u32)],
+);
+
+static ROWS: [Row; 51] = [
+    (&[0x00, 0x03], "", "SP", &[(DATA, 0x812345E8)]), // add byte [ebx],al
+    (&[0x13, 0xCE], "C", "C", &[(ECX, 0x102)]), // adc ecx,esi
+    (&[0x2A, 0x63, 0x01], "", "S", &[(EAX, 0x8000BA81)]), // sub ah,byte [ebx+0x1]
+    (&[0x66, 0x83, 0xDA, 0xFF], "C", "ZPC", &[]), // sbb dx,0xffff
+    (&[0x81, 0x3B, 0x67, 0x45, 0x23, 0x81], "", "ZP", &[]), // cmp dword [ebx],0x81234567
+    (&[0x47], "C", "OSPC", &[(EDI, 0x80000000)]), // inc edi
+    (&[0xFE, 0x4B, 0x03], "", "S", &[(DATA, 0x80234567)]), // dec byte [ebx+0x3]
+    (&[0x54], "", "", &[(ESP, 0x400000), (LOW, 0x400004)]), // push esp
+    (&[0x5C], "", "", &[(ESP, 0x200000)]), // pop esp
+    (&[0xFF, 0x74, 0x24, 0xFC], "", "", &[(ESP, 0x400000)]), // push dword [esp-0x4]
+    (
+        &[0x8F, 0x44, 0x24, 0xF8],
+        "",
+        "",
+        &[(ESP, 0x400008), (LOW, 0x200000)],
+    ), // pop dword [esp-0x8]
+    (&[0x6A, 0xFE], "", "", &[(ESP, 0x400000), (LOW, 0xFFFFFFFE)]), // push 0xfffffffe
+    (&[0x7C, 0x05], "S", "S", &[(PC, 0x100007)]), // jl 0x100007
+    (&[0x0F, 0x8C, 0x00, 0x10, 0x00, 0x00], "OS", "OS", &[]), // jl 0x101006
+    (&[0x84, 0xC8], "", "", &[]), // test al,cl
+    (&[0x86, 0xC4], "", "", &[(EAX, 0x800081FF)]), // xchg ah,al
+    (
+        &[0x87, 0x23],
+        "",
+        "",
+        &[(ESP, 0x81234567), (DATA, 0x400004)],
+    ), // xchg dword [ebx],esp
+    (&[0x8A, 0x6B, 0x02], "", "", &[(ECX, 0x2303)]), // mov ch,byte [ebx+0x2]
+    (&[0x66, 0x89, 0x3B], "", "", &[(DATA, 0x8123FFFF)]), // mov word [ebx],di
+    (&[0x8D, 0x44, 0xBB, 0xF8], "", "", &[(EAX, 0x1FFFF4)]), // lea eax,[ebx+edi*4-0x8]
+    (&[0x96], "", "", &[(EAX, 0xFFFFFFFE), (ESI, 0x8000FF81)]), // xchg esi,eax
+    (&[0x98], "", "", &[(EAX, 0xFFFFFF81)]), // cwde
+    (&[0x99], "", "", &[(EDX, 0xFFFFFFFF)]), // cdq
+    (&[0x66, 0x98], "", "", &[]), // cbw
+    (&[0x66, 0x99], "", "", &[(EDX, 0xFFFF)]), // cwd
+    (&[0xA0, 0x03, 0x00, 0x20, 0x00], "", "", &[]), // mov al,0x200003
+    (
+        &[0xA3, 0x00, 0x00, 0x20, 0x00],
+        "",
+        "",
+        &[(DATA, 0x8000FF81)],
+    ), // mov 0x200000,eax
+    (&[0xB7, 0x5A], "", "", &[(EBX, 0x205A00)]), // mov bh,0x5a
+    (&[0xD1, 0xC7], "", "O", &[(EDI, 0xFFFFFFFE)]), // rol edi,1
+    (&[0x66, 0xD1, 0x2B], "", "C", &[(DATA, 0x812322B3)]), // shr word [ebx],1
+    (&[0xD1, 0xCE], "", "O", &[(ESI, 0x7FFFFFFF)]), // ror esi,1
+    (&[0xC1, 0x2B, 0x20], "OSZPC", "OSZPC", &[]), // shr dword [ebx],0x20
+    (&[0xC3], "", "", &[(PC, 0x200000), (ESP, 0x400008)]), // ret
+    (
+        &[0xC2, 0x04, 0x00],
+        "",
+        "",
+        &[(PC, 0x200000), (ESP, 0x40000C)],
+    ), // ret 0x4
+    (&[0xC6, 0x03, 0x07], "", "", &[(DATA, 0x81234507)]), // mov byte [ebx],0x7
+    (&[0xC9], "", "", &[(EBP, 0x100123)]), // leave
+    (
+        &[0xE8, 0x10, 0x00, 0x00, 0x00],
+        "",
+        "",
+        &[(PC, 0x100015), (ESP, 0x400000), (LOW, 0x100005)],
+    ), // call 0x100015
+    (
+        &[0xFF, 0x13],
+        "",
+        "",
+        &[(PC, 0x81234567), (ESP, 0x400000), (LOW, 0x100002)],
+    ), // call dword [ebx]
+    (
+        &[0xFF, 0xD4],
+        "",
+        "",
+        &[(PC, 0x400004), (ESP, 0x400000), (LOW, 0x100002)],
+    ), // call esp
+    (&[0xFF, 0xE1], "", "", &[(PC, 0x103)]), // jmp ecx
+    (&[0xF7, 0x1B], "", "PC", &[(DATA, 0x7EDCBA99)]), // neg dword [ebx]
+    (&[0xF6, 0xD1], "", "", &[(ECX, 0x1FC)]), // not cl
+    (&[0x0F, 0x9C, 0x03], "S", "S", &[(DATA, 0x81234501)]), // setl byte [ebx]
+    (&[0x0F, 0x4C, 0x0B], "OS", "OS", &[]), // cmovl ecx,dword [ebx]
+    (&[0x0F, 0xB1, 0x0B], "", "SC", &[(EAX, 0x81234567)]), // cmpxchg dword [ebx],ecx
+    (&[0x0F, 0xB1, 0xC8], "", "ZP", &[(EAX, 0x103)]), // cmpxchg eax,ecx
+    (
+        &[0x0F, 0xC1, 0x1B],
+        "",
+        "S",
+        &[(EBX, 0x81234567), (DATA, 0x81434567)],
+    ), // xadd dword [ebx],ebx
+    (&[0x0F, 0xC1, 0xC9], "", "P", &[(ECX, 0x206)]), // xadd ecx,ecx
+    (&[0x0F, 0xB6, 0x43, 0x03], "", "", &[(EAX, 0x81)]), // movzx eax,byte [ebx+0x3]
+    (&[0x66, 0x0F, 0xBE, 0xD4], "", "", &[(EDX, 0xFFFF)]), // movsx dx,ah
+    (&[0xF0, 0xFF, 0x03], "", "S", &[(DATA, 0x81234568)]), // lock inc dword [ebx]
+];
+
+// After a shift by more than one place OF is undefined.
+static SHIFTS: [Row; 2] = [
+    (&[0xC1, 0x3B, 0x1F], "", "SP", &[(DATA, 0xFFFFFFFF)]), // sar dword [ebx],0x1f
+    (&[0xD3, 0xE1], "", "P", &[(ECX, 0x818)]), // shl ecx,cl
+];
+
+// After a product OF and CF alone are defined.
+static PRODUCTS: [Row; 4] = [
+    (&[0x6B, 0x13, 0xFD], "", "OC", &[(EDX, 0x7C962FCB)]), // imul edx,dword [ebx],0xfffffffd
+    (&[0x66, 0x0F, 0xAF, 0xC8], "OSZPC", "OC", &[(ECX, 0x7F83)]), // imul cx,ax
+    (&[0xF6, 0x23], "", "OC", &[(EAX, 0x800033E7)]), // mul byte [ebx]
+    (&[0xF7, 0xEE], "", "OC", &[(EAX, 0xFFFE00FE)]), // imul esi
+];
+
+// After a division no flag is defined.
+static QUOTIENTS: [Row; 2] = [
+    (
+        &[0x66, 0xF7, 0xF1],
+        "",
+        "",
+        &[(EAX, 0x800000FC), (EDX, 0x8D)],
+    ), // div cx
+    (&[0xF6, 0xF9], "", "", &[(EAX, 0x8000FFD6)]), // idiv cl
 ];
 
 // Bytes of an instruction, and why it stops.
@@ -247,7 +220,7 @@ fn memory(rt: &impl Abort, alloc: Global, code: &[u8]) -> Result<FlatSpace, Fail
         &mut pieces,
         Kind::Writable,
         0x0020_0000,
-        &BEFORE[8].to_le_bytes(),
+        &BEFORE[DATA].to_le_bytes(),
     )?;
     push_piece(
         alloc,
@@ -261,14 +234,14 @@ fn memory(rt: &impl Abort, alloc: Global, code: &[u8]) -> Result<FlatSpace, Fail
         &mut pieces,
         Kind::Writable,
         0x0040_0000,
-        &BEFORE[9].to_le_bytes(),
+        &BEFORE[LOW].to_le_bytes(),
     )?;
     push_piece(
         alloc,
         &mut pieces,
         Kind::Writable,
         0x0040_0004,
-        &BEFORE[10].to_le_bytes(),
+        &BEFORE[HIGH].to_le_bytes(),
     )?;
     assert!(rt; are_placed(&pieces));
     Ok(FlatSpace::new(alloc, pieces)?)
@@ -292,24 +265,6 @@ fn thread(flags: Flags) -> Thread
     }
 }
 
-fn flags(bits: u32) -> Flags {
-    Flags {
-        cf: bits % 2 == 1,
-        pf: bits / 2 % 2 == 1,
-        zf: bits / 4 % 2 == 1,
-        sf: bits / 8 % 2 == 1,
-        of: bits / 16 % 2 == 1,
-    }
-}
-
-fn bits(flags: Flags) -> u32 {
-    u32::from(flags.cf)
-        + 2 * u32::from(flags.pf)
-        + 4 * u32::from(flags.zf)
-        + 8 * u32::from(flags.sf)
-        + 16 * u32::from(flags.of)
-}
-
 fn dword<S: Space>(space: &S, address: u32) -> u32 {
     let mut bytes = [0; 4];
     match space.read(address, &mut bytes) {
@@ -318,48 +273,37 @@ fn dword<S: Space>(space: &S, address: u32) -> u32 {
     }
 }
 
-fn row_agrees(rt: &impl Abort, alloc: Global, row: &[u32; 10]) -> Result<(), Fail> {
-    let [
-        low,
-        high,
-        before,
-        mask,
-        pc,
-        after,
-        first,
-        one,
-        second,
-        other,
-    ] = *row;
-    let mut code = [0x90; 8];
-    code[..4].copy_from_slice(&low.to_le_bytes());
-    code[4..].copy_from_slice(&high.to_le_bytes());
-    let mut space = memory(rt, alloc, &code)?;
+fn row_agrees(rt: &impl Abort, alloc: Global, row: &Row, defined: &str) -> Result<(), Fail> {
+    let (code, before, after, changes) = *row;
+    let mut space = memory(rt, alloc, code)?;
     let mut thread = thread(flags(before));
     let outcome = step_thread(&mut space, &mut thread);
     assert!(rt; matches!(outcome, Outcome::Moved(_)), "{code:?}");
-    assert_eq!(rt; thread.pc, pc, "pc of {code:?}");
-    assert_eq!(rt; bits(thread.flags) & mask, after, "flags of {code:?}");
+    let left = defined_of(thread.flags, flags(defined));
+    assert_eq!(rt; left, flags(after), "flags of {code:?}");
     let mut expected = BEFORE;
-    expected[first as usize % 12] = one;
-    expected[second as usize % 12] = other;
+    expected[PC] = BEFORE[PC] + (code.len() % 16) as u32;
+    for (place, number) in changes {
+        expected[*place % 12] = *number;
+    }
+    assert_eq!(rt; thread.pc, expected[PC], "pc of {code:?}");
     let registers = thread.registers;
     for i in 0..8 {
         assert_eq!(rt; registers[i], expected[i], "register {i} of {code:?}");
     }
     assert_eq!(rt;
         dword(&space, 0x0020_0000),
-        expected[8],
-        "memory of {code:?}"
+        expected[DATA],
+        "data of {code:?}"
     );
     assert_eq!(rt;
         dword(&space, 0x0040_0000),
-        expected[9],
+        expected[LOW],
         "stack of {code:?}"
     );
     assert_eq!(rt;
         dword(&space, 0x0040_0004),
-        expected[10],
+        expected[HIGH],
         "stack of {code:?}"
     );
     Ok(())
@@ -368,7 +312,16 @@ fn row_agrees(rt: &impl Abort, alloc: Global, row: &[u32; 10]) -> Result<(), Fai
 #[test]
 fn instructions(rt: HostRuntime) -> Result<(), Fail> {
     for row in &ROWS {
-        row_agrees(&rt, rt.alloc(), row)?;
+        row_agrees(&rt, rt.alloc(), row, "OSZPC")?;
+    }
+    for row in &SHIFTS {
+        row_agrees(&rt, rt.alloc(), row, "SZPC")?;
+    }
+    for row in &PRODUCTS {
+        row_agrees(&rt, rt.alloc(), row, "OC")?;
+    }
+    for row in &QUOTIENTS {
+        row_agrees(&rt, rt.alloc(), row, "")?;
     }
     Ok(())
 }
@@ -377,12 +330,12 @@ fn instructions(rt: HostRuntime) -> Result<(), Fail> {
 fn stops(rt: HostRuntime) -> Result<(), Fail> {
     for (code, fault) in &STOPS {
         let mut space = memory(&rt, rt.alloc(), code)?;
-        let mut running = thread(flags(0));
+        let mut running = thread(flags(""));
         let outcome = step_thread(&mut space, &mut running);
         assert_eq!(rt; outcome, Outcome::Stopped(*fault), "{code:?}");
         let stopped = Thread {
             state: State::Stopped(*fault),
-            ..thread(flags(0))
+            ..thread(flags(""))
         };
         assert_eq!(rt; running, stopped, "{code:?}");
     }
@@ -392,14 +345,14 @@ fn stops(rt: HostRuntime) -> Result<(), Fail> {
 #[test]
 fn flows_and_ends(rt: HostRuntime) -> Result<(), Fail> {
     let mut space = memory(&rt, rt.alloc(), &[0xE8, 0, 0, 0, 0, 0xC3])?;
-    let mut caller = thread(flags(0));
+    let mut caller = thread(flags(""));
     let called = step_thread(&mut space, &mut caller);
     assert_eq!(rt; called, Outcome::Moved(Flow::Call));
-    let mut callee = thread(flags(0));
+    let mut callee = thread(flags(""));
     callee.pc = 0x0010_0005;
     let returned = step_thread(&mut space, &mut callee);
     assert_eq!(rt; returned, Outcome::Moved(Flow::Return));
-    let mut last = thread(flags(0));
+    let mut last = thread(flags(""));
     last.pc = 0xFFFF_0000;
     let exited = step_thread(&mut space, &mut last);
     assert_eq!(rt; exited, Outcome::Exited(0x8000_FF81));

@@ -7,4 +7,7 @@ use Rattle.ia32_alu.proofs.adding.add.Goals as goal
 -- src/adding.rt:11:1
 pub returns-clause-value : goal.returns-clause-value
 unfolding sum_of
-returns-clause-value c = c.settle.ensures.value ∙ settled-same _ _ _ _ _ (omega (arith, ints, from_bool-le c.args.carry)) (omega (arith, ints, from_bool-le c.args.carry))
+returns-clause-value c =
+    c.settle.ensures.value
+    ∙ settled-same _ _ _ _ _ (omega (arith, ints, from_bool-le c.args.carry))
+    (omega (arith, ints, from_bool-le c.args.carry))

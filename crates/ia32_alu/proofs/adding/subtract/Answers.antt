@@ -7,4 +7,7 @@ use Rattle.ia32_alu.proofs.adding.subtract.Goals as goal
 -- src/adding.rt:21:1
 pub returns-clause-value : goal.returns-clause-value
 unfolding difference_of
-returns-clause-value c = c.settle.ensures.value ∙ settled-same _ _ _ _ _ (omega (arith, ints, from_bool-le c.args.borrow)) (omega (arith, ints, from_bool-le c.args.borrow))
+returns-clause-value c =
+    c.settle.ensures.value
+    ∙ settled-same _ _ _ _ _ (omega (arith, ints, from_bool-le c.args.borrow))
+    (omega (arith, ints, from_bool-le c.args.borrow))
