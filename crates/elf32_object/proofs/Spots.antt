@@ -9,7 +9,7 @@ use Rattle.std.proofs.lemmas.Bool.Decides.{nat_tests}
 use Rattle.elf32_object.specs.declared.rows.Spot.{Spot}
 use Rattle.elf32_object.specs.Below.{sum_below}
 use Rattle.elf32_object.specs.Fields.{section_count, section_header, patches_loaded, entry_count, changes, relocations_below, relocation, relocation_at, IsRelocation}
-use Rattle.elf32_object.specs.Rows.{rows_of, spots, spots_below, AreRows}
+use Rattle.elf32_object.specs.inside.Rows.{rows_of, spots, spots_below, AreRows}
 
 -- a row after one place more
 pub row_set : (rows : List (Vec Spot)) (section : ℕ) (old new : Vec Spot) (spot : Spot) → section < length rows → old ≡ get_or rows section old → new.items ≡ old.items ++ spot ∷ []

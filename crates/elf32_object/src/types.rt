@@ -1,5 +1,7 @@
 //! What an object file is read as, and why one is refused.
 
+use std::alloc::AllocError;
+
 /// Which limit of this reader an object passes.
 #[derive(Clone, Copy, Debug, PartialEq, Eq)]
 pub enum Large {
@@ -36,6 +38,17 @@ pub enum ObjectFault {
     TooLarge(Large),
     /// Memory ran out.
     Memory,
+}
+
+impl From<AllocError> for ObjectFault {
+    ghost use Rattle.std.specs.Prelude.{◌≡◌};
+    ghost use Rattle.elf32_object.specs.declared.types.ObjectFault.TheVariants.{Memory};
+
+    ghost from_gives = { λ _ fault. fault ≡ Memory };
+
+    fn from(_error: AllocError) -> ObjectFault {
+        ObjectFault::Memory
+    }
 }
 
 /// The entry of the section header table that a section has (System V gABI, chapter 4, "Sections"). The

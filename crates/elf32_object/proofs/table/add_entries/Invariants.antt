@@ -1,5 +1,5 @@
 use Rattle.std.proofs.Common.{◌≡◌, ◌++◌, [], get_or, slice_set, vec_len}
-use Rattle.elf32_object.specs.Rows.{rows_of, spots}
+use Rattle.elf32_object.specs.inside.Rows.{rows_of, spots}
 use Rattle.elf32_object.proofs.table.add_entries.Given as goal
 
 abbrev pub invariant-loop-index : goal.invariant-loop-index

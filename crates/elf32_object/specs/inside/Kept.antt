@@ -1,7 +1,7 @@
 -- What an object that is read keeps.
 use Rattle.std.specs.Prelude.{◌≡◌, ℕ, ◌≤◌, List, None}
 use Rattle.elf32_object.specs.declared.rows.Spot.{Spot}
-use Rattle.elf32_object.specs.Rows.{AreRows}
+use Rattle.elf32_object.specs.inside.Rows.{AreRows}
 use Rattle.elf32_object.specs.Below.{sum_below}
 use Rattle.elf32_object.specs.Fields.{section_count, entry_count}
 use Rattle.elf32_object.specs.Rules.{object_fault, loaded_size}
