@@ -88,9 +88,9 @@ unfoldable pub is_unwind_table : List ℕ → ℕ → Bool
 is_unwind_table bytes i =
     starts_with nat_eq (drop (section_header bytes i).name (section_names bytes)) (codes ".eh_frame" ++ 0 ∷ [])
 
--- a flag of the section header
-abbrev pub has_flag : ℕ → SectionHeader → Bool
-has_flag flag header = not (bit_and header.flags flag == 0)
+-- whether a section's flags have one
+abbrev pub has_flag : ℕ → ℕ → Bool
+has_flag flag flags = not (bit_and flags flag == 0)
 
 -- sections of these types hold a part of the program
 abbrev pub holds_program : SectionHeader → Bool
@@ -102,7 +102,7 @@ holds_program header =
 -- it, and a name other than `.eh_frame`.
 unfoldable pub is_loaded : List ℕ → ℕ → Bool
 is_loaded bytes i =
-    is_section bytes i && has_flag SHF_ALLOC (section_header bytes i) && nat_lt 0 (section_header bytes i).size
+    is_section bytes i && has_flag SHF_ALLOC (section_header bytes i).flags && nat_lt 0 (section_header bytes i).size
     && holds_program (section_header bytes i) && not (is_unwind_table bytes i)
 
 -- whether a number is the index of a symbol table

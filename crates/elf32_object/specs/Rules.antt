@@ -55,7 +55,7 @@ is_alignment n =
 
 -- a loaded section ("Sections") is aligned, and neither thread-local nor compressed
 abbrev pub can_be_loaded : SectionHeader → Bool
-can_be_loaded header = is_alignment header.align && not (has_flag SHF_TLS header) && not (has_flag SHF_COMPRESSED header)
+can_be_loaded header = is_alignment header.align && not (has_flag SHF_TLS header.flags) && not (has_flag SHF_COMPRESSED header.flags)
 
 -- every section: its name, its place in the file, and what a loaded one may be
 unfoldable pub place_fault : List ℕ → ℕ → Option ObjectFault

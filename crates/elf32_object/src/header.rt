@@ -4,7 +4,7 @@ ghost use Rattle.std.specs.Prelude.{◌≡◌, ◌+◌, ◌*◌, ◌≤◌, ◌<
 ghost use Rattle.elf32_object.specs.Fields.{section_table, section_count, name_table, section_header, is_string_table, lies_in_file};
 ghost use Rattle.elf32_object.specs.Below.{first_of};
 ghost use Rattle.elf32_object.specs.Rules.{is_relocatable_386, kind_fault, header_fault};
-ghost use Rattle.elf32_object.specs.inside.Finds.{Finds};
+ghost use Rattle.elf32_object.specs.Rule.{Finds};
 
 use crate::elf::{
     E_EHSIZE, E_MACHINE, E_SHENTSIZE, E_SHNUM, E_SHOFF, E_SHSTRNDX, E_TYPE, E_VERSION, EHDR_SIZE,
@@ -31,7 +31,7 @@ fn is_relocatable_386(bytes: &[u8]) -> bool
 /// Checks the file's size and kind.
 #[tactic(auto, unfolding(crate::specs::Rules::kind_fault))]
 fn check_kind(bytes: &[u8]) -> Result<(), ObjectFault>
-    ensures finds { Finds result (kind_fault bytes.now) }
+    ensures finds { Finds ObjectFault.Memory result (kind_fault bytes.now) }
     ensures whole { OnOk result (EHDR_SIZE ≤ length bytes.now) }
 {
     if bytes.len() > 8_388_608 {
@@ -83,7 +83,7 @@ fn has_name_table(bytes: &[u8]) -> bool
 #[tactic(auto, unfolding(crate::specs::Rules::header_fault, crate::specs::Fields::section_count))]
 fn check_header(bytes: &[u8]) -> Result<(), ObjectFault>
     requires { EHDR_SIZE ≤ length bytes.now }
-    ensures { Finds result (header_fault bytes.now) }
+    ensures { Finds ObjectFault.Memory result (header_fault bytes.now) }
 {
     if word(bytes, E_VERSION) != u32::from(EV_CURRENT) {
         return Err(ObjectFault::BadHeader(E_VERSION as u32));
@@ -135,7 +135,7 @@ fn layout_of(bytes: &[u8]) -> Layout<'_>
 /// Checks the file's kind and its header, and finds the sections' headers and names.
 #[tactic(auto, using(crate::proofs::Whole::header_few, crate::proofs::Whole::header_table, crate::proofs::Whole::header_named, crate::proofs::Whole::header_names_lie))]
 pub fn read_layout(bytes: &[u8]) -> Result<Layout<'_>, ObjectFault>
-    ensures finds { Finds result (first_of (kind_fault bytes.now) (header_fault bytes.now)) }
+    ensures finds { Finds ObjectFault.Memory result (first_of (kind_fault bytes.now) (header_fault bytes.now)) }
     ensures same_bytes { IfOk result (λ layout. layout.bytes.now ≡ bytes.now) }
 {
     check_kind(bytes)?;

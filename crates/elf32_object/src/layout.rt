@@ -12,11 +12,11 @@ use crate::reading::{entry_at, header_at, piece};
 use crate::strings::{Strings, text};
 use crate::types::{Reloc, SectionHeader};
 
-/// Whether a section's header has a flag.
-pub fn has_flag(header: SectionHeader, flag: u32) -> bool
-    ensures { result ≡ has_flag flag header }
+/// Whether a section's flags have one.
+pub fn has_flag(flags: u32, flag: u32) -> bool
+    ensures { result ≡ has_flag flag flags }
 {
-    header.flags & flag != 0
+    flags & flag != 0
 }
 
 /// Whether a section of this type has no bytes in the file.
@@ -109,7 +109,7 @@ impl<'a> Layout<'a> {
             return false;
         }
         let header = self.header(i);
-        has_flag(header, SHF_ALLOC)
+        has_flag(header.flags, SHF_ALLOC)
             && 0 < header.size
             && holds_program(header)
             && !self.is_unwind_table(i)

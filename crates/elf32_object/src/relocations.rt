@@ -6,7 +6,7 @@ ghost use Rattle.std.specs.BTreeSet.{contains, Updates};
 ghost use Rattle.elf32_object.specs.Below.{first_below};
 ghost use Rattle.elf32_object.specs.Fields.{section_count, section_header, symbol_count, relocation, entry_count};
 ghost use Rattle.elf32_object.specs.Rules.{has_field, is_met_before, is_placed, relocation_fault, relocations_fault, section_fault};
-ghost use Rattle.elf32_object.specs.inside.Finds.{FindsWithMemory};
+ghost use Rattle.elf32_object.specs.Rule.{Finds};
 ghost use Rattle.elf32_object.specs.inside.Taken.{field_key, AreTaken, IsFree, IsMet};
 
 use crate::elf::{R_386_32, R_386_PC32, R_386_PLT32, REL_SIZE, SHT_NOBITS};
@@ -115,7 +115,7 @@ fn check_relocation(
     requires target { (section_header layout.now.bytes.now i).info < layout.now.count }
     requires symbols { symbols ≡ symbol_count layout.now.bytes.now }
     requires taken { AreTaken layout.now.bytes.now i k fields.old }
-    ensures finds { FindsWithMemory result (relocation_fault layout.now.bytes.now i k) }
+    ensures finds { Finds ObjectFault.Memory result (relocation_fault layout.now.bytes.now i k) }
     ensures taken { OnOk result (AreTaken layout.now.bytes.now i (suc k) fields.new) }
 {
     if layout.entry(i, k).symbol >= symbols
@@ -142,7 +142,7 @@ fn check_entries(
     requires sections { first_below (section_fault layout.now.bytes.now) (section_count layout.now.bytes.now) ≡ None }
     requires symbols { symbols ≡ symbol_count layout.now.bytes.now }
     requires taken { AreTaken layout.now.bytes.now i 0 fields.old }
-    ensures finds { FindsWithMemory result (relocations_fault layout.now.bytes.now i) }
+    ensures finds { Finds ObjectFault.Memory result (relocations_fault layout.now.bytes.now i) }
     ensures taken { OnOk result (AreTaken layout.now.bytes.now (suc i) 0 fields.new) }
 {
     for k in 0..layout.entry_count(i) {
@@ -159,7 +159,7 @@ pub fn check_relocations(
 ) -> Result<(), ObjectFault>
     requires sections { first_below (section_fault layout.now.bytes.now) (section_count layout.now.bytes.now) ≡ None }
     requires symbols { symbols ≡ symbol_count layout.now.bytes.now }
-    ensures { FindsWithMemory result (first_below (relocations_fault layout.now.bytes.now) (section_count layout.now.bytes.now)) }
+    ensures { Finds ObjectFault.Memory result (first_below (relocations_fault layout.now.bytes.now) (section_count layout.now.bytes.now)) }
 {
     let mut fields = BTreeSet::new(alloc);
     for i in 0..layout.count {

@@ -5,7 +5,7 @@ ghost use Rattle.elf32_object.specs.Below.{sum_below, count_below, first_below};
 ghost use Rattle.elf32_object.specs.Fields.{section_count, section_header, has_no_bytes, lies_in_file, is_section, is_symbol_table, is_string_table, patches_loaded, entry_count, is_loaded};
 ghost use Rattle.elf32_object.specs.Rules.{only_where, is_alignment, can_be_loaded, place_fault, symbol_table_fault, relocation_section_fault, loaded_size, content_fault, section_fault};
 ghost use Rattle.elf32_object.specs.inside.Kept.{AreTotals};
-ghost use Rattle.elf32_object.specs.inside.Finds.{Finds};
+ghost use Rattle.elf32_object.specs.Rule.{Finds};
 
 use crate::elf::{REL_SIZE, SHF_COMPRESSED, SHF_TLS, SHT_RELA, SHT_SYMTAB, SYM_SIZE};
 use crate::layout::{Layout, has_flag, has_no_bytes, is_string_table, lies_in_file};
@@ -26,7 +26,7 @@ fn is_alignment(n: u32) -> bool
 fn can_be_loaded(header: SectionHeader) -> bool
     ensures { result ≡ can_be_loaded header }
 {
-    is_alignment(header.align) && !has_flag(header, SHF_TLS) && !has_flag(header, SHF_COMPRESSED)
+    is_alignment(header.align) && !has_flag(header.flags, SHF_TLS) && !has_flag(header.flags, SHF_COMPRESSED)
 }
 
 /// Whether a section has no bytes in the file, or its bytes lie there.
@@ -40,7 +40,7 @@ fn has_its_bytes(bytes: &[u8], header: SectionHeader) -> bool
 #[tactic(auto, unfolding(crate::specs::Rules::place_fault, crate::specs::Fields::section_name), using(crate::proofs::Zeros::ends_within))]
 fn check_place(layout: &Layout<'_>, i: u32) -> Result<(), ObjectFault>
     requires { i < layout.now.count }
-    ensures { Finds result (place_fault layout.now.bytes.now i) }
+    ensures { Finds ObjectFault.Memory result (place_fault layout.now.bytes.now i) }
 {
     let header = layout.header(i);
     if !layout.names.has_end(header.name) {
@@ -73,7 +73,7 @@ fn links_to_strings(layout: &Layout<'_>, i: u32) -> bool
 fn check_symbol_table(layout: &Layout<'_>, tables: u32, i: u32) -> Result<(), ObjectFault>
     requires within { i < layout.now.count }
     requires tables { tables ≡ count_below (is_symbol_table layout.now.bytes.now) (section_count layout.now.bytes.now) }
-    ensures { Finds result (only_where ((section_header layout.now.bytes.now i).kind == SHT_SYMTAB) (symbol_table_fault layout.now.bytes.now i)) }
+    ensures { Finds ObjectFault.Memory result (only_where ((section_header layout.now.bytes.now i).kind == SHT_SYMTAB) (symbol_table_fault layout.now.bytes.now i)) }
 {
     let header = layout.header(i);
     if header.kind != SHT_SYMTAB {
@@ -99,7 +99,7 @@ fn check_relocation_section(layout: &Layout<'_>, total: u32, i: u32) -> Result<u
     requires within { i < layout.now.count }
     requires total { total ≡ sum_below (entry_count layout.now.bytes.now) i }
     requires few { total ≤ 262144 }
-    ensures finds { Finds result (only_where (patches_loaded layout.now.bytes.now i) (relocation_section_fault layout.now.bytes.now i)) }
+    ensures finds { Finds ObjectFault.Memory result (only_where (patches_loaded layout.now.bytes.now i) (relocation_section_fault layout.now.bytes.now i)) }
     ensures total { IfOk result (λ t. t ≡ sum_below (entry_count layout.now.bytes.now) (suc i)) }
     ensures few { IfOk result (λ t. t ≤ 262144) }
 {
@@ -140,7 +140,7 @@ fn check_content(layout: &Layout<'_>, total: u64, i: u32) -> Result<u64, ObjectF
     requires within { i < layout.now.count }
     requires total { total ≡ sum_below (loaded_size layout.now.bytes.now) i }
     requires few { total ≤ 8388608 }
-    ensures finds { Finds result (content_fault layout.now.bytes.now i) }
+    ensures finds { Finds ObjectFault.Memory result (content_fault layout.now.bytes.now i) }
     ensures total { IfOk result (λ t. t ≡ sum_below (loaded_size layout.now.bytes.now) (suc i)) }
     ensures few { IfOk result (λ t. t ≤ 8388608) }
 {
@@ -174,7 +174,7 @@ fn check_section(
     requires within { i < layout.now.count }
     requires tables { tables ≡ count_below (is_symbol_table layout.now.bytes.now) (section_count layout.now.bytes.now) }
     requires totals { AreTotals layout.now.bytes.now i totals.relocations totals.content }
-    ensures finds { Finds result (section_fault layout.now.bytes.now i) }
+    ensures finds { Finds ObjectFault.Memory result (section_fault layout.now.bytes.now i) }
     ensures totals { IfOk result (λ t. AreTotals layout.now.bytes.now (suc i) t.relocations t.content) }
 {
     check_place(layout, i)?;
@@ -202,7 +202,7 @@ fn symbol_tables(layout: &Layout<'_>) -> u32
 
 /// Checks the sections, in their order.
 pub fn check_sections(layout: &Layout<'_>) -> Result<(), ObjectFault>
-    ensures { Finds result (first_below (section_fault layout.now.bytes.now) (section_count layout.now.bytes.now)) }
+    ensures { Finds ObjectFault.Memory result (first_below (section_fault layout.now.bytes.now) (section_count layout.now.bytes.now)) }
 {
     let tables = symbol_tables(layout);
     let mut totals = Totals {

@@ -5,7 +5,7 @@ ghost use Rattle.elf32_object.specs.declared.elf.TheConstants.{SYM_SIZE};
 ghost use Rattle.elf32_object.specs.Fields.{section_header, symbol_table, symbol_count, ends_in, symbol_entry, symbol_names, symbol_name, section_count, lies_in_file, is_loaded};
 ghost use Rattle.elf32_object.specs.Below.{first_below};
 ghost use Rattle.elf32_object.specs.Rules.{section_fault, is_section_of_symbol, symbol_fault};
-ghost use Rattle.elf32_object.specs.inside.Finds.{Finds};
+ghost use Rattle.elf32_object.specs.Rule.{Finds};
 
 use crate::elf::{SHN_ABS, SHN_COMMON, SHN_UNDEF, SYM_SIZE};
 use crate::layout::Layout;
@@ -127,7 +127,7 @@ fn check_symbol(layout: &Layout<'_>, symbols: &Symbols<'_>, k: u32) -> Result<()
     requires above_null { 0 < k }
     requires within { k < symbols.now.count }
     requires same_bytes { symbols.now.bytes.now ≡ layout.now.bytes.now }
-    ensures { Finds result (symbol_fault layout.now.bytes.now k) }
+    ensures { Finds ObjectFault.Memory result (symbol_fault layout.now.bytes.now k) }
 {
     let entry = symbols.entry(k);
     if !symbols.names.has_end(entry.name) {
@@ -145,7 +145,7 @@ fn check_symbol(layout: &Layout<'_>, symbols: &Symbols<'_>, k: u32) -> Result<()
 /// Checks the symbols, in their order.
 pub fn check_symbols(layout: &Layout<'_>, symbols: &Symbols<'_>) -> Result<(), ObjectFault>
     requires { symbols.now.bytes.now ≡ layout.now.bytes.now }
-    ensures { Finds result (first_below (symbol_fault layout.now.bytes.now) (symbol_count layout.now.bytes.now)) }
+    ensures { Finds ObjectFault.Memory result (first_below (symbol_fault layout.now.bytes.now) (symbol_count layout.now.bytes.now)) }
 {
     for k in 1..symbols.count {
         check_symbol(layout, symbols, k)?;

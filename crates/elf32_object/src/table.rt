@@ -1,10 +1,10 @@
 //! Lists the relocations of each section.
 
 ghost use Rattle.std.specs.Prelude.{◌≡◌, ℕ, ◌+◌, ◌<◌, ◌≤◌, ◌∷◌, [], ◌++◌, get_or, slice_set, length, OnOk, IfOk, vec_len, suc, None};
-ghost use Rattle.elf32_object.specs.Below.{first_below};
+ghost use Rattle.elf32_object.specs.Below.{each_below, first_below};
 ghost use Rattle.elf32_object.specs.Fields.{section_count, relocations_below, IsRelocation};
 ghost use Rattle.elf32_object.specs.Rules.{section_fault};
-ghost use Rattle.elf32_object.specs.inside.Rows.{rows_of, spots, AreRows};
+ghost use Rattle.elf32_object.specs.inside.Rows.{rows_of, spot_of, AreRows};
 
 use crate::layout::Layout;
 use crate::rows::Spot;
@@ -41,7 +41,7 @@ fn add_entries(
     count: u32,
 ) -> Result<(), AllocError>
     requires { section < vec_len rows.old }
-    ensures { OnOk result (rows_of rows.new.items ≡ slice_set (rows_of rows.old.items) section (get_or (rows_of rows.old.items) section [] ++ spots from count)) }
+    ensures { OnOk result (rows_of rows.new.items ≡ slice_set (rows_of rows.old.items) section (get_or (rows_of rows.old.items) section [] ++ each_below (spot_of from) count)) }
 {
     for index in 0..count {
         add_spot(rows, section, Spot { from, index })?;

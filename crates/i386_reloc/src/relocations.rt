@@ -3,9 +3,10 @@ ghost use Rattle.std.specs.Prelude.{◌≡◌, true, IfOk, All};
 ghost use Rattle.elf32_object.specs.Fields.{is_loaded};
 ghost use Rattle.elf32_object.specs.Rules.{has_field};
 ghost use Rattle.i386_reloc.specs.References.{relocations_of};
-ghost use Rattle.i386_reloc.specs.Relocations.{IsPlaced};
+ghost use Rattle.i386_reloc.specs.inside.Fields.{IsPlaced};
 
 use elf32_object::Object;
+use elf32_object::elf::{R_386_32, R_386_PC32, R_386_PLT32};
 use elf32_object::types::Reloc;
 use std::alloc::{AllocError, Global};
 
@@ -13,7 +14,7 @@ use std::alloc::{AllocError, Global};
 pub(crate) fn has_field(r: Reloc) -> bool
     ensures { result ≡ has_field r }
 {
-    r.kind == 1 || r.kind == 2 || r.kind == 4
+    r.kind == R_386_32 || r.kind == R_386_PC32 || r.kind == R_386_PLT32
 }
 
 /// The relocations of a loaded section, in the order of their sections and, in each of these, of their entries.

@@ -3,7 +3,8 @@ use Rattle.std.proofs.lemmas.List.{length-map}
 use Rattle.std.proofs.lemmas.Result.{on_ok_weaker}
 use Rattle.std.specs.Vec.{vec_items}
 use Rattle.elf32_object.specs.Fields.{section_header}
-use Rattle.elf32_object.specs.inside.Rows.{rows_of, spots}
+use Rattle.elf32_object.specs.inside.Rows.{rows_of, spot_of}
+use Rattle.elf32_object.specs.Below.{each_below}
 use Rattle.elf32_object.proofs.Entries.{patches}
 use Rattle.elf32_object.proofs.Loads.{loaded_within}
 use Rattle.elf32_object.proofs.Spots.{same_rows, more_rows}
@@ -29,7 +30,7 @@ returns c =
     on_ok_weaker c.add_entries.result
     (λ added. more_rows bytes c.args.i rows more patched (loaded_within bytes (section_header bytes c.args.i).info (patches bytes c.args.i patched).3)
     (added
-    ∙ ap (λ s. slice_set rows s (get_or rows s [] ++ spots c.args.i c.entry_count.result)) target
-    ∙ ap (λ n. slice_set rows (section_header bytes c.args.i).info (get_or rows (section_header bytes c.args.i).info [] ++ spots c.args.i n)) c.entry_count.ensures)
+    ∙ ap (λ s. slice_set rows s (get_or rows s [] ++ each_below (spot_of c.args.i) c.entry_count.result)) target
+    ∙ ap (λ n. slice_set rows (section_header bytes c.args.i).info (get_or rows (section_header bytes c.args.i).info [] ++ each_below (spot_of c.args.i) n)) c.entry_count.ensures)
     c.requires.rows)
     c.add_entries.ensures
