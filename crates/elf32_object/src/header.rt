@@ -134,7 +134,7 @@ fn layout_of(bytes: &[u8]) -> Layout<'_>
 
 /// Checks the file's kind and its header, and finds the sections' headers and names.
 #[tactic(auto, using(crate::proofs::Whole::header_few, crate::proofs::Whole::header_table, crate::proofs::Whole::header_named, crate::proofs::Whole::header_names_lie))]
-pub fn read_layout(bytes: &[u8]) -> Result<Layout<'_>, ObjectFault>
+pub(crate) fn read_layout(bytes: &[u8]) -> Result<Layout<'_>, ObjectFault>
     ensures finds { Finds ObjectFault.Memory result (first_of (kind_fault bytes.now) (header_fault bytes.now)) }
     ensures same_bytes { IfOk result (λ layout. layout.bytes.now ≡ bytes.now) }
 {

@@ -13,21 +13,21 @@ use crate::strings::{Strings, text};
 use crate::types::{Reloc, SectionHeader};
 
 /// Whether a section's flags have one.
-pub fn has_flag(flags: u32, flag: u32) -> bool
+pub(crate) fn has_flag(flags: u32, flag: u32) -> bool
     ensures { result ≡ has_flag flag flags }
 {
     flags & flag != 0
 }
 
 /// Whether a section of this type has no bytes in the file.
-pub fn has_no_bytes(header: SectionHeader) -> bool
+pub(crate) fn has_no_bytes(header: SectionHeader) -> bool
     ensures { result ≡ has_no_bytes header }
 {
     header.kind == SHT_NULL || header.kind == SHT_NOBITS
 }
 
 /// Whether a section of this type holds a part of the program.
-pub fn holds_program(header: SectionHeader) -> bool
+pub(crate) fn holds_program(header: SectionHeader) -> bool
     ensures { result ≡ holds_program header }
 {
     header.kind == SHT_PROGBITS
@@ -37,14 +37,14 @@ pub fn holds_program(header: SectionHeader) -> bool
 }
 
 /// Whether the bytes that a header names lie in the file.
-pub fn lies_in_file(bytes: &[u8], header: SectionHeader) -> bool
+pub(crate) fn lies_in_file(bytes: &[u8], header: SectionHeader) -> bool
     ensures { result ≡ lies_in_file bytes.now header }
 {
     u64::from(header.offset) + u64::from(header.size) <= bytes.len() as u64
 }
 
 /// Whether a header is that of a string table whose bytes lie in the file.
-pub fn is_string_table(bytes: &[u8], header: SectionHeader) -> bool
+pub(crate) fn is_string_table(bytes: &[u8], header: SectionHeader) -> bool
     ensures { result ≡ is_string_table bytes.now header }
 {
     header.kind == SHT_STRTAB && lies_in_file(bytes, header)
@@ -52,7 +52,7 @@ pub fn is_string_table(bytes: &[u8], header: SectionHeader) -> bool
 
 /// A file whose header is in order: where its sections' headers and names stand.
 #[derive(Clone, Copy)]
-pub struct Layout<'a> {
+pub(crate) struct Layout<'a> {
     pub bytes: &'a [u8],
     pub table: u32,
     pub count: u32,

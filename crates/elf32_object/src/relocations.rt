@@ -9,18 +9,11 @@ ghost use Rattle.elf32_object.specs.Rules.{has_field, is_met_before, is_placed, 
 ghost use Rattle.elf32_object.specs.Rule.{Finds};
 ghost use Rattle.elf32_object.specs.inside.Taken.{field_key, AreTaken, IsFree, IsMet};
 
-use crate::elf::{R_386_32, R_386_PC32, R_386_PLT32, REL_SIZE, SHT_NOBITS};
+use crate::elf::{REL_SIZE, SHT_NOBITS};
 use crate::layout::Layout;
-use crate::types::{ObjectFault, Reloc};
+use crate::types::ObjectFault;
 use std::alloc::{AllocError, Global};
 use std::collections::BTreeSet;
-
-/// Whether an entry changes a field of four bytes.
-pub fn has_field(reloc: Reloc) -> bool
-    ensures { result ≡ has_field reloc }
-{
-    reloc.kind == R_386_32 || reloc.kind == R_386_PC32 || reloc.kind == R_386_PLT32
-}
 
 /// A field of a section as a number.
 fn field_key(section: u32, offset: u32) -> u64
@@ -72,7 +65,7 @@ fn is_placed(layout: &Layout<'_>, fields: &BTreeSet<u64>, i: u32, k: u32) -> boo
     let reloc = layout.entry(i, k);
     let section = layout.header(i).info;
     let size = layout.header(section).size;
-    if !has_field(reloc) {
+    if !reloc.has_field() {
         return reloc.offset < size;
     }
     if u64::from(reloc.offset) + 4 > u64::from(size) {
@@ -94,7 +87,7 @@ fn add_field(
     ensures { OnOk result (AreTaken layout.now.bytes.now i (suc k) fields.new) }
 {
     let reloc = layout.entry(i, k);
-    if !has_field(reloc) {
+    if !reloc.has_field() {
         return Ok(());
     }
     fields.insert(field_key(layout.header(i).info, reloc.offset))?;
@@ -152,7 +145,7 @@ fn check_entries(
 }
 
 /// Checks the relocations, in the order of their sections and entries.
-pub fn check_relocations(
+pub(crate) fn check_relocations(
     alloc: Global,
     layout: &Layout<'_>,
     symbols: u32,

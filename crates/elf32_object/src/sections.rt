@@ -26,7 +26,9 @@ fn is_alignment(n: u32) -> bool
 fn can_be_loaded(header: SectionHeader) -> bool
     ensures { result ≡ can_be_loaded header }
 {
-    is_alignment(header.align) && !has_flag(header.flags, SHF_TLS) && !has_flag(header.flags, SHF_COMPRESSED)
+    is_alignment(header.align)
+        && !has_flag(header.flags, SHF_TLS)
+        && !has_flag(header.flags, SHF_COMPRESSED)
 }
 
 /// Whether a section has no bytes in the file, or its bytes lie there.
@@ -201,7 +203,7 @@ fn symbol_tables(layout: &Layout<'_>) -> u32
 }
 
 /// Checks the sections, in their order.
-pub fn check_sections(layout: &Layout<'_>) -> Result<(), ObjectFault>
+pub(crate) fn check_sections(layout: &Layout<'_>) -> Result<(), ObjectFault>
     ensures { Finds ObjectFault.Memory result (first_below (section_fault layout.now.bytes.now) (section_count layout.now.bytes.now)) }
 {
     let tables = symbol_tables(layout);

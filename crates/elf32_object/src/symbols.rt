@@ -15,7 +15,7 @@ use crate::types::{Large, ObjectFault, SymbolEntry};
 
 /// Where a file's symbols stand, and their names.
 #[derive(Clone, Copy)]
-pub struct Symbols<'a> {
+pub(crate) struct Symbols<'a> {
     pub bytes: &'a [u8],
     pub place: u32,
     pub count: u32,
@@ -87,7 +87,7 @@ fn symbols_in<'a>(layout: &Layout<'a>, i: u32) -> Symbols<'a>
 
 /// The symbols of a file whose sections are in order: none where it has no symbol table.
 #[tactic(auto, unfolding(crate::specs::Fields::symbol_count))]
-pub fn symbols_of<'a>(layout: &Layout<'a>) -> Symbols<'a>
+pub(crate) fn symbols_of<'a>(layout: &Layout<'a>) -> Symbols<'a>
     requires { first_below (section_fault layout.now.bytes.now) (section_count layout.now.bytes.now) ≡ None }
     ensures { result.bytes.now ≡ layout.now.bytes.now }
 {
@@ -143,7 +143,7 @@ fn check_symbol(layout: &Layout<'_>, symbols: &Symbols<'_>, k: u32) -> Result<()
 }
 
 /// Checks the symbols, in their order.
-pub fn check_symbols(layout: &Layout<'_>, symbols: &Symbols<'_>) -> Result<(), ObjectFault>
+pub(crate) fn check_symbols(layout: &Layout<'_>, symbols: &Symbols<'_>) -> Result<(), ObjectFault>
     requires { symbols.now.bytes.now ≡ layout.now.bytes.now }
     ensures { Finds ObjectFault.Memory result (first_below (symbol_fault layout.now.bytes.now) (symbol_count layout.now.bytes.now)) }
 {

@@ -62,7 +62,10 @@ fn add_section(layout: &Layout<'_>, rows: &mut Vec<Vec<Spot>>, i: u32) -> Result
 }
 
 /// The relocations of each section, in their order.
-pub fn rows_by_section(alloc: Global, layout: &Layout<'_>) -> Result<Vec<Vec<Spot>>, AllocError>
+pub(crate) fn rows_by_section(
+    alloc: Global,
+    layout: &Layout<'_>,
+) -> Result<Vec<Vec<Spot>>, AllocError>
     ensures { IfOk result (λ rows. AreRows layout.now.bytes.now (section_count layout.now.bytes.now) (rows_of rows.items)) }
 {
     let mut rows = empty_rows(alloc, layout.count)?;
@@ -73,7 +76,7 @@ pub fn rows_by_section(alloc: Global, layout: &Layout<'_>) -> Result<Vec<Vec<Spo
 }
 
 /// How many relocations a section has.
-pub fn count_of(layout: &Layout<'_>, rows: &[Vec<Spot>], section: u32) -> u32
+pub(crate) fn count_of(layout: &Layout<'_>, rows: &[Vec<Spot>], section: u32) -> u32
     requires within { section < section_count layout.now.bytes.now }
     requires sections { first_below (section_fault layout.now.bytes.now) (section_count layout.now.bytes.now) ≡ None }
     requires rows { AreRows layout.now.bytes.now (section_count layout.now.bytes.now) (rows_of rows.now) }
@@ -92,7 +95,7 @@ fn spot_at(row: &[Spot], k: u32) -> Spot
 }
 
 /// A relocation of a section, by its number.
-pub fn relocation_of(layout: &Layout<'_>, rows: &[Vec<Spot>], section: u32, k: u32) -> Reloc
+pub(crate) fn relocation_of(layout: &Layout<'_>, rows: &[Vec<Spot>], section: u32, k: u32) -> Reloc
     requires within { section < section_count layout.now.bytes.now }
     requires below { k < relocations_below layout.now.bytes.now section (section_count layout.now.bytes.now) }
     requires sections { first_below (section_fault layout.now.bytes.now) (section_count layout.now.bytes.now) ≡ None }

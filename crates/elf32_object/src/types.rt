@@ -1,5 +1,6 @@
 //! What an object file is read as, and why one is refused.
 
+use crate::elf::{R_386_32, R_386_PC32, R_386_PLT32};
 use std::alloc::AllocError;
 
 /// Which limit of this reader an object passes.
@@ -103,6 +104,18 @@ pub struct Reloc {
     pub from: u32,
     /// The entry's index in that section.
     pub index: u32,
+}
+
+impl Reloc {
+    ghost use Rattle.std.specs.Prelude.{◌≡◌};
+    ghost use Rattle.elf32_object.specs.Rules.{has_field};
+
+    /// Whether the relocation changes a field of four bytes (Intel386 supplement, "Relocation Types").
+    pub fn has_field(self) -> bool
+        ensures { result ≡ has_field self }
+    {
+        self.kind == R_386_32 || self.kind == R_386_PC32 || self.kind == R_386_PLT32
+    }
 }
 
 /// A section of an object. It borrows from the file.

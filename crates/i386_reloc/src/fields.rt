@@ -5,7 +5,6 @@ ghost use Rattle.std.specs.List.Sorted.{IsPermutation};
 ghost use Rattle.elf32_object.specs.Rules.{has_field};
 ghost use Rattle.i386_reloc.specs.References.{by_offset};
 
-use crate::relocations::has_field;
 use elf32_object::types::Reloc;
 use std::alloc::{AllocError, Global};
 
@@ -25,7 +24,7 @@ fn unsorted(alloc: Global, relocations: &[Reloc]) -> Result<Vec<Reloc>, AllocErr
 {
     let mut fields = Vec::new(alloc);
     for r in relocations {
-        if has_field(*r) {
+        if r.has_field() {
             fields.push(*r)?;
         }
     }

@@ -12,7 +12,6 @@ ghost use Rattle.i386_reloc.specs.inside.Loaded.{IsLoadedSection};
 use crate::known::Named;
 use crate::loaded::class_of;
 use crate::references::addend;
-use crate::relocations::has_field;
 use crate::source::Source;
 use crate::types::Class;
 use elf32_object::elf::{R_386_32, R_386_NONE, SHN_ABS, SHN_COMMON, SHN_UNDEF};
@@ -83,7 +82,7 @@ fn is_known(class: Class, r: Reloc, names_strings: bool) -> bool
     ensures { result ≡ (has_field r && not (is_strings_class class) && (is_absolute r || is_code_class class)
         && (is_absolute r || not names_strings)) }
 {
-    has_field(r)
+    r.has_field()
         && !class.is_strings()
         && (r.kind == R_386_32 || class.is_code())
         && (r.kind == R_386_32 || !names_strings)
