@@ -1,8 +1,8 @@
 -- What is wrong with a relocation, rule by rule, and what holds where nothing is.
-use Rattle.std.proofs.Common.{◌≡◌, ◌≢◌, ℕ, zero, suc, ◌+◌, ◌<◌, ◌==◌, nat_lt, Bool, true, false, not, ◌&&◌, ◌||◌, cond, List, [], ◌∷◌, length, get_or, take, Option, Some, None, refl, sym, ap, ◌∙◌, arith, add-one, All}
+use Rattle.std.proofs.Common.{◌≡◌, ◌≢◌, ℕ, zero, suc, ◌+◌, ◌<◌, ◌==◌, nat_lt, Bool, true, false, not, ◌&&◌, ◌||◌, cond, List, [], ◌∷◌, length, get_or, take, Option, Some, None, refl, sym, ap, ◌∙◌, arith, add-one, All, inl, inr, subst}
 use Rattle.std.specs.List.{filter}
-use Rattle.std.specs.List.Sorted.{IsPermutation}
-use Rattle.std.proofs.lemmas.Bool.{ltb-true}
+use Rattle.std.specs.List.Sorted.{IsNonDecreasingBy, IsPermutation}
+use Rattle.std.proofs.lemmas.Bool.{cases_lt, ltb-true}
 use Rattle.std.proofs.lemmas.Bool.Decides.{nat_tests}
 use Rattle.std.proofs.lemmas.List.Elements.{All-nil, All-cons, All-filter, All-weaker, filter_passes}
 use Rattle.std.proofs.lemmas.List.Sorted.{All-permutation}
@@ -18,7 +18,7 @@ use Rattle.ks_base.specs.declared.refusals.Refusal.{Refusal}
 use Rattle.ks_base.specs.declared.refusals.Refusal.TheVariants as refusal
 use Rattle.i386_reloc.specs.declared.types.Class.{Class}
 use Rattle.i386_reloc.specs.Classes.{class_by, is_code, is_code_class, is_strings, is_strings_class}
-use Rattle.i386_reloc.specs.References.{is_absolute, symbol_of, is_outside, text_offset, addend_in, by_offset, relocations_of, fields_of}
+use Rattle.i386_reloc.specs.References.{is_absolute, symbol_of, is_outside, text_offset, addend_in, by_offset, relocations_of, fields_of, AreByOffset, HasOrder}
 use Rattle.i386_reloc.specs.Refused.{unknown_at, bad_target_at, names_strings, names_end, kind_fault, target_fault, text_fault, relocation_fault_of, first_among}
 use Rattle.i386_reloc.specs.inside.Fields.{IsPlaced, IsRight, IsField, has_target}
 use Rattle.i386_reloc.specs.inside.Loaded.{IsLoadedSection}
@@ -165,6 +165,23 @@ each_field bytes i relocations placed none = λ k d within.
 pub fields_right : (bytes : List ℕ) (i : ℕ) (relocations fields : List Reloc) → All (IsPlaced bytes i) relocations → first_among (relocation_fault_of bytes i) relocations ≡ None → IsPermutation (filter has_field relocations) fields → All (IsField bytes i) fields
 fields_right bytes i relocations fields placed none same =
     All-permutation (IsField bytes i) (filter has_field relocations) fields same (each_field bytes i relocations placed none)
+
+pub fields_by_offset : (bytes : List ℕ) (i : ℕ) (relocations fields : List Reloc) → relocations ≡ relocations_of bytes i → fields ≡ fields_of bytes i → IsPermutation (filter has_field relocations) fields → IsNonDecreasingBy (λ r. r.offset) fields → AreByOffset (relocations_of bytes i) (fields_of bytes i)
+fields_by_offset bytes i relocations fields are is same rises = rw (sym are, sym is) (record { same = same; rises = rises })
+
+-- section by section
+pub no_order : (bytes : List ℕ) → HasOrder bytes 0
+no_order bytes = record { each = λ i within loaded. absurd (omega arith) }
+
+pub order_more : (bytes : List ℕ) (n : ℕ) → HasOrder bytes n → (is_loaded bytes n ≡ true → AreByOffset (relocations_of bytes n) (fields_of bytes n)) → HasOrder bytes (n + 1)
+order_more bytes n before here =
+    record {
+      each = λ i within.
+          elim (cases_lt i n) [
+            | inl lt ↦ before.each i lt
+            | inr le ↦ let e : n ≡ i = omega arith in subst (λ (m : ℕ). is_loaded bytes m ≡ true → AreByOffset (relocations_of bytes m) (fields_of bytes m)) e here
+          ];
+    }
 
 pub fields_are : (bytes : List ℕ) (i : ℕ) (relocations fields : List Reloc) → relocations ≡ relocations_of bytes i → All (IsPlaced bytes i) relocations → IsPermutation (filter has_field relocations) fields →
     ((bound : ℕ) → All (λ r. r.offset < bound) fields → fields ≡ by_offset relocations bound) → fields ≡ fields_of bytes i

@@ -1,12 +1,13 @@
 -- What a loaded section refers to: its relocations, each a field of four bytes, and their targets (System V gABI,
 -- chapter 4, "Relocation"; Intel386 supplement, "Relocation Types").
-use Rattle.std.specs.Prelude.{ℕ, suc, ◌+◌, ◌^◌, ◌%◌, ◌/◌, Bool, ◌&&◌, ◌||◌, ◌==◌, nat_lt, nat_le, if◌then◌else◌, List, [], ◌∷◌, ◌++◌, map, filter}
+use Rattle.std.specs.Prelude.{◌≡◌, ◌<◌, ℕ, suc, ◌+◌, ◌^◌, ◌%◌, ◌/◌, Bool, true, ◌&&◌, ◌||◌, ◌==◌, nat_lt, nat_le, if◌then◌else◌, List, [], ◌∷◌, ◌++◌, map, filter}
 use Rattle.std.specs.List.{list_any}
+use Rattle.std.specs.List.Sorted.{IsNonDecreasingBy, IsPermutation}
 use Rattle.elf32_object.specs.declared.elf.TheConstants.{SHN_UNDEF, SHN_COMMON, STB_GLOBAL, STB_WEAK, STT_OBJECT, STT_SECTION, R_386_32}
 use Rattle.elf32_object.specs.declared.types.Reloc.{Reloc}
 use Rattle.elf32_object.specs.declared.types.SymbolEntry.{SymbolEntry}
 use Rattle.elf32_object.specs.Below.{each_below, all_below}
-use Rattle.elf32_object.specs.Fields.{section_count, section_header, section_name, section_bytes, symbol_count, symbol_entry, symbol_name, text_at, word_at, relocation, entry_count, changes}
+use Rattle.elf32_object.specs.Fields.{section_count, section_header, section_name, section_bytes, symbol_count, symbol_entry, symbol_name, text_at, word_at, is_loaded, relocation, entry_count, changes}
 use Rattle.elf32_object.specs.Rules.{has_field}
 use Rattle.i386_reloc.specs.declared.types.Form.{Form}
 use Rattle.i386_reloc.specs.declared.types.Form.TheVariants.{Absolute, Relative}
@@ -32,6 +33,15 @@ by_offset relocations bound = all_below (λ offset. filter (changes_at offset) r
 -- the relocations of section i that change a field of it, by offset
 unfoldable pub fields_of : List ℕ → ℕ → List Reloc
 fields_of bytes i = by_offset (relocations_of bytes i) (section_header bytes i).size
+
+-- what that gives, where all offsets are below the bound: the same relocations, with offsets that don't fall
+pub record AreByOffset (relocations fields : List Reloc) : Type 0 where
+  pub same : IsPermutation (filter has_field relocations) fields
+  pub rises : IsNonDecreasingBy (λ r. r.offset) fields
+
+-- so are the fields of each loaded section below a bound
+pub record HasOrder (bytes : List ℕ) (n : ℕ) : Type 0 where
+  pub each : (i : ℕ) → i < n → is_loaded bytes i ≡ true → AreByOffset (relocations_of bytes i) (fields_of bytes i)
 
 -- R_386_32 is absolute, R_386_PC32 and R_386_PLT32 are relative: there is no procedure linkage table
 abbrev pub is_absolute : Reloc → Bool

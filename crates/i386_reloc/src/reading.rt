@@ -1,12 +1,12 @@
 //! Reads the loaded sections of an object.
-ghost use Rattle.std.specs.Prelude.{◌≡◌, ◌≢◌, ◌<◌, ◌≤◌, ◌+◌, ◌++◌, ◌∷◌, [], ℕ, if◌then◌else◌, option_map, Some, None, IsSome, IfOk, IfErr, OnOk, All, map, length};
+ghost use Rattle.std.specs.Prelude.{◌≡◌, ◌≢◌, ◌<◌, ◌≤◌, ◌+◌, ◌++◌, ◌∷◌, [], ℕ, if◌then◌else◌, option_map, Some, None, IsSome, IfOk, IfErr, OnOk, All, map, length, true};
 ghost use Rattle.std.specs.List.{IsDistinct};
 ghost use Rattle.std.specs.Option.{ForSome};
 ghost use Rattle.elf32_object.specs.Fields.{section_count, symbol_count, symbol_name, is_loaded};
 ghost use Rattle.elf32_object.specs.Rule.{Finds};
 ghost use Rattle.i386_reloc.specs.Classes.{is_code_class};
 ghost use Rattle.i386_reloc.specs.Normal.{function_symbol, is_global_at, loaded_sections, name_of, normal_section, same_bytes, section_named, IsFunction};
-ghost use Rattle.i386_reloc.specs.References.{objects_of, fields_of};
+ghost use Rattle.i386_reloc.specs.References.{objects_of, relocations_of, fields_of, AreByOffset, HasOrder};
 ghost use Rattle.i386_reloc.specs.Refused.{normal_fault, relocation_fault, relocation_fault_at};
 ghost use Rattle.i386_reloc.specs.inside.Fields.{IsField};
 ghost use Rattle.i386_reloc.specs.inside.Functions.{AreFunctions};
@@ -37,6 +37,8 @@ use std::alloc::{AllocError, Global};
 /// turn: a loaded section with the name of an earlier one, a code section that isn't one function, and a relocation
 /// that makes no reference. A relocation is refused for its type and where it stands, for its symbol, or for its text,
 /// in this order.
+///
+/// The references of a section are those of its relocations that change a field, by offset.
 #[tactic(auto, unfolding(crate::specs::Refused::normal_fault))]
 pub fn normalise<'a>(alloc: Global, object: &Object<'a>) -> Result<Normal<'a>, Refusal>
     ensures ok { IfOk result (λ normal. (normal ≡ loaded_sections object.now) × (normal_fault object.now ≡ None)) }
@@ -46,6 +48,7 @@ pub fn normalise<'a>(alloc: Global, object: &Object<'a>) -> Result<Normal<'a>, R
     ensures distinct { IfOk result (λ normal. IsDistinct same_bytes (map name_of normal)) }
     ensures named { IfOk result
         (λ normal. All (λ section. section_named normal section.name ≡ Some section) normal) }
+    ensures by_offset { IfOk result (λ _. HasOrder object.now (section_count object.now)) }
 {
     let places = places(alloc, object)?;
     let source = Source::new(alloc, object)?;
@@ -62,7 +65,7 @@ struct Read<'a> {
     targets: ListOf<ListOf<Option<u32>>>,
 }
 
-#[tactic(auto, using(crate::proofs::Firsts::first_below_more, crate::proofs::Parts::loaded_below_step, crate::proofs::Parts::few_loaded), unfolding(crate::specs::Normal::loaded_sections, crate::specs::Refused::relocation_fault))]
+#[tactic(auto, using(crate::proofs::Firsts::first_below_more, crate::proofs::Parts::loaded_below_step, crate::proofs::Parts::few_loaded, crate::proofs::RelocationFaults::order_more), unfolding(crate::specs::Normal::loaded_sections, crate::specs::Refused::relocation_fault))]
 fn read_sections<'a>(
     alloc: Global,
     source: &Source<'_, 'a>,
@@ -74,6 +77,7 @@ fn read_sections<'a>(
     ensures targets { IfOk result
         (λ read. read.targets ≡ places_below source.now.object.now (section_count source.now.object.now)) }
     ensures few { IfOk result (λ read. length read.sections ≤ 4096) }
+    ensures order { IfOk result (λ _. HasOrder source.now.object.now (section_count source.now.object.now)) }
 {
     let mut objects = gather_objects(alloc, source)?;
     let mut read = Read {
@@ -105,6 +109,8 @@ fn add_section<'a>(
         then read.old.sections ++ normal_section source.now.object.now i ∷ [] else read.old.sections)) }
     ensures targets { OnOk result (read.new.targets ≡ read.old.targets
         ++ (if is_loaded source.now.object.now i then places_of source.now.object.now i ∷ [] else [])) }
+    ensures order { OnOk result (is_loaded source.now.object.now i ≡ true
+        → AreByOffset (relocations_of source.now.object.now i) (fields_of source.now.object.now i)) }
 {
     let Some(section) = loaded_section(source.object, i) else {
         return Ok(());
@@ -130,6 +136,8 @@ fn checked_fields(
     ensures finds { Finds Refusal.Memory result (relocation_fault_at source.now.object.now i) }
     ensures items { IfOk result (λ fields. fields.items ≡ fields_of source.now.object.now i) }
     ensures each { IfOk result (λ fields. All (IsField source.now.object.now i) fields.items) }
+    ensures order { IfOk result
+        (λ _. AreByOffset (relocations_of source.now.object.now i) (fields_of source.now.object.now i)) }
 {
     let relocations = relocations(alloc, source.object, i)?;
     check_relocations(alloc, source, i, section, &relocations)?;

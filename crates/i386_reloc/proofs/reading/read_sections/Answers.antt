@@ -5,6 +5,7 @@ use Rattle.elf32_object.specs.Fields.{section_count, symbol_count}
 use Rattle.i386_reloc.specs.inside.Objects.{AreObjects}
 use Rattle.i386_reloc.specs.Refused.{relocation_fault, relocation_fault_at}
 use Rattle.i386_reloc.proofs.Firsts.{finds_first}
+use Rattle.i386_reloc.proofs.RelocationFaults.{no_order}
 use Rattle.i386_reloc.proofs.ObjectSymbols.{all_left}
 use Rattle.i386_reloc.proofs.reading.read_sections.Goals as goal
 
@@ -16,6 +17,7 @@ loop-i-init c =
       none = refl;
       sections = c.new.ensures;
       targets = c.new-2.ensures;
+      order = no_order bytes;
       objects = all_left bytes c.in_ok-objects.objects.items are;
     }
 
