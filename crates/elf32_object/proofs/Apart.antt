@@ -9,7 +9,7 @@ use Rattle.std.specs.List.{list_any}
 use Rattle.elf32_object.specs.Below.{any_below}
 use Rattle.elf32_object.specs.Fields.{section_header, entry_count, relocation}
 use Rattle.elf32_object.specs.Rules.{has_field, meets, is_met_by, is_met_before}
-use Rattle.elf32_object.specs.Taken.{is_field, is_taken, field_key, AreTaken}
+use Rattle.elf32_object.specs.inside.Taken.{is_field, is_taken, field_key, AreTaken}
 
 none_any : (test : ℕ → Bool) (n : ℕ) → ((m : ℕ) → m < n → test m ≡ false) → any_below test n ≡ false
 none_any test zero h = refl

@@ -11,6 +11,9 @@ pub none_second : {X : Type 0} (a b : Option X) → first_of a b ≡ None → b 
 none_second (Some x) b e = cc
 none_second None b e = e
 
+pub both_none : {X : Type 0} (a b : Option X) → first_of a b ≡ None → (a ≡ None) × (b ≡ None)
+both_none a b e = (none_first a b e, none_second a b e)
+
 pub none_below : {X : Type 0} (f : ℕ → Option X) (n : ℕ) → first_below f n ≡ None → (i : ℕ) → i < n → f i ≡ None
 none_below f zero e i h = absurd (omega arith)
 none_below f (suc n) e i h =

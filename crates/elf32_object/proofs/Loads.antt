@@ -3,7 +3,7 @@ use Rattle.std.proofs.Common.{◌≡◌, ℕ, ◌<◌, true, List, refl, arith}
 use Rattle.std.proofs.lemmas.Bool.Decides.{nat_tests}
 use Rattle.elf32_object.specs.Fields.{section_count, is_section, is_loaded, patches_loaded, entry_count}
 use Rattle.elf32_object.specs.Rules.{loaded_size}
-use Rattle.elf32_object.specs.Kept.{AreTotals}
+use Rattle.elf32_object.specs.inside.Kept.{AreTotals}
 
 pub loaded_within : (bytes : List ℕ) (i : ℕ) → is_loaded bytes i ≡ true → i < section_count bytes
 unfolding is_loaded is_section

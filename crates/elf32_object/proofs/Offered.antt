@@ -3,6 +3,7 @@ use Rattle.std.proofs.Common.{◌≡◌, ℕ, zero, suc, ◌+◌, ◌<◌, ◌�
 use Rattle.std.proofs.lemmas.Bool.{cases_Bool, cases_lt, leb-true, ltb-true}
 use Rattle.std.proofs.Common.{eq-eqb, ◌⊎◌}
 use Rattle.std.proofs.lemmas.Bool.Decides.{nat_tests}
+use Rattle.elf32_object.specs.declared.elf.TheConstants.{SHT_NOBITS}
 use Rattle.elf32_object.specs.declared.types.SectionHeader.{SectionHeader}
 use Rattle.elf32_object.specs.declared.types.Reloc.{Reloc}
 use Rattle.elf32_object.specs.Below.{first_below, sum_below}
@@ -102,7 +103,7 @@ entry_rules bytes section k r e is =
 
 -- what the rules say of an entry
 entry_parts : (bytes : List ℕ) (i k : ℕ) → relocation_fault bytes i k ≡ None
-    → (nat_lt (relocation bytes i k).symbol (symbol_count bytes) ≡ true) × (((section_header bytes (section_header bytes i).info).kind == 8) ≡ false) × (is_placed bytes i k ≡ true)
+    → (nat_lt (relocation bytes i k).symbol (symbol_count bytes) ≡ true) × (((section_header bytes (section_header bytes i).info).kind == SHT_NOBITS) ≡ false) × (is_placed bytes i k ≡ true)
 unfolding relocation_fault
 entry_parts bytes i k e = (grind arith, grind arith, grind arith)
 
@@ -117,7 +118,7 @@ begins_within bytes i k e field = grind arith
 -- What a relocation of a section is, beside its fields.
 pub record IsPlaced (bytes : List ℕ) (section : ℕ) (r : Reloc) : Type 0 where
   pub symbol : r.symbol < symbol_count bytes
-  pub filled : ((section_header bytes section).kind == 8) ≡ false
+  pub filled : ((section_header bytes section).kind == SHT_NOBITS) ≡ false
   pub begins : r.offset < (section_header bytes section).size
   pub field : has_field r ≡ true → r.offset + 4 ≤ (section_header bytes section).size
 
@@ -143,7 +144,7 @@ placed bytes section k r e is =
     (subst (λ (s : ℕ). IsPlaced bytes s (relocation bytes r.from r.index)) (changed bytes section r.from is.of_section).1
     (entry_placed bytes r.from r.index (entry_rules bytes section k r e is)))
 
-program : (header : SectionHeader) → holds_program header ≡ true → (header.kind == 8) ≡ false → has_no_bytes header ≡ false
+program : (header : SectionHeader) → holds_program header ≡ true → (header.kind == SHT_NOBITS) ≡ false → has_no_bytes header ≡ false
 program header e filled = grind (arith, nat_tests)
 
 loaded_program : (bytes : List ℕ) (i : ℕ) → is_loaded bytes i ≡ true → (0 < i) × (i < section_count bytes) × (holds_program (section_header bytes i) ≡ true)

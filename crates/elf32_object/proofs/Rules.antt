@@ -1,10 +1,12 @@
 -- What an object that breaks no rule keeps.
 use Rattle.std.proofs.Common.{◌≡◌, ℕ, zero, suc, ◌<◌, true, not, ◌||◌, ◌==◌, nat_le, length, List, [], ◌∷◌, None, refl, sym, ◌∙◌, arith}
+use Rattle.elf32_object.specs.declared.elf.TheConstants.{SHT_SYMTAB}
 use Rattle.elf32_object.specs.declared.types.ObjectFault.TheVariants.{BadSymbol, TooLarge}
 use Rattle.elf32_object.specs.declared.types.Large.TheVariants as large
 use Rattle.elf32_object.specs.Below.{first_of, first_below}
 use Rattle.elf32_object.specs.Fields.{section_count, section_header, section_names, ends_in, has_no_bytes, lies_in_file, patches_loaded, symbol_count, symbol_names, symbol_entry, symbol_name, is_loaded}
-use Rattle.elf32_object.specs.Rules.{first_broken, ◌orElse◌, is_section_of_symbol, object_fault, kind_fault, header_fault, section_fault, place_fault, only_where, symbol_table_fault, relocation_section_fault, content_fault, symbol_fault, relocations_fault}
+use Rattle.elf32_object.specs.Rule.{first_broken, ◌orElse◌}
+use Rattle.elf32_object.specs.Rules.{is_section_of_symbol, object_fault, kind_fault, header_fault, section_fault, place_fault, only_where, symbol_table_fault, relocation_section_fault, content_fault, symbol_fault, relocations_fault}
 use Rattle.elf32_object.proofs.Firsts.{none_first, none_second, none_below}
 
 placed : (bytes : List ℕ) (i : ℕ) → 0 < i → section_fault bytes i ≡ None → place_fault bytes i ≡ None
@@ -13,7 +15,7 @@ placed bytes zero p e = absurd (omega arith)
 placed bytes (suc i) p e = grind (arith, none_first)
 
 -- the rules of a section that is not section 0
-pub section_fault_at : (bytes : List ℕ) (i : ℕ) → 0 < i → section_fault bytes i ≡ first_of (place_fault bytes i) (first_of (only_where ((section_header bytes i).kind == 2) (symbol_table_fault bytes i)) (first_of (only_where (patches_loaded bytes i) (relocation_section_fault bytes i)) (content_fault bytes i)))
+pub section_fault_at : (bytes : List ℕ) (i : ℕ) → 0 < i → section_fault bytes i ≡ first_of (place_fault bytes i) (first_of (only_where ((section_header bytes i).kind == SHT_SYMTAB) (symbol_table_fault bytes i)) (first_of (only_where (patches_loaded bytes i) (relocation_section_fault bytes i)) (content_fault bytes i)))
 unfolding section_fault
 section_fault_at bytes zero h = absurd (omega arith)
 section_fault_at bytes (suc i) h = refl

@@ -7,9 +7,10 @@ use Rattle.std.proofs.Math.Seq.{get_or-append_right, get_or-append_seam}
 use Rattle.std.proofs.lemmas.Bool.{cases_lt, cases_Bool, eqb-true}
 use Rattle.std.proofs.lemmas.Bool.Decides.{nat_tests}
 use Rattle.elf32_object.specs.declared.rows.Spot.{Spot}
-use Rattle.elf32_object.specs.Below.{sum_below}
+use Rattle.elf32_object.specs.Below.{each_below, sum_below}
 use Rattle.elf32_object.specs.Fields.{section_count, section_header, patches_loaded, entry_count, changes, relocations_below, relocation, relocation_at, IsRelocation}
-use Rattle.elf32_object.specs.Rows.{rows_of, spots, spots_below, AreRows}
+use Rattle.elf32_object.specs.inside.Rows.{rows_of, spot_of, spots_below, AreRows}
+use Rattle.elf32_object.proofs.EachBelow.{length-each_below, get_or-each_below}
 
 -- a row after one place more
 pub row_set : (rows : List (Vec Spot)) (section : ℕ) (old new : Vec Spot) (spot : Spot) → section < length rows → old ≡ get_or rows section old → new.items ≡ old.items ++ spot ∷ []
@@ -25,18 +26,18 @@ set_set (r ∷ rows) (suc i) a b = ap (λ rs. r ∷ rs) (set_set rows i a b)
 
 -- a row after one more of a section's entries
 pub row_more : (start rows more : List (List Spot)) (section i k : ℕ) → section < length start
-    → rows ≡ set start section (get_or start section [] ++ spots i k)
+    → rows ≡ set start section (get_or start section [] ++ each_below (spot_of i) k)
     → more ≡ set rows section (get_or rows section [] ++ record { from = i; index = k } ∷ [])
-    → more ≡ set start section (get_or start section [] ++ spots i (k + 1))
+    → more ≡ set start section (get_or start section [] ++ each_below (spot_of i) (k + 1))
 row_more start rows more section i k l before now =
     let spot : Spot = record { from = i; index = k } in
-    let row : List Spot = get_or start section [] ++ spots i k in
+    let row : List Spot = get_or start section [] ++ each_below (spot_of i) k in
     now
     ∙ ap (λ rs. set rs section (get_or rs section [] ++ spot ∷ [])) before
     ∙ ap (λ r. set (set start section row) section (r ++ spot ∷ [])) (get_or-set_same start section row [] l)
     ∙ set_set start section row (row ++ spot ∷ [])
-    ∙ ap (set start section) (append_assoc (get_or start section []) (spots i k) (spot ∷ []))
-    ∙ ap (λ n. set start section (get_or start section [] ++ spots i n)) (sym (add-one k))
+    ∙ ap (set start section) (append_assoc (get_or start section []) (each_below (spot_of i) k) (spot ∷ []))
+    ∙ ap (λ n. set start section (get_or start section [] ++ each_below (spot_of i) n)) (sym (add-one k))
 
 -- a section that changes no loaded one leaves the rows as they are
 pub same_rows : (bytes : List ℕ) (i : ℕ) (rows : List (List Spot)) → patches_loaded bytes i ≡ false → AreRows bytes i rows → AreRows bytes (suc i) rows
@@ -47,17 +48,17 @@ same_rows bytes i rows none are =
       spots_are = λ section l.
           are.spots_are section l
           ∙ sym (append-nil (spots_below bytes section i))
-          ∙ ap (λ b. spots_below bytes section i ++ (if b && (section_header bytes i).info == section then spots i (entry_count bytes i) else [])) (sym none);
+          ∙ ap (λ b. spots_below bytes section i ++ (if b && (section_header bytes i).info == section then each_below (spot_of i) (entry_count bytes i) else [])) (sym none);
     }
 
 -- one that changes one adds its entries to its row
 pub more_rows : (bytes : List ℕ) (i : ℕ) (rows more : List (List Spot)) → patches_loaded bytes i ≡ true → (section_header bytes i).info < section_count bytes
-    → more ≡ set rows (section_header bytes i).info (get_or rows (section_header bytes i).info [] ++ spots i (entry_count bytes i))
+    → more ≡ set rows (section_header bytes i).info (get_or rows (section_header bytes i).info [] ++ each_below (spot_of i) (entry_count bytes i))
     → AreRows bytes i rows → AreRows bytes (suc i) more
 unfolding changes
 more_rows bytes i rows more patches within now are =
     let target : ℕ = (section_header bytes i).info in
-    let row : List Spot = get_or rows target [] ++ spots i (entry_count bytes i) in
+    let row : List Spot = get_or rows target [] ++ each_below (spot_of i) (entry_count bytes i) in
     record {
       counted = ap length now ∙ length-set rows target row ∙ are.counted;
       spots_are = λ section l.
@@ -67,16 +68,16 @@ more_rows bytes i rows more patches within now are =
                 ap (λ rs. get_or rs section []) now
                 ∙ ap (λ s. get_or (set rows target row) s []) (sym e)
                 ∙ get_or-set_same rows target row [] (omega (arith, are.counted))
-                ∙ ap (λ r. r ++ spots i (entry_count bytes i)) (are.spots_are target within)
-                ∙ ap (λ s. spots_below bytes s i ++ spots i (entry_count bytes i)) e
-                ∙ ap (λ b. spots_below bytes section i ++ (if b then spots i (entry_count bytes i) else [])) (sym (ap (λ p. p && target == section) patches ∙ same))
+                ∙ ap (λ r. r ++ each_below (spot_of i) (entry_count bytes i)) (are.spots_are target within)
+                ∙ ap (λ s. spots_below bytes s i ++ each_below (spot_of i) (entry_count bytes i)) e
+                ∙ ap (λ b. spots_below bytes section i ++ (if b then each_below (spot_of i) (entry_count bytes i) else [])) (sym (ap (λ p. p && target == section) patches ∙ same))
             | inr apart ↦
                 let ne : section ≢ target = grind (arith, nat_tests) in
                 ap (λ rs. get_or rs section []) now
                 ∙ get_or-set_other rows target section row [] ne
                 ∙ are.spots_are section l
                 ∙ sym (append-nil (spots_below bytes section i))
-                ∙ ap (λ b. spots_below bytes section i ++ (if b then spots i (entry_count bytes i) else [])) (sym (ap (λ p. p && target == section) patches ∙ apart))
+                ∙ ap (λ b. spots_below bytes section i ++ (if b then each_below (spot_of i) (entry_count bytes i) else [])) (sym (ap (λ p. p && target == section) patches ∙ apart))
           ];
     }
 
@@ -87,28 +88,8 @@ pub record IsSpot (bytes : List ℕ) (section n k : ℕ) (spot : Spot) : Type 0 
   pub in_range : spot.index < entry_count bytes spot.from
   pub number : k ≡ relocations_below bytes section spot.from + spot.index
 
-length-spots : (i n : ℕ) → length (spots i n) ≡ n
-length-spots i zero = refl
-length-spots i (suc n) = omega (arith, length-append (spots i n) (record { from = i; index = n } ∷ []), length-spots i n)
-
-abbrev spot_of : ℕ → ℕ → Spot
-spot_of i k = record { from = i; index = k }
-
-get_or-spots : (i n k : ℕ) (d : Spot) → k < n → get_or (spots i n) k d ≡ record { from = i; index = k }
-get_or-spots i zero k d l = absurd (omega arith)
-get_or-spots i (suc n) k d l =
-    elim (cases_lt k n) [
-      | inl lt ↦ get_or_append_left (spots i n) (record { from = i; index = n } ∷ []) d k (omega (arith, length-spots i n)) ∙ get_or-spots i n k d lt
-      | inr le ↦
-          let same : k ≡ length (spots i n) = omega (arith, length-spots i n) in
-          let last : length (spots i n) ≡ k = sym same in
-          ap (λ j. get_or (spots i n ++ record { from = i; index = n } ∷ []) j d) same
-          ∙ get_or-append_seam (spots i n) (record { from = i; index = n }) [] d
-          ∙ ap (λ j. spot_of i j) (sym (length-spots i n) ∙ last)
-    ]
-
-chosen_length : (b : Bool) (i n : ℕ) → length (if b then spots i n else []) ≡ (if b then n else 0)
-chosen_length true i n = length-spots i n
+chosen_length : (b : Bool) (i n : ℕ) → length (if b then each_below (spot_of i) n else []) ≡ (if b then n else 0)
+chosen_length true i n = length-each_below (spot_of i) n
 chosen_length false i n = refl
 
 -- a section's row is as long as it has relocations
@@ -116,16 +97,16 @@ pub length-below : (bytes : List ℕ) (section n : ℕ) → length (spots_below 
 unfolding relocations_below
 length-below bytes section zero = refl
 length-below bytes section (suc n) =
-    length-append (spots_below bytes section n) (if changes bytes section n then spots n (entry_count bytes n) else [])
-    ∙ ap (λ m. m + length (if changes bytes section n then spots n (entry_count bytes n) else [])) (length-below bytes section n)
+    length-append (spots_below bytes section n) (if changes bytes section n then each_below (spot_of n) (entry_count bytes n) else [])
+    ∙ ap (λ m. m + length (if changes bytes section n then each_below (spot_of n) (entry_count bytes n) else [])) (length-below bytes section n)
     ∙ ap (λ m. sum_below (λ i. if changes bytes section i then entry_count bytes i else 0) n + m) (chosen_length (changes bytes section n) n (entry_count bytes n))
 
 -- an entry of the last section that changes this one
 last_spot : (b : Bool) (bytes : List ℕ) (section n k : ℕ) (d : Spot) → b ≡ changes bytes section n → k < (if b then entry_count bytes n else 0)
-    → IsSpot bytes section (suc n) (relocations_below bytes section n + k) (get_or (if b then spots n (entry_count bytes n) else []) k d)
+    → IsSpot bytes section (suc n) (relocations_below bytes section n + k) (get_or (if b then each_below (spot_of n) (entry_count bytes n) else []) k d)
 last_spot false bytes section n k d e l = absurd (omega arith)
 last_spot true bytes section n k d e l =
-    subst (λ (spot : Spot). IsSpot bytes section (suc n) (relocations_below bytes section n + k) spot) (sym (get_or-spots n (entry_count bytes n) k d l))
+    subst (λ (spot : Spot). IsSpot bytes section (suc n) (relocations_below bytes section n + k) spot) (sym (get_or-each_below (spot_of n) (entry_count bytes n) k d l))
     (record { below = omega arith; of_section = sym e; in_range = l; number = refl })
 
 earlier_spot : (bytes : List ℕ) (section n k : ℕ) (spot : Spot) → IsSpot bytes section n k spot → IsSpot bytes section (suc n) k spot
@@ -137,7 +118,7 @@ unfolding relocations_below
 spot_at bytes section zero k d l = absurd (omega arith)
 spot_at bytes section (suc n) k d l =
     let before : List Spot = spots_below bytes section n in
-    let last : List Spot = if changes bytes section n then spots n (entry_count bytes n) else [] in
+    let last : List Spot = if changes bytes section n then each_below (spot_of n) (entry_count bytes n) else [] in
     let size = length-below bytes section n in
     elim (cases_lt k (relocations_below bytes section n)) [
       | inl lt ↦

@@ -1,10 +1,20 @@
 -- What holds of the numbers below a bound.
-use Rattle.std.specs.Prelude.{ℕ, zero, suc, ◌+◌, Bool, false, ◌||◌, if◌then◌else◌, Option, Some, None}
+use Rattle.std.specs.Prelude.{ℕ, zero, suc, ◌+◌, Bool, false, ◌||◌, if◌then◌else◌, List, [], ◌∷◌, ◌++◌, Option, Some, None}
 
 -- the first of two, where there is one
 abbrev pub first_of : {X : Type 0} → Option X → Option X → Option X
 first_of (Some x) second = Some x
 first_of None second = second
+
+-- what each number below a bound has, in order
+abbrev pub each_below : {X : Type 0} → (ℕ → X) → ℕ → List X
+each_below f zero = []
+each_below f (suc n) = each_below f n ++ f n ∷ []
+
+-- what all numbers below a bound have together, in order
+abbrev pub all_below : {X : Type 0} → (ℕ → List X) → ℕ → List X
+all_below f zero = []
+all_below f (suc n) = all_below f n ++ f n
 
 -- whether some number below the bound passes the test
 abbrev pub any_below : (ℕ → Bool) → ℕ → Bool

@@ -3,6 +3,7 @@
 use Rattle.std.specs.Prelude.{◌≡◌, ◌<◌, ℕ, ◌+◌, ◌*◌, ◌/◌, ◌%◌, Bool, true, not, ◌&&◌, ◌||◌, ◌==◌, nat_eq, nat_lt, nat_le, if◌then◌else◌, List, [], ◌∷◌, ◌++◌, take, drop, length, slice_index, bit_and, codes, Option, Some, None, unwrap_or}
 use Rattle.std.specs.List.{list_any, before_first, starts_with}
 use Rattle.byteorder.specs.Endian.{little_number}
+use Rattle.elf32_object.specs.declared.elf.TheConstants.{E_SHOFF, E_SHNUM, E_SHSTRNDX, SHDR_SIZE, SYM_SIZE, REL_SIZE, SHT_NULL, SHT_PROGBITS, SHT_SYMTAB, SHT_STRTAB, SHT_NOBITS, SHT_REL, SHT_INIT_ARRAY, SHT_FINI_ARRAY, SHF_ALLOC}
 use Rattle.elf32_object.specs.declared.types.SectionHeader.{SectionHeader}
 use Rattle.elf32_object.specs.declared.types.SymbolEntry.{SymbolEntry}
 use Rattle.elf32_object.specs.declared.types.Reloc.{Reloc}
@@ -15,18 +16,18 @@ half_at bytes place = little_number 2 (drop place bytes)
 unfoldable pub word_at : List ℕ → ℕ → ℕ
 word_at bytes place = little_number 4 (drop place bytes)
 
--- The ELF header: where the section header table begins (e_shoff), how many entries it has (e_shnum), and which
--- section has the sections' names (e_shstrndx).
+-- The ELF header ("ELF Header"): where the section header table begins, how many entries it has, and which section
+-- has the sections' names.
 unfoldable pub section_table : List ℕ → ℕ
-section_table bytes = word_at bytes 32
+section_table bytes = word_at bytes E_SHOFF
 
 unfoldable pub section_count : List ℕ → ℕ
-section_count bytes = half_at bytes 48
+section_count bytes = half_at bytes E_SHNUM
 
 unfoldable pub name_table : List ℕ → ℕ
-name_table bytes = half_at bytes 50
+name_table bytes = half_at bytes E_SHSTRNDX
 
--- The section header table: 40 bytes for each section.
+-- The section header table ("Sections").
 unfoldable pub section_header_at : List ℕ → ℕ → SectionHeader
 section_header_at bytes place =
     record {
@@ -42,15 +43,15 @@ section_header_at bytes place =
     }
 
 unfoldable pub section_header : List ℕ → ℕ → SectionHeader
-section_header bytes i = section_header_at bytes (section_table bytes + 40 * i)
+section_header bytes i = section_header_at bytes (section_table bytes + SHDR_SIZE * i)
 
 -- whether a number is the index of a section; 0 names none
 unfoldable pub is_section : List ℕ → ℕ → Bool
 is_section bytes i = nat_lt 0 i && nat_lt i (section_count bytes)
 
--- SHT_NULL (0) and SHT_NOBITS (8) have no bytes in the file
+-- sections of these types have no bytes in the file
 abbrev pub has_no_bytes : SectionHeader → Bool
-has_no_bytes header = header.kind == 0 || header.kind == 8
+has_no_bytes header = header.kind == SHT_NULL || header.kind == SHT_NOBITS
 
 -- whether the section's bytes lie in the file
 abbrev pub lies_in_file : List ℕ → SectionHeader → Bool
@@ -65,7 +66,7 @@ unfoldable pub section_bytes : List ℕ → ℕ → List ℕ
 section_bytes bytes i =
     if has_no_bytes (section_header bytes i) then [] else bytes_named bytes (section_header bytes i)
 
--- A string table (gABI, chapter 4, "String Table"): a text begins at its place, and a zero ends it.
+-- A string table ("String Table"): a text begins at its place, and a zero ends it.
 abbrev pub is_zero : ℕ → Bool
 is_zero byte = byte == 0
 
@@ -87,35 +88,38 @@ unfoldable pub is_unwind_table : List ℕ → ℕ → Bool
 is_unwind_table bytes i =
     starts_with nat_eq (drop (section_header bytes i).name (section_names bytes)) (codes ".eh_frame" ++ 0 ∷ [])
 
--- a flag of the section header
-abbrev pub has_flag : ℕ → SectionHeader → Bool
-has_flag flag header = not (bit_and header.flags flag == 0)
+-- whether a section's flags have one
+abbrev pub has_flag : ℕ → ℕ → Bool
+has_flag flag flags = not (bit_and flags flag == 0)
 
--- SHT_PROGBITS, SHT_NOBITS, SHT_INIT_ARRAY, SHT_FINI_ARRAY
+-- sections of these types hold a part of the program
 abbrev pub holds_program : SectionHeader → Bool
-holds_program header = header.kind == 1 || header.kind == 8 || header.kind == 14 || header.kind == 15
+holds_program header =
+    header.kind == SHT_PROGBITS || header.kind == SHT_NOBITS || header.kind == SHT_INIT_ARRAY
+    || header.kind == SHT_FINI_ARRAY
 
--- A section is loaded where it has the flag SHF_ALLOC (2), a size above 0, a type that holds a part of the
--- program, and a name other than `.eh_frame`.
+-- A section is loaded where it takes part in the running program, has a size above 0, a type that holds a part of
+-- it, and a name other than `.eh_frame`.
 unfoldable pub is_loaded : List ℕ → ℕ → Bool
 is_loaded bytes i =
-    is_section bytes i && has_flag 2 (section_header bytes i) && nat_lt 0 (section_header bytes i).size
+    is_section bytes i && has_flag SHF_ALLOC (section_header bytes i).flags && nat_lt 0 (section_header bytes i).size
     && holds_program (section_header bytes i) && not (is_unwind_table bytes i)
 
--- SHT_SYMTAB (2), SHT_STRTAB (3) whose bytes lie in the file
+-- whether a number is the index of a symbol table
 unfoldable pub is_symbol_table : List ℕ → ℕ → Bool
-is_symbol_table bytes i = is_section bytes i && (section_header bytes i).kind == 2
+is_symbol_table bytes i = is_section bytes i && (section_header bytes i).kind == SHT_SYMTAB
 
+-- a string table whose bytes lie in the file
 abbrev pub is_string_table : List ℕ → SectionHeader → Bool
-is_string_table bytes header = header.kind == 3 && lies_in_file bytes header
+is_string_table bytes header = header.kind == SHT_STRTAB && lies_in_file bytes header
 
--- The symbols: those of the first symbol table, and none where there is no symbol table. 16 bytes each.
+-- The symbols ("Symbol Table"): those of the first symbol table, and none where there is no symbol table.
 unfoldable pub symbol_table : List ℕ → Option ℕ
 symbol_table bytes = least_below (is_symbol_table bytes) (section_count bytes)
 
 abbrev pub symbol_count_in : List ℕ → Option ℕ → ℕ
 symbol_count_in bytes None = 0
-symbol_count_in bytes (Some i) = (section_header bytes i).size / 16
+symbol_count_in bytes (Some i) = (section_header bytes i).size / SYM_SIZE
 
 unfoldable pub symbol_count : List ℕ → ℕ
 symbol_count bytes = symbol_count_in bytes (symbol_table bytes)
@@ -131,7 +135,7 @@ symbol_entry_at bytes place =
     }
 
 unfoldable pub symbol_entry : List ℕ → ℕ → SymbolEntry
-symbol_entry bytes k = symbol_entry_at bytes ((section_header bytes (unwrap_or (symbol_table bytes) 0)).offset + 16 * k)
+symbol_entry bytes k = symbol_entry_at bytes ((section_header bytes (unwrap_or (symbol_table bytes) 0)).offset + SYM_SIZE * k)
 
 -- the symbols' names: the string table that the symbol table links to
 unfoldable pub symbol_names : List ℕ → List ℕ
@@ -141,14 +145,14 @@ symbol_names bytes =
 unfoldable pub symbol_name : List ℕ → ℕ → List ℕ
 symbol_name bytes k = text_at (symbol_names bytes) (symbol_entry bytes k).name
 
--- The relocations of loaded sections: how many entries a relocation section (SHT_REL, 9) has whose sh_info names
--- a loaded section, 0 for all other sections. 8 bytes each; the low byte of r_info is the type.
+-- The relocations of loaded sections ("Relocation"): how many entries a relocation section has whose sh_info names a
+-- loaded section, 0 for all other sections. The low byte of r_info is the type.
 unfoldable pub patches_loaded : List ℕ → ℕ → Bool
 patches_loaded bytes i =
-    is_section bytes i && (section_header bytes i).kind == 9 && is_loaded bytes (section_header bytes i).info
+    is_section bytes i && (section_header bytes i).kind == SHT_REL && is_loaded bytes (section_header bytes i).info
 
 unfoldable pub entry_count : List ℕ → ℕ → ℕ
-entry_count bytes i = if patches_loaded bytes i then (section_header bytes i).size / 8 else 0
+entry_count bytes i = if patches_loaded bytes i then (section_header bytes i).size / REL_SIZE else 0
 
 unfoldable pub relocation_at : List ℕ → ℕ → ℕ → ℕ → Reloc
 relocation_at bytes place i k =
@@ -162,7 +166,7 @@ relocation_at bytes place i k =
 
 -- entry k of section i
 unfoldable pub relocation : List ℕ → ℕ → ℕ → Reloc
-relocation bytes i k = relocation_at bytes ((section_header bytes i).offset + 8 * k) i k
+relocation bytes i k = relocation_at bytes ((section_header bytes i).offset + REL_SIZE * k) i k
 
 -- whether section i has relocations of this loaded section
 unfoldable pub changes : List ℕ → ℕ → ℕ → Bool

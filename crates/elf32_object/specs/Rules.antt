@@ -1,40 +1,29 @@
 -- The rules that an object keeps, in the order in which they are tried: the first that is broken is the refusal.
 -- They are those of the System V gABI, chapter 4, and of its supplement for the Intel386, for relocatable files,
 -- with the limits of this reader.
-use Rattle.std.specs.Prelude.{ℕ, zero, suc, ◌+◌, ◌*◌, ◌/◌, ◌%◌, Bool, true, false, not, ◌&&◌, ◌||◌, ◌==◌, nat_eq, nat_lt, nat_le, if◌then◌else◌, List, [], ◌∷◌, length, slice_index, Option, Some, None}
+use Rattle.std.specs.Prelude.{ℕ, zero, suc, ◌+◌, ◌*◌, ◌/◌, ◌%◌, Bool, true, false, not, ◌&&◌, ◌||◌, ◌==◌, nat_eq, nat_lt, nat_le, if◌then◌else◌, List, [], ◌∷◌, length, slice_index, Option, None}
 use Rattle.std.specs.List.{list_any, starts_with}
+use Rattle.elf32_object.specs.declared.elf.TheConstants.{EI_CLASS, EI_DATA, EI_VERSION, ELFCLASS32, ELFDATA2LSB, EV_CURRENT, E_TYPE, E_MACHINE, E_VERSION, E_SHOFF, E_EHSIZE, E_SHENTSIZE, E_SHNUM, E_SHSTRNDX, ET_REL, EM_386, EHDR_SIZE, SHDR_SIZE, SHT_SYMTAB, SHT_RELA, SHT_NOBITS, SHF_TLS, SHF_COMPRESSED, SHN_UNDEF, SHN_ABS, SHN_COMMON, SYM_SIZE, REL_SIZE, R_386_32, R_386_PC32, R_386_PLT32}
 use Rattle.elf32_object.specs.declared.types.ObjectFault.{ObjectFault}
 use Rattle.elf32_object.specs.declared.types.ObjectFault.TheVariants.{NotElf, NotRel386, BadHeader, BadSection, BadSymbol, BadReloc, TooLarge}
 use Rattle.elf32_object.specs.declared.types.Large.TheVariants as large
 use Rattle.elf32_object.specs.declared.types.SectionHeader.{SectionHeader}
 use Rattle.elf32_object.specs.declared.types.Reloc.{Reloc}
 use Rattle.elf32_object.specs.Below.{first_of, any_below, sum_below, count_below, first_below}
+use Rattle.elf32_object.specs.Rule.{◌orElse◌, first_broken}
 use Rattle.elf32_object.specs.Fields.{half_at, word_at, section_table, section_count, name_table, section_header, is_section, has_no_bytes, lies_in_file, ends_in, section_names, section_name, has_flag, is_loaded, is_symbol_table, is_string_table, symbol_count, symbol_entry, symbol_names, symbol_name, patches_loaded, entry_count, relocation}
-
--- a rule: a test, and the refusal where it fails
-pub record Rule : Type 0 where
-  pub holds : Bool
-  pub fault : ObjectFault
-
-infix 4 ◌orElse◌
-abbrev pub ◌orElse◌ : Bool → ObjectFault → Rule
-holds orElse fault = record { holds = holds; fault = fault }
-
--- the refusal of the first rule that is broken
-abbrev pub first_broken : List Rule → Option ObjectFault
-first_broken [] = None
-first_broken (rule ∷ rules) = if rule.holds then first_broken rules else Some rule.fault
 
 -- the rules that hold only of what passes a test
 abbrev pub only_where : Bool → Option ObjectFault → Option ObjectFault
 only_where true fault = fault
 only_where false fault = None
 
--- EI_CLASS, EI_DATA and EI_VERSION are 1, e_type is ET_REL (1), e_machine is EM_386 (3)
+-- a 32-bit little-endian relocatable file for the i386 ("ELF Header", and the supplement's "Machine Information")
 unfoldable pub is_relocatable_386 : List ℕ → Bool
 is_relocatable_386 bytes =
-    slice_index bytes 4 == 1 && slice_index bytes 5 == 1 && slice_index bytes 6 == 1 && half_at bytes 16 == 1
-    && half_at bytes 18 == 3
+    slice_index bytes EI_CLASS == ELFCLASS32 && slice_index bytes EI_DATA == ELFDATA2LSB
+    && slice_index bytes EI_VERSION == EV_CURRENT && half_at bytes E_TYPE == ET_REL
+    && half_at bytes E_MACHINE == EM_386
 
 -- what the file is
 unfoldable pub kind_fault : List ℕ → Option ObjectFault
@@ -42,21 +31,21 @@ kind_fault bytes =
     first_broken (
     (nat_le (length bytes) 8388608 orElse TooLarge large.Bytes)
     ∷ (starts_with nat_eq bytes (0x7f ∷ 0x45 ∷ 0x4c ∷ 0x46 ∷ []) orElse NotElf)
-    ∷ (nat_le 52 (length bytes) orElse BadHeader (length bytes))
+    ∷ (nat_le EHDR_SIZE (length bytes) orElse BadHeader (length bytes))
     ∷ (is_relocatable_386 bytes orElse NotRel386) ∷ [])
 
--- the fields of the ELF header, each refused by its offset
+-- the fields of the ELF header ("ELF Header"), each refused by its offset
 unfoldable pub header_fault : List ℕ → Option ObjectFault
 header_fault bytes =
     first_broken (
-    (word_at bytes 20 == 1 orElse BadHeader 20)
-    ∷ (half_at bytes 40 == 52 orElse BadHeader 40)
-    ∷ (half_at bytes 46 == 40 orElse BadHeader 46)
-    ∷ (nat_lt 0 (section_count bytes) orElse BadHeader 48)
+    (word_at bytes E_VERSION == EV_CURRENT orElse BadHeader E_VERSION)
+    ∷ (half_at bytes E_EHSIZE == EHDR_SIZE orElse BadHeader E_EHSIZE)
+    ∷ (half_at bytes E_SHENTSIZE == SHDR_SIZE orElse BadHeader E_SHENTSIZE)
+    ∷ (nat_lt 0 (section_count bytes) orElse BadHeader E_SHNUM)
     ∷ (nat_le (section_count bytes) 4096 orElse TooLarge large.Sections)
-    ∷ (nat_le (section_table bytes + 40 * section_count bytes) (length bytes) orElse BadHeader 32)
+    ∷ (nat_le (section_table bytes + SHDR_SIZE * section_count bytes) (length bytes) orElse BadHeader E_SHOFF)
     ∷ (nat_lt (name_table bytes) (section_count bytes)
-    && is_string_table bytes (section_header bytes (name_table bytes)) orElse BadHeader 50) ∷ [])
+    && is_string_table bytes (section_header bytes (name_table bytes)) orElse BadHeader E_SHSTRNDX) ∷ [])
 
 -- 0, or a power of two up to 4,096
 abbrev pub is_alignment : ℕ → Bool
@@ -64,9 +53,9 @@ is_alignment n =
     list_any (nat_eq n)
     (0 ∷ 1 ∷ 2 ∷ 4 ∷ 8 ∷ 16 ∷ 32 ∷ 64 ∷ 128 ∷ 256 ∷ 512 ∷ 1024 ∷ 2048 ∷ 4096 ∷ [])
 
--- A loaded section is aligned, and neither thread-local (SHF_TLS, 0x400) nor compressed (SHF_COMPRESSED, 0x800).
+-- a loaded section ("Sections") is aligned, and neither thread-local nor compressed
 abbrev pub can_be_loaded : SectionHeader → Bool
-can_be_loaded header = is_alignment header.align && not (has_flag 0x400 header) && not (has_flag 0x800 header)
+can_be_loaded header = is_alignment header.align && not (has_flag SHF_TLS header.flags) && not (has_flag SHF_COMPRESSED header.flags)
 
 -- every section: its name, its place in the file, and what a loaded one may be
 unfoldable pub place_fault : List ℕ → ℕ → Option ObjectFault
@@ -77,23 +66,23 @@ place_fault bytes i =
     ∷ (has_no_bytes (section_header bytes i) || lies_in_file bytes (section_header bytes i) orElse BadSection i)
     ∷ (not (is_loaded bytes i) || can_be_loaded (section_header bytes i) orElse BadSection i) ∷ [])
 
--- a symbol table: the only one, of entries of 16 bytes, linked to a string table
+-- a symbol table ("Symbol Table"): the only one, of whole entries, linked to a string table
 unfoldable pub symbol_table_fault : List ℕ → ℕ → Option ObjectFault
 symbol_table_fault bytes i =
     first_broken (
     (count_below (is_symbol_table bytes) (section_count bytes) == 1 orElse BadSection i)
-    ∷ ((section_header bytes i).entry == 16 orElse BadSection i)
-    ∷ ((section_header bytes i).size % 16 == 0 orElse BadSection i)
+    ∷ ((section_header bytes i).entry == SYM_SIZE orElse BadSection i)
+    ∷ ((section_header bytes i).size % SYM_SIZE == 0 orElse BadSection i)
     ∷ (is_section bytes (section_header bytes i).link
     && is_string_table bytes (section_header bytes (section_header bytes i).link) orElse BadSection i)
-    ∷ (nat_le ((section_header bytes i).size / 16) 65536 orElse TooLarge large.Symbols) ∷ [])
+    ∷ (nat_le ((section_header bytes i).size / SYM_SIZE) 65536 orElse TooLarge large.Symbols) ∷ [])
 
--- a relocation section of a loaded section: entries of 8 bytes, linked to the symbol table
+-- a relocation section ("Relocation") of a loaded section: of whole entries, linked to the symbol table
 unfoldable pub relocation_section_fault : List ℕ → ℕ → Option ObjectFault
 relocation_section_fault bytes i =
     first_broken (
-    ((section_header bytes i).entry == 8 orElse BadSection i)
-    ∷ ((section_header bytes i).size % 8 == 0 orElse BadSection i)
+    ((section_header bytes i).entry == REL_SIZE orElse BadSection i)
+    ∷ ((section_header bytes i).size % REL_SIZE == 0 orElse BadSection i)
     ∷ (is_symbol_table bytes (section_header bytes i).link orElse BadSection i)
     ∷ (nat_le (sum_below (entry_count bytes) (suc i)) 262144 orElse TooLarge large.Relocations) ∷ [])
 
@@ -101,11 +90,11 @@ relocation_section_fault bytes i =
 unfoldable pub loaded_size : List ℕ → ℕ → ℕ
 loaded_size bytes i = if is_loaded bytes i then (section_header bytes i).size else 0
 
--- Relocations with addends (SHT_RELA, 4) of loaded sections are refused, and more bytes to load than the limit.
+-- Relocations with addends of loaded sections are refused, and more bytes to load than the limit.
 unfoldable pub content_fault : List ℕ → ℕ → Option ObjectFault
 content_fault bytes i =
     first_broken (
-    (not ((section_header bytes i).kind == 4 && is_loaded bytes (section_header bytes i).info) orElse BadSection i)
+    (not ((section_header bytes i).kind == SHT_RELA && is_loaded bytes (section_header bytes i).info) orElse BadSection i)
     ∷ (nat_le (sum_below (loaded_size bytes) (suc i)) 8388608 orElse TooLarge large.Content) ∷ [])
 
 -- all rules of one section; section 0 is not looked at
@@ -113,14 +102,14 @@ unfoldable pub section_fault : List ℕ → ℕ → Option ObjectFault
 section_fault bytes zero = None
 section_fault bytes (suc i) =
     first_of (place_fault bytes (suc i))
-    (first_of (only_where ((section_header bytes (suc i)).kind == 2) (symbol_table_fault bytes (suc i)))
+    (first_of (only_where ((section_header bytes (suc i)).kind == SHT_SYMTAB) (symbol_table_fault bytes (suc i)))
     (first_of (only_where (patches_loaded bytes (suc i)) (relocation_section_fault bytes (suc i)))
     (content_fault bytes (suc i))))
 
--- SHN_UNDEF (0), SHN_ABS (0xfff1), SHN_COMMON (0xfff2), or a section
+-- what a symbol's section index may be ("Special Section Indexes"): none, absolute, common, or a section
 abbrev pub is_section_of_symbol : List ℕ → ℕ → Bool
 is_section_of_symbol bytes section =
-    section == 0 || section == 0xfff1 || section == 0xfff2 || nat_lt section (section_count bytes)
+    section == SHN_UNDEF || section == SHN_ABS || section == SHN_COMMON || nat_lt section (section_count bytes)
 
 -- all rules of one symbol; symbol 0 is not looked at
 unfoldable pub symbol_fault : List ℕ → ℕ → Option ObjectFault
@@ -134,9 +123,9 @@ symbol_fault bytes (suc k) =
     || nat_le (symbol_entry bytes (suc k)).value (section_header bytes (symbol_entry bytes (suc k)).section).size
     orElse BadSymbol (suc k)) ∷ [])
 
--- R_386_32 (1), R_386_PC32 (2) and R_386_PLT32 (4) change a field of four bytes (Intel386 supplement, "Relocation")
+-- whether a relocation changes a field of four bytes (Intel386 supplement, "Relocation Types")
 abbrev pub has_field : Reloc → Bool
-has_field r = r.kind == 1 || r.kind == 2 || r.kind == 4
+has_field r = r.kind == R_386_32 || r.kind == R_386_PC32 || r.kind == R_386_PLT32
 
 -- fields of four bytes at these offsets share a byte
 abbrev pub meets : ℕ → ℕ → Bool
@@ -167,7 +156,7 @@ unfoldable pub relocation_fault : List ℕ → ℕ → ℕ → Option ObjectFaul
 relocation_fault bytes i k =
     first_broken (
     (nat_lt (relocation bytes i k).symbol (symbol_count bytes) orElse BadReloc i k)
-    ∷ (not ((section_header bytes (section_header bytes i).info).kind == 8) orElse BadReloc i k)
+    ∷ (not ((section_header bytes (section_header bytes i).info).kind == SHT_NOBITS) orElse BadReloc i k)
     ∷ (is_placed bytes i k orElse BadReloc i k) ∷ [])
 
 unfoldable pub relocations_fault : List ℕ → ℕ → Option ObjectFault

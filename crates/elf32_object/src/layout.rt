@@ -1,50 +1,58 @@
 //! The sections of a file whose header is in order.
 
 ghost use Rattle.std.specs.Prelude.{◌≡◌, ◌+◌, ◌*◌, ◌≤◌, ◌<◌, ◌||◌, true, length};
+ghost use Rattle.elf32_object.specs.declared.elf.TheConstants.{SHDR_SIZE};
 ghost use Rattle.elf32_object.specs.Fields.{section_table, section_count, section_header, is_section, has_flag, has_no_bytes, lies_in_file, holds_program, ends_in, section_names, section_name, section_bytes, is_unwind_table, is_loaded, is_symbol_table, is_string_table, patches_loaded, entry_count, relocation};
 
+use crate::elf::{
+    REL_SIZE, SHDR_SIZE, SHF_ALLOC, SHT_FINI_ARRAY, SHT_INIT_ARRAY, SHT_NOBITS, SHT_NULL,
+    SHT_PROGBITS, SHT_REL, SHT_STRTAB, SHT_SYMTAB,
+};
 use crate::reading::{entry_at, header_at, piece};
 use crate::strings::{Strings, text};
 use crate::types::{Reloc, SectionHeader};
 
-/// Whether a section's header has a flag.
-pub fn has_flag(header: SectionHeader, flag: u32) -> bool
-    ensures { result ≡ has_flag flag header }
+/// Whether a section's flags have one.
+pub(crate) fn has_flag(flags: u32, flag: u32) -> bool
+    ensures { result ≡ has_flag flag flags }
 {
-    header.flags & flag != 0
+    flags & flag != 0
 }
 
 /// Whether a section of this type has no bytes in the file.
-pub fn has_no_bytes(header: SectionHeader) -> bool
+pub(crate) fn has_no_bytes(header: SectionHeader) -> bool
     ensures { result ≡ has_no_bytes header }
 {
-    header.kind == 0 || header.kind == 8
+    header.kind == SHT_NULL || header.kind == SHT_NOBITS
 }
 
 /// Whether a section of this type holds a part of the program.
-pub fn holds_program(header: SectionHeader) -> bool
+pub(crate) fn holds_program(header: SectionHeader) -> bool
     ensures { result ≡ holds_program header }
 {
-    header.kind == 1 || header.kind == 8 || header.kind == 14 || header.kind == 15
+    header.kind == SHT_PROGBITS
+        || header.kind == SHT_NOBITS
+        || header.kind == SHT_INIT_ARRAY
+        || header.kind == SHT_FINI_ARRAY
 }
 
 /// Whether the bytes that a header names lie in the file.
-pub fn lies_in_file(bytes: &[u8], header: SectionHeader) -> bool
+pub(crate) fn lies_in_file(bytes: &[u8], header: SectionHeader) -> bool
     ensures { result ≡ lies_in_file bytes.now header }
 {
     u64::from(header.offset) + u64::from(header.size) <= bytes.len() as u64
 }
 
 /// Whether a header is that of a string table whose bytes lie in the file.
-pub fn is_string_table(bytes: &[u8], header: SectionHeader) -> bool
+pub(crate) fn is_string_table(bytes: &[u8], header: SectionHeader) -> bool
     ensures { result ≡ is_string_table bytes.now header }
 {
-    header.kind == 3 && lies_in_file(bytes, header)
+    header.kind == SHT_STRTAB && lies_in_file(bytes, header)
 }
 
 /// A file whose header is in order: where its sections' headers and names stand.
 #[derive(Clone, Copy)]
-pub struct Layout<'a> {
+pub(crate) struct Layout<'a> {
     pub bytes: &'a [u8],
     pub table: u32,
     pub count: u32,
@@ -52,7 +60,7 @@ pub struct Layout<'a> {
     ghost table_is: { table ≡ section_table bytes.now },
     ghost count_is: { count ≡ section_count bytes.now },
     ghost few: { count ≤ 4096 },
-    ghost table_in_file: { table + 40 * count ≤ length bytes.now },
+    ghost table_in_file: { table + SHDR_SIZE * count ≤ length bytes.now },
     ghost names_are: { names.bytes.now ≡ section_names bytes.now },
 }
 
@@ -63,7 +71,10 @@ impl<'a> Layout<'a> {
         requires { i < self.now.count }
         ensures { result ≡ section_header self.now.bytes.now i }
     {
-        header_at(self.bytes, self.table as usize + 40 * i as usize)
+        header_at(
+            self.bytes,
+            self.table as usize + usize::from(SHDR_SIZE) * i as usize,
+        )
     }
 
     /// Whether a number is the index of a section.
@@ -98,7 +109,10 @@ impl<'a> Layout<'a> {
             return false;
         }
         let header = self.header(i);
-        has_flag(header, 2) && 0 < header.size && holds_program(header) && !self.is_unwind_table(i)
+        has_flag(header.flags, SHF_ALLOC)
+            && 0 < header.size
+            && holds_program(header)
+            && !self.is_unwind_table(i)
     }
 
     /// Whether a number is the index of a symbol table.
@@ -106,7 +120,7 @@ impl<'a> Layout<'a> {
     pub fn is_symbol_table(&self, i: u32) -> bool
         ensures { result ≡ is_symbol_table self.now.bytes.now i }
     {
-        self.is_section(i) && self.header(i).kind == 2
+        self.is_section(i) && self.header(i).kind == SHT_SYMTAB
     }
 
     /// Whether a number is the index of a relocation section of a loaded section.
@@ -114,7 +128,7 @@ impl<'a> Layout<'a> {
     pub fn patches_loaded(&self, i: u32) -> bool
         ensures { result ≡ patches_loaded self.now.bytes.now i }
     {
-        self.is_section(i) && self.header(i).kind == 9 && self.is_loaded(self.header(i).info)
+        self.is_section(i) && self.header(i).kind == SHT_REL && self.is_loaded(self.header(i).info)
     }
 
     /// How many relocations of a loaded section a section has.
@@ -124,7 +138,7 @@ impl<'a> Layout<'a> {
         ensures { result ≡ entry_count self.now.bytes.now i }
     {
         if self.patches_loaded(i) {
-            self.header(i).size / 8
+            self.header(i).size / REL_SIZE
         } else {
             0
         }
@@ -158,12 +172,12 @@ impl<'a> Layout<'a> {
     #[tactic(auto, unfolding(crate::specs::Fields::relocation))]
     pub fn entry(&self, i: u32, k: u32) -> Reloc
         requires within { i < self.now.count }
-        requires in_file { (section_header self.now.bytes.now i).offset + 8 * (k + 1) ≤ length self.now.bytes.now }
+        requires in_file { (section_header self.now.bytes.now i).offset + REL_SIZE * (k + 1) ≤ length self.now.bytes.now }
         ensures { result ≡ relocation self.now.bytes.now i k }
     {
         entry_at(
             self.bytes,
-            self.header(i).offset as usize + 8 * k as usize,
+            self.header(i).offset as usize + REL_SIZE as usize * k as usize,
             i,
             k,
         )

@@ -1,6 +1,7 @@
 //! Reads ELF32 relocatable object files for the i386.
 #![tactic(auto)]
 
+pub mod elf;
 mod header;
 mod layout;
 mod object;

@@ -5,6 +5,7 @@ ghost use Rattle.elf32_object.specs.declared.types.Reloc.{Reloc};
 ghost use Rattle.elf32_object.specs.Rules.{object_fault, is_alignment, is_section_of_symbol, has_field, meets};
 ghost use Rattle.elf32_object.specs.Fields.{has_no_bytes, section_count, section_header, section_name, section_bytes, is_loaded, symbol_count, symbol_entry, symbol_name, relocations_below, IsRelocation};
 
+use crate::elf::SHT_NOBITS;
 use crate::layout::Layout;
 use crate::rows::Spot;
 use crate::symbols::Symbols;
@@ -22,8 +23,8 @@ pub struct Object<'a> {
 
 impl<'a> Model for Object<'a> {
     ghost use Rattle.std.specs.Prelude.{List, ℕ};
-    ghost use Rattle.elf32_object.specs.Kept.{IsKept};
-    ghost use Rattle.elf32_object.specs.Rows.{rows_of};
+    ghost use Rattle.elf32_object.specs.inside.Kept.{IsKept};
+    ghost use Rattle.elf32_object.specs.inside.Rows.{rows_of};
 
     ghost Value = { List ℕ };
 
@@ -119,7 +120,7 @@ impl<'a> Object<'a> {
         requires within { k < relocations_below self.now section (section_count self.now) }
         ensures relocation { IsRelocation self.now section k result }
         ensures symbol { result.symbol < symbol_count self.now }
-        ensures filled { ((section_header self.now section).kind == 8) ≡ false }
+        ensures filled { ((section_header self.now section).kind == SHT_NOBITS) ≡ false }
         ensures begins { result.offset < (section_header self.now section).size }
         ensures field { has_field result ≡ true → result.offset + 4 ≤ length (section_bytes self.now section) }
         ensures apart { (j : ℕ) (other : Reloc) → j < k → IsRelocation self.now section j other → has_field result ≡ true → has_field other ≡ true → meets result.offset other.offset ≡ false }

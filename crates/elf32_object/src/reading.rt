@@ -8,7 +8,7 @@ use byteorder::{ByteOrder, LittleEndian};
 
 /// The number of two bytes at a place.
 #[tactic(auto, unfolding(crate::specs::Fields::half_at))]
-pub fn half(bytes: &[u8], place: usize) -> u16
+pub(crate) fn half(bytes: &[u8], place: usize) -> u16
     requires { place + 2 ≤ length bytes.now }
     ensures { result ≡ half_at bytes.now place }
 {
@@ -17,7 +17,7 @@ pub fn half(bytes: &[u8], place: usize) -> u16
 
 /// The number of four bytes at a place.
 #[tactic(auto, unfolding(crate::specs::Fields::word_at))]
-pub fn word(bytes: &[u8], place: usize) -> u32
+pub(crate) fn word(bytes: &[u8], place: usize) -> u32
     requires { place + 4 ≤ length bytes.now }
     ensures { result ≡ word_at bytes.now place }
 {
@@ -25,7 +25,7 @@ pub fn word(bytes: &[u8], place: usize) -> u32
 }
 
 /// The bytes of this number from an offset on.
-pub fn piece(bytes: &[u8], offset: u32, size: u32) -> &[u8]
+pub(crate) fn piece(bytes: &[u8], offset: u32, size: u32) -> &[u8]
     requires { offset + size ≤ length bytes.now }
     ensures { result.now ≡ take size (drop offset bytes.now) }
 {
@@ -34,7 +34,7 @@ pub fn piece(bytes: &[u8], offset: u32, size: u32) -> &[u8]
 
 /// The section header at a place.
 #[tactic(auto, unfolding(crate::specs::Fields::section_header_at))]
-pub fn header_at(bytes: &[u8], place: usize) -> SectionHeader
+pub(crate) fn header_at(bytes: &[u8], place: usize) -> SectionHeader
     requires { place + 40 ≤ length bytes.now }
     ensures { result ≡ section_header_at bytes.now place }
 {
@@ -53,7 +53,7 @@ pub fn header_at(bytes: &[u8], place: usize) -> SectionHeader
 
 /// The symbol table's entry at a place.
 #[tactic(auto, unfolding(crate::specs::Fields::symbol_entry_at))]
-pub fn symbol_at(bytes: &[u8], place: usize) -> SymbolEntry
+pub(crate) fn symbol_at(bytes: &[u8], place: usize) -> SymbolEntry
     requires { place + 16 ≤ length bytes.now }
     ensures { result ≡ symbol_entry_at bytes.now place }
 {
@@ -68,7 +68,7 @@ pub fn symbol_at(bytes: &[u8], place: usize) -> SymbolEntry
 
 /// The relocation at a place: entry `index` of section `from`.
 #[tactic(auto, unfolding(crate::specs::Fields::relocation_at))]
-pub fn entry_at(bytes: &[u8], place: usize, from: u32, index: u32) -> Reloc
+pub(crate) fn entry_at(bytes: &[u8], place: usize, from: u32, index: u32) -> Reloc
     requires { place + 8 ≤ length bytes.now }
     ensures { result ≡ relocation_at bytes.now place from index }
 {

@@ -6,20 +6,14 @@ ghost use Rattle.std.specs.BTreeSet.{contains, Updates};
 ghost use Rattle.elf32_object.specs.Below.{first_below};
 ghost use Rattle.elf32_object.specs.Fields.{section_count, section_header, symbol_count, relocation, entry_count};
 ghost use Rattle.elf32_object.specs.Rules.{has_field, is_met_before, is_placed, relocation_fault, relocations_fault, section_fault};
-ghost use Rattle.elf32_object.specs.Finds.{FindsWithMemory};
-ghost use Rattle.elf32_object.specs.Taken.{field_key, AreTaken, IsFree, IsMet};
+ghost use Rattle.elf32_object.specs.Rule.{Finds};
+ghost use Rattle.elf32_object.specs.inside.Taken.{field_key, AreTaken, IsFree, IsMet};
 
+use crate::elf::{REL_SIZE, SHT_NOBITS};
 use crate::layout::Layout;
-use crate::types::{ObjectFault, Reloc};
-use std::alloc::Global;
+use crate::types::ObjectFault;
+use std::alloc::{AllocError, Global};
 use std::collections::BTreeSet;
-
-/// Whether an entry changes a field of four bytes.
-fn has_field(reloc: Reloc) -> bool
-    ensures { result ≡ has_field reloc }
-{
-    reloc.kind == 1 || reloc.kind == 2 || reloc.kind == 4
-}
 
 /// A field of a section as a number.
 fn field_key(section: u32, offset: u32) -> u64
@@ -63,7 +57,7 @@ fn is_apart(
 #[tactic(auto, unfolding(crate::specs::Rules::is_placed))]
 fn is_placed(layout: &Layout<'_>, fields: &BTreeSet<u64>, i: u32, k: u32) -> bool
     requires within { i < layout.now.count }
-    requires in_file { (section_header layout.now.bytes.now i).offset + 8 * (k + 1) ≤ length layout.now.bytes.now }
+    requires in_file { (section_header layout.now.bytes.now i).offset + REL_SIZE * (k + 1) ≤ length layout.now.bytes.now }
     requires target { (section_header layout.now.bytes.now i).info < layout.now.count }
     requires taken { AreTaken layout.now.bytes.now i k fields.now }
     ensures { result ≡ is_placed layout.now.bytes.now i k }
@@ -71,7 +65,7 @@ fn is_placed(layout: &Layout<'_>, fields: &BTreeSet<u64>, i: u32, k: u32) -> boo
     let reloc = layout.entry(i, k);
     let section = layout.header(i).info;
     let size = layout.header(section).size;
-    if !has_field(reloc) {
+    if !reloc.has_field() {
         return reloc.offset < size;
     }
     if u64::from(reloc.offset) + 4 > u64::from(size) {
@@ -86,21 +80,18 @@ fn add_field(
     fields: &mut BTreeSet<u64>,
     i: u32,
     k: u32,
-) -> Result<(), ObjectFault>
+) -> Result<(), AllocError>
     requires within { i < layout.now.count }
-    requires in_file { (section_header layout.now.bytes.now i).offset + 8 * (k + 1) ≤ length layout.now.bytes.now }
+    requires in_file { (section_header layout.now.bytes.now i).offset + REL_SIZE * (k + 1) ≤ length layout.now.bytes.now }
     requires taken { AreTaken layout.now.bytes.now i k fields.old }
-    ensures memory { IfErr result (λ e. e ≡ ObjectFault.Memory) }
-    ensures taken { OnOk result (AreTaken layout.now.bytes.now i (suc k) fields.new) }
+    ensures { OnOk result (AreTaken layout.now.bytes.now i (suc k) fields.new) }
 {
     let reloc = layout.entry(i, k);
-    if !has_field(reloc) {
+    if !reloc.has_field() {
         return Ok(());
     }
-    match fields.insert(field_key(layout.header(i).info, reloc.offset)) {
-        Ok(_) => Ok(()),
-        Err(_) => Err(ObjectFault::Memory),
-    }
+    fields.insert(field_key(layout.header(i).info, reloc.offset))?;
+    Ok(())
 }
 
 /// Checks an entry of a relocation section of a loaded section, and adds its field to those of the earlier entries.
@@ -113,20 +104,23 @@ fn check_relocation(
     k: u32,
 ) -> Result<(), ObjectFault>
     requires within { i < layout.now.count }
-    requires in_file { (section_header layout.now.bytes.now i).offset + 8 * (k + 1) ≤ length layout.now.bytes.now }
+    requires in_file { (section_header layout.now.bytes.now i).offset + REL_SIZE * (k + 1) ≤ length layout.now.bytes.now }
     requires target { (section_header layout.now.bytes.now i).info < layout.now.count }
     requires symbols { symbols ≡ symbol_count layout.now.bytes.now }
     requires taken { AreTaken layout.now.bytes.now i k fields.old }
-    ensures finds { FindsWithMemory result (relocation_fault layout.now.bytes.now i k) }
+    ensures finds { Finds ObjectFault.Memory result (relocation_fault layout.now.bytes.now i k) }
     ensures taken { OnOk result (AreTaken layout.now.bytes.now i (suc k) fields.new) }
 {
-    if layout.entry(i, k).symbol >= symbols || layout.header(layout.header(i).info).kind == 8 {
+    if layout.entry(i, k).symbol >= symbols
+        || layout.header(layout.header(i).info).kind == SHT_NOBITS
+    {
         return Err(ObjectFault::BadReloc(i, k));
     }
     if !is_placed(layout, fields, i, k) {
         return Err(ObjectFault::BadReloc(i, k));
     }
-    add_field(layout, fields, i, k)
+    add_field(layout, fields, i, k)?;
+    Ok(())
 }
 
 /// Checks the entries of a section, where it is a relocation section of a loaded section.
@@ -141,7 +135,7 @@ fn check_entries(
     requires sections { first_below (section_fault layout.now.bytes.now) (section_count layout.now.bytes.now) ≡ None }
     requires symbols { symbols ≡ symbol_count layout.now.bytes.now }
     requires taken { AreTaken layout.now.bytes.now i 0 fields.old }
-    ensures finds { FindsWithMemory result (relocations_fault layout.now.bytes.now i) }
+    ensures finds { Finds ObjectFault.Memory result (relocations_fault layout.now.bytes.now i) }
     ensures taken { OnOk result (AreTaken layout.now.bytes.now (suc i) 0 fields.new) }
 {
     for k in 0..layout.entry_count(i) {
@@ -151,14 +145,14 @@ fn check_entries(
 }
 
 /// Checks the relocations, in the order of their sections and entries.
-pub fn check_relocations(
+pub(crate) fn check_relocations(
     alloc: Global,
     layout: &Layout<'_>,
     symbols: u32,
 ) -> Result<(), ObjectFault>
     requires sections { first_below (section_fault layout.now.bytes.now) (section_count layout.now.bytes.now) ≡ None }
     requires symbols { symbols ≡ symbol_count layout.now.bytes.now }
-    ensures { FindsWithMemory result (first_below (relocations_fault layout.now.bytes.now) (section_count layout.now.bytes.now)) }
+    ensures { Finds ObjectFault.Memory result (first_below (relocations_fault layout.now.bytes.now) (section_count layout.now.bytes.now)) }
 {
     let mut fields = BTreeSet::new(alloc);
     for i in 0..layout.count {

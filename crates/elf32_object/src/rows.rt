@@ -2,7 +2,7 @@
 
 /// Where a relocation stands: the index of its section, and that of its entry there.
 #[derive(Clone, Copy)]
-pub struct Spot {
+pub(crate) struct Spot {
     pub from: u32,
     pub index: u32,
 }

@@ -4,9 +4,10 @@ ghost use Rattle.std.specs.Prelude.{◌≡◌, ◌+◌, ◌≤◌, ◌<◌, ◌&
 ghost use Rattle.elf32_object.specs.Below.{sum_below, count_below, first_below};
 ghost use Rattle.elf32_object.specs.Fields.{section_count, section_header, has_no_bytes, lies_in_file, is_section, is_symbol_table, is_string_table, patches_loaded, entry_count, is_loaded};
 ghost use Rattle.elf32_object.specs.Rules.{only_where, is_alignment, can_be_loaded, place_fault, symbol_table_fault, relocation_section_fault, loaded_size, content_fault, section_fault};
-ghost use Rattle.elf32_object.specs.Kept.{AreTotals};
-ghost use Rattle.elf32_object.specs.Finds.{Finds};
+ghost use Rattle.elf32_object.specs.inside.Kept.{AreTotals};
+ghost use Rattle.elf32_object.specs.Rule.{Finds};
 
+use crate::elf::{REL_SIZE, SHF_COMPRESSED, SHF_TLS, SHT_RELA, SHT_SYMTAB, SYM_SIZE};
 use crate::layout::{Layout, has_flag, has_no_bytes, is_string_table, lies_in_file};
 use crate::strings::is_name;
 use crate::types::{Large, ObjectFault, SectionHeader};
@@ -25,7 +26,9 @@ fn is_alignment(n: u32) -> bool
 fn can_be_loaded(header: SectionHeader) -> bool
     ensures { result ≡ can_be_loaded header }
 {
-    is_alignment(header.align) && !has_flag(header, 0x400) && !has_flag(header, 0x800)
+    is_alignment(header.align)
+        && !has_flag(header.flags, SHF_TLS)
+        && !has_flag(header.flags, SHF_COMPRESSED)
 }
 
 /// Whether a section has no bytes in the file, or its bytes lie there.
@@ -39,7 +42,7 @@ fn has_its_bytes(bytes: &[u8], header: SectionHeader) -> bool
 #[tactic(auto, unfolding(crate::specs::Rules::place_fault, crate::specs::Fields::section_name), using(crate::proofs::Zeros::ends_within))]
 fn check_place(layout: &Layout<'_>, i: u32) -> Result<(), ObjectFault>
     requires { i < layout.now.count }
-    ensures { Finds result (place_fault layout.now.bytes.now i) }
+    ensures { Finds ObjectFault.Memory result (place_fault layout.now.bytes.now i) }
 {
     let header = layout.header(i);
     if !layout.names.has_end(header.name) {
@@ -72,16 +75,20 @@ fn links_to_strings(layout: &Layout<'_>, i: u32) -> bool
 fn check_symbol_table(layout: &Layout<'_>, tables: u32, i: u32) -> Result<(), ObjectFault>
     requires within { i < layout.now.count }
     requires tables { tables ≡ count_below (is_symbol_table layout.now.bytes.now) (section_count layout.now.bytes.now) }
-    ensures { Finds result (only_where ((section_header layout.now.bytes.now i).kind == 2) (symbol_table_fault layout.now.bytes.now i)) }
+    ensures { Finds ObjectFault.Memory result (only_where ((section_header layout.now.bytes.now i).kind == SHT_SYMTAB) (symbol_table_fault layout.now.bytes.now i)) }
 {
     let header = layout.header(i);
-    if header.kind != 2 {
+    if header.kind != SHT_SYMTAB {
         return Ok(());
     }
-    if tables != 1 || header.entry != 16 || header.size % 16 != 0 || !links_to_strings(layout, i) {
+    if tables != 1
+        || header.entry != SYM_SIZE
+        || header.size % SYM_SIZE != 0
+        || !links_to_strings(layout, i)
+    {
         return Err(ObjectFault::BadSection(i));
     }
-    if header.size / 16 > 65_536 {
+    if header.size / SYM_SIZE > 65_536 {
         return Err(ObjectFault::TooLarge(Large::Symbols));
     }
     Ok(())
@@ -94,7 +101,7 @@ fn check_relocation_section(layout: &Layout<'_>, total: u32, i: u32) -> Result<u
     requires within { i < layout.now.count }
     requires total { total ≡ sum_below (entry_count layout.now.bytes.now) i }
     requires few { total ≤ 262144 }
-    ensures finds { Finds result (only_where (patches_loaded layout.now.bytes.now i) (relocation_section_fault layout.now.bytes.now i)) }
+    ensures finds { Finds ObjectFault.Memory result (only_where (patches_loaded layout.now.bytes.now i) (relocation_section_fault layout.now.bytes.now i)) }
     ensures total { IfOk result (λ t. t ≡ sum_below (entry_count layout.now.bytes.now) (suc i)) }
     ensures few { IfOk result (λ t. t ≤ 262144) }
 {
@@ -102,10 +109,13 @@ fn check_relocation_section(layout: &Layout<'_>, total: u32, i: u32) -> Result<u
         return Ok(total);
     }
     let header = layout.header(i);
-    if header.entry != 8 || header.size % 8 != 0 || !layout.is_symbol_table(header.link) {
+    if header.entry != REL_SIZE
+        || header.size % REL_SIZE != 0
+        || !layout.is_symbol_table(header.link)
+    {
         return Err(ObjectFault::BadSection(i));
     }
-    let total = total + header.size / 8;
+    let total = total + header.size / REL_SIZE;
     if total > 262_144 {
         return Err(ObjectFault::TooLarge(Large::Relocations));
     }
@@ -132,12 +142,12 @@ fn check_content(layout: &Layout<'_>, total: u64, i: u32) -> Result<u64, ObjectF
     requires within { i < layout.now.count }
     requires total { total ≡ sum_below (loaded_size layout.now.bytes.now) i }
     requires few { total ≤ 8388608 }
-    ensures finds { Finds result (content_fault layout.now.bytes.now i) }
+    ensures finds { Finds ObjectFault.Memory result (content_fault layout.now.bytes.now i) }
     ensures total { IfOk result (λ t. t ≡ sum_below (loaded_size layout.now.bytes.now) (suc i)) }
     ensures few { IfOk result (λ t. t ≤ 8388608) }
 {
     let header = layout.header(i);
-    if header.kind == 4 && layout.is_loaded(header.info) {
+    if header.kind == SHT_RELA && layout.is_loaded(header.info) {
         return Err(ObjectFault::BadSection(i));
     }
     let total = total + u64::from(loaded_size(layout, i));
@@ -166,7 +176,7 @@ fn check_section(
     requires within { i < layout.now.count }
     requires tables { tables ≡ count_below (is_symbol_table layout.now.bytes.now) (section_count layout.now.bytes.now) }
     requires totals { AreTotals layout.now.bytes.now i totals.relocations totals.content }
-    ensures finds { Finds result (section_fault layout.now.bytes.now i) }
+    ensures finds { Finds ObjectFault.Memory result (section_fault layout.now.bytes.now i) }
     ensures totals { IfOk result (λ t. AreTotals layout.now.bytes.now (suc i) t.relocations t.content) }
 {
     check_place(layout, i)?;
@@ -193,8 +203,8 @@ fn symbol_tables(layout: &Layout<'_>) -> u32
 }
 
 /// Checks the sections, in their order.
-pub fn check_sections(layout: &Layout<'_>) -> Result<(), ObjectFault>
-    ensures { Finds result (first_below (section_fault layout.now.bytes.now) (section_count layout.now.bytes.now)) }
+pub(crate) fn check_sections(layout: &Layout<'_>) -> Result<(), ObjectFault>
+    ensures { Finds ObjectFault.Memory result (first_below (section_fault layout.now.bytes.now) (section_count layout.now.bytes.now)) }
 {
     let tables = symbol_tables(layout);
     let mut totals = Totals {

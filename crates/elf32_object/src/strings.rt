@@ -17,7 +17,7 @@ fn first_zero(bytes: &[u8]) -> usize
 }
 
 /// The text that begins at a place of a string table.
-pub fn text(table: &[u8], place: u32) -> &[u8]
+pub(crate) fn text(table: &[u8], place: u32) -> &[u8]
     requires { place ≤ length table.now }
     ensures { result.now ≡ text_at table.now place }
 {
@@ -33,7 +33,7 @@ fn ends_as_name(text: &[u8]) -> bool
 }
 
 /// Whether the text at a place has no more bytes than a name may have. It looks at no more bytes than that.
-pub fn is_name(table: &[u8], place: u32) -> bool
+pub(crate) fn is_name(table: &[u8], place: u32) -> bool
     requires { place ≤ length table.now }
     ensures { result ≡ nat_le (length (text_at table.now place)) 4096 }
 {
@@ -59,7 +59,7 @@ fn behind_last_zero(bytes: &[u8]) -> usize
 
 /// A string table, and the place behind its last zero.
 #[derive(Clone, Copy)]
-pub struct Strings<'a> {
+pub(crate) struct Strings<'a> {
     pub bytes: &'a [u8],
     pub end: usize,
     ghost last_zero: { (place : ℕ) → ends_in bytes.now place ≡ nat_lt place end },

@@ -1,11 +1,13 @@
 //! The symbol table of a file.
 
 ghost use Rattle.std.specs.Prelude.{◌≡◌, ◌+◌, ◌*◌, ◌/◌, ◌≤◌, ◌<◌, ◌||◌, not, nat_le, true, length, Some, None, unwrap_or};
+ghost use Rattle.elf32_object.specs.declared.elf.TheConstants.{SYM_SIZE};
 ghost use Rattle.elf32_object.specs.Fields.{section_header, symbol_table, symbol_count, ends_in, symbol_entry, symbol_names, symbol_name, section_count, lies_in_file, is_loaded};
 ghost use Rattle.elf32_object.specs.Below.{first_below};
 ghost use Rattle.elf32_object.specs.Rules.{section_fault, is_section_of_symbol, symbol_fault};
-ghost use Rattle.elf32_object.specs.Finds.{Finds};
+ghost use Rattle.elf32_object.specs.Rule.{Finds};
 
+use crate::elf::{SHN_ABS, SHN_COMMON, SHN_UNDEF, SYM_SIZE};
 use crate::layout::Layout;
 use crate::reading::{piece, symbol_at};
 use crate::strings::{Strings, is_name, text};
@@ -13,7 +15,7 @@ use crate::types::{Large, ObjectFault, SymbolEntry};
 
 /// Where a file's symbols stand, and their names.
 #[derive(Clone, Copy)]
-pub struct Symbols<'a> {
+pub(crate) struct Symbols<'a> {
     pub bytes: &'a [u8],
     pub place: u32,
     pub count: u32,
@@ -21,7 +23,7 @@ pub struct Symbols<'a> {
     ghost count_is: { count ≡ symbol_count bytes.now },
     ghost few: { count ≤ 65536 },
     ghost place_is: { 0 < count → place ≡ (section_header bytes.now (unwrap_or (symbol_table bytes.now) 0)).offset },
-    ghost in_file: { place + 16 * count ≤ length bytes.now },
+    ghost in_file: { place + SYM_SIZE * count ≤ length bytes.now },
     ghost names_are: { 0 < count → names.bytes.now ≡ symbol_names bytes.now },
 }
 
@@ -32,7 +34,10 @@ impl<'a> Symbols<'a> {
         requires { k < self.now.count }
         ensures { result ≡ symbol_entry self.now.bytes.now k }
     {
-        symbol_at(self.bytes, self.place as usize + 16 * k as usize)
+        symbol_at(
+            self.bytes,
+            self.place as usize + SYM_SIZE as usize * k as usize,
+        )
     }
 
     /// A symbol's name.
@@ -64,7 +69,7 @@ fn symbol_table(layout: &Layout<'_>) -> Option<u32>
 fn symbols_in<'a>(layout: &Layout<'a>, i: u32) -> Symbols<'a>
     requires first { symbol_table layout.now.bytes.now ≡ Some i }
     requires within { i < layout.now.count }
-    requires few { (section_header layout.now.bytes.now i).size / 16 ≤ 65536 }
+    requires few { (section_header layout.now.bytes.now i).size / SYM_SIZE ≤ 65536 }
     requires in_file { lies_in_file layout.now.bytes.now (section_header layout.now.bytes.now i) ≡ true }
     requires link { (section_header layout.now.bytes.now i).link < layout.now.count }
     requires names_in_file { lies_in_file layout.now.bytes.now (section_header layout.now.bytes.now (section_header layout.now.bytes.now i).link) ≡ true }
@@ -75,14 +80,14 @@ fn symbols_in<'a>(layout: &Layout<'a>, i: u32) -> Symbols<'a>
     Symbols {
         bytes: layout.bytes,
         place: header.offset,
-        count: header.size / 16,
+        count: header.size / SYM_SIZE,
         names: Strings::new(piece(layout.bytes, names.offset, names.size)),
     }
 }
 
 /// The symbols of a file whose sections are in order: none where it has no symbol table.
 #[tactic(auto, unfolding(crate::specs::Fields::symbol_count))]
-pub fn symbols_of<'a>(layout: &Layout<'a>) -> Symbols<'a>
+pub(crate) fn symbols_of<'a>(layout: &Layout<'a>) -> Symbols<'a>
     requires { first_below (section_fault layout.now.bytes.now) (section_count layout.now.bytes.now) ≡ None }
     ensures { result.bytes.now ≡ layout.now.bytes.now }
 {
@@ -101,7 +106,10 @@ pub fn symbols_of<'a>(layout: &Layout<'a>) -> Symbols<'a>
 fn is_section_of_symbol(layout: &Layout<'_>, section: u16) -> bool
     ensures { result ≡ is_section_of_symbol layout.now.bytes.now section }
 {
-    section == 0 || section == 0xfff1 || section == 0xfff2 || u32::from(section) < layout.count
+    section == SHN_UNDEF
+        || section == SHN_ABS
+        || section == SHN_COMMON
+        || u32::from(section) < layout.count
 }
 
 /// Whether a symbol of a loaded section stands in it or at its end.
@@ -119,7 +127,7 @@ fn check_symbol(layout: &Layout<'_>, symbols: &Symbols<'_>, k: u32) -> Result<()
     requires above_null { 0 < k }
     requires within { k < symbols.now.count }
     requires same_bytes { symbols.now.bytes.now ≡ layout.now.bytes.now }
-    ensures { Finds result (symbol_fault layout.now.bytes.now k) }
+    ensures { Finds ObjectFault.Memory result (symbol_fault layout.now.bytes.now k) }
 {
     let entry = symbols.entry(k);
     if !symbols.names.has_end(entry.name) {
@@ -135,9 +143,9 @@ fn check_symbol(layout: &Layout<'_>, symbols: &Symbols<'_>, k: u32) -> Result<()
 }
 
 /// Checks the symbols, in their order.
-pub fn check_symbols(layout: &Layout<'_>, symbols: &Symbols<'_>) -> Result<(), ObjectFault>
+pub(crate) fn check_symbols(layout: &Layout<'_>, symbols: &Symbols<'_>) -> Result<(), ObjectFault>
     requires { symbols.now.bytes.now ≡ layout.now.bytes.now }
-    ensures { Finds result (first_below (symbol_fault layout.now.bytes.now) (symbol_count layout.now.bytes.now)) }
+    ensures { Finds ObjectFault.Memory result (first_below (symbol_fault layout.now.bytes.now) (symbol_count layout.now.bytes.now)) }
 {
     for k in 1..symbols.count {
         check_symbol(layout, symbols, k)?;

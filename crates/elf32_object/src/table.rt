@@ -1,41 +1,34 @@
 //! Lists the relocations of each section.
 
-ghost use Rattle.std.specs.Prelude.{◌≡◌, ℕ, ◌+◌, ◌<◌, ◌≤◌, ◌∷◌, [], ◌++◌, get_or, slice_set, length, OnOk, IfOk, IfErr, vec_len, suc, None};
-ghost use Rattle.elf32_object.specs.Below.{first_below};
+ghost use Rattle.std.specs.Prelude.{◌≡◌, ℕ, ◌+◌, ◌<◌, ◌≤◌, ◌∷◌, [], ◌++◌, get_or, slice_set, length, OnOk, IfOk, vec_len, suc, None};
+ghost use Rattle.elf32_object.specs.Below.{each_below, first_below};
 ghost use Rattle.elf32_object.specs.Fields.{section_count, relocations_below, IsRelocation};
 ghost use Rattle.elf32_object.specs.Rules.{section_fault};
-ghost use Rattle.elf32_object.specs.Rows.{rows_of, spots, AreRows};
+ghost use Rattle.elf32_object.specs.inside.Rows.{rows_of, spot_of, AreRows};
 
 use crate::layout::Layout;
 use crate::rows::Spot;
-use crate::types::{ObjectFault, Reloc};
-use std::alloc::Global;
+use crate::types::Reloc;
+use std::alloc::{AllocError, Global};
 
 /// Adds a place to the end of a row.
-fn add_spot(rows: &mut Vec<Vec<Spot>>, section: u32, spot: Spot) -> Result<(), ObjectFault>
+fn add_spot(rows: &mut Vec<Vec<Spot>>, section: u32, spot: Spot) -> Result<(), AllocError>
     requires { section < vec_len rows.old }
-    ensures memory { IfErr result (λ e. e ≡ ObjectFault.Memory) }
     ensures len { vec_len rows.new ≡ vec_len rows.old }
     ensures added { OnOk result (rows_of rows.new.items ≡ slice_set (rows_of rows.old.items) section (get_or (rows_of rows.old.items) section [] ++ spot ∷ [])) }
 {
-    match rows[section as usize].push(spot) {
-        Ok(()) => Ok(()),
-        Err(_) => Err(ObjectFault::Memory),
-    }
+    rows[section as usize].push(spot)?;
+    Ok(())
 }
 
 /// Empty rows, this many.
-fn empty_rows(alloc: Global, count: u32) -> Result<Vec<Vec<Spot>>, ObjectFault>
-    ensures memory { IfErr result (λ e. e ≡ ObjectFault.Memory) }
+fn empty_rows(alloc: Global, count: u32) -> Result<Vec<Vec<Spot>>, AllocError>
     ensures count { IfOk result (λ rows. vec_len rows ≡ count) }
     ensures empty { IfOk result (λ rows. (section : ℕ) → get_or (rows_of rows.items) section [] ≡ []) }
 {
     let mut rows = Vec::new(alloc);
     for _ in 0..count {
-        match rows.push(Vec::new(alloc)) {
-            Ok(()) => {}
-            Err(_) => return Err(ObjectFault::Memory),
-        }
+        rows.push(Vec::new(alloc))?;
     }
     Ok(rows)
 }
@@ -46,10 +39,9 @@ fn add_entries(
     section: u32,
     from: u32,
     count: u32,
-) -> Result<(), ObjectFault>
+) -> Result<(), AllocError>
     requires { section < vec_len rows.old }
-    ensures memory { IfErr result (λ e. e ≡ ObjectFault.Memory) }
-    ensures added { OnOk result (rows_of rows.new.items ≡ slice_set (rows_of rows.old.items) section (get_or (rows_of rows.old.items) section [] ++ spots from count)) }
+    ensures { OnOk result (rows_of rows.new.items ≡ slice_set (rows_of rows.old.items) section (get_or (rows_of rows.old.items) section [] ++ each_below (spot_of from) count)) }
 {
     for index in 0..count {
         add_spot(rows, section, Spot { from, index })?;
@@ -58,11 +50,10 @@ fn add_entries(
 }
 
 /// Adds the entries of a section to the row of the loaded section that it changes, if it changes one.
-fn add_section(layout: &Layout<'_>, rows: &mut Vec<Vec<Spot>>, i: u32) -> Result<(), ObjectFault>
+fn add_section(layout: &Layout<'_>, rows: &mut Vec<Vec<Spot>>, i: u32) -> Result<(), AllocError>
     requires within { i < layout.now.count }
     requires rows { AreRows layout.now.bytes.now i (rows_of rows.old.items) }
-    ensures memory { IfErr result (λ e. e ≡ ObjectFault.Memory) }
-    ensures rows { OnOk result (AreRows layout.now.bytes.now (suc i) (rows_of rows.new.items)) }
+    ensures { OnOk result (AreRows layout.now.bytes.now (suc i) (rows_of rows.new.items)) }
 {
     if !layout.patches_loaded(i) {
         return Ok(());
@@ -71,9 +62,11 @@ fn add_section(layout: &Layout<'_>, rows: &mut Vec<Vec<Spot>>, i: u32) -> Result
 }
 
 /// The relocations of each section, in their order.
-pub fn rows_by_section(alloc: Global, layout: &Layout<'_>) -> Result<Vec<Vec<Spot>>, ObjectFault>
-    ensures memory { IfErr result (λ e. e ≡ ObjectFault.Memory) }
-    ensures rows { IfOk result (λ rows. AreRows layout.now.bytes.now (section_count layout.now.bytes.now) (rows_of rows.items)) }
+pub(crate) fn rows_by_section(
+    alloc: Global,
+    layout: &Layout<'_>,
+) -> Result<Vec<Vec<Spot>>, AllocError>
+    ensures { IfOk result (λ rows. AreRows layout.now.bytes.now (section_count layout.now.bytes.now) (rows_of rows.items)) }
 {
     let mut rows = empty_rows(alloc, layout.count)?;
     for i in 0..layout.count {
@@ -83,7 +76,7 @@ pub fn rows_by_section(alloc: Global, layout: &Layout<'_>) -> Result<Vec<Vec<Spo
 }
 
 /// How many relocations a section has.
-pub fn count_of(layout: &Layout<'_>, rows: &[Vec<Spot>], section: u32) -> u32
+pub(crate) fn count_of(layout: &Layout<'_>, rows: &[Vec<Spot>], section: u32) -> u32
     requires within { section < section_count layout.now.bytes.now }
     requires sections { first_below (section_fault layout.now.bytes.now) (section_count layout.now.bytes.now) ≡ None }
     requires rows { AreRows layout.now.bytes.now (section_count layout.now.bytes.now) (rows_of rows.now) }
@@ -102,7 +95,7 @@ fn spot_at(row: &[Spot], k: u32) -> Spot
 }
 
 /// A relocation of a section, by its number.
-pub fn relocation_of(layout: &Layout<'_>, rows: &[Vec<Spot>], section: u32, k: u32) -> Reloc
+pub(crate) fn relocation_of(layout: &Layout<'_>, rows: &[Vec<Spot>], section: u32, k: u32) -> Reloc
     requires within { section < section_count layout.now.bytes.now }
     requires below { k < relocations_below layout.now.bytes.now section (section_count layout.now.bytes.now) }
     requires sections { first_below (section_fault layout.now.bytes.now) (section_count layout.now.bytes.now) ≡ None }

@@ -1,5 +1,8 @@
 //! What an object file is read as, and why one is refused.
 
+use crate::elf::{R_386_32, R_386_PC32, R_386_PLT32};
+use std::alloc::AllocError;
+
 /// Which limit of this reader an object passes.
 #[derive(Clone, Copy, Debug, PartialEq, Eq)]
 pub enum Large {
@@ -36,6 +39,17 @@ pub enum ObjectFault {
     TooLarge(Large),
     /// Memory ran out.
     Memory,
+}
+
+impl From<AllocError> for ObjectFault {
+    ghost use Rattle.std.specs.Prelude.{◌≡◌};
+    ghost use Rattle.elf32_object.specs.declared.types.ObjectFault.TheVariants.{Memory};
+
+    ghost from_gives = { λ _ fault. fault ≡ Memory };
+
+    fn from(_error: AllocError) -> ObjectFault {
+        ObjectFault::Memory
+    }
 }
 
 /// The entry of the section header table that a section has (System V gABI, chapter 4, "Sections"). The
@@ -90,6 +104,18 @@ pub struct Reloc {
     pub from: u32,
     /// The entry's index in that section.
     pub index: u32,
+}
+
+impl Reloc {
+    ghost use Rattle.std.specs.Prelude.{◌≡◌};
+    ghost use Rattle.elf32_object.specs.Rules.{has_field};
+
+    /// Whether the relocation changes a field of four bytes (Intel386 supplement, "Relocation Types").
+    pub fn has_field(self) -> bool
+        ensures { result ≡ has_field self }
+    {
+        self.kind == R_386_32 || self.kind == R_386_PC32 || self.kind == R_386_PLT32
+    }
 }
 
 /// A section of an object. It borrows from the file.

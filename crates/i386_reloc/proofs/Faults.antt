@@ -6,8 +6,8 @@ use Rattle.elf32_object.specs.Fields.{section_header, section_name, is_loaded, s
 use Rattle.ks_base.specs.declared.refusals.Refusal.TheVariants as refusal
 use Rattle.i386_reloc.specs.declared.types.Class.{Class}
 use Rattle.i386_reloc.specs.declared.functions.Functions.{Functions}
-use Rattle.i386_reloc.specs.Functions.{functions_below}
-use Rattle.i386_reloc.specs.Loaded.{IsLoadedSection}
+use Rattle.i386_reloc.specs.inside.Functions.{functions_below}
+use Rattle.i386_reloc.specs.inside.Loaded.{IsLoadedSection}
 use Rattle.i386_reloc.specs.Classes.{class_by, is_code_class, is_code}
 use Rattle.i386_reloc.specs.Normal.{function_symbol, starts, has_inner_function, same_bytes, loaded_below, normal_section, is_name_twice, is_not_one_function}
 use Rattle.i386_reloc.specs.Places.{place_named}

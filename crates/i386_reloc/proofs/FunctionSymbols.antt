@@ -9,8 +9,8 @@ use Rattle.elf32_object.specs.Below.{first_of, least_below}
 use Rattle.elf32_object.specs.Fields.{section_count, symbol_count, symbol_entry}
 use Rattle.i386_reloc.specs.declared.types.Class.{Class}
 use Rattle.i386_reloc.specs.declared.functions.Functions.{Functions}
-use Rattle.i386_reloc.specs.Functions.{functions_below, functions_with, AreFunctions}
-use Rattle.i386_reloc.specs.Loaded.{IsLoadedSection}
+use Rattle.i386_reloc.specs.inside.Functions.{functions_below, functions_with, AreFunctions}
+use Rattle.i386_reloc.specs.inside.Loaded.{IsLoadedSection}
 use Rattle.i386_reloc.specs.Classes.{class_by, is_code_class, is_code}
 use Rattle.i386_reloc.specs.Normal.{is_function_of, starts, function_symbol}
 use Rattle.i386_reloc.proofs.Faults.{class_of_read}

@@ -1,141 +1,114 @@
--- The places of references' targets, from the indices of their sections.
-use Rattle.std.proofs.Common.{◌≡◌, ℕ, suc, ◌+◌, ◌<◌, ◌==◌, Bool, true, false, ◌||◌, cond, List, [], ◌∷◌, ◌++◌, length, map, get_or, Option, Some, None, refl, ap, sym, subst, ◌∙◌, arith, All, add-one}
-use Rattle.std.specs.List.{filter}
-use Rattle.std.specs.List.Sorted.{IsSortedByKey, IsStableByKey, IsPermutation, ties}
-use Rattle.std.specs.Ordering.{nat_cmp, is_lt}
-use Rattle.std.proofs.lemmas.List.{get_or-map, length-map, map-append}
-use Rattle.std.proofs.lemmas.List.Elements.{All-filter}
-use Rattle.std.proofs.lemmas.List.Sorted.{All-permutation}
+-- What references go to, and the places of their targets.
+use Rattle.std.proofs.Common.{◌≡◌, ℕ, zero, suc, ◌+◌, ◌^◌, ◌%◌, Bool, true, false, ◌&&◌, cond, List, [], ◌∷◌, ◌++◌, length, map, Option, Some, None, refl, ap, sym, ◌∙◌, arith, All, append-nil}
+use Rattle.std.proofs.lemmas.List.{map-append}
 use Rattle.elf32_object.specs.declared.types.Reloc.{Reloc}
-use Rattle.elf32_object.specs.Fields.{section_count, section_name, section_bytes, symbol_entry, symbol_name, is_loaded}
-use Rattle.elf32_object.specs.Rules.{has_field}
-use Rattle.i386_reloc.specs.declared.known.Known.{Known}
+use Rattle.elf32_object.specs.Fields.{section_count, section_name, section_bytes, symbol_name, is_loaded}
 use Rattle.i386_reloc.specs.declared.types.NormalSection.{NormalSection}
 use Rattle.i386_reloc.specs.declared.types.Ref.{Ref}
 use Rattle.i386_reloc.specs.declared.types.Target.TheVariants as to
 use Rattle.i386_reloc.specs.Classes.{is_strings}
-use Rattle.i386_reloc.specs.Known.{known_at, known_section}
 use Rattle.i386_reloc.specs.Normal.{loaded_below, loaded_sections, normal_section}
-use Rattle.i386_reloc.specs.Places.{place_named, place_of_target, targets_of}
-use Rattle.i386_reloc.specs.References.{symbol_of, is_outside, text_offset, text_through, target_of, addend_in, reference_of, references_of, relocations_of, fields_of, by_offset}
-use Rattle.i386_reloc.specs.Refused.{is_no_target, name_fault, relocation_fault}
-use Rattle.i386_reloc.specs.Relocations.{IsPlaced, Leads}
-use Rattle.i386_reloc.specs.Targets.{place_by_index}
-use Rattle.i386_reloc.proofs.KnownSections.{some_known}
+use Rattle.i386_reloc.specs.Places.{place_named, place_of_target}
+use Rattle.i386_reloc.specs.References.{symbol_of, is_outside, is_section_symbol, text_offset, text_through, text_target, reference_to, addend_in, reference_of, references_of, fields_of}
+use Rattle.i386_reloc.specs.Refused.{name_fault, relocation_fault}
+use Rattle.i386_reloc.specs.inside.Fields.{IsRight}
+use Rattle.i386_reloc.specs.inside.Targets.{targets_of, targets_in, place_by_index, places_of, places_below}
 use Rattle.i386_reloc.proofs.LoadedPlaces.{is_at}
-use Rattle.i386_reloc.proofs.ReferenceFaults.{leads_to_loaded}
-use Rattle.i386_reloc.proofs.RightFields.{IsRight, right, all_right, loaded_within}
-use Rattle.i386_reloc.proofs.Sorting.{sorted_is}
+use Rattle.i386_reloc.proofs.RightFields.{all_right, loaded_within}
 
--- relocations that are sorted make references that are sorted
-no_reloc : Reloc
-no_reloc = record { offset = 0; symbol = 0; kind = 0; from = 0; index = 0 }
-
-sorted_made : (bytes : List ℕ) (i : ℕ) (rs : List Reloc) → IsSortedByKey (λ (r : Reloc). r.offset) nat_cmp rs → IsSortedByKey (λ (r : Ref). r.offset) nat_cmp (map (reference_of bytes i) rs)
+-- the rows of the table of targets, one by one
+pub outside_row : (bytes : List ℕ) (i : ℕ) (r : Reloc) → is_outside (symbol_of bytes r) ≡ true → reference_of bytes i r ≡ reference_to r (to.Outside (symbol_name bytes r.symbol)) (addend_in bytes i r)
 unfolding reference_of
-sorted_made bytes i rs sorted = λ k d low high.
-    let size : length (map (reference_of bytes i) rs) ≡ length rs = length-map rs (reference_of bytes i) in
-    let next : k + 1 < length rs = omega (arith, high, size) in
-    let here : k < length rs = omega (arith, next) in
-    ap (λ (r : Ref). is_lt (nat_cmp r.offset (get_or (map (reference_of bytes i) rs) k d).offset)) (get_or-map (reference_of bytes i) rs (k + 1) no_reloc d next)
-    ∙ ap (λ (r : Ref). is_lt (nat_cmp (get_or rs (k + 1) no_reloc).offset r.offset)) (get_or-map (reference_of bytes i) rs k no_reloc d here)
-    ∙ sorted k no_reloc low next
+outside_row bytes i r outside = rw outside refl
 
-filter_chosen : (b : Bool) (f : Reloc → Ref) (r : Reloc) (rs : List Reloc) (ss : List Ref) → ss ≡ map f rs → cond b (f r ∷ ss) ss ≡ map f (cond b (r ∷ rs) rs)
-filter_chosen true f r rs ss are = ap (λ xs. f r ∷ xs) are
-filter_chosen false f r rs ss are = are
-
-filter_made : (p : Ref → Bool) (f : Reloc → Ref) (rs : List Reloc) → filter p (map f rs) ≡ map f (filter (λ r. p (f r)) rs)
-filter_made p f [] = refl
-filter_made p f (r ∷ rs) = filter_chosen (p (f r)) f r (filter (λ r. p (f r)) rs) (filter p (map f rs)) (filter_made p f rs)
-
-stable_made : (bytes : List ℕ) (i : ℕ) (rs ss : List Reloc) → IsStableByKey (λ (r : Reloc). r.offset) nat_cmp rs ss → IsStableByKey (λ (r : Ref). r.offset) nat_cmp (map (reference_of bytes i) rs) (map (reference_of bytes i) ss)
+pub section_row : (bytes : List ℕ) (i : ℕ) (r : Reloc) → is_outside (symbol_of bytes r) ≡ false → is_strings bytes (symbol_of bytes r).section ≡ false → reference_of bytes i r ≡ reference_to r (to.Section (section_name bytes (symbol_of bytes r).section)) ((addend_in bytes i r + (symbol_of bytes r).value) % 2 ^ 32)
 unfolding reference_of
-stable_made bytes i rs ss stable = λ z.
-    let p : Ref → Bool = ties (λ (x y : Ref). is_lt (nat_cmp x.offset y.offset)) z in
-    let at : Reloc = record no_reloc { offset = z.offset } in
-    filter_made p (reference_of bytes i) ss
-    ∙ ap (map (reference_of bytes i)) (stable at)
-    ∙ sym (filter_made p (reference_of bytes i) rs)
+section_row bytes i r inside texts = rw (inside, texts) refl
 
-pub fields_sorted : (rs ss : List Reloc) → IsSortedByKey (λ (r : Reloc). r.offset) nat_cmp ss → IsStableByKey (λ (r : Reloc). r.offset) nat_cmp rs ss → (bytes : List ℕ) (i : ℕ) → map (reference_of bytes i) ss ≡ by_offset (map (reference_of bytes i) rs)
-fields_sorted rs ss sorted stable bytes i =
-    sorted_is (map (reference_of bytes i) rs) (map (reference_of bytes i) ss) (sorted_made bytes i ss sorted) (stable_made bytes i rs ss stable)
+pub addend_row : (bytes : List ℕ) (i : ℕ) (r : Reloc) → is_outside (symbol_of bytes r) ≡ false → is_strings bytes (symbol_of bytes r).section ≡ true → is_section_symbol (symbol_of bytes r) ≡ true → reference_of bytes i r ≡ reference_to r (text_target bytes (symbol_of bytes r).section (addend_in bytes i r)) 0
+unfolding reference_of
+addend_row bytes i r inside texts named = rw (inside, texts, named) refl
 
--- where a relocation leads
-place_outside_by : (outside : Bool) (place : ℕ) → outside ≡ true → None ≡ cond outside None (Some place)
-place_outside_by true place yes_outside = refl
-place_outside_by false place yes_outside = absurd cc
+pub value_row : (bytes : List ℕ) (i : ℕ) (r : Reloc) → is_outside (symbol_of bytes r) ≡ false → is_strings bytes (symbol_of bytes r).section ≡ true → is_section_symbol (symbol_of bytes r) ≡ false → reference_of bytes i r ≡ reference_to r (text_target bytes (symbol_of bytes r).section (symbol_of bytes r).value) (addend_in bytes i r)
+unfolding reference_of
+value_row bytes i r inside texts named = rw (inside, texts, named) refl
 
-place_inside_by : (outside : Bool) (place known : ℕ) → outside ≡ false → known ≡ place → Some known ≡ cond outside None (Some place)
-place_inside_by true place known inside same = absurd cc
-place_inside_by false place known inside same = ap Some same
+-- a text that was read
+pub text_read : (bytes name texts : List ℕ) (j section offset here : ℕ) → section ≡ j → name ≡ section_name bytes section → texts ≡ section_bytes bytes section → offset ≡ here → to.Text name offset (text_through texts offset) ≡ text_target bytes j here
+text_read bytes name texts j section offset here section_is name_is texts_are offset_is =
+    rw (name_is, texts_are, section_is, offset_is) refl
 
-pub place_outside : (bytes : List ℕ) (r : Reloc) (section : ℕ) → section ≡ (symbol_entry bytes r.symbol).section → (section == 0 || section == 0xfff2) ≡ true → None ≡ place_by_index bytes r
-unfolding place_by_index symbol_of
-place_outside bytes r section is outside =
-    place_outside_by (is_outside (symbol_entry bytes r.symbol)) (length (loaded_below bytes (symbol_entry bytes r.symbol).section)) (ap (λ s. s == 0 || s == 0xfff2) (sym is) ∙ outside)
+-- the target alone
+target_by : (r : Reloc) (outside strings named : Bool) (out name bytes : List ℕ) (a v sum : ℕ) →
+    (cond outside (reference_to r (to.Outside out) a)
+    (cond (strings && named) (reference_to r (to.Text name a (text_through bytes a)) 0)
+    (cond strings (reference_to r (to.Text name v (text_through bytes v)) a) (reference_to r (to.Section name) sum)))).target
+    ≡ cond outside (to.Outside out) (cond strings (to.Text name (cond named a v) (text_through bytes (cond named a v))) (to.Section name))
+target_by r true strings named out name bytes a v sum = refl
+target_by r false true true out name bytes a v sum = refl
+target_by r false true false out name bytes a v sum = refl
+target_by r false false named out name bytes a v sum = refl
 
-pub place_inside : (bytes : List ℕ) (r : Reloc) (section : ℕ) (known : Known) → section ≡ (symbol_entry bytes r.symbol).section → (section == 0 || section == 0xfff2) ≡ false → known_at bytes section ≡ Some known → Some known.place ≡ place_by_index bytes r
-unfolding place_by_index symbol_of known_section
-place_inside bytes r section known is inside found =
-    place_inside_by (is_outside (symbol_entry bytes r.symbol)) (length (loaded_below bytes (symbol_entry bytes r.symbol).section)) known.place (ap (λ s. s == 0 || s == 0xfff2) (sym is) ∙ inside)
-    (ap (λ (k : Known). k.place) (some_known bytes section known found).1 ∙ ap (λ s. length (loaded_below bytes s)) is)
+pub target_is : (bytes : List ℕ) (i : ℕ) (r : Reloc) →
+    (reference_of bytes i r).target
+    ≡ cond (is_outside (symbol_of bytes r)) (to.Outside (symbol_name bytes r.symbol))
+    (cond (is_strings bytes (symbol_of bytes r).section) (text_target bytes (symbol_of bytes r).section (text_offset (symbol_of bytes r) (addend_in bytes i r))) (to.Section (section_name bytes (symbol_of bytes r).section)))
+unfolding reference_of
+target_is bytes i r =
+    let symbol = symbol_of bytes r in
+    target_by r (is_outside symbol) (is_strings bytes symbol.section) (is_section_symbol symbol) (symbol_name bytes r.symbol) (section_name bytes symbol.section) (section_bytes bytes symbol.section) (addend_in bytes i r) symbol.value ((addend_in bytes i r + symbol.value) % 2 ^ 32)
 
--- which is the place of its target's name
+-- its place, by the index of the symbol's section
+pub place_outside : (bytes : List ℕ) (r : Reloc) → is_outside (symbol_of bytes r) ≡ true → place_by_index bytes r ≡ None
+unfolding place_by_index
+place_outside bytes r outside = rw outside refl
+
+pub place_inside : (bytes : List ℕ) (r : Reloc) → is_outside (symbol_of bytes r) ≡ false → place_by_index bytes r ≡ Some (length (loaded_below bytes (symbol_of bytes r).section))
+unfolding place_by_index
+place_inside bytes r inside = rw inside refl
+
 going_by : (sections : List NormalSection) (outside strings : Bool) (out name : List ℕ) (offset : ℕ) (text : List ℕ) (place : ℕ) → (outside ≡ false → place_named sections name ≡ Some place) → cond outside None (Some place) ≡ place_of_target sections (cond outside (to.Outside out) (cond strings (to.Text name offset text) (to.Section name)))
 going_by sections true strings out name offset text place at = refl
 going_by sections false true out name offset text place at = sym (at refl)
 going_by sections false false out name offset text place at = sym (at refl)
 
-going : (bytes : List ℕ) (i : ℕ) (r : Reloc) → name_fault bytes ≡ None → is_no_target bytes r ≡ false → place_by_index bytes r ≡ place_of_target (loaded_sections bytes) (target_of bytes r (addend_in bytes i r))
-unfolding place_by_index target_of loaded_sections name_fault symbol_of
-going bytes i r names leads =
-    let symbol = symbol_entry bytes r.symbol in
+going : (bytes : List ℕ) (i : ℕ) (r : Reloc) → name_fault bytes ≡ None → IsRight bytes i r → place_by_index bytes r ≡ place_of_target (loaded_sections bytes) (reference_of bytes i r).target
+unfolding place_by_index loaded_sections name_fault
+going bytes i r names right =
+    let symbol = symbol_of bytes r in
     let j = symbol.section in
     let offset = text_offset symbol (addend_in bytes i r) in
     going_by (loaded_below bytes (section_count bytes)) (is_outside symbol) (is_strings bytes j) (symbol_name bytes r.symbol) (section_name bytes j) offset (text_through (section_bytes bytes j) offset) (length (loaded_below bytes j))
     (λ inside.
-    let loaded = leads_to_loaded bytes r j leads refl inside in
+    let loaded = right.leads inside in
     (is_at bytes j (section_count bytes) loaded (loaded_within bytes j loaded) names).0)
+    ∙ ap (place_of_target (loaded_below bytes (section_count bytes))) (sym (target_is bytes i r))
 
-going_each : (bytes : List ℕ) (i : ℕ) (rs : List Reloc) → name_fault bytes ≡ None → All (Leads bytes) rs → map (place_by_index bytes) rs ≡ map (λ (r : Ref). place_of_target (loaded_sections bytes) r.target) (map (reference_of bytes i) rs)
-unfolding reference_of
-going_each bytes i [] names lead = refl
-going_each bytes i (r ∷ rs) names lead =
-    ap (λ place. place ∷ map (place_by_index bytes) rs) (going bytes i r names (lead 0 r (omega arith)).leads)
-    ∙ ap (λ places. place_of_target (loaded_sections bytes) (target_of bytes r (addend_in bytes i r)) ∷ places) (going_each bytes i rs names (λ k d within. lead (suc k) d (omega (arith, within))))
+going_each : (bytes : List ℕ) (i : ℕ) (rs : List Reloc) → name_fault bytes ≡ None → All (IsRight bytes i) rs → map (place_by_index bytes) rs ≡ map (λ (r : Ref). place_of_target (loaded_sections bytes) r.target) (map (reference_of bytes i) rs)
+going_each bytes i [] names are = refl
+going_each bytes i (r ∷ rs) names are =
+    ap (λ place. place ∷ map (place_by_index bytes) rs) (going bytes i r names (are 0 r (omega arith)))
+    ∙ ap (λ places. place_of_target (loaded_sections bytes) (reference_of bytes i r).target ∷ places) (going_each bytes i rs names (λ k d within. are (suc k) d (omega (arith, within))))
 
-pub section_going : (bytes : List ℕ) (i : ℕ) (rs : List Reloc) → name_fault bytes ≡ None → All (Leads bytes) rs → map (reference_of bytes i) rs ≡ references_of bytes i → map (place_by_index bytes) rs ≡ targets_of (loaded_sections bytes) (normal_section bytes i)
-unfolding normal_section
-section_going bytes i rs names lead made =
-    going_each bytes i rs names lead ∙ ap (map (λ (r : Ref). place_of_target (loaded_sections bytes) r.target)) made
+section_going : (bytes : List ℕ) (i : ℕ) → is_loaded bytes i ≡ true → name_fault bytes ≡ None → relocation_fault bytes ≡ None → places_of bytes i ≡ targets_of (loaded_sections bytes) (normal_section bytes i)
+unfolding places_of normal_section references_of
+section_going bytes i loaded names none =
+    going_each bytes i (fields_of bytes i) names (all_right bytes i loaded none)
 
-pub fields_made : (bytes : List ℕ) (i : ℕ) (relocations fields sorted : List Reloc) → relocations ≡ relocations_of bytes i → fields ≡ filter has_field relocations → map (reference_of bytes i) sorted ≡ by_offset (map (reference_of bytes i) fields) → map (reference_of bytes i) sorted ≡ references_of bytes i
-unfolding references_of fields_of
-fields_made bytes i relocations fields sorted list chosen made =
-    made ∙ ap (λ rs. by_offset (map (reference_of bytes i) rs)) (chosen ∙ ap (filter has_field) list)
+-- of all sections
+one_more : (bytes : List ℕ) (i : ℕ) (loaded : Bool) (places : List (List (Option ℕ))) → is_loaded bytes i ≡ loaded → name_fault bytes ≡ None → relocation_fault bytes ≡ None → places ≡ map (targets_of (loaded_sections bytes)) (loaded_below bytes i) →
+    places ++ cond loaded (places_of bytes i ∷ []) [] ≡ map (targets_of (loaded_sections bytes)) (cond loaded (loaded_below bytes i ++ normal_section bytes i ∷ []) (loaded_below bytes i))
+one_more bytes i true places loaded names none before =
+    ap (λ xs. xs ++ places_of bytes i ∷ []) before
+    ∙ ap (λ x. map (targets_of (loaded_sections bytes)) (loaded_below bytes i) ++ x ∷ []) (section_going bytes i loaded names none)
+    ∙ sym (map-append (targets_of (loaded_sections bytes)) (loaded_below bytes i) (normal_section bytes i ∷ []))
+one_more bytes i false places loaded names none before = append-nil places ∙ before
 
--- each leads somewhere
-pub fields_lead : (bytes : List ℕ) (i : ℕ) (relocations fields sorted : List Reloc) → is_loaded bytes i ≡ true → relocation_fault bytes ≡ None → relocations ≡ relocations_of bytes i → All (IsPlaced bytes i) relocations → fields ≡ filter has_field relocations → IsPermutation fields sorted → All (Leads bytes) sorted
-unfolding fields_of
-fields_lead bytes i relocations fields sorted loaded none list placed chosen same =
-    let fit = All-filter has_field (IsPlaced bytes i) relocations placed in
-    let rights = all_right bytes i loaded none in
-    let kept : filter has_field (relocations_of bytes i) ≡ filter has_field relocations = ap (filter has_field) (sym list) in
-    let all : All (Leads bytes) (filter has_field relocations) = λ k d within.
-    let is = subst (λ (rs : List Reloc). All (IsRight bytes i) rs) kept rights k d within in
-    record { symbol = (fit k d within).symbol; leads = (right bytes i _ is.0 is.1).1 } in
-    All-permutation (Leads bytes) fields sorted same (subst (λ (rs : List Reloc). All (Leads bytes) rs) (sym chosen) all)
+below_going : (bytes : List ℕ) (n : ℕ) → name_fault bytes ≡ None → relocation_fault bytes ≡ None → places_below bytes n ≡ map (targets_of (loaded_sections bytes)) (loaded_below bytes n)
+below_going bytes zero names none = refl
+below_going bytes (suc n) names none =
+    one_more bytes n (is_loaded bytes n) (places_below bytes n) refl names none (below_going bytes n names none)
 
--- one more section
-targets_chosen : (sections : List NormalSection) (b : Bool) (before : List NormalSection) (section : NormalSection) → cond b (map (targets_of sections) before ++ targets_of sections section ∷ []) (map (targets_of sections) before) ≡ map (targets_of sections) (cond b (before ++ section ∷ []) before)
-targets_chosen sections true before section = sym (map-append (targets_of sections) before (section ∷ []))
-targets_chosen sections false before section = refl
-
-pub targets_more : (bytes : List ℕ) (sections : List NormalSection) (i : ℕ) (before after : List (List (Option ℕ))) → before ≡ map (targets_of sections) (loaded_below bytes i) → after ≡ cond (is_loaded bytes i) (before ++ targets_of sections (normal_section bytes i) ∷ []) before → after ≡ map (targets_of sections) (loaded_below bytes (i + 1))
-targets_more bytes sections i before after are now =
-    now
-    ∙ ap (λ xs. cond (is_loaded bytes i) (xs ++ targets_of sections (normal_section bytes i) ∷ []) xs) are
-    ∙ targets_chosen sections (is_loaded bytes i) (loaded_below bytes i) (normal_section bytes i)
-    ∙ ap (λ n. map (targets_of sections) (loaded_below bytes n)) (sym (add-one i))
+pub all_going : (bytes : List ℕ) → name_fault bytes ≡ None → relocation_fault bytes ≡ None → places_below bytes (section_count bytes) ≡ targets_in (loaded_sections bytes)
+unfolding loaded_sections
+all_going bytes names none = below_going bytes (section_count bytes) names none

@@ -3,15 +3,15 @@ use Rattle.std.proofs.Common.{◌≡◌, ℕ, ◌<◌, ◌≤◌, nat_lt, Bool, 
 use Rattle.std.proofs.lemmas.Bool.{le-ltb, lt-ltb}
 use Rattle.std.specs.Option.{option_copied}
 use denote.Ref.{Bor}
-use Rattle.elf32_object.specs.Fields.{section_count, is_section, is_loaded, symbol_count}
+use Rattle.elf32_object.specs.Fields.{section_count, section_header, section_name, section_bytes, is_section, is_loaded, symbol_count}
 use Rattle.i386_reloc.specs.declared.known.Known.{Known}
 use Rattle.i386_reloc.specs.declared.known.Named.{Named}
 use Rattle.i386_reloc.specs.declared.types.NormalSection.{NormalSection}
-use Rattle.i386_reloc.specs.Classes.{is_strings, is_strings_class}
-use Rattle.i386_reloc.specs.Known.{known_section, known_at, named_symbol, named_at}
+use Rattle.i386_reloc.specs.Classes.{class_of, is_strings, is_strings_class}
+use Rattle.i386_reloc.specs.inside.Known.{known_section, known_at, named_symbol, named_at}
 use Rattle.i386_reloc.specs.Normal.{loaded_below, normal_section}
-use Rattle.i386_reloc.specs.References.{each_below}
-use Rattle.i386_reloc.proofs.EachBelow.{length-each_below, get_or-each_below, each_below_more}
+use Rattle.elf32_object.specs.Below.{each_below}
+use Rattle.elf32_object.proofs.EachBelow.{length-each_below, get_or-each_below, each_below_more}
 
 and_false : (a : Bool) → a && false ≡ false
 and_false true = refl
@@ -57,6 +57,19 @@ loaded_known bytes j found is = is_some_copied found ∙ ap is_some is ∙ is_kn
 pub some_known : (bytes : List ℕ) (j : ℕ) (known : Known) → known_at bytes j ≡ Some known → (is_loaded bytes j ≡ true) × (known ≡ known_section bytes j)
 unfolding known_at
 some_known bytes j known is = some_known_by (is_loaded bytes j) known (known_section bytes j) is
+
+texts_by : (loaded texts : Bool) (bytes : List ℕ) → loaded && texts ≡ true → cond texts bytes [] ≡ bytes
+texts_by loaded true bytes both = refl
+texts_by true false bytes both = absurd cc
+texts_by false false bytes both = absurd cc
+
+pub known_facts : (bytes : List ℕ) (j : ℕ) (known : Known) → known_at bytes j ≡ Some known →
+    (known.name ≡ section_name bytes j) × (is_strings_class known.class ≡ is_strings bytes j)
+    × (is_strings bytes j ≡ true → known.texts ≡ section_bytes bytes j) × (known.place ≡ length (loaded_below bytes j))
+unfolding known_section is_strings
+known_facts bytes j known is =
+    let here = some_known bytes j known is in
+    rw here.1 (refl, rw here.0 refl, λ texts. texts_by (is_loaded bytes j) (is_strings_class (class_of (section_header bytes j))) (section_bytes bytes j) texts, refl)
 
 pub none_known : (bytes : List ℕ) (j : ℕ) → known_at bytes j ≡ None → is_loaded bytes j ≡ false
 none_known bytes j is = sym (is_known bytes j) ∙ ap is_some is

@@ -1,5 +1,4 @@
 pub mod Blanks
-pub mod EachBelow
 pub mod Faults
 pub mod Firsts
 pub mod FunctionSymbols
@@ -12,7 +11,7 @@ pub mod ObjectSymbols
 pub mod Parts
 pub mod PlacedNames
 pub mod Places
-pub mod ReferenceFaults
+pub mod RelocationFaults
 pub mod RelocationLists
 pub mod RightFields
 pub mod Sorting

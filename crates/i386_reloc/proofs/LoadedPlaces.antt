@@ -11,7 +11,7 @@ use Rattle.i386_reloc.specs.Refused.{name_fault_at}
 use Rattle.i386_reloc.proofs.Normals.{unplaced}
 use Rattle.i386_reloc.specs.PlaceLaws.{section_named_at}
 use Rattle.i386_reloc.proofs.Places.{place_named_push, no_place}
-use Rattle.i386_reloc.proofs.RightFields.{both_none, each_none}
+use Rattle.elf32_object.proofs.Firsts.{none_first, none_below}
 
 -- one more section
 section_named_push : (sections : List NormalSection) (section : NormalSection) (name : List ℕ) → section_named (sections ++ section ∷ []) name ≡ first_of (section_named sections name) (cond (same_bytes section.name name) (Some section) None)
@@ -50,7 +50,7 @@ is_at_here bytes j true loaded yes_here none = is_at_end bytes j loaded none
 is_at_here bytes j false loaded yes_here none = absurd cc
 
 first_nones : (bytes : List ℕ) (n : ℕ) → first_below (name_fault_at bytes) (suc n) ≡ None → first_below (name_fault_at bytes) n ≡ None
-first_nones bytes n none = (both_none (first_below (name_fault_at bytes) n) (name_fault_at bytes n) none).0
+first_nones bytes n none = none_first (first_below (name_fault_at bytes) n) (name_fault_at bytes n) none
 
 pub is_at : (bytes : List ℕ) (j n : ℕ) → is_loaded bytes j ≡ true → j < n → first_below (name_fault_at bytes) n ≡ None → IsAt (loaded_below bytes n) (section_name bytes j) (length (loaded_below bytes j)) (normal_section bytes j)
 is_at bytes j zero loaded within none = absurd (omega arith)
@@ -60,5 +60,5 @@ is_at bytes j (suc n) loaded within none =
       | inr le ↦
           let e : j ≡ n = omega arith in
           subst (λ (m : ℕ). IsAt (loaded_below bytes (suc m)) (section_name bytes j) (length (loaded_below bytes j)) (normal_section bytes j)) e
-          (is_at_here bytes j (is_loaded bytes j) loaded loaded (each_none (name_fault_at bytes) (suc n) j none within))
+          (is_at_here bytes j (is_loaded bytes j) loaded loaded (none_below (name_fault_at bytes) (suc n) none j within))
     ]

@@ -5,8 +5,9 @@ use Rattle.std.proofs.lemmas.Cmp.{nat_list_eq_equiv}
 use Rattle.std.proofs.lemmas.List.{map-append}
 use Rattle.std.proofs.lemmas.List.Elements.{All-append, All-cons, All-nil}
 use Rattle.std.proofs.lemmas.Map.Keys.{IsDistinct-push}
-use Rattle.elf32_object.specs.Below.{first_of, first_below}
+use Rattle.elf32_object.specs.Below.{first_below}
 use Rattle.elf32_object.specs.Fields.{section_count, section_header, section_name, is_loaded, symbol_name}
+use Rattle.elf32_object.proofs.Firsts.{both_none}
 use Rattle.ks_base.specs.declared.refusals.Refusal.{Refusal}
 use Rattle.i386_reloc.specs.declared.types.Class.{Class}
 use Rattle.i386_reloc.specs.declared.types.Class.TheVariants.{Code}
@@ -17,10 +18,6 @@ use Rattle.i386_reloc.specs.Places.{place_named}
 use Rattle.i386_reloc.specs.Refused.{name_fault_at, function_fault_at, name_fault, function_fault, relocation_fault, normal_fault}
 use Rattle.i386_reloc.proofs.Faults.{name_fault_loaded}
 use Rattle.i386_reloc.proofs.Places.{not_refused}
-
-both_none : {X : Type 0} (a b : Option X) → first_of a b ≡ None → (a ≡ None) × (b ≡ None)
-both_none None b none = (refl, none)
-both_none (Some x) b none = absurd cc
 
 -- where there is no fault, the name of each loaded section has no place before it
 pub unplaced : (bytes : List ℕ) (i : ℕ) → is_loaded bytes i ≡ true → name_fault_at bytes i ≡ None → is_some (place_named (loaded_below bytes i) (section_name bytes i)) ≡ false

@@ -4,8 +4,9 @@ use Rattle.std.proofs.lemmas.Bool.{lt-ltb}
 use Rattle.std.proofs.lemmas.List.{append-nil}
 use Rattle.elf32_object.specs.Fields.{section_count, symbol_count, symbol_entry, symbol_name}
 use Rattle.i386_reloc.specs.declared.types.ObjectSymbol.{ObjectSymbol}
-use Rattle.i386_reloc.specs.Objects.{AreObjects, AreLeft, objects_below, object_with}
-use Rattle.i386_reloc.specs.References.{all_below, is_object_of, object_symbol, objects_of}
+use Rattle.i386_reloc.specs.inside.Objects.{AreObjects, AreLeft, objects_below, object_with}
+use Rattle.elf32_object.specs.Below.{all_below}
+use Rattle.i386_reloc.specs.References.{is_object_of, object_symbol, objects_of}
 
 no_objects_below : (bytes : List ℕ) (i : ℕ) → objects_below bytes i 0 ≡ []
 unfolding objects_below

@@ -6,10 +6,11 @@ use Rattle.elf32_object.specs.declared.types.Section.{Section}
 use Rattle.elf32_object.specs.Fields.{section_name, is_loaded}
 use Rattle.ks_base.specs.declared.refusals.Refusal.{Refusal}
 use Rattle.ks_base.specs.declared.refusals.Refusal.TheVariants as refusal
-use Rattle.i386_reloc.specs.Loaded.{IsLoadedSection}
+use Rattle.elf32_object.specs.Rule.{Finds}
+use Rattle.i386_reloc.specs.inside.Loaded.{IsLoadedSection}
 use Rattle.i386_reloc.specs.Normal.{same_bytes, loaded_below, normal_section}
-use Rattle.i386_reloc.specs.Places.{HasPlaces, named}
-use Rattle.i386_reloc.specs.Refused.{Finds, refused_where, name_fault_at}
+use Rattle.i386_reloc.specs.inside.NamePlaces.{HasPlaces, named}
+use Rattle.i386_reloc.specs.Refused.{refused_where, name_fault_at}
 use Rattle.i386_reloc.proofs.Faults.{name_fault_loaded}
 use Rattle.i386_reloc.proofs.LoadedBelow.{loaded_below_more, loaded_below_same}
 use Rattle.i386_reloc.proofs.Places.{no_place, not_refused, has_places_push}
@@ -22,7 +23,7 @@ name_fault_read bytes i section places read has =
 
 -- the places with this name
 pub has_places_read : {T : Type 0} (result : Result T Refusal) (bytes : List ℕ) (i : ℕ) (section : Section) (before after : BTreeMap (Bor (List ℕ)) ℕ) → IsLoadedSection bytes i section → HasPlaces (loaded_below bytes i) before →
-    Finds result (refused_where (is_some (named before section.name.now)) (refusal.DoubleName section.name.now)) →
+    Finds refusal.Memory result (refused_where (is_some (named before section.name.now)) (refusal.DoubleName section.name.now)) →
     OnOk result (btree_map_len after ≡ btree_map_len before + 1) →
     OnOk result ((q : List ℕ) → named after q ≡ cond (same_bytes section.name.now q) (Some (btree_map_len before)) (named before q)) →
     OnOk result (HasPlaces (loaded_below bytes (i + 1)) after)

@@ -11,7 +11,9 @@ use Rattle.i386_reloc.specs.declared.types.Ref.{Ref}
 use Rattle.std.specs.List.{slice_get}
 use Rattle.std.proofs.lemmas.Option.{slice_get-map}
 use Rattle.i386_reloc.specs.Normal.{same_bytes}
-use Rattle.i386_reloc.specs.Places.{place_named, named, HasPlaces, place_of_target, targets_of, targets_in, reference_in, reference_at, place_of_reference}
+use Rattle.i386_reloc.specs.Places.{place_named, place_of_target, reference_in, reference_at, place_of_reference}
+use Rattle.i386_reloc.specs.inside.NamePlaces.{named, HasPlaces}
+use Rattle.i386_reloc.specs.inside.Targets.{targets_of, targets_in}
 use Rattle.i386_reloc.specs.Refused.{refused_where}
 
 suc_of_first : (place : Option ℕ) (b : Bool) (n : ℕ) → option_map suc (first_of place (cond b (Some n) None)) ≡ first_of (option_map suc place) (cond b (Some (suc n)) None)

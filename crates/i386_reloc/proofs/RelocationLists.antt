@@ -3,10 +3,10 @@ use Rattle.std.proofs.Common.{◌≡◌, ℕ, zero, suc, ◌+◌, ◌<◌, nat_l
 use Rattle.std.proofs.lemmas.List.{get_or_append_left, get_or-append-add, take_more}
 use Rattle.std.proofs.lemmas.Bool.{cases_lt, ltb-true}
 use Rattle.elf32_object.specs.declared.types.Reloc.{Reloc}
-use Rattle.elf32_object.specs.Below.{sum_below}
+use Rattle.elf32_object.specs.Below.{sum_below, each_below, all_below}
 use Rattle.elf32_object.specs.Fields.{section_count, is_section, patches_loaded, entry_count, changes, relocation, relocations_below, IsRelocation}
-use Rattle.i386_reloc.specs.References.{each_below, all_below, relocations_of}
-use Rattle.i386_reloc.proofs.EachBelow.{length-each_below, get_or-each_below}
+use Rattle.i386_reloc.specs.References.{relocations_of}
+use Rattle.elf32_object.proofs.EachBelow.{length-each_below, get_or-each_below}
 
 abbrev entries_of : List ℕ → ℕ → ℕ → List Reloc
 entries_of bytes i j = if changes bytes i j then each_below (relocation bytes j) (entry_count bytes j) else []

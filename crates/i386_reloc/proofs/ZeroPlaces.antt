@@ -10,8 +10,9 @@ use Rattle.std.proofs.lemmas.List.Folds.{list_any_at}
 use Rattle.std.proofs.lemmas.List.Sorted.{IsNonDecreasingBy-push, IsNonDecreasingBy-short}
 use Rattle.std.proofs.lemmas.List.Sums.{position_or_len_is}
 use Rattle.elf32_object.specs.Fields.{is_zero, ends_in}
-use Rattle.i386_reloc.specs.References.{all_below, text_through}
-use Rattle.i386_reloc.specs.Zeros.{zero_at, zeros_of}
+use Rattle.elf32_object.specs.Below.{all_below}
+use Rattle.i386_reloc.specs.References.{text_through}
+use Rattle.i386_reloc.specs.inside.Zeros.{zero_at, zeros_of}
 
 abbrev IsZeroBelow : List ℕ → ℕ → ℕ → Type 0
 IsZeroBelow bytes n z = (z < n) × (slice_index bytes z ≡ 0)

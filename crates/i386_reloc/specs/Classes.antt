@@ -1,22 +1,18 @@
 -- The classes of loaded sections (System V gABI, chapter 4, "Sections").
-use Rattle.std.specs.Prelude.{ℕ, Bool, true, false, not, ◌&&◌, ◌==◌, if◌then◌else◌, List, bit_and}
+use Rattle.std.specs.Prelude.{ℕ, Bool, true, false, ◌&&◌, ◌==◌, if◌then◌else◌, List}
+use Rattle.elf32_object.specs.declared.elf.TheConstants.{SHT_NOBITS, SHF_WRITE, SHF_EXECINSTR, SHF_MERGE, SHF_STRINGS}
 use Rattle.elf32_object.specs.declared.types.SectionHeader.{SectionHeader}
-use Rattle.elf32_object.specs.Fields.{section_header, is_loaded}
+use Rattle.elf32_object.specs.Fields.{section_header, is_loaded, has_flag}
 use Rattle.i386_reloc.specs.declared.types.Class.{Class}
 use Rattle.i386_reloc.specs.declared.types.Class.TheVariants.{Zero, Code, Writable, Strings, ReadOnly}
 
--- whether flags have a bit
-abbrev pub has_bit : ℕ → ℕ → Bool
-has_bit bit flags = not (bit_and flags bit == 0)
-
--- The class of a loaded section by its type, flags and size of an entry, the first that fits: SHT_NOBITS (8),
--- SHF_EXECINSTR (4), SHF_WRITE (1), and SHF_MERGE (0x10) with SHF_STRINGS (0x20) where an entry is one byte.
+-- the class of a loaded section by its type, flags and size of an entry: the first that fits
 abbrev pub class_by : (kind flags entry : ℕ) → Class
 class_by kind flags entry =
-    if kind == 8 then Zero
-    else (if has_bit 4 flags then Code
-    else (if has_bit 1 flags then Writable
-    else (if has_bit 0x10 flags && has_bit 0x20 flags && entry == 1 then Strings else ReadOnly)))
+    if kind == SHT_NOBITS then Zero
+    else (if has_flag SHF_EXECINSTR flags then Code
+    else (if has_flag SHF_WRITE flags then Writable
+    else (if has_flag SHF_MERGE flags && has_flag SHF_STRINGS flags && entry == 1 then Strings else ReadOnly)))
 
 abbrev pub class_of : SectionHeader → Class
 class_of header = class_by header.kind header.flags header.entry

@@ -1,15 +1,12 @@
+-- Public clauses cite Classes, References (relocations, fields, targets, symbols), Normal (the sections as they are
+-- compared), Refused (when there are none), Places and Texts (where names, targets and texts stand) and Value; PlaceLaws
+-- has a law of them. What stands in inside is the code's own.
 pub mod Classes
-pub mod Functions
-pub mod Known
-pub mod Loaded
 pub mod Normal
-pub mod Objects
 pub mod Places
 pub mod PlaceLaws
 pub mod References
 pub mod Refused
-pub mod Relocations
-pub mod Targets
 pub mod Texts
 pub mod Value
-pub mod Zeros
+pub mod inside

@@ -1,9 +1,5 @@
 -- Where a section stands in a list of sections.
-use Rattle.std.specs.Prelude.{◌≡◌, ℕ, suc, if◌then◌else◌, List, [], ◌∷◌, length, Option, Some, None, option_map, map}
-use Rattle.std.specs.Ordering.{nat_cmp}
-use Rattle.std.specs.Cmp.Lexicographic.{slice_cmp}
-use Rattle.std.specs.BTreeMap.{BTreeMap, get_by, btree_map_len}
-use denote.Ref.{Bor}
+use Rattle.std.specs.Prelude.{ℕ, suc, if◌then◌else◌, List, [], ◌∷◌, Option, Some, None, option_map}
 use Rattle.std.specs.List.{slice_get}
 use Rattle.i386_reloc.specs.declared.types.NormalSection.{NormalSection}
 use Rattle.i386_reloc.specs.declared.types.Ref.{Ref}
@@ -22,27 +18,11 @@ abbrev pub at_place : List NormalSection → Option ℕ → Option NormalSection
 at_place sections None = None
 at_place sections (Some place) = slice_get sections place
 
--- what a map has at a name
-abbrev pub named : BTreeMap (Bor (List ℕ)) ℕ → List ℕ → Option ℕ
-named places name = get_by (λ k. slice_cmp nat_cmp name k.now) places
-
--- a map from names to places
-pub record HasPlaces (sections : List NormalSection) (places : BTreeMap (Bor (List ℕ)) ℕ) : Type 0 where
-  pub len : btree_map_len places ≡ length sections
-  pub each : (q : List ℕ) → named places q ≡ place_named sections q
-
 -- the place of the section that a reference goes to
 abbrev pub place_of_target : List NormalSection → Target → Option ℕ
 place_of_target sections (Section name) = place_named sections name
 place_of_target sections (Text name offset text) = place_named sections name
 place_of_target sections (Outside name) = None
-
--- the same of each reference of each section
-abbrev pub targets_of : List NormalSection → NormalSection → List (Option ℕ)
-targets_of sections section = map (λ r. place_of_target sections r.target) section.refs
-
-abbrev pub targets_in : List NormalSection → List (List (Option ℕ))
-targets_in sections = map (targets_of sections) sections
 
 -- the k-th reference of the section at a place
 abbrev pub reference_in : Option NormalSection → ℕ → Option Ref

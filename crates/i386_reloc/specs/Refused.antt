@@ -1,9 +1,10 @@
 -- Why an object is refused before its sections are compared.
-use Rattle.std.specs.Prelude.{◌≡◌, ◌≢◌, ℕ, Bool, not, ◌&&◌, ◌||◌, ◌==◌, nat_lt, if◌then◌else◌, List, [], ◌∷◌, length, Option, Some, None, Result, Ok, Err}
+use Rattle.std.specs.Prelude.{ℕ, Bool, not, ◌&&◌, ◌||◌, ◌==◌, nat_lt, if◌then◌else◌, List, [], ◌∷◌, length, Option, Some, None}
 use Rattle.ks_base.specs.declared.refusals.Refusal.{Refusal}
 use Rattle.ks_base.specs.declared.refusals.Refusal.TheVariants as refusal
 use Rattle.ks_base.specs.declared.refusals.Large.{Large}
 use Rattle.ks_base.specs.declared.refusals.Large.TheVariants as limit
+use Rattle.elf32_object.specs.declared.elf.TheConstants.{SHN_ABS, R_386_NONE}
 use Rattle.elf32_object.specs.declared.types.ObjectFault.{ObjectFault}
 use Rattle.elf32_object.specs.declared.types.ObjectFault.TheVariants as fault
 use Rattle.elf32_object.specs.declared.types.Large as object
@@ -11,10 +12,11 @@ use Rattle.elf32_object.specs.declared.types.Large.TheVariants as large
 use Rattle.elf32_object.specs.declared.types.Reloc.{Reloc}
 use Rattle.elf32_object.specs.Below.{first_of, first_below}
 use Rattle.elf32_object.specs.Fields.{section_count, section_name, section_bytes, is_loaded, symbol_name, ends_in}
+use Rattle.elf32_object.specs.Rule.{◌orElse◌, first_broken}
 use Rattle.elf32_object.specs.Rules.{has_field}
 use Rattle.i386_reloc.specs.Classes.{is_code, is_strings}
 use Rattle.i386_reloc.specs.Normal.{is_name_twice, is_not_one_function}
-use Rattle.i386_reloc.specs.References.{relocations_of, symbol_of, addend_in, is_outside, text_offset}
+use Rattle.i386_reloc.specs.References.{relocations_of, is_absolute, symbol_of, addend_in, is_outside, text_offset}
 
 -- a refusal where a test passes
 abbrev pub refused_where : Bool → Refusal → Option Refusal
@@ -28,35 +30,50 @@ unfoldable pub function_fault_at : List ℕ → ℕ → Option Refusal
 function_fault_at bytes i =
     refused_where (is_not_one_function bytes i) (refusal.NotOneFunction (section_name bytes i))
 
--- Why a relocation is refused. Its type isn't one that is read, or stands where it may not: in a section of texts; a relative one in a
--- section that isn't code, or with a symbol in a section of texts.
-unfoldable pub is_unknown : List ℕ → ℕ → Reloc → Bool
-is_unknown bytes i r =
-    not (has_field r) || is_strings bytes i
-    || not (r.kind == 1) && (not (is_code bytes i) || nat_lt 0 r.symbol && is_strings bytes (symbol_of bytes r).section)
+-- Why a relocation is refused. Its type isn't one that is read, or stands where it may not: in a section of texts; a
+-- relative one in a section that isn't code, or with a symbol in a section of texts.
+abbrev pub unknown_at : List ℕ → ℕ → Reloc → Refusal
+unknown_at bytes i r = refusal.UnknownReloc (section_name bytes i) r.index r.kind
 
--- A relocation's symbol is number 0, is absolute (SHN_ABS, 0xfff1), lies in a section that isn't loaded, or lies in none
--- and has no name.
-unfoldable pub is_no_target : List ℕ → Reloc → Bool
-is_no_target bytes r =
-    r.symbol == 0
-    || (if is_outside (symbol_of bytes r)
-    then length (symbol_name bytes r.symbol) == 0
-    else not (is_loaded bytes (symbol_of bytes r).section))
+abbrev pub names_strings : List ℕ → Reloc → Bool
+names_strings bytes r = nat_lt 0 r.symbol && is_strings bytes (symbol_of bytes r).section
 
--- A relocation names a text that doesn't begin in its section, or that no zero ends there.
-unfoldable pub is_no_text : List ℕ → ℕ → Reloc → Bool
-is_no_text bytes i r =
-    not (is_outside (symbol_of bytes r)) && is_strings bytes (symbol_of bytes r).section
-    && not (ends_in (section_bytes bytes (symbol_of bytes r).section) (text_offset (symbol_of bytes r) (addend_in bytes i r)))
+unfoldable pub kind_fault : List ℕ → ℕ → Reloc → Option Refusal
+kind_fault bytes i r =
+    first_broken (
+    (has_field r orElse unknown_at bytes i r)
+    ∷ (not (is_strings bytes i) orElse unknown_at bytes i r)
+    ∷ (is_absolute r || is_code bytes i orElse unknown_at bytes i r)
+    ∷ (is_absolute r || not (names_strings bytes r) orElse unknown_at bytes i r) ∷ [])
 
--- what is wrong with a relocation of section i; one of type 0 changes nothing and is passed over
+-- Its symbol is number 0, has no name and lies outside, is absolute, or lies in a section that isn't loaded.
+abbrev pub bad_target_at : List ℕ → ℕ → Reloc → Refusal
+bad_target_at bytes i r = refusal.BadTarget (section_name bytes i) r.index
+
+unfoldable pub target_fault : List ℕ → ℕ → Reloc → Option Refusal
+target_fault bytes i r =
+    first_broken (
+    (nat_lt 0 r.symbol orElse bad_target_at bytes i r)
+    ∷ (not (is_outside (symbol_of bytes r)) || nat_lt 0 (length (symbol_name bytes r.symbol)) orElse bad_target_at bytes i r)
+    ∷ (not ((symbol_of bytes r).section == SHN_ABS) orElse bad_target_at bytes i r)
+    ∷ (is_outside (symbol_of bytes r) || is_loaded bytes (symbol_of bytes r).section orElse bad_target_at bytes i r) ∷ [])
+
+-- It names a text that no zero ends in its section, as one that begins at the section's end or behind.
+abbrev pub names_end : List ℕ → ℕ → Reloc → Bool
+names_end bytes i r =
+    ends_in (section_bytes bytes (symbol_of bytes r).section) (text_offset (symbol_of bytes r) (addend_in bytes i r))
+
+unfoldable pub text_fault : List ℕ → ℕ → Reloc → Option Refusal
+text_fault bytes i r =
+    first_broken (
+    (not (is_strings bytes (symbol_of bytes r).section) || names_end bytes i r
+    orElse refusal.BadString (section_name bytes i) r.index) ∷ [])
+
+-- what is wrong with a relocation of section i; one of type R_386_NONE changes nothing and is passed over
 unfoldable pub relocation_fault_of : List ℕ → ℕ → Reloc → Option Refusal
 relocation_fault_of bytes i r =
-    if r.kind == 0 then None
-    else (if is_unknown bytes i r then Some (refusal.UnknownReloc (section_name bytes i) r.index r.kind)
-    else (if is_no_target bytes r then Some (refusal.BadTarget (section_name bytes i) r.index)
-    else (if is_no_text bytes i r then Some (refusal.BadString (section_name bytes i) r.index) else None)))
+    if r.kind == R_386_NONE then None
+    else first_of (kind_fault bytes i r) (first_of (target_fault bytes i r) (text_fault bytes i r))
 
 -- the first refusal among the items of a list
 abbrev pub first_among : {X : Type 0} → (X → Option Refusal) → List X → Option Refusal
@@ -81,12 +98,6 @@ relocation_fault bytes = first_below (relocation_fault_at bytes) (section_count 
 unfoldable pub normal_fault : List ℕ → Option Refusal
 normal_fault bytes =
     first_of (name_fault bytes) (first_of (function_fault bytes) (relocation_fault bytes))
-
--- What an answer says of the fault that it looked for: Ok that there is none, and a refusal that it is this one. For
--- want of memory nothing is said.
-abbrev pub Finds : {X : Type 0} → Result X Refusal → Option Refusal → Type 0
-Finds (Ok x) wrong = wrong ≡ None
-Finds (Err why) wrong = why ≢ refusal.Memory → wrong ≡ Some why
 
 -- the limit of the same name
 abbrev pub limit_of : object.Large → Large

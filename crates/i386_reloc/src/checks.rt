@@ -1,16 +1,16 @@
 //! Whether each code section is one function.
 ghost use Rattle.std.specs.Prelude.{◌≡◌, ◌<◌, ◌&&◌, ◌||◌, is_none};
 ghost use Rattle.elf32_object.specs.Fields.{section_count, symbol_count};
-ghost use Rattle.i386_reloc.specs.Functions.{AreFunctions};
+ghost use Rattle.elf32_object.specs.Rule.{Finds};
+ghost use Rattle.i386_reloc.specs.inside.Functions.{AreFunctions};
 ghost use Rattle.i386_reloc.specs.Classes.{is_code_class};
-ghost use Rattle.i386_reloc.specs.Refused.{Finds, function_fault, function_fault_at};
+ghost use Rattle.i386_reloc.specs.Refused.{function_fault, function_fault_at};
 
-use crate::copies::copy_name;
 use crate::functions::Functions;
 use crate::loaded::{class_of, loaded_section};
 use crate::types::Class;
 use elf32_object::Object;
-use ks_base::Refusal;
+use ks_base::{Name, Refusal};
 use std::alloc::Global;
 
 /// Refuses the first code section that isn't one function.
@@ -21,7 +21,7 @@ pub(crate) fn check_functions(
     functions: &[Functions],
 ) -> Result<(), Refusal>
     requires { AreFunctions object.now (symbol_count object.now) functions.now }
-    ensures { Finds result (function_fault object.now) }
+    ensures { Finds Refusal.Memory result (function_fault object.now) }
 {
     for i in 0..object.section_count() {
         check_function(alloc, object, i, functions)?;
@@ -38,13 +38,13 @@ fn check_function(
 ) -> Result<(), Refusal>
     requires functions { AreFunctions object.now (symbol_count object.now) functions.now }
     requires within { i < section_count object.now }
-    ensures { Finds result (function_fault_at object.now i) }
+    ensures { Finds Refusal.Memory result (function_fault_at object.now i) }
 {
     let Some(section) = loaded_section(object, i) else {
         return Ok(());
     };
     if is_not_one_function(class_of(&section), functions[i as usize]) {
-        return Err(Refusal::NotOneFunction(copy_name(alloc, section.name)?));
+        return Err(Refusal::NotOneFunction(Name::from_slice(alloc, section.name)?));
     }
     Ok(())
 }

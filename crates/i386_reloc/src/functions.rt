@@ -1,13 +1,12 @@
 //! The function symbols of each section.
 ghost use Rattle.std.specs.Prelude.{◌≡◌, ◌<◌, ℕ, ◌+◌, ◌%◌, ◌&&◌, ◌==◌, if◌then◌else◌, IfOk, length, slice_index_or};
 ghost use Rattle.elf32_object.specs.Fields.{symbol_count};
-ghost use Rattle.i386_reloc.specs.Functions.{AreFunctions, functions_with};
+ghost use Rattle.i386_reloc.specs.inside.Functions.{AreFunctions, functions_with};
 
 use crate::known::Named;
 use crate::source::Source;
+use elf32_object::elf::STT_FUNC;
 use std::alloc::{AllocError, Global};
-
-const FUNC: u8 = 2;
 
 /// The function symbols of a section, as far as symbols were looked at.
 #[derive(Clone, Copy, Debug)]
@@ -69,12 +68,12 @@ fn gather_symbol(table: &mut [Functions], source: &Source<'_, '_>, k: u32)
 /// Notes symbol `k` at its section, where it is a function.
 fn note(table: &mut [Functions], k: u32, symbol: &Named<'_>)
     ensures { (i : ℕ) (d : Functions) → i < length table.old
-        → slice_index_or table.new i d ≡ (if symbol.now.info % 16 == 2 && symbol.now.section == i
+        → slice_index_or table.new i d ≡ (if symbol.now.info % 16 == STT_FUNC && symbol.now.section == i
         then functions_with (slice_index_or table.old i d) k symbol.now.value
         else slice_index_or table.old i d) }
 {
     let section = usize::from(symbol.section);
-    if symbol.info % 16 == FUNC && section < table.len() {
+    if symbol.info % 16 == STT_FUNC && section < table.len() {
         table[section] = table[section].with(k, symbol.value);
     }
 }

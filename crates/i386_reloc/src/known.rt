@@ -1,7 +1,10 @@
 //! What references need of an object's sections and symbols.
+ghost use Rattle.std.specs.Prelude.{◌≡◌, ◌||◌, ◌==◌, ◌%◌, if◌then◌else◌};
+
 use crate::span::Span;
 use crate::texts::Texts;
 use crate::types::Class;
+use elf32_object::elf::{SHN_COMMON, SHN_UNDEF, STT_SECTION};
 
 /// A loaded section to which references may lead.
 #[derive(Debug, Drop)]
@@ -27,4 +30,31 @@ pub struct Named<'a> {
     pub info: u8,
     /// `st_shndx`.
     pub section: u16,
+}
+
+impl<'a> Named<'a> {
+    /// Whether the symbol lies in no section of this object: it is undefined or common.
+    pub fn is_outside(&self) -> bool
+        ensures { result ≡ (self.now.section == SHN_UNDEF || self.now.section == SHN_COMMON) }
+    {
+        self.section == SHN_UNDEF || self.section == SHN_COMMON
+    }
+
+    /// Whether it is the symbol of a section.
+    pub fn is_section_symbol(&self) -> bool
+        ensures { result ≡ (self.now.info % 16 == STT_SECTION) }
+    {
+        self.info % 16 == STT_SECTION
+    }
+
+    /// Where the text begins that it names with an addend, in a section of texts.
+    pub fn text_offset(&self, addend: u32) -> u32
+        ensures { result ≡ (if self.now.info % 16 == STT_SECTION then addend else self.now.value) }
+    {
+        if self.is_section_symbol() {
+            addend
+        } else {
+            self.value
+        }
+    }
 }

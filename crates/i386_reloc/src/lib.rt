@@ -1,19 +1,18 @@
 //! The loaded sections of an i386 object as they are compared, and the values of its relocations.
 #![tactic(auto)]
 
-mod bindings;
 mod blanking;
 mod checks;
-mod copies;
+mod fields;
 mod functions;
 mod known;
 mod loaded;
 mod names;
 mod objects;
-mod ordering;
 mod reading;
 mod references;
 mod refused;
+mod relocation_checks;
 mod relocations;
 mod sections;
 mod source;

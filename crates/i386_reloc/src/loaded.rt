@@ -1,22 +1,13 @@
 //! Loaded sections and their classes.
 ghost use Rattle.std.specs.Prelude.{◌≡◌, ◌<◌, false, MatchOption};
 ghost use Rattle.elf32_object.specs.Fields.{section_count, is_loaded};
-ghost use Rattle.i386_reloc.specs.Loaded.{IsLoadedSection};
+ghost use Rattle.i386_reloc.specs.inside.Loaded.{IsLoadedSection};
 ghost use Rattle.i386_reloc.specs.Classes.{class_by};
 
 use crate::types::Class;
 use elf32_object::Object;
+use elf32_object::elf::{SHF_EXECINSTR, SHF_MERGE, SHF_STRINGS, SHF_WRITE, SHT_NOBITS};
 use elf32_object::types::Section;
-
-const NOBITS: u32 = 8;
-
-const WRITE: u32 = 1;
-
-const EXECINSTR: u32 = 4;
-
-const MERGE: u32 = 0x10;
-
-const STRINGS: u32 = 0x20;
 
 /// The section at an index, `None` exactly where it isn't loaded.
 #[tactic(auto, using(crate::proofs::LoadedBelow::not_loaded_null, crate::proofs::LoadedBelow::few_bytes))]
@@ -35,13 +26,16 @@ pub(crate) fn loaded_section<'a>(object: &Object<'a>, i: u32) -> Option<Section<
 pub(crate) fn class_of(section: &Section<'_>) -> Class
     ensures { result ≡ class_by section.now.kind section.now.flags section.now.entry }
 {
-    if section.kind == NOBITS {
+    if section.kind == SHT_NOBITS {
         Class::Zero
-    } else if section.flags & EXECINSTR != 0 {
+    } else if section.flags & SHF_EXECINSTR != 0 {
         Class::Code
-    } else if section.flags & WRITE != 0 {
+    } else if section.flags & SHF_WRITE != 0 {
         Class::Writable
-    } else if section.flags & MERGE != 0 && section.flags & STRINGS != 0 && section.entry == 1 {
+    } else if section.flags & SHF_MERGE != 0
+        && section.flags & SHF_STRINGS != 0
+        && section.entry == 1
+    {
         Class::Strings
     } else {
         Class::ReadOnly

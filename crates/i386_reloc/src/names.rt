@@ -2,14 +2,14 @@
 ghost use Rattle.std.specs.Prelude.{◌≡◌, ◌<◌, ℕ, ◌+◌, if◌then◌else◌, List, Some, is_some, IfOk, OnOk};
 ghost use Rattle.std.specs.BTreeMap.{btree_map_len};
 ghost use Rattle.elf32_object.specs.Fields.{section_count};
+ghost use Rattle.elf32_object.specs.Rule.{Finds};
 ghost use Rattle.i386_reloc.specs.Normal.{same_bytes, loaded_below, loaded_sections};
-ghost use Rattle.i386_reloc.specs.Places.{HasPlaces, named};
-ghost use Rattle.i386_reloc.specs.Refused.{Finds, refused_where, name_fault, name_fault_at};
+ghost use Rattle.i386_reloc.specs.inside.NamePlaces.{HasPlaces, named};
+ghost use Rattle.i386_reloc.specs.Refused.{refused_where, name_fault, name_fault_at};
 
-use crate::copies::copy_name;
 use crate::loaded::loaded_section;
 use elf32_object::Object;
-use ks_base::Refusal;
+use ks_base::{Name, Refusal};
 use std::alloc::Global;
 use std::collections::BTreeMap;
 
@@ -20,7 +20,7 @@ pub(crate) fn places<'a>(
     alloc: Global,
     object: &Object<'a>,
 ) -> Result<BTreeMap<&'a [u8], usize>, Refusal>
-    ensures finds { Finds result (name_fault object.now) }
+    ensures finds { Finds Refusal.Memory result (name_fault object.now) }
     ensures places { IfOk result (λ places. HasPlaces (loaded_sections object.now) places) }
 {
     let mut places = BTreeMap::new(alloc);
@@ -40,7 +40,7 @@ fn place_section<'a>(
 ) -> Result<(), Refusal>
     requires within { i < section_count object.now }
     requires before { HasPlaces (loaded_below object.now i) places.old }
-    ensures finds { Finds result (name_fault_at object.now i) }
+    ensures finds { Finds Refusal.Memory result (name_fault_at object.now i) }
     ensures places { OnOk result (HasPlaces (loaded_below object.now (i + 1)) places.new) }
 {
     match loaded_section(object, i) {
@@ -56,14 +56,14 @@ fn place<'a>(
     places: &mut BTreeMap<&'a [u8], usize>,
     name: &'a [u8],
 ) -> Result<(), Refusal>
-    ensures finds { Finds result
+    ensures finds { Finds Refusal.Memory result
         (refused_where (is_some (named places.old name.now)) (Refusal.DoubleName name.now)) }
     ensures len { OnOk result (btree_map_len places.new ≡ btree_map_len places.old + 1) }
     ensures placed { OnOk result ((q : List ℕ) → named places.new q
         ≡ (if same_bytes name.now q then Some (btree_map_len places.old) else named places.old q)) }
 {
     if places.contains_key(name) {
-        return Err(Refusal::DoubleName(copy_name(alloc, name)?));
+        return Err(Refusal::DoubleName(Name::from_slice(alloc, name)?));
     }
     let last = places.len();
     match places.insert(name, last) {

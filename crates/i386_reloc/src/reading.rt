@@ -1,33 +1,33 @@
 //! Reads the loaded sections of an object.
-ghost use Rattle.std.specs.Prelude.{◌≡◌, ◌≢◌, ◌<◌, ◌≤◌, ◌+◌, ◌++◌, ◌∷◌, [], ℕ, if◌then◌else◌, option_map, Some, None, IsSome, IfOk, IfErr, OnOk, All, map, length};
-ghost use Rattle.std.specs.List.{IsDistinct, filter};
+ghost use Rattle.std.specs.Prelude.{◌≡◌, ◌≢◌, ◌<◌, ◌≤◌, ◌+◌, ◌++◌, ◌∷◌, [], ℕ, if◌then◌else◌, option_map, Some, None, IsSome, IfOk, IfErr, OnOk, All, map, length, true};
+ghost use Rattle.std.specs.List.{IsDistinct};
 ghost use Rattle.std.specs.Option.{ForSome};
 ghost use Rattle.elf32_object.specs.Fields.{section_count, symbol_count, symbol_name, is_loaded};
-ghost use Rattle.elf32_object.specs.Rules.{has_field};
+ghost use Rattle.elf32_object.specs.Rule.{Finds};
 ghost use Rattle.i386_reloc.specs.Classes.{is_code_class};
-ghost use Rattle.i386_reloc.specs.Functions.{AreFunctions};
-ghost use Rattle.i386_reloc.specs.Loaded.{IsLoadedSection};
 ghost use Rattle.i386_reloc.specs.Normal.{function_symbol, is_global_at, loaded_sections, name_of, normal_section, same_bytes, section_named, IsFunction};
-ghost use Rattle.i386_reloc.specs.Objects.{AreLeft};
-ghost use Rattle.i386_reloc.specs.References.{objects_of, reference_of, relocations_of, fields_of};
-ghost use Rattle.i386_reloc.specs.Refused.{Finds, normal_fault, relocation_fault, relocation_fault_at, relocation_fault_of, first_among};
-ghost use Rattle.i386_reloc.specs.Relocations.{IsPlaced};
+ghost use Rattle.i386_reloc.specs.References.{objects_of, relocations_of, fields_of, AreByOffset, HasOrder};
+ghost use Rattle.i386_reloc.specs.Refused.{normal_fault, relocation_fault, relocation_fault_at};
+ghost use Rattle.i386_reloc.specs.inside.Fields.{IsField};
+ghost use Rattle.i386_reloc.specs.inside.Functions.{AreFunctions};
+ghost use Rattle.i386_reloc.specs.inside.Loaded.{IsLoadedSection};
+ghost use Rattle.i386_reloc.specs.inside.Targets.{places_of, places_below};
 
-use crate::bindings::is_global;
 use crate::blanking::blanked;
 use crate::checks::check_functions;
+use crate::fields::fields;
 use crate::functions::{Functions, gather};
 use crate::loaded::{class_of, loaded_section};
 use crate::names::places;
-use crate::objects::{gather_objects, take_objects};
-use crate::ordering::sorted;
+use crate::objects::{gather_objects, is_global, take_objects};
 use crate::references::references;
+use crate::relocation_checks::check_relocations;
 use crate::relocations::relocations;
 use crate::sections::Normal;
 use crate::source::Source;
 use crate::span::Span;
-use crate::targets::targets;
-use crate::types::{Class, NormalSection, Objects, Ref};
+use crate::targets;
+use crate::types::{Class, NormalSection, Objects};
 use elf32_object::Object;
 use elf32_object::types::{Reloc, Section};
 use ks_base::{Bytes, ListOf, Refusal};
@@ -37,6 +37,8 @@ use std::alloc::{AllocError, Global};
 /// turn: a loaded section with the name of an earlier one, a code section that isn't one function, and a relocation
 /// that makes no reference. A relocation is refused for its type and where it stands, for its symbol, or for its text,
 /// in this order.
+///
+/// The references of a section are those of its relocations that change a field, by offset.
 #[tactic(auto, unfolding(crate::specs::Refused::normal_fault))]
 pub fn normalise<'a>(alloc: Global, object: &Object<'a>) -> Result<Normal<'a>, Refusal>
     ensures ok { IfOk result (λ normal. (normal ≡ loaded_sections object.now) × (normal_fault object.now ≡ None)) }
@@ -46,41 +48,54 @@ pub fn normalise<'a>(alloc: Global, object: &Object<'a>) -> Result<Normal<'a>, R
     ensures distinct { IfOk result (λ normal. IsDistinct same_bytes (map name_of normal)) }
     ensures named { IfOk result
         (λ normal. All (λ section. section_named normal section.name ≡ Some section) normal) }
+    ensures by_offset { IfOk result (λ _. HasOrder object.now (section_count object.now)) }
 {
     let places = places(alloc, object)?;
-    let source = Source::new(alloc, object).map_err(|_| Refusal::Memory)?;
-    let functions = gather(alloc, &source).map_err(|_| Refusal::Memory)?;
+    let source = Source::new(alloc, object)?;
+    let functions = gather(alloc, &source)?;
     check_functions(alloc, source.object, &functions)?;
-    let sections = sections(alloc, &source, &functions)?;
-    let targets = targets(alloc, &source).map_err(|_| Refusal::Memory)?;
+    let Read { sections, targets } = read_sections(alloc, &source, &functions)?;
     Ok(Normal::new(sections, places, targets))
 }
 
-#[tactic(auto, using(crate::proofs::Firsts::first_below_more, crate::proofs::Parts::loaded_below_step, crate::proofs::Parts::few_loaded), unfolding(crate::specs::Normal::loaded_sections, crate::specs::Refused::relocation_fault))]
-fn sections<'a>(
+/// Loaded sections, and for each the places of the sections to which its references go.
+#[derive(Drop)]
+struct Read<'a> {
+    sections: ListOf<NormalSection<'a>>,
+    targets: ListOf<ListOf<Option<u32>>>,
+}
+
+#[tactic(auto, using(crate::proofs::Firsts::first_below_more, crate::proofs::Parts::loaded_below_step, crate::proofs::Parts::few_loaded, crate::proofs::RelocationFaults::order_more), unfolding(crate::specs::Normal::loaded_sections, crate::specs::Refused::relocation_fault))]
+fn read_sections<'a>(
     alloc: Global,
     source: &Source<'_, 'a>,
     functions: &[Functions],
-) -> Result<ListOf<NormalSection<'a>>, Refusal>
+) -> Result<Read<'a>, Refusal>
     requires { AreFunctions source.now.object.now (symbol_count source.now.object.now) functions.now }
-    ensures finds { Finds result (relocation_fault source.now.object.now) }
-    ensures sections { IfOk result (λ sections. sections ≡ loaded_sections source.now.object.now) }
-    ensures few { IfOk result (λ sections. length sections ≤ 4096) }
+    ensures finds { Finds Refusal.Memory result (relocation_fault source.now.object.now) }
+    ensures sections { IfOk result (λ read. read.sections ≡ loaded_sections source.now.object.now) }
+    ensures targets { IfOk result
+        (λ read. read.targets ≡ places_below source.now.object.now (section_count source.now.object.now)) }
+    ensures few { IfOk result (λ read. length read.sections ≤ 4096) }
+    ensures order { IfOk result (λ _. HasOrder source.now.object.now (section_count source.now.object.now)) }
 {
-    let mut objects = gather_objects(alloc, source).map_err(|_| Refusal::Memory)?;
-    let mut sections = ListOf::new(alloc);
+    let mut objects = gather_objects(alloc, source)?;
+    let mut read = Read {
+        sections: ListOf::new(alloc),
+        targets: ListOf::new(alloc),
+    };
     for i in 0..source.object.section_count() {
         let own = take_objects(alloc, source.object, &mut objects, i);
-        add_section(alloc, &mut sections, source, i, functions, own)?;
+        add_section(alloc, &mut read, source, i, functions, own)?;
     }
-    Ok(sections)
+    Ok(read)
 }
 
 /// Adds section `i`, if it is loaded.
-#[tactic(auto, unfolding(crate::specs::Refused::relocation_fault_at))]
+#[tactic(auto, unfolding(crate::specs::Refused::relocation_fault_at, crate::specs::inside::Targets::places_of))]
 fn add_section<'a>(
     alloc: Global,
-    sections: &mut ListOf<NormalSection<'a>>,
+    read: &mut Read<'a>,
     source: &Source<'_, 'a>,
     i: u32,
     functions: &[Functions],
@@ -89,82 +104,73 @@ fn add_section<'a>(
     requires within { i < section_count source.now.object.now }
     requires functions { AreFunctions source.now.object.now (symbol_count source.now.object.now) functions.now }
     requires objects { objects ≡ objects_of source.now.object.now i }
-    ensures finds { Finds result (relocation_fault_at source.now.object.now i) }
-    ensures added { OnOk result (sections.new ≡ (if is_loaded source.now.object.now i
-        then sections.old ++ normal_section source.now.object.now i ∷ [] else sections.old)) }
+    ensures finds { Finds Refusal.Memory result (relocation_fault_at source.now.object.now i) }
+    ensures sections { OnOk result (read.new.sections ≡ (if is_loaded source.now.object.now i
+        then read.old.sections ++ normal_section source.now.object.now i ∷ [] else read.old.sections)) }
+    ensures targets { OnOk result (read.new.targets ≡ read.old.targets
+        ++ (if is_loaded source.now.object.now i then places_of source.now.object.now i ∷ [] else [])) }
+    ensures order { OnOk result (is_loaded source.now.object.now i ≡ true
+        → AreByOffset (relocations_of source.now.object.now i) (fields_of source.now.object.now i)) }
 {
     let Some(section) = loaded_section(source.object, i) else {
         return Ok(());
     };
-    let section = read_section(alloc, source, i, &section, functions, objects)?;
-    match sections.push(section) {
-        Ok(()) => Ok(()),
-        Err(_) => Err(Refusal::Memory),
-    }
+    let fields = checked_fields(alloc, source, i, &section)?;
+    let places = targets::places(alloc, source, i, &fields)?;
+    let function = symbol_of(class_of(&section), functions[i as usize]);
+    let section = read_section(alloc, source, i, &section, function, &fields, objects)?;
+    read.sections.push(section)?;
+    read.targets.push(places)?;
+    Ok(())
 }
 
+/// The relocations of loaded section `i` that change a field, by offset. Refuses the first that makes no reference.
+#[tactic(auto, unfolding(crate::specs::Refused::relocation_fault_at))]
+fn checked_fields(
+    alloc: Global,
+    source: &Source<'_, '_>,
+    i: u32,
+    section: &Section<'_>,
+) -> Result<Vec<Reloc>, Refusal>
+    requires { IsLoadedSection source.now.object.now i section.now }
+    ensures finds { Finds Refusal.Memory result (relocation_fault_at source.now.object.now i) }
+    ensures items { IfOk result (λ fields. fields.items ≡ fields_of source.now.object.now i) }
+    ensures each { IfOk result (λ fields. All (IsField source.now.object.now i) fields.items) }
+    ensures order { IfOk result
+        (λ _. AreByOffset (relocations_of source.now.object.now i) (fields_of source.now.object.now i)) }
+{
+    let relocations = relocations(alloc, source.object, i)?;
+    check_relocations(alloc, source, i, section, &relocations)?;
+    Ok(fields(alloc, &relocations)?)
+}
+
+/// Loaded section `i` as it is compared, from its function symbol, fields and variables.
+#[tactic(auto, unfolding(crate::specs::Normal::normal_section, crate::specs::References::references_of, crate::specs::References::blanked_bytes))]
 fn read_section<'a>(
     alloc: Global,
     source: &Source<'_, 'a>,
     i: u32,
     section: &Section<'a>,
-    functions: &[Functions],
-    objects: Objects<'a>,
-) -> Result<NormalSection<'a>, Refusal>
-    requires within { i < section_count source.now.object.now }
-    requires loaded { IsLoadedSection source.now.object.now i section.now }
-    requires functions { AreFunctions source.now.object.now (symbol_count source.now.object.now) functions.now }
-    requires objects { objects ≡ objects_of source.now.object.now i }
-    ensures finds { Finds result (first_among (relocation_fault_of source.now.object.now i) (relocations_of source.now.object.now i)) }
-    ensures read { IfOk result (λ read. read ≡ normal_section source.now.object.now i) }
-{
-    let relocations = relocations(alloc, source.object, i).map_err(|_| Refusal::Memory)?;
-    let refs = references(alloc, source, i, section, &relocations)?;
-    let function = symbol_of(class_of(section), functions[i as usize]);
-    match build(
-        alloc,
-        source.object,
-        i,
-        section,
-        function,
-        &relocations,
-        refs,
-        objects,
-    ) {
-        Ok(read) => Ok(read),
-        Err(_) => Err(Refusal::Memory),
-    }
-}
-
-/// A loaded section as it is compared, from its parts.
-#[tactic(auto, using(crate::proofs::Parts::fields_within, crate::proofs::Parts::references_sorted, crate::proofs::Parts::bytes_blanked), unfolding(crate::specs::Normal::normal_section))]
-fn build<'a>(
-    alloc: Global,
-    object: &Object<'a>,
-    i: u32,
-    section: &Section<'a>,
     function: Option<u32>,
-    relocations: &[Reloc],
-    refs: Vec<Ref<'a>>,
+    fields: &[Reloc],
     objects: Objects<'a>,
 ) -> Result<NormalSection<'a>, AllocError>
-    requires loaded { IsLoadedSection object.now i section.now }
-    requires function { function ≡ function_symbol object.now i }
-    requires relocations { relocations.now ≡ relocations_of object.now i }
-    requires placed { All (λ r. IsPlaced object.now i r) relocations.now }
-    requires refs { refs.items ≡ map (reference_of object.now i) (fields_of object.now i) }
-    requires objects { objects ≡ objects_of object.now i }
-    ensures { IfOk result (λ read. read ≡ normal_section object.now i) }
+    requires loaded { IsLoadedSection source.now.object.now i section.now }
+    requires function { function ≡ function_symbol source.now.object.now i }
+    requires fields { fields.now ≡ fields_of source.now.object.now i }
+    requires each { All (IsField source.now.object.now i) fields.now }
+    requires objects { objects ≡ objects_of source.now.object.now i }
+    ensures { IfOk result (λ read. read ≡ normal_section source.now.object.now i) }
 {
     Ok(NormalSection {
         name: Span::new(section.name),
         class: class_of(section),
-        function: function_name(object, function),
-        global: is_global_function(object, function),
+        function: function_name(source.object, function),
+        global: is_global_function(source.object, function),
         align: section.align,
         size: section.size,
-        bytes: Bytes::from_vec(blanked(alloc, section.bytes, relocations)?),
-        refs: ListOf::from_vec(sorted(refs)?),
+        bytes: Bytes::from_vec(blanked(alloc, section.bytes, fields)?),
+        refs: references(alloc, source, i, section, fields)?,
         objects,
     })
 }
@@ -184,10 +190,8 @@ fn function_name<'a>(object: &Object<'a>, symbol: Option<u32>) -> Option<Span<'a
     requires { ForSome symbol (λ k. (0 < k) × (k < symbol_count object.now)) }
     ensures { result ≡ option_map (symbol_name object.now) symbol }
 {
-    match symbol {
-        Some(k) => Some(Span::new(object.symbol(k).name)),
-        None => None,
-    }
+    let k = symbol?;
+    Some(Span::new(object.symbol(k).name))
 }
 
 /// Whether a function is seen from other objects.

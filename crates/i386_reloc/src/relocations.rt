@@ -1,20 +1,12 @@
 //! The relocations of a section.
 ghost use Rattle.std.specs.Prelude.{◌≡◌, true, IfOk, All};
 ghost use Rattle.elf32_object.specs.Fields.{is_loaded};
-ghost use Rattle.elf32_object.specs.Rules.{has_field};
 ghost use Rattle.i386_reloc.specs.References.{relocations_of};
-ghost use Rattle.i386_reloc.specs.Relocations.{IsPlaced};
+ghost use Rattle.i386_reloc.specs.inside.Fields.{IsPlaced};
 
 use elf32_object::Object;
 use elf32_object::types::Reloc;
 use std::alloc::{AllocError, Global};
-
-/// Whether a relocation changes a field of four bytes.
-pub(crate) fn has_field(r: Reloc) -> bool
-    ensures { result ≡ has_field r }
-{
-    r.kind == 1 || r.kind == 2 || r.kind == 4
-}
 
 /// The relocations of a loaded section, in the order of their sections and, in each of these, of their entries.
 #[tactic(auto, using(crate::proofs::RelocationLists::take_relocation))]

@@ -3,7 +3,9 @@ ghost use Rattle.std.specs.Prelude.{◌≡◌, ℕ, ◌≤◌, List, Some, All, 
 ghost use Rattle.std.specs.List.{IsDistinct};
 ghost use Rattle.std.specs.Option.{option_copied};
 ghost use Rattle.i386_reloc.specs.Normal.{same_bytes, name_of, section_named, IsFunction};
-ghost use Rattle.i386_reloc.specs.Places.{named, place_named, targets_in, reference_at, place_of_reference};
+ghost use Rattle.i386_reloc.specs.Places.{place_named, reference_at, place_of_reference};
+ghost use Rattle.i386_reloc.specs.inside.NamePlaces.{named};
+ghost use Rattle.i386_reloc.specs.inside.Targets.{targets_in};
 ghost use Rattle.i386_reloc.specs.Texts.{HasTexts};
 
 use crate::types::NormalSection;
@@ -24,7 +26,9 @@ impl<'a> Model for Normal<'a> {
     ghost use Rattle.std.specs.List.{IsDistinct};
     ghost use Rattle.i386_reloc.specs.declared.types.NormalSection.{NormalSection};
     ghost use Rattle.i386_reloc.specs.Normal.{same_bytes, name_of, section_named, IsFunction};
-    ghost use Rattle.i386_reloc.specs.Places.{named, place_named, targets_in};
+    ghost use Rattle.i386_reloc.specs.Places.{place_named};
+    ghost use Rattle.i386_reloc.specs.inside.NamePlaces.{named};
+    ghost use Rattle.i386_reloc.specs.inside.Targets.{targets_in};
     ghost use Rattle.i386_reloc.specs.Texts.{HasTexts};
 
     ghost Value = { List NormalSection };

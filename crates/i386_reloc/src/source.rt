@@ -1,12 +1,12 @@
 //! An object with what references need of its sections and symbols.
-ghost use Rattle.std.specs.Prelude.{◌≡◌, ◌<◌, IfOk, if◌then◌else◌, [], length, is_some, ◌+◌, ◌^◌};
+ghost use Rattle.std.specs.Prelude.{◌≡◌, ◌<◌, IfOk, if◌then◌else◌, [], length, is_some, true, ◌+◌, ◌^◌};
 ghost use Rattle.std.specs.Option.{option_copied};
-ghost use Rattle.elf32_object.specs.Fields.{section_count, is_loaded, symbol_count, symbol_entry, symbol_name};
+ghost use Rattle.elf32_object.specs.Fields.{section_count, section_name, section_bytes, is_loaded, symbol_count, symbol_entry, symbol_name};
 ghost use Rattle.i386_reloc.specs.Classes.{is_strings, is_strings_class};
-ghost use Rattle.i386_reloc.specs.Known.{known_at, known_section, named_at};
-ghost use Rattle.i386_reloc.specs.Loaded.{IsLoadedSection};
+ghost use Rattle.i386_reloc.specs.inside.Known.{known_at, known_section, named_at};
+ghost use Rattle.i386_reloc.specs.inside.Loaded.{IsLoadedSection};
 ghost use Rattle.i386_reloc.specs.Normal.{loaded_below};
-ghost use Rattle.i386_reloc.specs.References.{each_below};
+ghost use Rattle.elf32_object.specs.Below.{each_below};
 
 use crate::known::{Known, Named};
 use crate::loaded::{class_of, loaded_section};
@@ -56,7 +56,7 @@ impl<'o, 'a> Source<'o, 'a> {
 
     /// The section of an index, `None` exactly where it isn't loaded.
     #[tactic(auto, using(crate::proofs::KnownSections::known_here, crate::proofs::KnownSections::known_beyond, crate::proofs::KnownSections::length_known))]
-    pub fn known(&self, j: u16) -> Option<&Known<'a>>
+    fn known(&self, j: u16) -> Option<&Known<'a>>
         ensures { option_copied result ≡ known_at self.now.object.now j }
     {
         let j = usize::from(j);
@@ -64,6 +64,20 @@ impl<'o, 'a> Source<'o, 'a> {
             self.sections[j].as_ref()
         } else {
             None
+        }
+    }
+
+    /// The section of an index that is that of a loaded one.
+    pub fn section(&self, j: u16) -> &Known<'a>
+        requires { is_loaded self.now.object.now j ≡ true }
+        ensures name { result.now.name ≡ section_name self.now.object.now j }
+        ensures class { is_strings_class result.now.class ≡ is_strings self.now.object.now j }
+        ensures texts { is_strings self.now.object.now j ≡ true → result.now.texts ≡ section_bytes self.now.object.now j }
+        ensures place { result.now.place ≡ length (loaded_below self.now.object.now j) }
+    {
+        match self.known(j) {
+            Some(known) => known,
+            None => unreachable!(),
         }
     }
 
@@ -87,7 +101,7 @@ impl<'o, 'a> Source<'o, 'a> {
     }
 }
 
-#[tactic(auto, using(crate::proofs::EachBelow::each_below_more))]
+#[tactic(auto, using(elf32_object::proofs::EachBelow::each_below_more))]
 fn known_sections<'a>(
     alloc: Global,
     object: &Object<'a>,
@@ -115,7 +129,7 @@ fn place_behind(place: u32, known: &Option<Known<'_>>) -> u32
     }
 }
 
-#[tactic(auto, unfolding(crate::specs::Known::known_at))]
+#[tactic(auto, unfolding(crate::specs::inside::Known::known_at))]
 fn read_known<'a>(
     alloc: Global,
     object: &Object<'a>,
@@ -132,7 +146,7 @@ fn read_known<'a>(
     }
 }
 
-#[tactic(auto, unfolding(crate::specs::Known::known_section))]
+#[tactic(auto, unfolding(crate::specs::inside::Known::known_section))]
 fn know<'a>(
     alloc: Global,
     object: &Object<'_>,
@@ -165,7 +179,7 @@ fn texts(alloc: Global, class: Class, bytes: &[u8]) -> Result<Texts<'_>, AllocEr
     }
 }
 
-#[tactic(auto, using(crate::proofs::EachBelow::each_below_more))]
+#[tactic(auto, using(elf32_object::proofs::EachBelow::each_below_more))]
 fn named_symbols<'a>(alloc: Global, object: &Object<'a>) -> Result<Vec<Named<'a>>, AllocError>
     ensures { IfOk result (λ symbols. symbols.items ≡ each_below (named_at object.now) (symbol_count object.now)) }
 {

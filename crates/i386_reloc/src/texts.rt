@@ -3,7 +3,7 @@ ghost use Rattle.std.specs.Prelude.{◌≡◌, ◌<◌, ◌≤◌, ◌^◌, ◌-
 ghost use Rattle.std.specs.List.Sorted.{IsNonDecreasingBy, IsPartitionPoint};
 ghost use Rattle.elf32_object.specs.Fields.{ends_in};
 ghost use Rattle.i386_reloc.specs.References.{text_through};
-ghost use Rattle.i386_reloc.specs.Zeros.{zeros_of};
+ghost use Rattle.i386_reloc.specs.inside.Zeros.{zeros_of};
 
 use std::alloc::{AllocError, Global};
 use std::marker::Model;
@@ -17,7 +17,7 @@ pub struct Texts<'a> {
 
 impl<'a> Model for Texts<'a> {
     ghost use Rattle.std.specs.Prelude.{◌≡◌, List, ℕ};
-    ghost use Rattle.i386_reloc.specs.Zeros.{zeros_of};
+    ghost use Rattle.i386_reloc.specs.inside.Zeros.{zeros_of};
 
     ghost Value = { List ℕ };
 
@@ -38,14 +38,22 @@ impl<'a> Texts<'a> {
         })
     }
 
-    /// The text that begins at an offset, its zero with it. `None` exactly where no zero follows. It takes the logarithm
-    /// of the number of zeros.
-    pub fn through(&self, offset: u32) -> Option<&'a [u8]>
-        ensures { MatchOption result (ends_in self.now offset ≡ false)
-            (λ text. (ends_in self.now offset ≡ true) × (text.now ≡ text_through self.now offset)) }
+    /// Whether a zero ends the text that begins at an offset. It takes the logarithm of the number of zeros.
+    pub fn ends(&self, offset: u32) -> bool
+        ensures { result ≡ ends_in self.now offset }
     {
-        let end = self.end(offset)?;
-        Some(&self.bytes[offset as usize..end])
+        self.end(offset).is_some()
+    }
+
+    /// The text that begins at an offset, its zero with it, at the same cost.
+    pub fn text(&self, offset: u32) -> &'a [u8]
+        requires { ends_in self.now offset ≡ true }
+        ensures { result.now ≡ text_through self.now offset }
+    {
+        match self.end(offset) {
+            Some(end) => &self.bytes[offset as usize..end],
+            None => unreachable!(),
+        }
     }
 
     /// Where the text ends that begins at an offset, behind its zero.
@@ -72,7 +80,7 @@ fn first_from(places: &[u32], offset: u32) -> usize
 }
 
 /// The places of the zeros.
-#[tactic(auto, using(crate::proofs::EachBelow::all_below_more), unfolding(crate::specs::Zeros::zeros_of))]
+#[tactic(auto, using(elf32_object::proofs::EachBelow::all_below_more), unfolding(crate::specs::inside::Zeros::zeros_of))]
 fn zeros(alloc: Global, bytes: &[u8]) -> Result<Vec<u32>, AllocError>
     requires { length bytes.now < 2 ^ 32 }
     ensures { IfOk result (λ zeros. zeros.items ≡ zeros_of bytes.now) }

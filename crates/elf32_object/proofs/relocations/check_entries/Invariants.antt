@@ -1,7 +1,7 @@
 use Rattle.std.proofs.Common.{◌≡◌, None}
 use Rattle.elf32_object.specs.Below.{first_below}
 use Rattle.elf32_object.specs.Rules.{relocation_fault}
-use Rattle.elf32_object.specs.Taken.{AreTaken}
+use Rattle.elf32_object.specs.inside.Taken.{AreTaken}
 use Rattle.elf32_object.proofs.relocations.check_entries.Given as goal
 
 abbrev pub invariant-loop-k : goal.invariant-loop-k

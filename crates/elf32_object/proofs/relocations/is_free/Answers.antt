@@ -3,7 +3,7 @@ use Rattle.std.proofs.lemmas.Bool.Decides.{nat_tests}
 use Rattle.std.proofs.lemmas.Grind.{common_steps}
 use Rattle.std.specs.Ordering.{nat_cmp}
 use Rattle.std.specs.BTreeSet.{contains}
-use Rattle.elf32_object.specs.Taken.{field_key}
+use Rattle.elf32_object.specs.inside.Taken.{field_key}
 use Rattle.elf32_object.proofs.relocations.is_free.Goals as goal
 
 pub returns-in-Some-clause-taken : goal.returns-in-Some-clause-taken

@@ -1,7 +1,7 @@
 use Rattle.std.proofs.Common.{◌≡◌, None}
 use Rattle.elf32_object.specs.Below.{first_below}
 use Rattle.elf32_object.specs.Rules.{section_fault}
-use Rattle.elf32_object.specs.Kept.{AreTotals}
+use Rattle.elf32_object.specs.inside.Kept.{AreTotals}
 use Rattle.elf32_object.proofs.sections.check_sections.Given as goal
 
 abbrev pub invariant-loop-i : goal.invariant-loop-i

@@ -1,7 +1,7 @@
 use Rattle.std.proofs.Common.{◌∙◌, arith}
 use Rattle.std.proofs.lemmas.List.{length-map}
 use Rattle.std.specs.Vec.{vec_items}
-use Rattle.elf32_object.specs.Rows.{rows_of}
+use Rattle.elf32_object.specs.inside.Rows.{rows_of}
 use Rattle.elf32_object.proofs.Spots.{row_more}
 use Rattle.elf32_object.proofs.table.add_entries.Goals as goal
 

@@ -1,4 +1,4 @@
-use Rattle.elf32_object.specs.Rows.{rows_of, AreRows}
+use Rattle.elf32_object.specs.inside.Rows.{rows_of, AreRows}
 use Rattle.elf32_object.proofs.table.rows_by_section.Given as goal
 
 abbrev pub invariant-loop-i : goal.invariant-loop-i

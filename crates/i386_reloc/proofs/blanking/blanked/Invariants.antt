@@ -1,8 +1,6 @@
 use Rattle.std.proofs.Common.{◌≡◌, take}
-use Rattle.std.specs.List.{filter}
-use Rattle.elf32_object.specs.Rules.{has_field}
 use Rattle.i386_reloc.specs.References.{blanked_from}
 use Rattle.i386_reloc.proofs.blanking.blanked.Given as goal
 
 abbrev pub invariant-loop-r : goal.invariant-loop-r
-invariant-loop-r l = l.copy.items ≡ blanked_from 0 (filter has_field (take l.r-index l.relocations)) l.bytes
+invariant-loop-r l = l.copy.items ≡ blanked_from 0 (take l.r-index l.fields) l.bytes

@@ -1,4 +1,4 @@
-use Rattle.i386_reloc.specs.Functions.{AreFunctions}
+use Rattle.i386_reloc.specs.inside.Functions.{AreFunctions}
 use Rattle.i386_reloc.proofs.functions.gather.Given as goal
 
 abbrev pub invariant-loop-k : goal.invariant-loop-k

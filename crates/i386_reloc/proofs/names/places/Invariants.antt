@@ -1,7 +1,7 @@
 use Rattle.std.proofs.Common.{◌≡◌, None}
 use Rattle.elf32_object.specs.Below.{first_below}
 use Rattle.i386_reloc.specs.Normal.{loaded_below}
-use Rattle.i386_reloc.specs.Places.{HasPlaces}
+use Rattle.i386_reloc.specs.inside.NamePlaces.{HasPlaces}
 use Rattle.i386_reloc.specs.Refused.{name_fault_at}
 use Rattle.i386_reloc.proofs.names.places.Given as goal
 

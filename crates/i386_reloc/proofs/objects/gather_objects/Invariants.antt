@@ -1,4 +1,4 @@
-use Rattle.i386_reloc.specs.Objects.{AreObjects}
+use Rattle.i386_reloc.specs.inside.Objects.{AreObjects}
 use Rattle.i386_reloc.proofs.objects.gather_objects.Given as goal
 
 abbrev pub invariant-loop-k : goal.invariant-loop-k

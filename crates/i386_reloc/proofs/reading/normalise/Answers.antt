@@ -3,6 +3,9 @@ use Rattle.std.proofs.lemmas.Grind.{common_steps}
 use Rattle.std.proofs.lemmas.Result.{err_from_is_err_and}
 use Rattle.i386_reloc.specs.Normal.{loaded_sections}
 use Rattle.i386_reloc.specs.Refused.{function_fault, relocation_fault}
+use Rattle.elf32_object.specs.Fields.{section_count}
+use Rattle.i386_reloc.specs.inside.Targets.{places_below}
+use Rattle.i386_reloc.proofs.Going.{all_going}
 use Rattle.i386_reloc.proofs.Normals.{no_fault, relocation_refused, all_functions, distinct_names, all_named}
 use Rattle.i386_reloc.proofs.StandingTexts.{has_texts}
 use Rattle.i386_reloc.proofs.reading.normalise.Goals as goal
@@ -30,6 +33,14 @@ new-requires-2-clause-texts c =
     let here : c.in_ok-source.source.object.now ≡ c.args.object.now = grind (arith, common_steps) in
     rw (c.in_ok-sections.ensures.sections ∙ ap loaded_sections here)
     (has_texts c.args.object.now c.in_ok-places.ensures.finds (ap relocation_fault (sym here) ∙ c.in_ok-sections.ensures.finds))
+
+pub new-requires-2-clause-targets : goal.new-requires-2-clause-targets
+new-requires-2-clause-targets c =
+    let here : c.in_ok-source.source.object.now ≡ c.args.object.now = grind (arith, common_steps) in
+    rw (c.in_ok-sections.ensures.sections ∙ ap loaded_sections here)
+    (c.in_ok-sections.ensures.targets
+    ∙ ap (λ b. places_below b (section_count b)) here
+    ∙ all_going c.args.object.now c.in_ok-places.ensures.finds (ap relocation_fault (sym here) ∙ c.in_ok-sections.ensures.finds))
 
 pub returns-clause-functions : goal.returns-clause-functions
 returns-clause-functions c =

@@ -1,6 +1,6 @@
 use Rattle.std.proofs.Common.{◌≡◌, take, All}
 use Rattle.i386_reloc.specs.References.{relocations_of}
-use Rattle.i386_reloc.specs.Relocations.{IsPlaced}
+use Rattle.i386_reloc.specs.inside.Fields.{IsPlaced}
 use Rattle.i386_reloc.proofs.relocations.relocations.Given as goal
 
 abbrev pub invariant-loop-k : goal.invariant-loop-k

@@ -1,7 +1,7 @@
 use Rattle.std.proofs.Common.{◌≡◌, length}
-use Rattle.i386_reloc.specs.Known.{known_at}
+use Rattle.i386_reloc.specs.inside.Known.{known_at}
 use Rattle.i386_reloc.specs.Normal.{loaded_below}
-use Rattle.i386_reloc.specs.References.{each_below}
+use Rattle.elf32_object.specs.Below.{each_below}
 use Rattle.i386_reloc.proofs.source.known_sections.Given as goal
 
 abbrev pub invariant-loop-i : goal.invariant-loop-i

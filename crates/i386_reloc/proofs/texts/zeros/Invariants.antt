@@ -1,6 +1,6 @@
 use Rattle.std.proofs.Common.{◌≡◌}
-use Rattle.i386_reloc.specs.References.{all_below}
-use Rattle.i386_reloc.specs.Zeros.{zero_at}
+use Rattle.elf32_object.specs.Below.{all_below}
+use Rattle.i386_reloc.specs.inside.Zeros.{zero_at}
 use Rattle.i386_reloc.proofs.texts.zeros.Given as goal
 
 abbrev pub invariant-loop-i : goal.invariant-loop-i

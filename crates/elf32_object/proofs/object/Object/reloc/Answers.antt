@@ -1,4 +1,5 @@
 use Rattle.std.proofs.Common.{◌≡◌, ◌==◌, ◌+◌, ◌≤◌, false, length, ℕ, ◌<◌, List, ap, ◌∙◌, sym, subst}
+use Rattle.elf32_object.specs.declared.elf.TheConstants.{SHT_NOBITS}
 use Rattle.elf32_object.specs.Fields.{section_header, section_bytes, symbol_count, section_count, is_loaded, relocations_below, IsRelocation}
 use Rattle.elf32_object.proofs.Loads.{loaded_within}
 use Rattle.elf32_object.proofs.Offered.{apart, placed, field_in_bytes}
@@ -27,7 +28,7 @@ pub returns-clause-filled : goal.returns-clause-filled
 returns-clause-filled c =
     let bytes = c.self.inside.layout.bytes.now in
     let is = placed bytes c.args.section c.args.k c.relocation_of.result c.self.invariant.no_fault c.relocation_of.ensures in
-    subst (λ (b : List ℕ). ((section_header b c.args.section).kind == 8) ≡ false) c.self.view_is is.filled
+    subst (λ (b : List ℕ). ((section_header b c.args.section).kind == SHT_NOBITS) ≡ false) c.self.view_is is.filled
 
 pub returns-clause-begins : goal.returns-clause-begins
 returns-clause-begins c =

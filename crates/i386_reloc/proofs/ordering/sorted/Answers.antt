@@ -1,9 +1,0 @@
-use Rattle.std.proofs.Common.{rules}
-use Rattle.std.proofs.lemmas.List.Sorted.{answers_always}
-use Rattle.i386_reloc.proofs.Sorting.{sorted_is}
-use Rattle.i386_reloc.proofs.ordering.sorted.Goals as goal
-
-pub returns : goal.returns
-returns c =
-    sorted_is _ _ (c.in_ok-sort_by_key.ensures.sorted (λ r. r.offset) (answers_always _ _ _ (λ f a r g called. search rules)))
-    (c.in_ok-sort_by_key.ensures.stable (λ r. r.offset) (answers_always _ _ _ (λ f a r g called. search rules)))

@@ -1,0 +1,9 @@
+-- What the code keeps on its way, said by contracts inside this crate alone.
+pub mod Fields
+pub mod Functions
+pub mod Known
+pub mod Loaded
+pub mod NamePlaces
+pub mod Objects
+pub mod Targets
+pub mod Zeros
