@@ -33,10 +33,10 @@ pub record TellReached (sections : List NormalSection) (seeds marks : List Bool)
   pub len : length marks ≡ length sections
   pub each : (place : ℕ) (section : NormalSection) → slice_get sections place ≡ Some section → Tells (marked marks place) ((marked seeds place ≡ true) ⊎ SeedReaches sections seeds section.name)
 
--- marks of post's sections that tell which reach a changed constant, of those that are none
+-- marks of post's sections that tell which reach a changed constant, of those that are none in either object
 pub record TellReachesChanged (pre post : List NormalSection) (marks : List Bool) : Type 0 where
   pub len : length marks ≡ length post
-  pub each : (place : ℕ) (section : NormalSection) → slice_get post place ≡ Some section → is_changed_constant pre post section.name ≡ false → Tells (marked marks place) (ReachesChanged pre post section.name)
+  pub each : (place : ℕ) (section : NormalSection) → slice_get post place ≡ Some section → is_changed_constant pre pre post section.name ≡ false → is_changed_constant post pre post section.name ≡ false → Tells (marked marks place) (ReachesChanged pre post section.name)
 
 -- what the search for members has found in both objects
 pub record TellMembers (pre post : List NormalSection) (nodes : List Bool) : Type 0 where
@@ -81,10 +81,6 @@ marked_names [] marks = []
 marked_names (section ∷ sections) [] = []
 marked_names (section ∷ sections) (true ∷ marks) = section.name ∷ marked_names sections marks
 marked_names (section ∷ sections) (false ∷ marks) = marked_names sections marks
-
--- whether the section of a name is read-only data in either object
-abbrev pub is_constant_in_either : List NormalSection → List NormalSection → List ℕ → Bool
-is_constant_in_either pre post name = is_in is_read_only_class pre name || is_in is_read_only_class post name
 
 -- whether the section of a name isn't the same in both objects
 abbrev pub is_other : List NormalSection → List NormalSection → List ℕ → Bool

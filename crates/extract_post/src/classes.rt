@@ -5,7 +5,6 @@ ghost use Rattle.extract_post.specs.Wanted.{is_wanted};
 ghost use Rattle.i386_reloc.specs.Normal.{section_named};
 ghost use Rattle.extract_post.specs.Extract.{other_class};
 ghost use Rattle.extract_post.specs.Members.{is_there, is_in_both};
-ghost use Rattle.extract_post.specs.Marks.{is_constant_in_either};
 
 use crate::types::Wanted;
 use i386_reloc::{Class, Normal};
@@ -91,11 +90,4 @@ pub(crate) fn is_alone(wanted: Wanted, with: &Normal<'_>, without: &Normal<'_>, 
     ensures { result ≡ (is_in (is_wanted wanted) with.now name.now && not (is_there without.now name.now)) }
 {
     is_in(wanted, with, name) && !is_there(without, name)
-}
-
-/// Whether a section of this name is read-only data in either object.
-pub(crate) fn is_constant_in_either(pre: &Normal<'_>, post: &Normal<'_>, name: &[u8]) -> bool
-    ensures { result ≡ is_constant_in_either pre.now post.now name.now }
-{
-    is_in(Wanted::ReadOnly, pre, name) || is_in(Wanted::ReadOnly, post, name)
 }
