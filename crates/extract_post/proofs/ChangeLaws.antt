@@ -12,8 +12,8 @@ use Rattle.i386_reloc.specs.Classes.{is_code_class}
 use Rattle.i386_reloc.specs.Normal.{section_named}
 use Rattle.i386_reloc.specs.Places.{place_named}
 use Rattle.section_equal.specs.Same.{same_in}
-use Rattle.extract_post.specs.Reaches.{is_constant_class, is_read_only_class, is_data_class, has_class, is_in, some_reference, goes_to, Reaches}
-use Rattle.extract_post.specs.Reaches.Reaches.{Refers, Further}
+use Rattle.i386_reloc.specs.Reaches.{is_constant_class, is_read_only_class, is_data_class, has_class, is_in, some_reference, goes_to, Reaches}
+use Rattle.i386_reloc.specs.Reaches.Reaches.{Refers, Further}
 use Rattle.extract_post.specs.Members.{is_there, is_in_both, is_changed_constant, ReachesChanged, Differs}
 use Rattle.extract_post.specs.Members.ReachesChanged.{InPre, InPost}
 use Rattle.extract_post.specs.Members.Differs.{Itself as DiffersItself, Through as DiffersThrough}
@@ -23,7 +23,8 @@ use Rattle.extract_post.specs.Seeds.{IsSeed, AreSeeds}
 use Rattle.extract_post.specs.Closures.{ReachesSeed}
 use Rattle.extract_post.specs.Marks.{marked, Marks, tests, TellReaching, TellReachesChanged, AreBoth, AreEither, AreOther, AreShifted, shifted, marked_at, is_other}
 use Rattle.i386_reloc.specs.PlaceLaws.{section_named_at}
-use Rattle.extract_post.proofs.Links.{option_cases, section_at_place, section_found}
+use Rattle.i386_reloc.specs.NamedPlaces.{section_at_place, section_found}
+use Rattle.extract_post.proofs.Links.{option_cases}
 use Rattle.extract_post.proofs.Tells.{tells_through}
 use Rattle.extract_post.proofs.MarkLaws.{tells_test, tells_and, tells_or, tests_at}
 

@@ -8,9 +8,10 @@ use Rattle.i386_reloc.specs.declared.types.Class.{Class}
 use Rattle.i386_reloc.specs.declared.types.Class.TheVariants.{Zero, Code, Writable, Strings, ReadOnly}
 use Rattle.i386_reloc.specs.declared.types.NormalSection.{NormalSection}
 use Rattle.i386_reloc.specs.Classes.{is_code_class}
-use Rattle.extract_post.specs.Reaches.{is_constant_class, is_read_only_class, is_in, goes_to, is_interior, refers_on, Reaches, points_into, PointsInto}
-use Rattle.extract_post.specs.Reaches.Reaches.{Refers, Further}
-use Rattle.extract_post.specs.Reaches.PointsInto.{Itself, Through}
+use Rattle.i386_reloc.specs.Reaches.{is_constant_class, is_read_only_class, is_in, goes_to, is_interior, refers_on, Reaches}
+use Rattle.extract_post.specs.Members.{points_into, PointsInto}
+use Rattle.i386_reloc.specs.Reaches.Reaches.{Refers, Further}
+use Rattle.extract_post.specs.Members.PointsInto.{Itself, Through}
 use Rattle.extract_post.specs.Members.{Tied, Member}
 use Rattle.extract_post.specs.Members.Tied.{Back}
 use Rattle.extract_post.specs.Members.Member.{Joined}

@@ -12,8 +12,9 @@ use Rattle.i386_reloc.specs.declared.types.NormalSection.{NormalSection}
 use Rattle.i386_reloc.specs.Classes.{is_code_class}
 use Rattle.i386_reloc.specs.Normal.{section_named}
 use Rattle.i386_reloc.specs.Places.{place_named}
-use Rattle.extract_post.specs.Reaches.{is_in, goes_to, is_interior, some_reference, PointsInto}
-use Rattle.extract_post.specs.Reaches.PointsInto.{Itself as PointsItself, Through as PointsThrough}
+use Rattle.i386_reloc.specs.Reaches.{is_in, goes_to, is_interior, some_reference}
+use Rattle.extract_post.specs.Members.{PointsInto}
+use Rattle.extract_post.specs.Members.PointsInto.{Itself as PointsItself, Through as PointsThrough}
 use Rattle.extract_post.specs.Members.{is_there, Differs, Tied, Member}
 use Rattle.extract_post.specs.Members.Differs.{Itself, Through}
 use Rattle.extract_post.specs.Members.Tied.{InPre, InPost, Back}

@@ -3,10 +3,10 @@ use Rattle.std.proofs.Common.{◌≡◌, ℕ, suc, Bool, not, ◌&&◌, ◌||◌
 use Rattle.std.specs.List.{slice_get}
 use Rattle.i386_reloc.specs.declared.types.NormalSection.{NormalSection}
 use Rattle.section_equal.specs.Same.{same_in}
-use Rattle.extract_post.specs.Reaches.{is_read_only_class, is_in}
+use Rattle.i386_reloc.specs.Reaches.{is_read_only_class, is_in}
 use Rattle.extract_post.specs.Members.{is_changed_constant}
 use Rattle.extract_post.specs.Marks.{marked, tests, is_other, AreEither, AreOther, AreApart}
-use Rattle.extract_post.specs.Texts.{same_names}
+use Rattle.section_equal.specs.Same.{same_names}
 use Rattle.extract_post.proofs.MarkLaws.{tests_at}
 
 others_are : (pre post sections : List NormalSection) → map not (same_names pre post sections) ≡ tests (is_other pre post) sections

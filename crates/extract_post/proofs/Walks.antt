@@ -7,7 +7,7 @@ use Rattle.std.proofs.lemmas.List.Elements.{All-nil, All-cons, All-weaker}
 use Rattle.reachability.specs.declared.edge.Edge.{Edge}
 use Rattle.reachability.specs.Reached.{Tells, IsWithin, ReachedAlong}
 use Rattle.i386_reloc.specs.declared.types.NormalSection.{NormalSection}
-use Rattle.extract_post.specs.Reaches.{is_constant_class}
+use Rattle.i386_reloc.specs.Reaches.{is_constant_class}
 use Rattle.extract_post.specs.Closures.{HasDistinctNames}
 use Rattle.extract_post.specs.Edges.{Link, links_in, forward, backward, edge}
 use Rattle.extract_post.specs.Marks.{TellReaching, TellReached}

@@ -3,7 +3,7 @@ use Rattle.std.specs.Prelude.{◌≡◌, ℕ, Bool, true, false, List, map, Some
 use Rattle.std.specs.List.{IsDistinct, slice_get, slice_index_or}
 use Rattle.i386_reloc.specs.declared.types.NormalSection.{NormalSection}
 use Rattle.i386_reloc.specs.Normal.{same_bytes, name_of}
-use Rattle.extract_post.specs.Reaches.{Reaches}
+use Rattle.i386_reloc.specs.Reaches.{Reaches}
 
 -- no two sections have one name
 abbrev pub HasDistinctNames : List NormalSection → Type 0

@@ -3,25 +3,17 @@ use Rattle.std.specs.Prelude.{ℕ, suc, ◌+◌, if◌then◌else◌, List, [], 
 use Rattle.std.specs.List.{flat_map}
 use Rattle.reachability.specs.declared.edge.Edge.{Edge}
 use Rattle.i386_reloc.specs.declared.types.Class.{Class}
-use Rattle.i386_reloc.specs.declared.types.Target.{Target}
-use Rattle.i386_reloc.specs.declared.types.Target.TheVariants.{Section, Outside, Text}
 use Rattle.i386_reloc.specs.declared.types.Ref.{Ref}
 use Rattle.i386_reloc.specs.declared.types.NormalSection.{NormalSection}
 use Rattle.i386_reloc.specs.Classes.{is_code_class}
-use Rattle.i386_reloc.specs.Places.{place_named}
+use Rattle.i386_reloc.specs.Places.{place_named, place_of_target}
 pub use Rattle.extract_post.specs.declared.types.Link.{Link}
 pub use Rattle.extract_post.specs.declared.types.Numbers.{Numbers}
-use Rattle.extract_post.specs.Reaches.{is_read_only_class, is_constant_class, is_interior}
+use Rattle.i386_reloc.specs.Reaches.{is_read_only_class, is_constant_class, is_interior}
 
 -- an edge
 abbrev pub edge : ℕ → ℕ → Edge
 edge from to = record { from = from; to = to }
-
--- the place of the section that a reference goes to
-abbrev pub place_of_target : List NormalSection → Target → Option ℕ
-place_of_target sections (Section name) = place_named sections name
-place_of_target sections (Text name offset text) = place_named sections name
-place_of_target sections (Outside name) = None
 
 abbrev pub link_to : List NormalSection → ℕ → Class → Ref → Option ℕ → List Link
 link_to sections from from_class r None = []

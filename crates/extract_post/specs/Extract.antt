@@ -9,7 +9,7 @@ use Rattle.i386_reloc.specs.Classes.{is_code_class}
 use Rattle.i386_reloc.specs.Normal.{section_named}
 use Rattle.section_equal.specs.Same.{same_class, same_in}
 use Rattle.extract_post.specs.declared.types.Extract.{Extract}
-use Rattle.extract_post.specs.Reaches.{is_read_only_class, is_data_class, is_in, goes_to, is_interior, Reaches}
+use Rattle.i386_reloc.specs.Reaches.{is_read_only_class, is_data_class, is_in, goes_to, is_interior, Reaches}
 use Rattle.extract_post.specs.Members.{is_in_both, is_new_data, ReachesChanged, Member, IsChanged, IsAdded, IsDropped, IsCarried}
 
 -- the names of the sections whose name has a property, in order

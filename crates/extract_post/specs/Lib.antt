@@ -1,4 +1,3 @@
-pub mod Reaches
 pub mod Wanted
 pub mod Members
 pub mod Extract
@@ -8,4 +7,3 @@ pub mod Seeds
 pub mod Marks
 pub mod Fits
 pub mod Found
-pub mod Texts

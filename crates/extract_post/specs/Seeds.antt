@@ -3,7 +3,7 @@ use Rattle.std.specs.Prelude.{◌≡◌, ◌⊎◌, IsTrue, ℕ, Bool, false, tr
 use Rattle.std.specs.List.{slice_get, slice_index_or}
 use Rattle.i386_reloc.specs.declared.types.NormalSection.{NormalSection}
 use Rattle.i386_reloc.specs.Classes.{is_code_class}
-use Rattle.extract_post.specs.Reaches.{is_in}
+use Rattle.i386_reloc.specs.Reaches.{is_in}
 use Rattle.extract_post.specs.Members.{is_there, Differs}
 use Rattle.extract_post.specs.Edges.{Numbers, member_node, pre_numbers, post_numbers}
 

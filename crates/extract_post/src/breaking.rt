@@ -5,7 +5,7 @@ ghost use Rattle.extract_post.specs.Edges.{links_in};
 ghost use Rattle.extract_post.specs.Extract.{IsDataOf};
 ghost use Rattle.extract_post.specs.Found.{Broken};
 ghost use Rattle.extract_post.specs.Members.{Member, IsChanged, is_in_both, is_new_data};
-ghost use Rattle.extract_post.specs.Reaches.{is_data_class};
+ghost use Rattle.i386_reloc.specs.Reaches.{is_data_class};
 ghost use Rattle.extract_post.specs.Marks.{Marks, Stays};
 
 use crate::interiors::{data_of, first_break};

@@ -3,7 +3,7 @@ ghost use Rattle.std.specs.Prelude.{◌≡◌, IfOk, length};
 ghost use Rattle.extract_post.specs.Extract.{DataDiffers};
 ghost use Rattle.extract_post.specs.Seeds.{IsSeed};
 ghost use Rattle.extract_post.specs.Marks.{Marks, TellReachesChanged, AreOther};
-ghost use Rattle.extract_post.specs.Texts.{same_names};
+ghost use Rattle.section_equal.specs.Same.{same_names};
 
 use crate::marks::{both, either, unmarked};
 use crate::marks_by_name::{other_classes, sections_alone, sections_in_both};

@@ -1,6 +1,6 @@
 //! Which classes the sections of a name have in two objects.
 ghost use Rattle.std.specs.Prelude.{◌≡◌, not, ◌&&◌};
-ghost use Rattle.extract_post.specs.Reaches.{is_read_only_class, is_constant_class, is_data_class, is_in};
+ghost use Rattle.i386_reloc.specs.Reaches.{is_in};
 ghost use Rattle.extract_post.specs.Wanted.{is_wanted};
 ghost use Rattle.i386_reloc.specs.Normal.{section_named};
 ghost use Rattle.extract_post.specs.Extract.{other_class};
@@ -10,44 +10,15 @@ use crate::types::Wanted;
 use i386_reloc::{Class, Normal};
 use section_equal::same_class;
 
-/// Whether this is the class of read-only data.
-pub(crate) fn is_read_only(class: Class) -> bool
-    ensures { result ≡ is_read_only_class class }
-{
-    matches!(class, Class::ReadOnly)
-}
-
-/// Whether an update carries sections of this class with it.
-pub(crate) fn is_constant(class: Class) -> bool
-    ensures { result ≡ is_constant_class class }
-{
-    match class {
-        Class::ReadOnly => true,
-        Class::Strings => true,
-        _ => false,
-    }
-}
-
-/// Whether this is a class of data that the program may change.
-fn is_data(class: Class) -> bool
-    ensures { result ≡ is_data_class class }
-{
-    match class {
-        Class::Zero => true,
-        Class::Writable => true,
-        _ => false,
-    }
-}
-
 /// Whether sections of this class are asked for.
 fn is_wanted(wanted: Wanted, class: Class) -> bool
     ensures { result ≡ is_wanted wanted class }
 {
     match wanted {
         Wanted::Code => class.is_code(),
-        Wanted::Data => is_data(class),
-        Wanted::ReadOnly => is_read_only(class),
-        Wanted::Constant => is_constant(class),
+        Wanted::Data => class.is_data(),
+        Wanted::ReadOnly => class.is_read_only(),
+        Wanted::Constant => class.is_constant(),
     }
 }
 

@@ -7,7 +7,7 @@ ghost use Rattle.extract_post.specs.Found.{HasNoOther};
 ghost use Rattle.extract_post.specs.Marks.{Marks, TellMembers, TellReachesChanged};
 ghost use Rattle.extract_post.specs.Members.{Member};
 ghost use Rattle.extract_post.specs.Seeds.{IsSeed};
-ghost use Rattle.extract_post.specs.Texts.{same_names};
+ghost use Rattle.section_equal.specs.Same.{same_names};
 
 use crate::breaking::first_broken;
 use crate::changes::{differing_data, first_members};
@@ -16,10 +16,10 @@ use crate::marks::{first_marked, part};
 use crate::members::member_nodes;
 use crate::naming::{data_changed, interior, lists};
 use crate::reaching::reaching_changed;
-use crate::same_sections::sameness;
 use crate::types::{Extract, Link};
 use i386_reloc::Normal;
 use ks_base::Refusal;
+use section_equal::same_sections;
 use std::alloc::{AllocError, Global};
 
 // The answer where no data are others and no reference is broken.
@@ -132,7 +132,7 @@ fn answer<'a>(
 {
     let old = links(alloc, pre)?;
     let new = links(alloc, post)?;
-    let same = sameness(alloc, pre, post)?;
+    let same = same_sections(alloc, pre, post)?;
     let reaching = reaching_changed(alloc, pre, post, old.as_slice(), new.as_slice(), &same)?;
     let differing = differing_data(alloc, pre, post, same.post.as_slice(), reaching.as_slice())?;
     match first_marked(differing.as_slice()) {

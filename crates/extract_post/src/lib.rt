@@ -5,7 +5,6 @@ mod breaking;
 mod carrying;
 mod changes;
 mod classes;
-mod comparing;
 mod edges;
 mod extracting;
 mod interiors;
@@ -17,8 +16,6 @@ mod member_edges;
 mod members;
 mod naming;
 mod reaching;
-mod same_sections;
-mod texts;
 pub mod types;
 
 pub use crate::extracting::extract;

@@ -1,6 +1,6 @@
 //! Which sections of an object meet a condition on their names, as marks.
 ghost use Rattle.std.specs.Prelude.{◌≡◌, IfOk, map, not, ◌&&◌};
-ghost use Rattle.extract_post.specs.Reaches.{is_in};
+ghost use Rattle.i386_reloc.specs.Reaches.{is_in};
 ghost use Rattle.extract_post.specs.Wanted.{is_wanted};
 ghost use Rattle.extract_post.specs.Members.{is_there, is_in_both};
 ghost use Rattle.extract_post.specs.Extract.{other_class};

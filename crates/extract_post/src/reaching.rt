@@ -5,15 +5,15 @@ ghost use Rattle.extract_post.specs.Edges.{links_in};
 ghost use Rattle.i386_reloc.specs.Places.{place_named};
 ghost use Rattle.extract_post.specs.Members.{is_changed_constant};
 ghost use Rattle.extract_post.specs.Marks.{TellReaching, TellReached, TellReachesChanged, tests, marked_at};
-ghost use Rattle.extract_post.specs.Texts.{same_names};
+ghost use Rattle.section_equal.specs.Same.{same_names};
 
 use crate::edges::{backward_edges, forward_edges};
 use crate::marks::{apart, either, is_marked_at};
 use crate::marks_by_name::sections_in;
-use crate::same_sections::SameMarks;
 use crate::types::{Link, Wanted};
 use i386_reloc::Normal;
 use reachability::reached_along;
+use section_equal::SameSections;
 use std::alloc::{AllocError, Global};
 
 // Which sections are marked or reach a marked one, by the links of their references.
@@ -110,7 +110,7 @@ pub(crate) fn reaching_changed<'a>(
     post: &Normal<'a>,
     pre_links: &[Link],
     post_links: &[Link],
-    same: &SameMarks,
+    same: &SameSections,
 ) -> Result<Vec<bool>, AllocError>
     requires pre_distinct { HasDistinctNames pre.now }
     requires post_distinct { HasDistinctNames post.now }

@@ -6,6 +6,8 @@ pub mod Normal
 pub mod Objects
 pub mod Places
 pub mod PlaceLaws
+pub mod NamedPlaces
+pub mod Reaches
 pub mod References
 pub mod Refused
 pub mod Relocations

@@ -11,6 +11,7 @@ mod loaded;
 mod names;
 mod objects;
 mod ordering;
+mod reaches;
 mod reading;
 mod references;
 mod refused;
