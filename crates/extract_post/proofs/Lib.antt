@@ -16,3 +16,4 @@ pub mod Verdicts
 pub mod SameMarks
 pub mod Targets
 pub mod OneAnswer
+pub mod Computed

@@ -1,6 +1,7 @@
 pub mod Wanted
 pub mod Members
 pub mod Extract
+pub mod Extracted
 pub mod Edges
 pub mod Closures
 pub mod Seeds

@@ -19,5 +19,5 @@ mod reaching;
 pub mod types;
 
 pub use crate::extracting::extract;
-pub use crate::laws::objects_have_one_extract;
+pub use crate::laws::{extract_is_computed, objects_have_one_extract};
 pub use crate::types::Extract;
