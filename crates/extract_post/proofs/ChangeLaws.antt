@@ -19,9 +19,9 @@ use Rattle.extract_post.specs.Members.ReachesChanged.{InPre, InPost}
 use Rattle.extract_post.specs.Members.Differs.{Itself as DiffersItself, Through as DiffersThrough}
 use Rattle.extract_post.specs.Extract.{other_class, DataDiffers}
 use Rattle.extract_post.specs.Extract.DataDiffers.{OtherClass, Itself as DataItself, Through as DataThrough}
-use Rattle.extract_post.specs.Seeds.{IsSeed, AreSeeds}
-use Rattle.extract_post.specs.Closures.{ReachesSeed}
-use Rattle.extract_post.specs.Marks.{marked, Marks, tests, TellReaching, TellReachesChanged, AreBoth, AreEither, AreOther, AreShifted, shifted, marked_at, is_other}
+use Rattle.extract_post.specs.inside.Seeds.{IsSeed, AreSeeds}
+use Rattle.extract_post.specs.inside.Closures.{ReachesSeed}
+use Rattle.extract_post.specs.inside.Marks.{marked, Marks, tests, TellReaching, TellReachesChanged, AreBoth, AreEither, AreOther, AreShifted, shifted, marked_at, is_other}
 use Rattle.i386_reloc.specs.PlaceLaws.{section_named_at}
 use Rattle.i386_reloc.specs.NamedPlaces.{section_at_place, section_found}
 use Rattle.extract_post.proofs.Links.{option_cases}

@@ -15,8 +15,8 @@ use Rattle.extract_post.specs.Members.PointsInto.{Itself, Through}
 use Rattle.extract_post.specs.Members.{Tied, Member}
 use Rattle.extract_post.specs.Members.Tied.{Back}
 use Rattle.extract_post.specs.Members.Member.{Joined}
-use Rattle.extract_post.specs.Closures.{HasDistinctNames}
-use Rattle.extract_post.specs.Edges.{edge, Link, links_in, Numbers, member_node, from_node, into_node, joins}
+use Rattle.extract_post.specs.inside.Closures.{HasDistinctNames}
+use Rattle.extract_post.specs.inside.Edges.{edge, Link, links_in, Numbers, member_node, from_node, into_node, joins}
 use Rattle.extract_post.proofs.Links.{named_at, IsLink, link_of_edge}
 use Rattle.extract_post.proofs.Closures.{edge_ends, refers_from_link, reaches_before}
 

@@ -18,9 +18,9 @@ use Rattle.i386_reloc.specs.Places.{place_named}
 use Rattle.i386_reloc.specs.PlaceLaws.{section_named_at}
 use Rattle.i386_reloc.specs.NamedPlaces.{section_at_place}
 use Rattle.i386_reloc.specs.Reaches.{goes_to_target, goes_to, is_interior}
-use Rattle.extract_post.specs.Closures.{HasDistinctNames}
+use Rattle.extract_post.specs.inside.Closures.{HasDistinctNames}
 use Rattle.i386_reloc.specs.Places.{place_of_target}
-use Rattle.extract_post.specs.Edges.{Link, link_to, links_of, links_from, links_in}
+use Rattle.extract_post.specs.inside.Edges.{Link, link_to, links_of, links_from, links_in}
 
 -- an item of a list: whatever test it passes, some item passes
 abbrev pub Among : {X : Type 0} → List X → X → Type 0

@@ -5,7 +5,7 @@ use Rattle.i386_reloc.specs.declared.types.NormalSection.{NormalSection}
 use Rattle.section_equal.specs.Same.{same_in}
 use Rattle.i386_reloc.specs.Reaches.{is_read_only_class, is_in}
 use Rattle.extract_post.specs.Members.{is_changed_constant}
-use Rattle.extract_post.specs.Marks.{marked, tests, is_other, AreEither, AreOther, AreApart}
+use Rattle.extract_post.specs.inside.Marks.{marked, tests, is_other, AreEither, AreOther, AreApart}
 use Rattle.section_equal.specs.Same.{same_names}
 use Rattle.extract_post.proofs.MarkLaws.{tests_at}
 

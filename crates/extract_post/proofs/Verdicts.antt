@@ -20,9 +20,9 @@ use Rattle.extract_post.specs.declared.types.Extract.{Extract}
 use Rattle.extract_post.specs.Extract.{IsFirst, NoneIs, DataDiffers, IsBroken, places, IsExtract, Extracts}
 use Rattle.extract_post.specs.Extract.IsFirst.{Here, Later}
 use Rattle.extract_post.specs.Extract.Extracts.{OtherData, Broken, NoMember, Extracted}
-use Rattle.extract_post.specs.Found.{FirstBroken, HasNoOther}
-use Rattle.extract_post.specs.Seeds.{IsSeed}
-use Rattle.extract_post.specs.Marks.{marked, Marks, tests, TellMembers, ArePart}
+use Rattle.extract_post.specs.inside.Found.{FirstBroken, HasNoOther}
+use Rattle.extract_post.specs.inside.Seeds.{IsSeed}
+use Rattle.extract_post.specs.inside.Marks.{marked, Marks, tests, TellMembers, ArePart}
 use Rattle.i386_reloc.specs.NamedPlaces.{section_found}
 use Rattle.extract_post.proofs.Links.{option_cases}
 use Rattle.extract_post.proofs.MarkLaws.{tells_test, tests_at}

@@ -1,7 +1,7 @@
 //! Which classes the sections of a name have in two objects.
 ghost use Rattle.std.specs.Prelude.{◌≡◌, not, ◌&&◌};
 ghost use Rattle.i386_reloc.specs.Reaches.{is_in};
-ghost use Rattle.extract_post.specs.Wanted.{is_wanted};
+ghost use Rattle.extract_post.specs.inside.Wanted.{is_wanted};
 ghost use Rattle.i386_reloc.specs.Normal.{section_named};
 ghost use Rattle.extract_post.specs.Extract.{other_class};
 ghost use Rattle.extract_post.specs.Members.{is_there, is_in_both};

@@ -1,9 +1,9 @@
 //! References of data to the interior of functions that an update can't keep.
 ghost use Rattle.std.specs.Prelude.{◌≡◌, ◌<◌, Some, IfOk, length, position};
 ghost use Rattle.std.specs.List.{slice_get};
-ghost use Rattle.extract_post.specs.Edges.{links_in};
-ghost use Rattle.extract_post.specs.Closures.{HasDistinctNames};
-ghost use Rattle.extract_post.specs.Marks.{breaks_at, breaks, TellDataOf, FirstBreak};
+ghost use Rattle.extract_post.specs.inside.Edges.{links_in};
+ghost use Rattle.extract_post.specs.inside.Closures.{HasDistinctNames};
+ghost use Rattle.extract_post.specs.inside.Marks.{breaks_at, breaks, TellDataOf, FirstBreak};
 ghost use Rattle.i386_reloc.specs.Places.{reference_at};
 
 use crate::linking::place_of_target;

@@ -3,7 +3,7 @@ ghost use Rattle.std.specs.Prelude.{◌≡◌, ◌<◌, ◌++◌, ◌^◌, Some,
 ghost use Rattle.std.specs.List.{slice_get};
 ghost use Rattle.i386_reloc.specs.Places.{reference_at};
 ghost use Rattle.i386_reloc.specs.Places.{place_of_target};
-ghost use Rattle.extract_post.specs.Edges.{link_to, links_of, links_in};
+ghost use Rattle.extract_post.specs.inside.Edges.{link_to, links_of, links_in};
 
 use crate::types::Link;
 use i386_reloc::{Class, Normal, NormalSection, Ref};

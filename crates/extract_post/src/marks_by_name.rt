@@ -1,11 +1,11 @@
 //! Which sections of an object meet a condition on their names, as marks.
 ghost use Rattle.std.specs.Prelude.{◌≡◌, IfOk, map, not, ◌&&◌};
 ghost use Rattle.i386_reloc.specs.Reaches.{is_in};
-ghost use Rattle.extract_post.specs.Wanted.{is_wanted};
+ghost use Rattle.extract_post.specs.inside.Wanted.{is_wanted};
 ghost use Rattle.extract_post.specs.Members.{is_there, is_in_both};
 ghost use Rattle.extract_post.specs.Extract.{other_class};
 ghost use Rattle.i386_reloc.specs.Normal.{section_named};
-ghost use Rattle.extract_post.specs.Marks.{tests};
+ghost use Rattle.extract_post.specs.inside.Marks.{tests};
 
 use crate::classes;
 use crate::types::Wanted;

@@ -3,9 +3,9 @@ ghost use Rattle.std.specs.Prelude.{◌≡◌, ◌<◌, ◌+◌, ◌*◌, ◌^�
 ghost use Rattle.std.specs.List.{flat_map};
 ghost use Rattle.i386_reloc.specs.Classes.{is_code_class};
 ghost use Rattle.i386_reloc.specs.Places.{place_named};
-ghost use Rattle.extract_post.specs.Edges.{edge, links_in, joins, twins_from, member_node, from_node, into_node, member_edges};
+ghost use Rattle.extract_post.specs.inside.Edges.{edge, links_in, joins, twins_from, member_node, from_node, into_node, member_edges};
 ghost use Rattle.i386_reloc.specs.Reaches.{is_constant_class};
-ghost use Rattle.extract_post.specs.Fits.{two_edges, IsNumbered};
+ghost use Rattle.extract_post.specs.inside.Fits.{two_edges, IsNumbered};
 
 use crate::types::{Link, Numbers};
 use i386_reloc::{Normal, NormalSection};
@@ -165,7 +165,7 @@ fn add_twins(
 }
 
 /// The edges along which members are found, among three nodes a section of both objects.
-#[tactic(auto, using(crate::proofs::Numbered::pre_numbered, crate::proofs::Numbered::post_numbered), unfolding(crate::specs::Edges::member_edges))]
+#[tactic(auto, using(crate::proofs::Numbered::pre_numbered, crate::proofs::Numbered::post_numbered), unfolding(crate::specs::inside::Edges::member_edges))]
 pub(crate) fn member_edges(
     alloc: Global,
     pre: &Normal<'_>,

@@ -1,10 +1,10 @@
 //! Which sections reach marked ones, and which are reached from marked ones.
 ghost use Rattle.std.specs.Prelude.{◌≡◌, ◌<◌, IfOk, length};
-ghost use Rattle.extract_post.specs.Closures.{HasDistinctNames};
-ghost use Rattle.extract_post.specs.Edges.{links_in};
+ghost use Rattle.extract_post.specs.inside.Closures.{HasDistinctNames};
+ghost use Rattle.extract_post.specs.inside.Edges.{links_in};
 ghost use Rattle.i386_reloc.specs.Places.{place_named};
 ghost use Rattle.extract_post.specs.Members.{is_changed_constant};
-ghost use Rattle.extract_post.specs.Marks.{TellReaching, TellReached, TellReachesChanged, tests, marked_at};
+ghost use Rattle.extract_post.specs.inside.Marks.{TellReaching, TellReached, TellReachesChanged, tests, marked_at};
 ghost use Rattle.section_equal.specs.Same.{same_names};
 
 use crate::edges::{backward_edges, forward_edges};

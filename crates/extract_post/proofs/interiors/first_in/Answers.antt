@@ -1,6 +1,6 @@
 use Rattle.std.proofs.Common.{sym}
 use Rattle.std.proofs.lemmas.Iterator.Adapters.{position_from-zero}
-use Rattle.extract_post.specs.Marks.{breaks}
+use Rattle.extract_post.specs.inside.Marks.{breaks}
 use Rattle.extract_post.proofs.interiors.first_in.Goals as goal
 
 pub loop-k-init : goal.loop-k-init

@@ -1,7 +1,7 @@
 -- Edges in pairs, and numbers of nodes that fit.
 use Rattle.std.specs.Prelude.{◌<◌, ◌^◌, List, [], ◌∷◌, Option, Some, None}
 use Rattle.reachability.specs.declared.edge.Edge.{Edge}
-use Rattle.extract_post.specs.Edges.{Link, Numbers, into_node}
+use Rattle.extract_post.specs.inside.Edges.{Link, Numbers, into_node}
 
 -- two edges, where there are any
 abbrev pub two_edges : Option (Edge × Edge) → List Edge

@@ -5,7 +5,7 @@ use Rattle.i386_reloc.specs.declared.types.NormalSection.{NormalSection}
 use Rattle.i386_reloc.specs.Classes.{is_code_class}
 use Rattle.i386_reloc.specs.Reaches.{is_in}
 use Rattle.extract_post.specs.Members.{is_there, Differs}
-use Rattle.extract_post.specs.Edges.{Numbers, member_node, pre_numbers, post_numbers}
+use Rattle.extract_post.specs.inside.Edges.{Numbers, member_node, pre_numbers, post_numbers}
 
 -- The members from which the others are found: code sections that differ, and those of post alone.
 abbrev pub IsSeed : List NormalSection → List NormalSection → List ℕ → Type 0

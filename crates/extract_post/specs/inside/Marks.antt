@@ -8,7 +8,7 @@ use Rattle.i386_reloc.specs.Classes.{is_code_class}
 use Rattle.section_equal.specs.Same.{same_in}
 use Rattle.i386_reloc.specs.Reaches.{is_read_only_class, is_in, is_interior}
 use Rattle.extract_post.specs.Members.{is_new_data, is_changed_constant, ReachesChanged, Member}
-use Rattle.extract_post.specs.Closures.{SeedReaches, ReachesSeed}
+use Rattle.extract_post.specs.inside.Closures.{SeedReaches, ReachesSeed}
 use Rattle.i386_reloc.specs.Places.{place_of_target}
 
 -- whether the section at a place is marked
