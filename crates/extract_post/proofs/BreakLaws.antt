@@ -9,16 +9,17 @@ use Rattle.i386_reloc.specs.declared.types.Ref.{Ref}
 use Rattle.i386_reloc.specs.declared.types.NormalSection.{NormalSection}
 use Rattle.i386_reloc.specs.Classes.{is_code_class}
 use Rattle.i386_reloc.specs.Normal.{section_named}
-use Rattle.extract_post.specs.Reaches.{is_read_only_class, is_data_class, is_in, goes_to, goes_to_target, is_interior}
+use Rattle.i386_reloc.specs.Reaches.{is_read_only_class, is_data_class, is_in, goes_to, goes_to_target, is_interior}
 use Rattle.extract_post.specs.Members.{is_there, is_in_both, is_new_data, Member, IsChanged}
 use Rattle.extract_post.specs.Extract.{NoneIs, IsDataOf, IsBroken}
 use Rattle.extract_post.specs.Extract.IsDataOf.{Itself, Reached}
 use Rattle.extract_post.specs.Extract.IsBroken.{OldData, NewData}
-use Rattle.extract_post.specs.Closures.{HasDistinctNames, SeedReaches}
-use Rattle.extract_post.specs.Edges.{place_of_target}
-use Rattle.extract_post.specs.Found.{FirstBroken, Broken}
-use Rattle.extract_post.specs.Marks.{marked, Marks, tests, TellDataOf, AreBoth, AreApart, Stays, breaks_at, breaks, breaks_in, NoBreakBelow, FirstBreak}
-use Rattle.extract_post.proofs.Links.{option_cases, section_found, target_of_place, place_of_goes}
+use Rattle.extract_post.specs.inside.Closures.{HasDistinctNames, SeedReaches}
+use Rattle.i386_reloc.specs.Places.{place_of_target}
+use Rattle.extract_post.specs.inside.Found.{FirstBroken, Broken}
+use Rattle.extract_post.specs.inside.Marks.{marked, Marks, tests, TellDataOf, AreBoth, AreApart, Stays, breaks_at, breaks, breaks_in, NoBreakBelow, FirstBreak}
+use Rattle.i386_reloc.specs.NamedPlaces.{section_found}
+use Rattle.extract_post.proofs.Links.{option_cases, target_of_place, place_of_goes}
 use Rattle.extract_post.proofs.Tells.{tells_through}
 use Rattle.extract_post.proofs.ChangeLaws.{tells_true, true_tells}
 use Rattle.extract_post.proofs.MarkLaws.{tells_test, tells_and, tests_at}

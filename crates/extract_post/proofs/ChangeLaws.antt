@@ -1,7 +1,7 @@
 -- What marks tell of sections that are other than in the first object.
 use Rattle.std.proofs.Common.{◌≡◌, ◌⊎◌, inl, inr, ℕ, ◌+◌, ◌-◌, ◌*◌, ◌<◌, ◌≤◌, nat_le, Bool, true, false, not, ◌&&◌, ◌||◌, List, length, Option, Some, None, refl, sym, ap, subst, ◌∙◌, arith}
 use Rattle.std.specs.List.{slice_get}
-use Rattle.std.proofs.lemmas.Bool.{cases_lt, and_parts, and_from, and_left, or_from, leb-true, le-leb}
+use Rattle.std.proofs.lemmas.Bool.{cases_lt, and_parts, and_from, and_left, leb-true, le-leb}
 use Rattle.std.proofs.lemmas.Option.{slice_get_within, slice_get_cases}
 use Rattle.std.proofs.lemmas.List.{length-map, get_or_past}
 use Rattle.reachability.specs.Reached.{Tells}
@@ -12,17 +12,19 @@ use Rattle.i386_reloc.specs.Classes.{is_code_class}
 use Rattle.i386_reloc.specs.Normal.{section_named}
 use Rattle.i386_reloc.specs.Places.{place_named}
 use Rattle.section_equal.specs.Same.{same_in}
-use Rattle.extract_post.specs.Reaches.{is_constant_class, is_read_only_class, is_data_class, has_class, is_in, some_reference, goes_to, Reaches}
-use Rattle.extract_post.specs.Reaches.Reaches.{Refers, Further}
+use Rattle.i386_reloc.specs.Reaches.{is_constant_class, is_read_only_class, is_data_class, has_class, is_in, some_reference, goes_to, Reaches}
+use Rattle.i386_reloc.specs.Reaches.Reaches.{Refers, Further}
 use Rattle.extract_post.specs.Members.{is_there, is_in_both, is_changed_constant, ReachesChanged, Differs}
+use Rattle.extract_post.specs.Members.ReachesChanged.{InPre, InPost}
 use Rattle.extract_post.specs.Members.Differs.{Itself as DiffersItself, Through as DiffersThrough}
 use Rattle.extract_post.specs.Extract.{other_class, DataDiffers}
 use Rattle.extract_post.specs.Extract.DataDiffers.{OtherClass, Itself as DataItself, Through as DataThrough}
-use Rattle.extract_post.specs.Seeds.{IsSeed, AreSeeds}
-use Rattle.extract_post.specs.Closures.{ReachesSeed}
-use Rattle.extract_post.specs.Marks.{marked, Marks, tests, TellReaching, TellReachesChanged, AreBoth, AreEither, AreOther, AreShifted, shifted, marked_at, is_other}
+use Rattle.extract_post.specs.inside.Seeds.{IsSeed, AreSeeds}
+use Rattle.extract_post.specs.inside.Closures.{ReachesSeed}
+use Rattle.extract_post.specs.inside.Marks.{marked, Marks, tests, TellReaching, TellReachesChanged, AreBoth, AreEither, AreOther, AreShifted, shifted, marked_at, is_other}
 use Rattle.i386_reloc.specs.PlaceLaws.{section_named_at}
-use Rattle.extract_post.proofs.Links.{option_cases, section_at_place, section_found}
+use Rattle.i386_reloc.specs.NamedPlaces.{section_at_place, section_found}
+use Rattle.extract_post.proofs.Links.{option_cases}
 use Rattle.extract_post.proofs.Tells.{tells_through}
 use Rattle.extract_post.proofs.MarkLaws.{tells_test, tells_and, tells_or, tests_at}
 
@@ -45,11 +47,9 @@ has_other : (wanted : Class → Bool) → ((c : Class) → wanted c ≡ true →
 has_other wanted other None is = refl
 has_other wanted other (Some s) is = other s.class is
 
-both_unchanged : (wanted : Class → Bool) → ((c : Class) → wanted c ≡ true → is_read_only_class c ≡ false) → (pre post : List NormalSection) (name : List ℕ) → is_in_both wanted pre post name ≡ true → is_changed_constant pre post name ≡ false
-both_unchanged wanted other pre post name both =
-    let parts = and_parts (is_in wanted pre name) (is_in wanted post name) both in
-    and_left (is_in is_read_only_class pre name || is_in is_read_only_class post name) (not (same_in pre post name))
-    (or_from (is_in is_read_only_class pre name) (is_in is_read_only_class post name) (has_other wanted other (section_named pre name) parts.0) (has_other wanted other (section_named post name) parts.1))
+unchanged : (wanted : Class → Bool) → ((c : Class) → wanted c ≡ true → is_read_only_class c ≡ false) → (of pre post : List NormalSection) (name : List ℕ) → is_in wanted of name ≡ true → is_changed_constant of pre post name ≡ false
+unchanged wanted other of pre post name is =
+    and_left (is_in is_read_only_class of name) (not (same_in pre post name)) (has_other wanted other (section_named of name) is)
 
 -- what is the same for code and for data: in both objects, and not the same or reaching changed constants
 tells_differing : (wanted : Class → Bool) → ((c : Class) → wanted c ≡ true → is_read_only_class c ≡ false) → (pre post : List NormalSection) (reaching changed in_both both : List Bool) → TellReachesChanged pre post reaching → AreOther pre post reaching changed → in_both ≡ tests (is_in_both wanted pre post) post → AreBoth in_both changed both →
@@ -61,7 +61,7 @@ tells_differing wanted other pre post reaching changed in_both both told are tes
     rw (joined.each i)
     (rw (a, are.each i s at)
     (tells_and P Q (is_in_both wanted pre post s.name) (is_other pre post s.name || marked reaching i) (tells_test (is_in_both wanted pre post s.name))
-    (λ in_both. tells_or (is_other pre post s.name ≡ true) (ReachesChanged pre post s.name) (is_other pre post s.name) (marked reaching i) (tells_test (is_other pre post s.name)) (told.each i s at (both_unchanged wanted other pre post s.name in_both)))))
+    (λ in_both. tells_or (is_other pre post s.name ≡ true) (ReachesChanged pre post s.name) (is_other pre post s.name) (marked reaching i) (tells_test (is_other pre post s.name)) (let parts = and_parts (is_in wanted pre s.name) (is_in wanted post s.name) in_both in told.each i s at (unchanged wanted other pre pre post s.name parts.0) (unchanged wanted other post pre post s.name parts.1)))))
 
 -- data
 abbrev DataAt : List NormalSection → List NormalSection → List ℕ → Type 0
@@ -188,7 +188,7 @@ pub reaches_to : (sections : List NormalSection) (name other : List ℕ) → Rea
 reaches_to sections name other (Refers n o refers) = (and_parts (is_in is_constant_class sections o) (some_reference (goes_to o) (section_named sections n)) refers).0
 reaches_to sections name other (Further n between o before refers) = (and_parts (is_in is_constant_class sections o) (some_reference (goes_to o) (section_named sections between)) refers).0
 
-seed_of_reached : (pre post sections : List NormalSection) (name other : List ℕ) → Reaches sections name other → is_changed_constant pre post other ≡ true → ReachesSeed sections (tests (is_changed_constant pre post) sections) name
+seed_of_reached : (pre post sections : List NormalSection) (name other : List ℕ) → Reaches sections name other → is_changed_constant sections pre post other ≡ true → ReachesSeed sections (tests (is_changed_constant sections pre post) sections) name
 seed_of_reached pre post sections name other reaches changed =
     elim (option_cases (section_named sections other)) [
       | inl none ↦ absurd (let it = reaches_to sections name other reaches in let e : false ≡ true = rw none at it in cc)
@@ -198,14 +198,14 @@ seed_of_reached pre post sections name other reaches changed =
             place = i;
             section = some.0;
             at = at;
-            seeded = tests_at (is_changed_constant pre post) sections i some.0 at ∙ (ap (is_changed_constant pre post) same ∙ changed);
+            seeded = tests_at (is_changed_constant sections pre post) sections i some.0 at ∙ (ap (is_changed_constant sections pre post) same ∙ changed);
             reaches = rw same reaches;
           }
     ]
 
-changed_of_seed : (pre post sections : List NormalSection) (name : List ℕ) (it : ReachesSeed sections (tests (is_changed_constant pre post) sections) name) → is_changed_constant pre post it.section.name ≡ true
+changed_of_seed : (pre post sections : List NormalSection) (name : List ℕ) (it : ReachesSeed sections (tests (is_changed_constant sections pre post) sections) name) → is_changed_constant sections pre post it.section.name ≡ true
 changed_of_seed pre post sections name it =
-    sym (tests_at (is_changed_constant pre post) sections it.place it.section it.at) ∙ it.seeded
+    sym (tests_at (is_changed_constant sections pre post) sections it.place it.section it.at) ∙ it.seeded
 
 only_reaching : (P Q : Type 0) (mark seed : Bool) → seed ≡ false → Tells mark ((seed ≡ true) ⊎ Q) → Tells mark Q
 only_reaching P Q mark seed unseeded told =
@@ -214,37 +214,35 @@ only_reaching P Q mark seed unseeded told =
 no_section : (sections : List NormalSection) (name : List ℕ) → place_named sections name ≡ None → section_named sections name ≡ None
 no_section sections name none = section_named_at sections name ∙ rw none refl
 
-at_pre : (pre post : List NormalSection) (old : List Bool) → TellReaching pre (tests (is_changed_constant pre post) pre) old → (name : List ℕ) → is_changed_constant pre post name ≡ false → (o : Option ℕ) → place_named pre name ≡ o → section_named pre name ≡ section_named pre name → Tells (marked_at old o) (ReachesSeed pre (tests (is_changed_constant pre post) pre) name)
+at_pre : (pre post : List NormalSection) (old : List Bool) → TellReaching pre (tests (is_changed_constant pre pre post) pre) old → (name : List ℕ) → is_changed_constant pre pre post name ≡ false → (o : Option ℕ) → place_named pre name ≡ o → section_named pre name ≡ section_named pre name → Tells (marked_at old o) (ReachesSeed pre (tests (is_changed_constant pre pre post) pre) name)
 at_pre pre post old told name unchanged None there same =
-    λ (it : ReachesSeed pre (tests (is_changed_constant pre post) pre) name). reaches_from pre name it.section.name it.reaches (no_section pre name there)
+    λ (it : ReachesSeed pre (tests (is_changed_constant pre pre post) pre) name). reaches_from pre name it.section.name it.reaches (no_section pre name there)
 at_pre pre post old told name unchanged (Some p) there same =
     let (t, at, is) = section_at_place pre name p there in
-    let P : List ℕ → Type 0 = λ n. Tells (marked old p) (ReachesSeed pre (tests (is_changed_constant pre post) pre) n) in
+    let P : List ℕ → Type 0 = λ n. Tells (marked old p) (ReachesSeed pre (tests (is_changed_constant pre pre post) pre) n) in
     subst P is
-    (only_reaching (Unit {0}) (ReachesSeed pre (tests (is_changed_constant pre post) pre) t.name) (marked old p) (marked (tests (is_changed_constant pre post) pre) p)
-    (tests_at (is_changed_constant pre post) pre p t at ∙ (ap (is_changed_constant pre post) is ∙ unchanged)) (told.each p t at))
+    (only_reaching (Unit {0}) (ReachesSeed pre (tests (is_changed_constant pre pre post) pre) t.name) (marked old p) (marked (tests (is_changed_constant pre pre post) pre) p)
+    (tests_at (is_changed_constant pre pre post) pre p t at ∙ (ap (is_changed_constant pre pre post) is ∙ unchanged)) (told.each p t at))
 
-pub tell_changed : (pre post : List NormalSection) (old new moved marks : List Bool) → TellReaching pre (tests (is_changed_constant pre post) pre) old → TellReaching post (tests (is_changed_constant pre post) post) new → moved ≡ tests (λ name. marked_at old (place_named pre name)) post → AreEither new moved marks → TellReachesChanged pre post marks
+pub tell_changed : (pre post : List NormalSection) (old new moved marks : List Bool) → TellReaching pre (tests (is_changed_constant pre pre post) pre) old → TellReaching post (tests (is_changed_constant post pre post) post) new → moved ≡ tests (λ name. marked_at old (place_named pre name)) post → AreEither new moved marks → TellReachesChanged pre post marks
 tell_changed pre post old new moved marks told_old told_new tested either =
     record {
       len = either.len ∙ told_new.len;
-      each = λ i s at unchanged.
-          let P = ReachesSeed post (tests (is_changed_constant pre post) post) s.name in
-          let Q = ReachesSeed pre (tests (is_changed_constant pre post) pre) s.name in
+      each = λ i s at pre_unchanged post_unchanged.
+          let P = ReachesSeed post (tests (is_changed_constant post pre post) post) s.name in
+          let Q = ReachesSeed pre (tests (is_changed_constant pre pre post) pre) s.name in
           let a : marked moved i ≡ marked_at old (place_named pre s.name) = ap (λ m. marked m i) tested ∙ tests_at (λ name. marked_at old (place_named pre name)) post i s at in
           tells_through (marked marks i) (there i s at) (back i s at)
           (rw (either.each i)
           (rw a
           (tells_or P Q (marked new i) (marked_at old (place_named pre s.name))
-          (only_reaching (Unit {0}) P (marked new i) (marked (tests (is_changed_constant pre post) post) i) (tests_at (is_changed_constant pre post) post i s at ∙ unchanged) (told_new.each i s at))
-          (at_pre pre post old told_old s.name unchanged (place_named pre s.name) refl refl))));
+          (only_reaching (Unit {0}) P (marked new i) (marked (tests (is_changed_constant post pre post) post) i) (tests_at (is_changed_constant post pre post) post i s at ∙ post_unchanged) (told_new.each i s at))
+          (at_pre pre post old told_old s.name pre_unchanged (place_named pre s.name) refl refl))));
     } where
-      there : (i : ℕ) (s : NormalSection) → slice_get post i ≡ Some s → ReachesSeed post (tests (is_changed_constant pre post) post) s.name ⊎ ReachesSeed pre (tests (is_changed_constant pre post) pre) s.name → ReachesChanged pre post s.name
-      there i s at (inl it) = record { other = it.section.name; reaches = inr it.reaches; changed = changed_of_seed pre post post s.name it }
-      there i s at (inr it) = record { other = it.section.name; reaches = inl it.reaches; changed = changed_of_seed pre post pre s.name it }
+      there : (i : ℕ) (s : NormalSection) → slice_get post i ≡ Some s → ReachesSeed post (tests (is_changed_constant post pre post) post) s.name ⊎ ReachesSeed pre (tests (is_changed_constant pre pre post) pre) s.name → ReachesChanged pre post s.name
+      there i s at (inl it) = InPost it.section.name it.reaches (changed_of_seed pre post post s.name it)
+      there i s at (inr it) = InPre it.section.name it.reaches (changed_of_seed pre post pre s.name it)
 
-      back : (i : ℕ) (s : NormalSection) → slice_get post i ≡ Some s → ReachesChanged pre post s.name → ReachesSeed post (tests (is_changed_constant pre post) post) s.name ⊎ ReachesSeed pre (tests (is_changed_constant pre post) pre) s.name
-      back i s at it = from it.reaches where
-        from : Reaches pre s.name it.other ⊎ Reaches post s.name it.other → ReachesSeed post (tests (is_changed_constant pre post) post) s.name ⊎ ReachesSeed pre (tests (is_changed_constant pre post) pre) s.name
-        from (inl reaches) = inr (seed_of_reached pre post pre s.name it.other reaches it.changed)
-        from (inr reaches) = inl (seed_of_reached pre post post s.name it.other reaches it.changed)
+      back : (i : ℕ) (s : NormalSection) → slice_get post i ≡ Some s → ReachesChanged pre post s.name → ReachesSeed post (tests (is_changed_constant post pre post) post) s.name ⊎ ReachesSeed pre (tests (is_changed_constant pre pre post) pre) s.name
+      back i s at (InPre other reaches changed) = inr (seed_of_reached pre post pre s.name other reaches changed)
+      back i s at (InPost other reaches changed) = inl (seed_of_reached pre post post s.name other reaches changed)

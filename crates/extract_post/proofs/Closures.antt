@@ -10,11 +10,12 @@ use Rattle.i386_reloc.specs.declared.types.Ref.{Ref}
 use Rattle.i386_reloc.specs.declared.types.NormalSection.{NormalSection}
 use Rattle.i386_reloc.specs.Normal.{section_named}
 use Rattle.i386_reloc.specs.Places.{place_named}
-use Rattle.extract_post.specs.Reaches.{is_constant_class, is_in, some_reference, goes_to, refers_on, Reaches}
-use Rattle.extract_post.specs.Reaches.Reaches.{Refers, Further}
-use Rattle.extract_post.specs.Edges.{edge, Link, links_in, forward, backward}
-use Rattle.extract_post.specs.Closures.{HasDistinctNames, SeedReaches, ReachesSeed}
-use Rattle.extract_post.proofs.Links.{Among, item_found, option_cases, named_at, section_found, placed, link_between, IsLink, link_is_in, link_of_edge, edge_of_link}
+use Rattle.i386_reloc.specs.Reaches.{is_constant_class, is_in, some_reference, goes_to, refers_on, Reaches}
+use Rattle.i386_reloc.specs.Reaches.Reaches.{Refers, Further}
+use Rattle.extract_post.specs.inside.Edges.{edge, Link, links_in, forward, backward}
+use Rattle.extract_post.specs.inside.Closures.{HasDistinctNames, SeedReaches, ReachesSeed}
+use Rattle.i386_reloc.specs.NamedPlaces.{section_found}
+use Rattle.extract_post.proofs.Links.{Among, item_found, option_cases, named_at, placed, link_between, IsLink, link_is_in, link_of_edge, edge_of_link}
 
 -- a single edge
 pub edge_ends : (from to a b : ℕ) → connects (edge from to ∷ []) a b ≡ true → (from ≡ a) × (to ≡ b)

@@ -8,11 +8,12 @@ use Rattle.i386_reloc.specs.declared.types.Class.TheVariants.{Zero, Code, Writab
 use Rattle.i386_reloc.specs.declared.types.NormalSection.{NormalSection}
 use Rattle.i386_reloc.specs.Classes.{is_code_class}
 use Rattle.i386_reloc.specs.Normal.{section_named}
-use Rattle.extract_post.specs.Reaches.{is_constant_class, is_read_only_class, is_data_class, has_class, is_in}
+use Rattle.i386_reloc.specs.Reaches.{is_constant_class, is_read_only_class, is_data_class, has_class, is_in}
 use Rattle.extract_post.specs.Members.{is_there, is_new_data, Member, IsCarried}
-use Rattle.extract_post.specs.Closures.{HasDistinctNames, SeedReaches}
-use Rattle.extract_post.specs.Marks.{marked, Marks, tests, TellReached, TellDataOf, AreBoth, AreEither}
-use Rattle.extract_post.proofs.Links.{option_cases, section_found}
+use Rattle.extract_post.specs.inside.Closures.{HasDistinctNames, SeedReaches}
+use Rattle.extract_post.specs.inside.Marks.{marked, Marks, tests, TellReached, TellDataOf, AreBoth, AreEither}
+use Rattle.i386_reloc.specs.NamedPlaces.{section_found}
+use Rattle.extract_post.proofs.Links.{option_cases}
 use Rattle.extract_post.proofs.Tells.{tells_through}
 use Rattle.extract_post.proofs.ChangeLaws.{tells_true, true_tells, reaches_to}
 use Rattle.extract_post.proofs.MarkLaws.{tells_test, tells_and, tells_or, tests_at}

@@ -11,7 +11,7 @@ use Rattle.i386_reloc.specs.declared.types.NormalSection.{NormalSection}
 use Rattle.extract_post.specs.Extract.{Picks, IsFirst, NoneIs, places}
 use Rattle.extract_post.specs.Extract.Picks.{Ends, Takes, Leaves}
 use Rattle.extract_post.specs.Extract.IsFirst.{Here, Later}
-use Rattle.extract_post.specs.Marks.{Marks, marked_names}
+use Rattle.extract_post.specs.inside.Marks.{Marks, marked_names}
 use Rattle.extract_post.proofs.ChangeLaws.{true_tells}
 
 false_tells : (P : Type 0) (b : Bool) → Tells b P → b ≡ false → P → ⊥

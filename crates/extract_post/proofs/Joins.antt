@@ -8,14 +8,15 @@ use Rattle.i386_reloc.specs.declared.types.Class.{Class}
 use Rattle.i386_reloc.specs.declared.types.Class.TheVariants.{Zero, Code, Writable, Strings, ReadOnly}
 use Rattle.i386_reloc.specs.declared.types.NormalSection.{NormalSection}
 use Rattle.i386_reloc.specs.Classes.{is_code_class}
-use Rattle.extract_post.specs.Reaches.{is_constant_class, is_read_only_class, is_in, goes_to, is_interior, refers_on, Reaches, points_into, PointsInto}
-use Rattle.extract_post.specs.Reaches.Reaches.{Refers, Further}
-use Rattle.extract_post.specs.Reaches.PointsInto.{Itself, Through}
+use Rattle.i386_reloc.specs.Reaches.{is_constant_class, is_read_only_class, is_in, goes_to, is_interior, refers_on, Reaches}
+use Rattle.extract_post.specs.Members.{points_into, PointsInto}
+use Rattle.i386_reloc.specs.Reaches.Reaches.{Refers, Further}
+use Rattle.extract_post.specs.Members.PointsInto.{Itself, Through}
 use Rattle.extract_post.specs.Members.{Tied, Member}
 use Rattle.extract_post.specs.Members.Tied.{Back}
 use Rattle.extract_post.specs.Members.Member.{Joined}
-use Rattle.extract_post.specs.Closures.{HasDistinctNames}
-use Rattle.extract_post.specs.Edges.{edge, Link, links_in, Numbers, member_node, from_node, into_node, joins}
+use Rattle.extract_post.specs.inside.Closures.{HasDistinctNames}
+use Rattle.extract_post.specs.inside.Edges.{edge, Link, links_in, Numbers, member_node, from_node, into_node, joins}
 use Rattle.extract_post.proofs.Links.{named_at, IsLink, link_of_edge}
 use Rattle.extract_post.proofs.Closures.{edge_ends, refers_from_link, reaches_before}
 

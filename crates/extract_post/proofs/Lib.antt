@@ -13,9 +13,7 @@ pub mod DataLaws
 pub mod Firsts
 pub mod BreakLaws
 pub mod Verdicts
-pub mod Blocks
-pub mod EndsOfTexts
-pub mod Samenesses
 pub mod SameMarks
 pub mod Targets
 pub mod OneAnswer
+pub mod Computed

@@ -1,8 +1,8 @@
 -- The links of a list of sections are its references from a section to a section.
-use Rattle.std.proofs.Common.{◌≡◌, ◌⊎◌, inl, inr, ℕ, zero, suc, ◌+◌, Bool, true, false, ◌==◌, ◌||◌, ◌&&◌, List, [], ◌∷◌, map, Option, Some, None, option_map, refl, sym, ap, ◌∙◌, arith}
+use Rattle.std.proofs.Common.{◌≡◌, ◌⊎◌, inl, inr, ℕ, zero, suc, ◌+◌, Bool, true, false, ◌==◌, ◌||◌, ◌&&◌, List, [], ◌∷◌, map, Option, Some, None, refl, sym, ap, ◌∙◌, arith}
 use Rattle.std.specs.List.{IsDistinct, AllByRecursion, list_any, flat_map, slice_get}
 use Rattle.std.specs.Cmp.Lexicographic.{bytes_decides}
-use Rattle.std.proofs.lemmas.Bool.{cases_Bool, or_cases, or_left, or_right}
+use Rattle.std.proofs.lemmas.Bool.{or_cases, or_left, or_right}
 use Rattle.std.proofs.lemmas.Option.{same_Some}
 use Rattle.std.proofs.lemmas.List.Folds.{list_any-append}
 use Rattle.std.proofs.lemmas.Cmp.{nat_list_eq_equiv}
@@ -16,9 +16,11 @@ use Rattle.i386_reloc.specs.declared.types.NormalSection.{NormalSection}
 use Rattle.i386_reloc.specs.Normal.{same_bytes, section_named, name_of}
 use Rattle.i386_reloc.specs.Places.{place_named}
 use Rattle.i386_reloc.specs.PlaceLaws.{section_named_at}
-use Rattle.extract_post.specs.Reaches.{goes_to_target, goes_to, is_interior}
-use Rattle.extract_post.specs.Closures.{HasDistinctNames}
-use Rattle.extract_post.specs.Edges.{place_of_target, Link, link_to, links_of, links_from, links_in}
+use Rattle.i386_reloc.specs.NamedPlaces.{section_at_place}
+use Rattle.i386_reloc.specs.Reaches.{goes_to_target, goes_to, is_interior}
+use Rattle.extract_post.specs.inside.Closures.{HasDistinctNames}
+use Rattle.i386_reloc.specs.Places.{place_of_target}
+use Rattle.extract_post.specs.inside.Edges.{Link, link_to, links_of, links_from, links_in}
 
 -- an item of a list: whatever test it passes, some item passes
 abbrev pub Among : {X : Type 0} → List X → X → Type 0
@@ -58,31 +60,6 @@ placed (x ∷ xs) distinct (suc i) s at =
 
 pub named_at : (sections : List NormalSection) → HasDistinctNames sections → (i : ℕ) (s : NormalSection) → slice_get sections i ≡ Some s → section_named sections s.name ≡ Some s
 named_at sections distinct i s at = section_named_at sections s.name ∙ rw (placed sections distinct i s at) at
-
-place_later : (o : Option ℕ) (i : ℕ) → option_map suc o ≡ Some i → (j : ℕ) × (o ≡ Some j) × (i ≡ suc j)
-place_later None i at = absurd cc
-place_later (Some j) i at = (j, refl, sym (same_Some (suc j) i at))
-
--- at a name's place stands a section of this name
-pub section_at_place : (sections : List NormalSection) (name : List ℕ) (i : ℕ) → place_named sections name ≡ Some i → (s : NormalSection) × (slice_get sections i ≡ Some s) × (s.name ≡ name)
-section_at_place [] name i at = absurd cc
-section_at_place (x ∷ xs) name i at =
-    elim (cases_Bool (same_bytes x.name name)) [
-      | inl same ↦ let first : Some 0 ≡ Some i = rw same at at in let e : 0 ≡ i = same_Some 0 i first in rw (← e) (x, refl, (bytes_decides x.name name).0 same)
-      | inr apart ↦
-          let later : option_map suc (place_named xs name) ≡ Some i = rw apart at at in
-          let (j, at_j, e) = place_later (place_named xs name) i later in rw e (section_at_place xs name j at_j)
-    ]
-
-pub section_found : (sections : List NormalSection) (name : List ℕ) (s : NormalSection) → section_named sections name ≡ Some s → (i : ℕ) × (slice_get sections i ≡ Some s) × (s.name ≡ name)
-section_found sections name s found =
-    elim (option_cases (place_named sections name)) [
-      | inl none ↦ absurd (let e : None ≡ Some s = sym (section_named_at sections name ∙ rw none refl) ∙ found in cc)
-      | inr it ↦
-          let (t, at, same) = section_at_place sections name it.0 it.1 in
-          let e : Some t ≡ Some s = sym at ∙ sym (section_named_at sections name ∙ rw it.1 refl) ∙ found in
-          (it.0, at ∙ e, rw (← same_Some t s e) same)
-    ]
 
 -- the place of a target is the place of a section to which it goes
 pub target_of_place : (sections : List NormalSection) (target : Target) (i : ℕ) → place_of_target sections target ≡ Some i → (t : NormalSection) × (slice_get sections i ≡ Some t) × (goes_to_target t.name target ≡ true)

@@ -4,7 +4,7 @@ use Rattle.std.specs.List.{slice_get}
 use Rattle.std.proofs.lemmas.Option.{same_Some}
 use Rattle.reachability.specs.Reached.{Tells}
 use Rattle.i386_reloc.specs.declared.types.NormalSection.{NormalSection}
-use Rattle.extract_post.specs.Marks.{marked, tests, marked_names}
+use Rattle.extract_post.specs.inside.Marks.{marked, tests, marked_names}
 
 -- what a test tells of itself, and what two marks tell together
 pub tells_test : (b : Bool) → Tells b (b ≡ true)

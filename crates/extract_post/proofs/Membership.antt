@@ -12,15 +12,16 @@ use Rattle.i386_reloc.specs.declared.types.NormalSection.{NormalSection}
 use Rattle.i386_reloc.specs.Classes.{is_code_class}
 use Rattle.i386_reloc.specs.Normal.{section_named}
 use Rattle.i386_reloc.specs.Places.{place_named}
-use Rattle.extract_post.specs.Reaches.{is_in, goes_to, is_interior, some_reference, PointsInto}
-use Rattle.extract_post.specs.Reaches.PointsInto.{Itself as PointsItself, Through as PointsThrough}
+use Rattle.i386_reloc.specs.Reaches.{is_in, goes_to, is_interior, some_reference}
+use Rattle.extract_post.specs.Members.{PointsInto}
+use Rattle.extract_post.specs.Members.PointsInto.{Itself as PointsItself, Through as PointsThrough}
 use Rattle.extract_post.specs.Members.{is_there, Differs, Tied, Member}
 use Rattle.extract_post.specs.Members.Differs.{Itself, Through}
 use Rattle.extract_post.specs.Members.Tied.{InPre, InPost, Back}
 use Rattle.extract_post.specs.Members.Member.{Differing, OnlyInPost, Joined}
-use Rattle.extract_post.specs.Closures.{HasDistinctNames}
-use Rattle.extract_post.specs.Edges.{edge, links_in, member_node, joins, twins_from, pre_numbers, post_numbers, member_edges}
-use Rattle.extract_post.specs.Seeds.{IsSeed, AreSeeds}
+use Rattle.extract_post.specs.inside.Closures.{HasDistinctNames}
+use Rattle.extract_post.specs.inside.Edges.{edge, links_in, member_node, joins, twins_from, pre_numbers, post_numbers, member_edges}
+use Rattle.extract_post.specs.inside.Seeds.{IsSeed, AreSeeds}
 use Rattle.extract_post.proofs.Links.{placed}
 use Rattle.extract_post.proofs.Closures.{first_edge, later_edge, same_place}
 use Rattle.extract_post.proofs.Joins.Kind.{AsMember}

@@ -12,10 +12,11 @@ use Rattle.i386_reloc.specs.Places.{place_named}
 use Rattle.extract_post.specs.Members.{Member}
 use Rattle.extract_post.specs.Members.Tied.{InPre, InPost}
 use Rattle.extract_post.specs.Members.Member.{Differing, OnlyInPost}
-use Rattle.extract_post.specs.Closures.{HasDistinctNames}
-use Rattle.extract_post.specs.Edges.{links_in, Numbers, member_node, joins, twins_from, pre_numbers, post_numbers, member_edges}
-use Rattle.extract_post.specs.Seeds.{IsSeed, AreSeeds}
-use Rattle.extract_post.proofs.Links.{option_cases, section_at_place}
+use Rattle.extract_post.specs.inside.Closures.{HasDistinctNames}
+use Rattle.extract_post.specs.inside.Edges.{links_in, Numbers, member_node, joins, twins_from, pre_numbers, post_numbers, member_edges}
+use Rattle.extract_post.specs.inside.Seeds.{IsSeed, AreSeeds}
+use Rattle.i386_reloc.specs.NamedPlaces.{section_at_place}
+use Rattle.extract_post.proofs.Links.{option_cases}
 use Rattle.extract_post.proofs.Joins.{Kind, node_of, Fact, two_edges, two_ends, Hands, joins_hands}
 use Rattle.extract_post.proofs.Joins.Kind.{AsMember, AsFrom, AsInto}
 

@@ -9,13 +9,14 @@ use Rattle.reachability.specs.Reached.{Tells, IsWithin, ReachedAlong}
 use Rattle.i386_reloc.specs.declared.types.NormalSection.{NormalSection}
 use Rattle.i386_reloc.specs.Classes.{is_code_class}
 use Rattle.i386_reloc.specs.Places.{place_named}
-use Rattle.extract_post.specs.Reaches.{is_constant_class, is_read_only_class}
-use Rattle.extract_post.specs.Closures.{HasDistinctNames}
-use Rattle.extract_post.specs.Edges.{Link, Numbers, links_in, pre_numbers, post_numbers, edge, joins, twins_from, member_node, from_node, into_node, member_edges}
-use Rattle.extract_post.specs.Seeds.{AreSeeds}
-use Rattle.extract_post.specs.Marks.{TellMembers}
-use Rattle.extract_post.specs.Fits.{IsNumbered}
-use Rattle.extract_post.proofs.Links.{option_cases, link_found, section_at_place}
+use Rattle.i386_reloc.specs.Reaches.{is_constant_class, is_read_only_class}
+use Rattle.extract_post.specs.inside.Closures.{HasDistinctNames}
+use Rattle.extract_post.specs.inside.Edges.{Link, Numbers, links_in, pre_numbers, post_numbers, edge, joins, twins_from, member_node, from_node, into_node, member_edges}
+use Rattle.extract_post.specs.inside.Seeds.{AreSeeds}
+use Rattle.extract_post.specs.inside.Marks.{TellMembers}
+use Rattle.extract_post.specs.inside.Fits.{IsNumbered}
+use Rattle.i386_reloc.specs.NamedPlaces.{section_at_place}
+use Rattle.extract_post.proofs.Links.{option_cases, link_found}
 use Rattle.extract_post.proofs.Walks.{is_outside, none_any, edges_within, link_places}
 use Rattle.extract_post.proofs.Tells.{member_tells_pre, member_tells_post}
 

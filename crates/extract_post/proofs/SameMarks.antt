@@ -3,9 +3,10 @@ use Rattle.std.proofs.Common.{◌≡◌, ℕ, suc, Bool, not, ◌&&◌, ◌||◌
 use Rattle.std.specs.List.{slice_get}
 use Rattle.i386_reloc.specs.declared.types.NormalSection.{NormalSection}
 use Rattle.section_equal.specs.Same.{same_in}
+use Rattle.i386_reloc.specs.Reaches.{is_read_only_class, is_in}
 use Rattle.extract_post.specs.Members.{is_changed_constant}
-use Rattle.extract_post.specs.Marks.{marked, tests, is_other, is_constant_in_either, AreEither, AreOther, AreApart}
-use Rattle.extract_post.specs.Texts.{same_names}
+use Rattle.extract_post.specs.inside.Marks.{marked, tests, is_other, AreEither, AreOther, AreApart}
+use Rattle.section_equal.specs.Same.{same_names}
 use Rattle.extract_post.proofs.MarkLaws.{tests_at}
 
 others_are : (pre post sections : List NormalSection) → map not (same_names pre post sections) ≡ tests (is_other pre post) sections
@@ -38,10 +39,10 @@ tests_by f (section ∷ sections) (mark ∷ marks) len each =
       same_suc e = omega (arith, e)
 
 -- the read-only data that aren't the same
-pub are_changed : (of pre post : List NormalSection) (same constants marks : List Bool) → same ≡ same_names pre post of → constants ≡ tests (is_constant_in_either pre post) of → AreApart constants same marks → marks ≡ tests (is_changed_constant pre post) of
+pub are_changed : (of pre post : List NormalSection) (same constants marks : List Bool) → same ≡ same_names pre post of → constants ≡ tests (is_in is_read_only_class of) of → AreApart constants same marks → marks ≡ tests (is_changed_constant of pre post) of
 are_changed of pre post same constants marks are constant apart =
-    tests_by (is_changed_constant pre post) of marks (apart.len ∙ ap length constant ∙ length-tests (is_constant_in_either pre post) of)
+    tests_by (is_changed_constant of pre post) of marks (apart.len ∙ ap length constant ∙ length-tests (is_in is_read_only_class of) of)
     (λ place section at.
     apart.each place
-    ∙ ap (λ b. b && not (marked same place)) (ap (λ m. marked m place) constant ∙ tests_at (is_constant_in_either pre post) of place section at)
-    ∙ ap (λ b. is_constant_in_either pre post section.name && not b) (ap (λ m. marked m place) are ∙ tests_at (same_in pre post) of place section at))
+    ∙ ap (λ b. b && not (marked same place)) (ap (λ m. marked m place) constant ∙ tests_at (is_in is_read_only_class of) of place section at)
+    ∙ ap (λ b. is_in is_read_only_class of section.name && not b) (ap (λ m. marked m place) are ∙ tests_at (same_in pre post) of place section at))

@@ -5,9 +5,9 @@ use Rattle.reachability.specs.Reached.{ReachedAlong, Tells}
 use Rattle.reachability.specs.Reached.ReachedAlong.{Seed}
 use Rattle.i386_reloc.specs.declared.types.NormalSection.{NormalSection}
 use Rattle.extract_post.specs.Members.{Member}
-use Rattle.extract_post.specs.Edges.{links_in, forward, backward, member_node, pre_numbers, post_numbers, member_edges}
-use Rattle.extract_post.specs.Closures.{HasDistinctNames, SeedReaches, ReachesSeed}
-use Rattle.extract_post.specs.Seeds.{AreSeeds}
+use Rattle.extract_post.specs.inside.Edges.{links_in, forward, backward, member_node, pre_numbers, post_numbers, member_edges}
+use Rattle.extract_post.specs.inside.Closures.{HasDistinctNames, SeedReaches, ReachesSeed}
+use Rattle.extract_post.specs.inside.Seeds.{AreSeeds}
 use Rattle.extract_post.proofs.Closures.{forward_sound, forward_complete, backward_sound, backward_complete}
 use Rattle.extract_post.proofs.Membership.{member_sound_pre, member_sound_post, member_complete_pre, member_complete_post}
 

@@ -10,11 +10,13 @@ use Rattle.i386_reloc.specs.declared.types.Ref.{Ref}
 use Rattle.i386_reloc.specs.declared.types.NormalSection.{NormalSection}
 use Rattle.i386_reloc.specs.Classes.{is_code_class}
 use Rattle.i386_reloc.specs.Normal.{section_named}
-use Rattle.extract_post.specs.Reaches.{is_constant_class, is_read_only_class, is_in, some_reference, goes_to, is_interior, refers_on, points_into, PointsInto}
-use Rattle.extract_post.specs.Reaches.PointsInto.{Itself, Through}
-use Rattle.extract_post.specs.Closures.{HasDistinctNames}
-use Rattle.extract_post.specs.Edges.{edge, links_in, Numbers, member_node, from_node, into_node, joins}
-use Rattle.extract_post.proofs.Links.{Among, item_found, option_cases, named_at, section_found, link_between, link_is_in, edge_of_link}
+use Rattle.i386_reloc.specs.Reaches.{is_constant_class, is_read_only_class, is_in, some_reference, goes_to, is_interior, refers_on}
+use Rattle.extract_post.specs.Members.{points_into, PointsInto}
+use Rattle.extract_post.specs.Members.PointsInto.{Itself, Through}
+use Rattle.extract_post.specs.inside.Closures.{HasDistinctNames}
+use Rattle.extract_post.specs.inside.Edges.{edge, links_in, Numbers, member_node, from_node, into_node, joins}
+use Rattle.i386_reloc.specs.NamedPlaces.{section_found}
+use Rattle.extract_post.proofs.Links.{Among, item_found, option_cases, named_at, link_between, link_is_in, edge_of_link}
 use Rattle.extract_post.proofs.Closures.{first_edge, later_edge, reference_found, target_constant, along_reaches, back_reaches}
 use Rattle.extract_post.proofs.Joins.{constant_not_code, read_only_not_code, two_edges}
 

@@ -12,7 +12,7 @@ use Rattle.i386_reloc.specs.declared.types.Ref.{Ref}
 use Rattle.i386_reloc.specs.declared.types.NormalSection.{NormalSection}
 use Rattle.i386_reloc.specs.Classes.{is_code_class}
 use Rattle.i386_reloc.specs.Normal.{section_named}
-use Rattle.extract_post.specs.Reaches.{is_in}
+use Rattle.i386_reloc.specs.Reaches.{is_in}
 use Rattle.extract_post.specs.Members.{is_there, Member}
 use Rattle.extract_post.specs.Members.Differs.{Itself as DiffersItself, Through as DiffersThrough}
 use Rattle.extract_post.specs.Members.Member.{Differing, OnlyInPost, Joined}
@@ -20,10 +20,11 @@ use Rattle.extract_post.specs.declared.types.Extract.{Extract}
 use Rattle.extract_post.specs.Extract.{IsFirst, NoneIs, DataDiffers, IsBroken, places, IsExtract, Extracts}
 use Rattle.extract_post.specs.Extract.IsFirst.{Here, Later}
 use Rattle.extract_post.specs.Extract.Extracts.{OtherData, Broken, NoMember, Extracted}
-use Rattle.extract_post.specs.Found.{FirstBroken, HasNoOther}
-use Rattle.extract_post.specs.Seeds.{IsSeed}
-use Rattle.extract_post.specs.Marks.{marked, Marks, tests, TellMembers, ArePart}
-use Rattle.extract_post.proofs.Links.{option_cases, section_found}
+use Rattle.extract_post.specs.inside.Found.{FirstBroken, HasNoOther}
+use Rattle.extract_post.specs.inside.Seeds.{IsSeed}
+use Rattle.extract_post.specs.inside.Marks.{marked, Marks, tests, TellMembers, ArePart}
+use Rattle.i386_reloc.specs.NamedPlaces.{section_found}
+use Rattle.extract_post.proofs.Links.{option_cases}
 use Rattle.extract_post.proofs.MarkLaws.{tells_test, tests_at}
 use Rattle.extract_post.proofs.Firsts.{first_marked_section, no_marked_section}
 

@@ -7,10 +7,10 @@ use Rattle.std.proofs.lemmas.List.Elements.{All-nil, All-cons, All-weaker}
 use Rattle.reachability.specs.declared.edge.Edge.{Edge}
 use Rattle.reachability.specs.Reached.{Tells, IsWithin, ReachedAlong}
 use Rattle.i386_reloc.specs.declared.types.NormalSection.{NormalSection}
-use Rattle.extract_post.specs.Reaches.{is_constant_class}
-use Rattle.extract_post.specs.Closures.{HasDistinctNames}
-use Rattle.extract_post.specs.Edges.{Link, links_in, forward, backward, edge}
-use Rattle.extract_post.specs.Marks.{TellReaching, TellReached}
+use Rattle.i386_reloc.specs.Reaches.{is_constant_class}
+use Rattle.extract_post.specs.inside.Closures.{HasDistinctNames}
+use Rattle.extract_post.specs.inside.Edges.{Link, links_in, forward, backward, edge}
+use Rattle.extract_post.specs.inside.Marks.{TellReaching, TellReached}
 use Rattle.extract_post.proofs.Links.{any_in_flat_map, link_found, IsLink}
 use Rattle.extract_post.proofs.Tells.{forward_tells, backward_tells}
 

@@ -9,7 +9,7 @@ use Rattle.i386_reloc.specs.Classes.{is_code_class}
 use Rattle.i386_reloc.specs.Normal.{section_named}
 use Rattle.section_equal.specs.Same.{same_class, same_in}
 use Rattle.extract_post.specs.declared.types.Extract.{Extract}
-use Rattle.extract_post.specs.Reaches.{is_read_only_class, is_data_class, is_in, goes_to, is_interior, Reaches}
+use Rattle.i386_reloc.specs.Reaches.{is_read_only_class, is_data_class, is_in, goes_to, is_interior, Reaches}
 use Rattle.extract_post.specs.Members.{is_in_both, is_new_data, ReachesChanged, Member, IsChanged, IsAdded, IsDropped, IsCarried}
 
 -- the names of the sections whose name has a property, in order
@@ -31,8 +31,8 @@ abbrev pub other_class : Option NormalSection → Option NormalSection → Bool
 other_class (Some old) (Some new) = not (same_class old.class new.class)
 other_class _ _ = false
 
--- A section of both objects has other data in them: another class; or it is a data section that isn't the same, or that
--- reaches a read-only section that isn't.
+-- A section of both objects has other data in them: another class; or it is a data section that isn't the same, or that in
+-- one of them reaches a read-only section that isn't.
 pub data DataDiffers (pre post : List NormalSection) : List ℕ → Type 0 where
   OtherClass : (name : List ℕ) → IsTrue (other_class (section_named pre name) (section_named post name)) → DataDiffers pre post name
   Itself : (name : List ℕ) → IsTrue (is_in_both is_data_class pre post name) → IsTrue (not (same_in pre post name)) → DataDiffers pre post name

@@ -1,11 +1,5 @@
-pub mod Reaches
-pub mod Wanted
+-- Public clauses cite Members, Extract and Extracted; inside has what the code keeps.
 pub mod Members
 pub mod Extract
-pub mod Edges
-pub mod Closures
-pub mod Seeds
-pub mod Marks
-pub mod Fits
-pub mod Found
-pub mod Texts
+pub mod Extracted
+pub mod inside

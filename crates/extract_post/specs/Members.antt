@@ -1,34 +1,43 @@
 -- Which functions an update replaces, adds and drops, and which data it brings with it.
-use Rattle.std.specs.Prelude.{IsTrue, ◌⊎◌, ℕ, Bool, not, ◌&&◌, ◌||◌, List, is_some}
+use Rattle.std.specs.Prelude.{IsTrue, ◌⊎◌, ℕ, Bool, not, ◌&&◌, List, is_some}
 use Rattle.i386_reloc.specs.declared.types.Class.{Class}
 use Rattle.i386_reloc.specs.declared.types.NormalSection.{NormalSection}
 use Rattle.i386_reloc.specs.Classes.{is_code_class}
 use Rattle.i386_reloc.specs.Normal.{section_named}
 use Rattle.section_equal.specs.Same.{same_in}
-use Rattle.extract_post.specs.Reaches.{is_read_only_class, is_data_class, is_in, Reaches, PointsInto}
+use Rattle.i386_reloc.specs.Reaches.{is_read_only_class, is_data_class, is_in, some_reference, goes_to, is_interior, Reaches}
 
 -- whether an object has a section of this name
 abbrev pub is_there : List NormalSection → List ℕ → Bool
 is_there sections name = is_some (section_named sections name)
 
--- a read-only section that isn't the same in both objects, and what reaches one in either object
-abbrev pub is_changed_constant : List NormalSection → List NormalSection → List ℕ → Bool
-is_changed_constant pre post name =
-    (is_in is_read_only_class pre name || is_in is_read_only_class post name) && not (same_in pre post name)
+-- a section that is read-only in an object, and isn't the same in both
+abbrev pub is_changed_constant : (of pre post : List NormalSection) → List ℕ → Bool
+is_changed_constant of pre post name = is_in is_read_only_class of name && not (same_in pre post name)
 
-pub record ReachesChanged (pre post : List NormalSection) (name : List ℕ) : Type 0 where
-  pub other : List ℕ
-  pub reaches : Reaches pre name other ⊎ Reaches post name other
-  pub changed : IsTrue (is_changed_constant pre post other)
+-- In one of two objects a section reaches one that is read-only there, and isn't the same in both.
+pub data ReachesChanged (pre post : List NormalSection) (name : List ℕ) : Type 0 where
+  InPre : (other : List ℕ) → Reaches pre name other → IsTrue (is_changed_constant pre pre post other) → ReachesChanged pre post name
+  InPost : (other : List ℕ) → Reaches post name other → IsTrue (is_changed_constant post pre post other) → ReachesChanged pre post name
 
 -- whether both objects have a section of this name, of a wanted class in each
 abbrev pub is_in_both : (Class → Bool) → List NormalSection → List NormalSection → List ℕ → Bool
 is_in_both wanted pre post name = is_in wanted pre name && is_in wanted post name
 
--- A code section of both objects differs where it isn't the same, or reaches a read-only section that isn't.
+-- A code section of both objects differs where it isn't the same, or in one of them reaches a read-only section that isn't.
 pub data Differs (pre post : List NormalSection) : List ℕ → Type 0 where
   Itself : (name : List ℕ) → IsTrue (is_in_both is_code_class pre post name) → IsTrue (not (same_in pre post name)) → Differs pre post name
   Through : (name : List ℕ) → IsTrue (is_in_both is_code_class pre post name) → ReachesChanged pre post name → Differs pre post name
+
+-- whether the section of a name has a reference to the interior of a code section of another name
+abbrev pub points_into : List NormalSection → List ℕ → List ℕ → Bool
+points_into sections name code =
+    is_in is_code_class sections code && some_reference (λ r. goes_to code r && is_interior r) (section_named sections name)
+
+-- A section has a reference to the interior of a code section, itself or in a read-only section that it reaches.
+pub data PointsInto (sections : List NormalSection) : List ℕ → List ℕ → Type 0 where
+  Itself : (name code : List ℕ) → IsTrue (points_into sections name code) → PointsInto sections name code
+  Through : (name between code : List ℕ) → Reaches sections name between → IsTrue (is_in is_read_only_class sections between) → IsTrue (points_into sections between code) → PointsInto sections name code
 
 -- Two code sections are tied where, in either object, one of them has a reference to the interior of the other, itself or
 -- in a read-only section that it reaches.

@@ -1,12 +1,12 @@
 //! The first reference that an update can't keep.
 ghost use Rattle.std.specs.Prelude.{◌≡◌, IfOk};
-ghost use Rattle.extract_post.specs.Closures.{HasDistinctNames};
-ghost use Rattle.extract_post.specs.Edges.{links_in};
+ghost use Rattle.extract_post.specs.inside.Closures.{HasDistinctNames};
+ghost use Rattle.extract_post.specs.inside.Edges.{links_in};
 ghost use Rattle.extract_post.specs.Extract.{IsDataOf};
-ghost use Rattle.extract_post.specs.Found.{Broken};
+ghost use Rattle.extract_post.specs.inside.Found.{Broken};
 ghost use Rattle.extract_post.specs.Members.{Member, IsChanged, is_in_both, is_new_data};
-ghost use Rattle.extract_post.specs.Reaches.{is_data_class};
-ghost use Rattle.extract_post.specs.Marks.{Marks, Stays};
+ghost use Rattle.i386_reloc.specs.Reaches.{is_data_class};
+ghost use Rattle.extract_post.specs.inside.Marks.{Marks, Stays};
 
 use crate::interiors::{data_of, first_break};
 use crate::marks::{apart, both};

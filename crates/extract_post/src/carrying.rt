@@ -1,9 +1,9 @@
 //! The read-only data and texts that an update carries with it.
 ghost use Rattle.std.specs.Prelude.{◌≡◌, IfOk, length};
-ghost use Rattle.extract_post.specs.Edges.{links_in};
-ghost use Rattle.extract_post.specs.Closures.{HasDistinctNames};
+ghost use Rattle.extract_post.specs.inside.Edges.{links_in};
+ghost use Rattle.extract_post.specs.inside.Closures.{HasDistinctNames};
 ghost use Rattle.extract_post.specs.Members.{Member, IsCarried};
-ghost use Rattle.extract_post.specs.Marks.{Marks};
+ghost use Rattle.extract_post.specs.inside.Marks.{Marks};
 
 use crate::marks::{both, either};
 use crate::marks_by_name::{sections_alone, sections_in};

@@ -1,9 +1,9 @@
 //! Which sections of the second object are other than in the first.
 ghost use Rattle.std.specs.Prelude.{◌≡◌, IfOk, length};
 ghost use Rattle.extract_post.specs.Extract.{DataDiffers};
-ghost use Rattle.extract_post.specs.Seeds.{IsSeed};
-ghost use Rattle.extract_post.specs.Marks.{Marks, TellReachesChanged, AreOther};
-ghost use Rattle.extract_post.specs.Texts.{same_names};
+ghost use Rattle.extract_post.specs.inside.Seeds.{IsSeed};
+ghost use Rattle.extract_post.specs.inside.Marks.{Marks, TellReachesChanged, AreOther};
+ghost use Rattle.section_equal.specs.Same.{same_names};
 
 use crate::marks::{both, either, unmarked};
 use crate::marks_by_name::{other_classes, sections_alone, sections_in_both};

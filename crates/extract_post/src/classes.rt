@@ -1,44 +1,14 @@
 //! Which classes the sections of a name have in two objects.
 ghost use Rattle.std.specs.Prelude.{◌≡◌, not, ◌&&◌};
-ghost use Rattle.extract_post.specs.Reaches.{is_read_only_class, is_constant_class, is_data_class, is_in};
-ghost use Rattle.extract_post.specs.Wanted.{is_wanted};
+ghost use Rattle.i386_reloc.specs.Reaches.{is_in};
+ghost use Rattle.extract_post.specs.inside.Wanted.{is_wanted};
 ghost use Rattle.i386_reloc.specs.Normal.{section_named};
 ghost use Rattle.extract_post.specs.Extract.{other_class};
 ghost use Rattle.extract_post.specs.Members.{is_there, is_in_both};
-ghost use Rattle.extract_post.specs.Marks.{is_constant_in_either};
 
 use crate::types::Wanted;
 use i386_reloc::{Class, Normal};
 use section_equal::same_class;
-
-/// Whether this is the class of read-only data.
-pub(crate) fn is_read_only(class: Class) -> bool
-    ensures { result ≡ is_read_only_class class }
-{
-    matches!(class, Class::ReadOnly)
-}
-
-/// Whether an update carries sections of this class with it.
-pub(crate) fn is_constant(class: Class) -> bool
-    ensures { result ≡ is_constant_class class }
-{
-    match class {
-        Class::ReadOnly => true,
-        Class::Strings => true,
-        _ => false,
-    }
-}
-
-/// Whether this is a class of data that the program may change.
-fn is_data(class: Class) -> bool
-    ensures { result ≡ is_data_class class }
-{
-    match class {
-        Class::Zero => true,
-        Class::Writable => true,
-        _ => false,
-    }
-}
 
 /// Whether sections of this class are asked for.
 fn is_wanted(wanted: Wanted, class: Class) -> bool
@@ -46,9 +16,9 @@ fn is_wanted(wanted: Wanted, class: Class) -> bool
 {
     match wanted {
         Wanted::Code => class.is_code(),
-        Wanted::Data => is_data(class),
-        Wanted::ReadOnly => is_read_only(class),
-        Wanted::Constant => is_constant(class),
+        Wanted::Data => class.is_data(),
+        Wanted::ReadOnly => class.is_read_only(),
+        Wanted::Constant => class.is_constant(),
     }
 }
 
@@ -91,11 +61,4 @@ pub(crate) fn is_alone(wanted: Wanted, with: &Normal<'_>, without: &Normal<'_>, 
     ensures { result ≡ (is_in (is_wanted wanted) with.now name.now && not (is_there without.now name.now)) }
 {
     is_in(wanted, with, name) && !is_there(without, name)
-}
-
-/// Whether a section of this name is read-only data in either object.
-pub(crate) fn is_constant_in_either(pre: &Normal<'_>, post: &Normal<'_>, name: &[u8]) -> bool
-    ensures { result ≡ is_constant_in_either pre.now post.now name.now }
-{
-    is_in(Wanted::ReadOnly, pre, name) || is_in(Wanted::ReadOnly, post, name)
 }

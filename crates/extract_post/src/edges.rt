@@ -1,9 +1,8 @@
 //! The edges along which an update's parts are searched for.
 ghost use Rattle.std.specs.Prelude.{◌≡◌, ◌<◌, ◌≤◌, ◌+◌, ◌++◌, ◌^◌, length, OnOk, IfOk, option_to_list};
 ghost use Rattle.std.specs.List.{flat_map};
-ghost use Rattle.extract_post.specs.Edges.{edge, forward, backward, member_node, from_node, into_node};
+ghost use Rattle.extract_post.specs.inside.Edges.{edge, forward, backward, member_node, from_node, into_node};
 
-use crate::classes::is_constant;
 use crate::types::{Link, Numbers};
 use reachability::Edge;
 use std::alloc::{AllocError, Global};
@@ -11,7 +10,7 @@ use std::alloc::{AllocError, Global};
 fn forward_edge(link: &Link) -> Option<Edge>
     ensures { option_to_list result ≡ forward link.now }
 {
-    if !is_constant(link.to_class) {
+    if !link.to_class.is_constant() {
         return None;
     }
     Some(Edge {
@@ -23,7 +22,7 @@ fn forward_edge(link: &Link) -> Option<Edge>
 fn backward_edge(link: &Link) -> Option<Edge>
     ensures { option_to_list result ≡ backward link.now }
 {
-    if !is_constant(link.to_class) {
+    if !link.to_class.is_constant() {
         return None;
     }
     Some(Edge {

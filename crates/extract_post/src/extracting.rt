@@ -1,13 +1,7 @@
 //! Extracts an update from two objects.
-ghost use Rattle.std.specs.Prelude.{◌≡◌, ◌≢◌, ◌<◌, ◌+◌, ◌*◌, ◌^◌, true, Ok, Err, IfOk, IfErr, length};
-ghost use Rattle.extract_post.specs.Closures.{HasDistinctNames};
-ghost use Rattle.extract_post.specs.Edges.{links_in};
-ghost use Rattle.extract_post.specs.Extract.{NoneIs, IsBroken, places, Extracts};
-ghost use Rattle.extract_post.specs.Found.{HasNoOther};
-ghost use Rattle.extract_post.specs.Marks.{Marks, TellMembers, TellReachesChanged};
-ghost use Rattle.extract_post.specs.Members.{Member};
-ghost use Rattle.extract_post.specs.Seeds.{IsSeed};
-ghost use Rattle.extract_post.specs.Texts.{same_names};
+ghost use Rattle.std.specs.Prelude.{◌≡◌, ◌≢◌, ◌<◌, ◌+◌, ◌*◌, ◌^◌, Ok, Err, IfOk, IfErr, length};
+ghost use Rattle.extract_post.specs.inside.Closures.{HasDistinctNames};
+ghost use Rattle.extract_post.specs.Extract.{Extracts};
 
 use crate::breaking::first_broken;
 use crate::changes::{differing_data, first_members};
@@ -16,141 +10,11 @@ use crate::marks::{first_marked, part};
 use crate::members::member_nodes;
 use crate::naming::{data_changed, interior, lists};
 use crate::reaching::reaching_changed;
-use crate::same_sections::sameness;
-use crate::types::{Extract, Link};
+use crate::types::Extract;
 use i386_reloc::Normal;
 use ks_base::Refusal;
+use section_equal::same_sections;
 use std::alloc::{AllocError, Global};
-
-// The answer where no data are others and no reference is broken.
-fn answer_members(
-    alloc: Global,
-    pre: &Normal<'_>,
-    post: &Normal<'_>,
-    links: &[Link],
-    first: &[bool],
-    pre_members: &[bool],
-    post_members: &[bool],
-) -> Result<Result<Extract, Refusal>, AllocError>
-    requires distinct { HasDistinctNames post.now }
-    requires links { links.now ≡ links_in post.now }
-    requires first { Marks (IsSeed pre.now post.now) post.now first.now }
-    requires pre_members { Marks (Member pre.now post.now) pre.now pre_members.now }
-    requires post_members { Marks (Member pre.now post.now) post.now post_members.now }
-    requires same { HasNoOther pre.now post.now }
-    requires whole { NoneIs (IsBroken pre.now post.now) (places post.now) }
-    ensures { IfOk result (λ answer. Extracts pre.now post.now answer) }
-{
-    match first_marked(first) {
-        Some(_) => {
-            let extract = lists(alloc, pre, post, links, pre_members, post_members)?;
-            Ok(Ok(extract))
-        }
-        None => Ok(Err(Refusal::NoChange)),
-    }
-}
-
-// The answer where no data are others.
-fn answer_interiors(
-    alloc: Global,
-    pre: &Normal<'_>,
-    post: &Normal<'_>,
-    links: &[Link],
-    first: &[bool],
-    nodes: &[bool],
-) -> Result<Result<Extract, Refusal>, AllocError>
-    requires few { 3 * (length pre.now + length post.now) < 2 ^ 32 }
-    requires distinct { HasDistinctNames post.now }
-    requires links { links.now ≡ links_in post.now }
-    requires first { Marks (IsSeed pre.now post.now) post.now first.now }
-    requires nodes { TellMembers pre.now post.now nodes.now }
-    requires same { HasNoOther pre.now post.now }
-    ensures { IfOk result (λ answer. Extracts pre.now post.now answer) }
-{
-    let old = part(alloc, nodes, 0, pre.len())?;
-    let new = part(alloc, nodes, pre.len(), post.len())?;
-    match first_broken(alloc, pre, post, links, new.as_slice())? {
-        Some((place, k)) => {
-            let refusal = interior(alloc, post, place, k)?;
-            Ok(Err(refusal))
-        }
-        None => answer_members(
-            alloc,
-            pre,
-            post,
-            links,
-            first,
-            old.as_slice(),
-            new.as_slice(),
-        ),
-    }
-}
-
-// The answer where no data are others, by what reaches changed read-only data.
-fn answer_reaching<'a>(
-    alloc: Global,
-    pre: &Normal<'a>,
-    post: &Normal<'a>,
-    pre_links: &[Link],
-    post_links: &[Link],
-    same: &[bool],
-    reaching: &[bool],
-) -> Result<Result<Extract, Refusal>, AllocError>
-    requires few { 3 * (length pre.now + length post.now) < 2 ^ 32 }
-    requires pre_distinct { HasDistinctNames pre.now }
-    requires post_distinct { HasDistinctNames post.now }
-    requires pre_links { pre_links.now ≡ links_in pre.now }
-    requires post_links { post_links.now ≡ links_in post.now }
-    requires same_marks { same.now ≡ same_names pre.now post.now post.now }
-    requires reaching { TellReachesChanged pre.now post.now reaching.now }
-    requires same { HasNoOther pre.now post.now }
-    ensures { IfOk result (λ answer. Extracts pre.now post.now answer) }
-{
-    let first = first_members(alloc, pre, post, same, reaching)?;
-    let nodes = member_nodes(alloc, pre, post, pre_links, post_links, first.as_slice())?;
-    let answer = answer_interiors(
-        alloc,
-        pre,
-        post,
-        post_links,
-        first.as_slice(),
-        nodes.as_slice(),
-    )?;
-    Ok(answer)
-}
-
-// The answer for objects of few sections, each of a name of its own.
-fn answer<'a>(
-    alloc: Global,
-    pre: &Normal<'a>,
-    post: &Normal<'a>,
-) -> Result<Result<Extract, Refusal>, AllocError>
-    requires few { 3 * (length pre.now + length post.now) < 2 ^ 32 }
-    requires pre_distinct { HasDistinctNames pre.now }
-    requires post_distinct { HasDistinctNames post.now }
-    ensures { IfOk result (λ answer. Extracts pre.now post.now answer) }
-{
-    let old = links(alloc, pre)?;
-    let new = links(alloc, post)?;
-    let same = sameness(alloc, pre, post)?;
-    let reaching = reaching_changed(alloc, pre, post, old.as_slice(), new.as_slice(), &same)?;
-    let differing = differing_data(alloc, pre, post, same.post.as_slice(), reaching.as_slice())?;
-    match first_marked(differing.as_slice()) {
-        Some(place) => {
-            let refusal = data_changed(alloc, post, place)?;
-            Ok(Err(refusal))
-        }
-        None => answer_reaching(
-            alloc,
-            pre,
-            post,
-            old.as_slice(),
-            new.as_slice(),
-            same.post.as_slice(),
-            reaching.as_slice(),
-        ),
-    }
-}
 
 /// What an update from `pre` to `post` is made of. Refuses the first that holds of these: a section of `post` is in
 /// `pre` too and has other data there (`DataChanged`); a reference of `post` from data to the interior of a function can't
@@ -168,4 +32,54 @@ pub fn extract<'a>(alloc: Global, pre: &Normal<'a>, post: &Normal<'a>) -> Result
         Ok(Err(refusal)) => Err(refusal),
         Err(_) => Err(Refusal::Memory),
     }
+}
+
+// The answer for objects of few sections, each of a name of its own: the refusals in their order, and then the extract.
+fn answer<'a>(
+    alloc: Global,
+    pre: &Normal<'a>,
+    post: &Normal<'a>,
+) -> Result<Result<Extract, Refusal>, AllocError>
+    requires few { 3 * (length pre.now + length post.now) < 2 ^ 32 }
+    requires pre_distinct { HasDistinctNames pre.now }
+    requires post_distinct { HasDistinctNames post.now }
+    ensures { IfOk result (λ answer. Extracts pre.now post.now answer) }
+{
+    let old = links(alloc, pre)?;
+    let new = links(alloc, post)?;
+    let same = same_sections(alloc, pre, post)?;
+    let reaching = reaching_changed(alloc, pre, post, old.as_slice(), new.as_slice(), &same)?;
+    let differing = differing_data(alloc, pre, post, same.post.as_slice(), reaching.as_slice())?;
+    if let Some(place) = first_marked(differing.as_slice()) {
+        let refusal = data_changed(alloc, post, place)?;
+        return Ok(Err(refusal));
+    }
+    let first = first_members(alloc, pre, post, same.post.as_slice(), reaching.as_slice())?;
+    let nodes = member_nodes(
+        alloc,
+        pre,
+        post,
+        old.as_slice(),
+        new.as_slice(),
+        first.as_slice(),
+    )?;
+    let pre_members = part(alloc, nodes.as_slice(), 0, pre.len())?;
+    let post_members = part(alloc, nodes.as_slice(), pre.len(), post.len())?;
+    let broken = first_broken(alloc, pre, post, new.as_slice(), post_members.as_slice())?;
+    if let Some((place, k)) = broken {
+        let refusal = interior(alloc, post, place, k)?;
+        return Ok(Err(refusal));
+    }
+    let Some(_first) = first_marked(first.as_slice()) else {
+        return Ok(Err(Refusal::NoChange));
+    };
+    let extract = lists(
+        alloc,
+        pre,
+        post,
+        new.as_slice(),
+        pre_members.as_slice(),
+        post_members.as_slice(),
+    )?;
+    Ok(Ok(extract))
 }

@@ -1,17 +1,17 @@
 //! References of data to the interior of functions that an update can't keep.
 ghost use Rattle.std.specs.Prelude.{◌≡◌, ◌<◌, Some, IfOk, length, position};
-ghost use Rattle.extract_post.specs.Edges.{links_in};
-ghost use Rattle.extract_post.specs.Closures.{HasDistinctNames};
-ghost use Rattle.extract_post.specs.Marks.{breaks_at, breaks, TellDataOf, FirstBreak};
-ghost use Rattle.extract_post.specs.Texts.{refs_at};
+ghost use Rattle.std.specs.List.{slice_get};
+ghost use Rattle.extract_post.specs.inside.Edges.{links_in};
+ghost use Rattle.extract_post.specs.inside.Closures.{HasDistinctNames};
+ghost use Rattle.extract_post.specs.inside.Marks.{breaks_at, breaks, TellDataOf, FirstBreak};
 ghost use Rattle.i386_reloc.specs.Places.{reference_at};
 
-use crate::linking::{is_interior, place_of_target};
+use crate::linking::place_of_target;
 use crate::marks::{both, either, is_marked};
 use crate::marks_by_name::sections_in;
 use crate::reaching::reached;
 use crate::types::{Link, Wanted};
-use i386_reloc::{Normal, Ref};
+use i386_reloc::{Normal, NormalSection, Ref};
 use std::alloc::{AllocError, Global};
 
 /// Which sections are marked ones of data, or read-only data that a marked one reaches.
@@ -57,11 +57,11 @@ fn breaks(
     requires { reference_at post.now place k ≡ Some r.now }
     ensures { result ≡ breaks post.now old new changed.now stays.now r.now }
 {
-    is_interior(r) && breaks_at(old, new, changed, stays, place_of_target(post, place, k, r))
+    r.is_interior() && breaks_at(old, new, changed, stays, place_of_target(post, place, k, r))
 }
 
 // The first reference of the section at a place that breaks, as its place among them.
-#[tactic(auto, using(crate::proofs::Targets::reference_among))]
+#[tactic(auto, using(crate::proofs::Targets::reference_here))]
 fn first_in(
     post: &Normal<'_>,
     old: bool,
@@ -69,11 +69,12 @@ fn first_in(
     changed: &[bool],
     stays: &[bool],
     place: usize,
-    refs: &[Ref<'_>],
+    section: &NormalSection<'_>,
 ) -> Option<usize>
-    requires { refs_at post.now place ≡ refs.now }
-    ensures { result ≡ position (breaks post.now old new changed.now stays.now) refs.now }
+    requires { slice_get post.now place ≡ Some section.now }
+    ensures { result ≡ position (breaks post.now old new changed.now stays.now) section.now.refs }
 {
+    let refs = section.refs.as_slice();
     for k in 0..refs.len() {
         if breaks(post, old, new, changed, stays, place, k, &refs[k]) {
             return Some(k);
@@ -94,7 +95,6 @@ pub(crate) fn first_break(
 {
     let sections = post.as_slice();
     for i in 0..sections.len() {
-        let refs = sections[i].refs.as_slice();
         let found = first_in(
             post,
             is_marked(old, i),
@@ -102,7 +102,7 @@ pub(crate) fn first_break(
             changed,
             stays,
             i,
-            refs,
+            &sections[i],
         );
         if let Some(k) = found {
             return Some((i, k));

@@ -2,23 +2,12 @@
 ghost use Rattle.std.specs.Prelude.{◌≡◌, ◌<◌, ◌++◌, ◌^◌, Some, length, OnOk, IfOk, option_to_list};
 ghost use Rattle.std.specs.List.{slice_get};
 ghost use Rattle.i386_reloc.specs.Places.{reference_at};
-ghost use Rattle.extract_post.specs.Reaches.{is_interior};
-ghost use Rattle.extract_post.specs.Edges.{place_of_target, link_to, links_of, links_in};
+ghost use Rattle.i386_reloc.specs.Places.{place_of_target};
+ghost use Rattle.extract_post.specs.inside.Edges.{link_to, links_of, links_in};
 
 use crate::types::Link;
-use i386_reloc::{Class, Form, Normal, NormalSection, Ref};
+use i386_reloc::{Class, Normal, NormalSection, Ref};
 use std::alloc::{AllocError, Global};
-
-/// Whether a reference doesn't go to the entry of the function that it refers to. Code calls the entry by the addend -4,
-/// since a relative value is counted from the field's start.
-pub(crate) fn is_interior(r: &Ref<'_>) -> bool
-    ensures { result ≡ is_interior r.now }
-{
-    match r.form {
-        Form::Absolute => r.addend != 0,
-        Form::Relative => r.addend != 0xffff_fffc,
-    }
-}
 
 /// The place of the section that the reference `k` of the section at a place goes to, `None` where it goes to none of this
 /// object. No name is looked up.
@@ -49,7 +38,7 @@ fn link_to(normal: &Normal<'_>, from: u32, k: usize, from_class: Class, r: &Ref<
         from_class,
         to: to as u32,
         to_class: target.class,
-        interior: is_interior(r),
+        interior: r.is_interior(),
     })
 }
 

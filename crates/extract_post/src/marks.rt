@@ -1,6 +1,6 @@
 //! Marks of sections, a mark a section.
 ghost use Rattle.std.specs.Prelude.{◌≡◌, ◌<◌, ◌+◌, ◌^◌, ◌++◌, ◌∷◌, [], IfOk, OnOk, length, map, not, position};
-ghost use Rattle.extract_post.specs.Marks.{marked, AreBoth, AreEither, AreApart, ArePart, shifted, AreShifted, marked_at, marked_names};
+ghost use Rattle.extract_post.specs.inside.Marks.{marked, AreBoth, AreEither, AreApart, ArePart, shifted, AreShifted, marked_at, marked_names};
 
 use i386_reloc::NormalSection;
 use ks_base::{Name, Names};

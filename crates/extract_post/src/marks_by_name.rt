@@ -1,31 +1,16 @@
 //! Which sections of an object meet a condition on their names, as marks.
 ghost use Rattle.std.specs.Prelude.{◌≡◌, IfOk, map, not, ◌&&◌};
-ghost use Rattle.extract_post.specs.Reaches.{is_in};
-ghost use Rattle.extract_post.specs.Wanted.{is_wanted};
+ghost use Rattle.i386_reloc.specs.Reaches.{is_in};
+ghost use Rattle.extract_post.specs.inside.Wanted.{is_wanted};
 ghost use Rattle.extract_post.specs.Members.{is_there, is_in_both};
 ghost use Rattle.extract_post.specs.Extract.{other_class};
 ghost use Rattle.i386_reloc.specs.Normal.{section_named};
-ghost use Rattle.extract_post.specs.Marks.{tests, is_constant_in_either};
+ghost use Rattle.extract_post.specs.inside.Marks.{tests};
 
 use crate::classes;
 use crate::types::Wanted;
 use i386_reloc::Normal;
 use std::alloc::{AllocError, Global};
-
-/// Which sections are read-only data in either object.
-pub(crate) fn constants_in_either<'a>(
-    alloc: Global,
-    of: &Normal<'a>,
-    pre: &Normal<'a>,
-    post: &Normal<'a>,
-) -> Result<Vec<bool>, AllocError>
-    ensures { IfOk result (λ marks. marks.items ≡ tests (is_constant_in_either pre.now post.now) of.now) }
-{
-    of.as_slice()
-        .iter()
-        .map(|s| classes::is_constant_in_either(pre, post, s.name.as_slice()))
-        .collect(alloc)
-}
 
 /// Which sections of the second object are of another class in the first.
 pub(crate) fn other_classes(

@@ -3,11 +3,10 @@ ghost use Rattle.std.specs.Prelude.{◌≡◌, ◌<◌, ◌+◌, ◌*◌, ◌^�
 ghost use Rattle.std.specs.List.{flat_map};
 ghost use Rattle.i386_reloc.specs.Classes.{is_code_class};
 ghost use Rattle.i386_reloc.specs.Places.{place_named};
-ghost use Rattle.extract_post.specs.Edges.{edge, links_in, joins, twins_from, member_node, from_node, into_node, member_edges};
-ghost use Rattle.extract_post.specs.Reaches.{is_constant_class};
-ghost use Rattle.extract_post.specs.Fits.{two_edges, IsNumbered};
+ghost use Rattle.extract_post.specs.inside.Edges.{edge, links_in, joins, twins_from, member_node, from_node, into_node, member_edges};
+ghost use Rattle.i386_reloc.specs.Reaches.{is_constant_class};
+ghost use Rattle.extract_post.specs.inside.Fits.{two_edges, IsNumbered};
 
-use crate::classes::{is_constant, is_read_only};
 use crate::types::{Link, Numbers};
 use i386_reloc::{Normal, NormalSection};
 use reachability::Edge;
@@ -60,7 +59,7 @@ fn joins_interior(n: Numbers, link: &Link) -> Option<(Edge, Edge)>
         let from = member_node(n, link.from);
         return two(from, to, to, from);
     }
-    if is_read_only(link.from_class) {
+    if link.from_class.is_read_only() {
         return two(from_node(n, link.from), to, to, into_node(n, link.from));
     }
     None
@@ -78,7 +77,7 @@ fn joins_constant(n: Numbers, link: &Link) -> Option<(Edge, Edge)>
         let from = member_node(n, link.from);
         return two(from, from_to, into_to, from);
     }
-    if is_constant(link.from_class) {
+    if link.from_class.is_constant() {
         return two(
             from_node(n, link.from),
             from_to,
@@ -100,7 +99,7 @@ fn joins(n: Numbers, link: &Link) -> Option<(Edge, Edge)>
         }
         return None;
     }
-    if is_constant(link.to_class) {
+    if link.to_class.is_constant() {
         return joins_constant(n, link);
     }
     None
@@ -166,7 +165,7 @@ fn add_twins(
 }
 
 /// The edges along which members are found, among three nodes a section of both objects.
-#[tactic(auto, using(crate::proofs::Numbered::pre_numbered, crate::proofs::Numbered::post_numbered), unfolding(crate::specs::Edges::member_edges))]
+#[tactic(auto, using(crate::proofs::Numbered::pre_numbered, crate::proofs::Numbered::post_numbered), unfolding(crate::specs::inside::Edges::member_edges))]
 pub(crate) fn member_edges(
     alloc: Global,
     pre: &Normal<'_>,

@@ -1,9 +1,9 @@
 //! Which functions an update is about.
 ghost use Rattle.std.specs.Prelude.{◌≡◌, ◌<◌, ◌+◌, ◌*◌, ◌^◌, IfOk, length};
-ghost use Rattle.extract_post.specs.Closures.{HasDistinctNames};
-ghost use Rattle.extract_post.specs.Edges.{links_in};
-ghost use Rattle.extract_post.specs.Seeds.{IsSeed, AreSeeds};
-ghost use Rattle.extract_post.specs.Marks.{Marks, TellMembers};
+ghost use Rattle.extract_post.specs.inside.Closures.{HasDistinctNames};
+ghost use Rattle.extract_post.specs.inside.Edges.{links_in};
+ghost use Rattle.extract_post.specs.inside.Seeds.{IsSeed, AreSeeds};
+ghost use Rattle.extract_post.specs.inside.Marks.{Marks, TellMembers};
 
 use crate::marks::shifted;
 use crate::member_edges::member_edges;

@@ -3,10 +3,10 @@ ghost use Rattle.std.specs.Prelude.{◌≡◌, ◌<◌, IfOk, Some, length};
 ghost use Rattle.std.specs.List.{slice_get};
 ghost use Rattle.i386_reloc.specs.declared.types.NormalSection.{NormalSection};
 ghost use Rattle.i386_reloc.specs.declared.types.Ref.{Ref};
-ghost use Rattle.extract_post.specs.Closures.{HasDistinctNames};
-ghost use Rattle.extract_post.specs.Edges.{links_in};
+ghost use Rattle.extract_post.specs.inside.Closures.{HasDistinctNames};
+ghost use Rattle.extract_post.specs.inside.Edges.{links_in};
 ghost use Rattle.extract_post.specs.Extract.{Picks, IsExtract};
-ghost use Rattle.extract_post.specs.Marks.{Marks, IsFresh};
+ghost use Rattle.extract_post.specs.inside.Marks.{Marks, IsFresh};
 ghost use Rattle.extract_post.specs.Members.{Member, IsChanged, IsAdded, IsDropped, IsCarried};
 
 use crate::breaking::changed;

@@ -1,19 +1,19 @@
 //! Which sections reach marked ones, and which are reached from marked ones.
 ghost use Rattle.std.specs.Prelude.{◌≡◌, ◌<◌, IfOk, length};
-ghost use Rattle.extract_post.specs.Closures.{HasDistinctNames};
-ghost use Rattle.extract_post.specs.Edges.{links_in};
+ghost use Rattle.extract_post.specs.inside.Closures.{HasDistinctNames};
+ghost use Rattle.extract_post.specs.inside.Edges.{links_in};
 ghost use Rattle.i386_reloc.specs.Places.{place_named};
 ghost use Rattle.extract_post.specs.Members.{is_changed_constant};
-ghost use Rattle.extract_post.specs.Marks.{TellReaching, TellReached, TellReachesChanged, tests, marked_at};
-ghost use Rattle.extract_post.specs.Texts.{same_names};
+ghost use Rattle.extract_post.specs.inside.Marks.{TellReaching, TellReached, TellReachesChanged, tests, marked_at};
+ghost use Rattle.section_equal.specs.Same.{same_names};
 
 use crate::edges::{backward_edges, forward_edges};
 use crate::marks::{apart, either, is_marked_at};
-use crate::marks_by_name::constants_in_either;
-use crate::same_sections::SameMarks;
-use crate::types::Link;
+use crate::marks_by_name::sections_in;
+use crate::types::{Link, Wanted};
 use i386_reloc::Normal;
 use reachability::reached_along;
+use section_equal::SameSections;
 use std::alloc::{AllocError, Global};
 
 // Which sections are marked or reach a marked one, by the links of their references.
@@ -67,7 +67,7 @@ fn at_names(
         .collect(alloc)
 }
 
-// Which sections are read-only data in either object, and not the same in both.
+// Which sections of one of two objects are read-only data in it, and not the same in both.
 fn changed_constants<'a>(
     alloc: Global,
     of: &Normal<'a>,
@@ -76,9 +76,11 @@ fn changed_constants<'a>(
     same: &[bool],
 ) -> Result<Vec<bool>, AllocError>
     requires { same.now ≡ same_names pre.now post.now of.now }
-    ensures { IfOk result (λ marks. marks.items ≡ tests (is_changed_constant pre.now post.now) of.now) }
+    ensures { IfOk result (λ marks. marks.items ≡ tests (is_changed_constant of.now pre.now post.now) of.now) }
 {
-    let constants = constants_in_either(alloc, of, pre, post)?;
+    // The contract speaks of both objects.
+    let _objects = (pre.len(), post.len());
+    let constants = sections_in(alloc, Wanted::ReadOnly, of)?;
     let marks = apart(alloc, constants.as_slice(), same)?;
     Ok(marks)
 }
@@ -95,20 +97,20 @@ fn reaching_constants<'a>(
     requires distinct { HasDistinctNames of.now }
     requires links { links.now ≡ links_in of.now }
     requires same { same.now ≡ same_names pre.now post.now of.now }
-    ensures { IfOk result (λ marks. TellReaching of.now (tests (is_changed_constant pre.now post.now) of.now) marks.items) }
+    ensures { IfOk result (λ marks. TellReaching of.now (tests (is_changed_constant of.now pre.now post.now) of.now) marks.items) }
 {
     let seeds = changed_constants(alloc, of, pre, post, same)?;
     reaching(alloc, of, links, seeds.as_slice())
 }
 
-/// Which sections of the second object reach read-only data that isn't the same in both, in either.
+/// Which sections of the second object reach, in either, read-only data of it that isn't the same in both.
 pub(crate) fn reaching_changed<'a>(
     alloc: Global,
     pre: &Normal<'a>,
     post: &Normal<'a>,
     pre_links: &[Link],
     post_links: &[Link],
-    same: &SameMarks,
+    same: &SameSections,
 ) -> Result<Vec<bool>, AllocError>
     requires pre_distinct { HasDistinctNames pre.now }
     requires post_distinct { HasDistinctNames post.now }

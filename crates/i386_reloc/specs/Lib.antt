@@ -5,6 +5,8 @@ pub mod Classes
 pub mod Normal
 pub mod Places
 pub mod PlaceLaws
+pub mod NamedPlaces
+pub mod Reaches
 pub mod References
 pub mod Refused
 pub mod Texts

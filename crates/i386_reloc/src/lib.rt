@@ -9,6 +9,7 @@ mod known;
 mod loaded;
 mod names;
 mod objects;
+mod reaches;
 mod reading;
 mod references;
 mod refused;

@@ -1,5 +1,5 @@
 -- When two sections of one name are the same.
-use Rattle.std.specs.Prelude.{ℕ, Bool, true, false, ◌&&◌, ◌||◌, ◌==◌, List, Option, Some}
+use Rattle.std.specs.Prelude.{ℕ, Bool, true, false, ◌&&◌, ◌||◌, ◌==◌, List, map, Option, Some}
 use Rattle.std.specs.Cmp.Lexicographic.{pointwise}
 use Rattle.i386_reloc.specs.declared.types.Class.{Class}
 use Rattle.i386_reloc.specs.declared.types.Class.TheVariants.{Zero, Code, Writable, Strings, ReadOnly}
@@ -52,3 +52,7 @@ are_same _ _ = false
 -- whether both objects have a section of this name, and it is the same
 unfoldable pub same_in : List NormalSection → List NormalSection → List ℕ → Bool
 same_in pre post name = are_same (section_named pre name) (section_named post name)
+
+-- the same of each section of a list
+abbrev pub same_names : (pre post : List NormalSection) → List NormalSection → List Bool
+same_names pre post sections = map (λ section. same_in pre post section.name) sections

@@ -1,8 +1,10 @@
-//! Whether two objects have the same section of a name.
+//! Whether two objects have the same section of a name: of one name, or of all their names.
 #![tactic(auto)]
 
-mod references;
-mod sections;
+mod all_sections;
+mod comparing;
+mod parts;
+mod texts;
 
-pub use crate::references::{equal_bytes, same_form};
-pub use crate::sections::{is_same, same_class, same_section};
+pub use crate::all_sections::{SameSections, same_section, same_sections};
+pub use crate::parts::{equal_bytes, same_class};

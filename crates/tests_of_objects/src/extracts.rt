@@ -1,6 +1,6 @@
 //! Differences of small objects.
 
-use crate::object_files::{FUNCTION, POINTED, SPLIT, WHOLE, WITH_DATA};
+use crate::object_files::{FUNCTION, POINTED, SPLIT, TWO_TEXTS, WHOLE, WITH_DATA};
 use elf32_object::read_object;
 use extract_post::{Extract, extract};
 use i386_reloc::normalise;
@@ -84,5 +84,23 @@ fn differences_are_refused(rt: HostRuntime) -> Result<(), Fail> {
         let line = refusal_line(alloc, file, changed.as_slice())?;
         assert_eq!(rt; line.bytes(), wanted.as_bytes());
     }
+    Ok(())
+}
+
+// In the first object `.data.d` reaches `.rodata.x` as texts, in the second it doesn't reach it: that `.rodata.x` is read-only data
+// there is no change of `.data.d`.
+#[test]
+fn a_section_is_of_its_class_where_it_is_reached(rt: HostRuntime) -> Result<(), Fail> {
+    let alloc = rt.alloc();
+    let function = with_byte(alloc, &TWO_TEXTS, 0x35, 2)?;
+    let moved = with_byte(alloc, function.as_slice(), 0x45, 2)?;
+    let all = with_byte(alloc, moved.as_slice(), 0x178, 2)?;
+    let same = difference(alloc, &TWO_TEXTS, moved.as_slice())?
+        .ok()
+        .ok_or("refused")?;
+    assert!(rt; is_one(&same.changed, b".text.f"));
+    let wanted = "refused 11 data changed .rodata.x\n";
+    let line = refusal_line(alloc, &TWO_TEXTS, all.as_slice())?;
+    assert_eq!(rt; line.bytes(), wanted.as_bytes());
     Ok(())
 }

@@ -1,5 +1,5 @@
 use Rattle.extract_post.specs.Members.{is_in_both}
-use Rattle.extract_post.specs.Reaches.{is_data_class}
+use Rattle.i386_reloc.specs.Reaches.{is_data_class}
 use Rattle.extract_post.proofs.BreakLaws.{tell_data_marks, both_is_data}
 use Rattle.extract_post.proofs.breaking.old_data.Goals as goal
 

@@ -1,6 +1,6 @@
 use Rattle.std.proofs.Common.{◌≡◌, take}
 use Rattle.std.specs.List.{flat_map}
-use Rattle.extract_post.specs.Edges.{forward}
+use Rattle.extract_post.specs.inside.Edges.{forward}
 use Rattle.extract_post.proofs.edges.forward_edges.Given as goal
 
 abbrev pub invariant-loop-link : goal.invariant-loop-link

@@ -1,4 +1,4 @@
-use Rattle.extract_post.specs.Marks.{NoBreakBelow}
+use Rattle.extract_post.specs.inside.Marks.{NoBreakBelow}
 use Rattle.extract_post.proofs.interiors.first_break.Given as goal
 
 abbrev pub invariant-loop-i : goal.invariant-loop-i

@@ -1,6 +1,6 @@
 use Rattle.std.proofs.Common.{◌≡◌, drop}
 use Rattle.std.specs.List.{position, position_from}
-use Rattle.extract_post.specs.Marks.{breaks}
+use Rattle.extract_post.specs.inside.Marks.{breaks}
 use Rattle.extract_post.proofs.interiors.first_in.Given as goal
 
 -- none of the references that are passed breaks

@@ -1,6 +1,7 @@
 use Rattle.std.proofs.Common.{◌≡◌, ◌++◌, take}
 use Rattle.std.specs.List.{flat_map}
-use Rattle.extract_post.specs.Edges.{place_of_target, link_to}
+use Rattle.i386_reloc.specs.Places.{place_of_target}
+use Rattle.extract_post.specs.inside.Edges.{link_to}
 use Rattle.extract_post.proofs.linking.add_links.Given as goal
 
 abbrev pub invariant-loop-k : goal.invariant-loop-k

@@ -1,5 +1,5 @@
 use Rattle.std.proofs.Common.{◌≡◌, ◌++◌, drop}
-use Rattle.extract_post.specs.Edges.{links_from, links_in}
+use Rattle.extract_post.specs.inside.Edges.{links_from, links_in}
 use Rattle.extract_post.proofs.linking.links.Given as goal
 
 abbrev pub invariant-loop-i : goal.invariant-loop-i

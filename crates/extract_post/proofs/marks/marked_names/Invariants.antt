@@ -1,5 +1,5 @@
 use Rattle.std.proofs.Common.{◌≡◌, ◌++◌, drop}
-use Rattle.extract_post.specs.Marks.{marked_names}
+use Rattle.extract_post.specs.inside.Marks.{marked_names}
 use Rattle.extract_post.proofs.marks.marked_names.Given as goal
 
 abbrev pub invariant-loop-i : goal.invariant-loop-i

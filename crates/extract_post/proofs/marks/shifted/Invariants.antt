@@ -1,5 +1,5 @@
 use Rattle.std.proofs.Common.{◌≡◌, ℕ, ◌<◌, false, get_or, vec_len}
-use Rattle.extract_post.specs.Marks.{shifted}
+use Rattle.extract_post.specs.inside.Marks.{shifted}
 use Rattle.extract_post.proofs.marks.shifted.Given as goal
 
 abbrev pub invariant-loop-i : goal.invariant-loop-i

@@ -1,5 +1,5 @@
 use Rattle.std.proofs.Common.{◌≡◌, ◌++◌, drop}
-use Rattle.extract_post.specs.Edges.{twins_from}
+use Rattle.extract_post.specs.inside.Edges.{twins_from}
 use Rattle.extract_post.proofs.member_edges.add_twins.Given as goal
 
 abbrev pub invariant-loop-i : goal.invariant-loop-i

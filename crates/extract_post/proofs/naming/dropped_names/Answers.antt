@@ -1,6 +1,6 @@
 use Rattle.std.proofs.Common.{List, ℕ, not, ◌&&◌}
 use Rattle.i386_reloc.specs.Classes.{is_code_class}
-use Rattle.extract_post.specs.Reaches.{is_in}
+use Rattle.i386_reloc.specs.Reaches.{is_in}
 use Rattle.extract_post.specs.Members.{is_there, IsDropped}
 use Rattle.extract_post.proofs.BreakLaws.{tested_members}
 use Rattle.extract_post.proofs.Firsts.{picks_marked}

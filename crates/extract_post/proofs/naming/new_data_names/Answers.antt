@@ -1,5 +1,5 @@
 use Rattle.extract_post.specs.Members.{is_new_data}
-use Rattle.extract_post.specs.Marks.{IsFresh}
+use Rattle.extract_post.specs.inside.Marks.{IsFresh}
 use Rattle.extract_post.proofs.Firsts.{picks_marked}
 use Rattle.extract_post.proofs.Verdicts.{tell_tested}
 use Rattle.extract_post.proofs.naming.new_data_names.Goals as goal

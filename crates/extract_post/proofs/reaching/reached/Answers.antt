@@ -1,6 +1,6 @@
 use Rattle.std.proofs.Common.{ap, ◌∙◌}
 use Rattle.std.specs.List.{flat_map}
-use Rattle.extract_post.specs.Edges.{forward}
+use Rattle.extract_post.specs.inside.Edges.{forward}
 use Rattle.extract_post.proofs.Walks.{tell_reached}
 use Rattle.extract_post.proofs.reaching.reached.Goals as goal
 

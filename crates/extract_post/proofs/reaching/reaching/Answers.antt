@@ -1,6 +1,6 @@
 use Rattle.std.proofs.Common.{ap, ◌∙◌}
 use Rattle.std.specs.List.{flat_map}
-use Rattle.extract_post.specs.Edges.{backward}
+use Rattle.extract_post.specs.inside.Edges.{backward}
 use Rattle.extract_post.proofs.Walks.{tell_reaching}
 use Rattle.extract_post.proofs.reaching.reaching.Goals as goal
 

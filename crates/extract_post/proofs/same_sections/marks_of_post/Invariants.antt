@@ -1,7 +1,0 @@
--- The sections that are passed have their marks.
-use Rattle.std.proofs.Common.{◌≡◌, take}
-use Rattle.extract_post.specs.Texts.{same_names}
-use Rattle.extract_post.proofs.same_sections.marks_of_post.Given as goal
-
-abbrev pub invariant-loop-place : goal.invariant-loop-place
-invariant-loop-place l = record { objects : l.comparison ≡ l.initial.comparison; marks : l.marks.items ≡ same_names l.comparison.pre l.post (take l.place l.sections) }

@@ -1,8 +1,0 @@
--- Equal parts have equal bytes.
-use Rattle.std.proofs.Common.{arith}
-use Rattle.extract_post.proofs.Blocks.{block_equal}
-use Rattle.extract_post.proofs.texts.same_block.Goals as goal
-
-pub returns : goal.returns
-returns c =
-    block_equal c.args.old.now c.args.new.now c.args.i c.args.j _ _ c.eq.result c.eq.ensures (omega arith) (omega arith)
