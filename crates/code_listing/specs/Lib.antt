@@ -1,3 +1,4 @@
+-- Public clauses cite Lines and Listing. What stands in inside is the code's own.
 pub mod Lines
-pub mod Extent
 pub mod Listing
+pub mod inside

@@ -24,7 +24,7 @@ pub(crate) struct Code {
 
 impl Model for Code {
     ghost use Rattle.std.specs.Prelude.{◌≡◌, ◌≤◌, []};
-    ghost use Rattle.code_listing.specs.Extent.{Extent};
+    ghost use Rattle.code_listing.specs.inside.Extent.{Extent};
 
     ghost Value = { Extent };
 

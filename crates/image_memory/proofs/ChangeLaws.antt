@@ -1,8 +1,9 @@
 -- What holds of things in order after one was put among them or taken out.
-use Rattle.std.proofs.Common.{◌≡◌, ◌≢◌, ℕ, zero, suc, ◌+◌, ◌-◌, ◌≤◌, ◌<◌, Bool, true, false, not, cond, ◌||◌, nat_lt, List, [], ◌∷◌, length, get_or, refl, sym, ◌∙◌, ap, arith, ◌⊎◌, inl, inr, Option, Some}
+use Rattle.std.proofs.Common.{◌≡◌, ◌≢◌, ℕ, zero, suc, ◌+◌, ◌-◌, ◌≤◌, ◌<◌, Bool, true, false, not, cond, ◌||◌, nat_lt, List, [], ◌∷◌, length, get_or, drop, refl, sym, ◌∙◌, ap, arith, ◌⊎◌, inl, inr, Option, Some}
 use Rattle.std.specs.List.{filter, insert, remove, list_any, position, position_or_len, All, Contains}
 use Rattle.std.proofs.lemmas.List.Sums.{prefix_len_passes}
 use Rattle.std.proofs.lemmas.Bool.Decides.{nat_tests}
+use Rattle.std.proofs.lemmas.List.{drop-drop}
 use Rattle.std.proofs.lemmas.List.Elements.{All-cons, All-head, All-tail}
 use Rattle.ks_base.specs.declared.places.Range.{Range}
 use Rattle.image_memory.specs.Ranges.{Ascends, are_same, meets, MeetsNone, put_in}
@@ -189,3 +190,18 @@ removed_first range ranges place there at =
     let n = position_or_len (λ other. are_same other range) ranges in
     let same : place ≡ n = let e = sym at ∙ first_is range ranges there in cc in
     rw same (remove_first range ranges)
+
+-- what is left of a list from a place on, after the thing there or one behind it was taken out
+pub front_passed : (n : ℕ) (ranges : List Range) → remove (drop n ranges) 0 ≡ drop (n + 1) ranges
+front_passed n ranges = drop-drop 1 n ranges
+
+remove_none : (k : ℕ) → remove {X = Range} [] k ≡ []
+remove_none zero = refl
+remove_none (suc k) = refl
+
+pub removed_behind : (n j : ℕ) (ranges : List Range) → drop n (remove ranges (n + j)) ≡ remove (drop n ranges) j
+removed_behind zero j ranges = let e : 0 + j ≡ j = omega arith in rw e refl
+removed_behind (suc n) j [] = ap (drop (suc n)) (remove_none (suc n + j)) ∙ sym (remove_none j)
+removed_behind (suc n) j (range ∷ ranges) =
+    let e : suc n + j ≡ 1 + (n + j) = omega arith in
+    rw e (ap (drop (suc n)) (remove_later range ranges (n + j)) ∙ removed_behind n j ranges)

@@ -1,9 +1,8 @@
 //! Putting pieces and ranges in their places, and taking them out.
-ghost use Rattle.std.specs.Prelude.{◌≡◌, ◌≤◌, ◌<◌, ◌+◌, insert, position, map, vec_len, vec_capacity, IfOk, OnOk, OnErr};
-ghost use Rattle.std.specs.List.{Contains};
-ghost use Rattle.image_memory.specs.Ranges.{Ascends, are_same};
+ghost use Rattle.std.specs.Prelude.{◌≡◌, ◌≤◌, ◌<◌, ◌+◌, insert, map, vec_len, vec_capacity, IfOk, OnOk, OnErr};
+ghost use Rattle.image_memory.specs.Ranges.{Ascends};
 ghost use Rattle.image_memory.specs.Contents.{piece_range};
-ghost use Rattle.image_memory.specs.Changes.{with_piece, without_first, ArePlaceable};
+ghost use Rattle.image_memory.specs.Changes.{with_piece, ArePlaceable};
 
 use crate::lookup::begun;
 use crate::types::{Piece, Pieces};
@@ -55,25 +54,4 @@ pub(crate) fn ranges_of(alloc: Global, pieces: &Pieces) -> Result<Vec<Range>, Al
         ranges.push(piece.range())?;
     }
     Ok(ranges)
-}
-
-// Takes the first range out that is this one. It is found at once where ranges are taken in their order.
-pub(crate) fn take_first(ranges: &mut Vec<Range>, range: Range)
-    requires { Contains ranges.old.items range }
-    ensures items { ranges.new.items ≡ without_first range ranges.old.items }
-    ensures len { vec_len ranges.new + 1 ≡ vec_len ranges.old }
-{
-    let Some(at) = place_of(ranges.as_slice(), range) else {
-        unreachable!()
-    };
-    let _ = ranges.remove(at);
-}
-
-// The first place at which a range stands.
-fn place_of(ranges: &[Range], range: Range) -> Option<usize>
-    ensures { result ≡ position (λ other. are_same other range) ranges.now }
-{
-    ranges
-        .iter()
-        .position(|other| other.low == range.low && other.high == range.high)
 }

@@ -11,9 +11,10 @@ ghost use Rattle.image_memory.specs.declared.types.Fence.{Fence};
 ghost use Rattle.image_memory.specs.Changes.{IsPlaceable, with_fence, without_fence, without_piece};
 
 use crate::bytes::{copy_front, front};
-use crate::changes::{insert_spare, put_spare, ranges_of, take_first};
+use crate::changes::{insert_spare, put_spare, ranges_of};
 use crate::lookup::{begun, piece_at};
 use crate::space::Space;
+use crate::spare::SpareRanges;
 use crate::types::{Access, Fence, Kind, Piece, Pieces, Window};
 use ks_base::{Fault, Range};
 use std::alloc::{AllocError, Global};
@@ -23,13 +24,13 @@ use std::alloc::{AllocError, Global};
 pub struct FlatSpace {
     pieces: Vec<Piece>,
     fences: Vec<Fence>,
-    spare_ranges: Vec<Range>,
+    spare_ranges: SpareRanges,
     spare_fences: u32,
     ghost ascend: { Ascends piece_range 0 pieces.items } by { Ascends-prop piece_range 0 pieces.items },
     ghost end_below: { All (λ piece. (piece_range piece).high ≤ 0xFFFF_0000) pieces.items },
     ghost fenced: { Ascends fence_range 0 fences.items } by { Ascends-prop fence_range 0 fences.items },
-    ghost placeable: { All IsPlaceable spare_ranges.items },
-    ghost piece_room: { vec_len pieces + vec_len spare_ranges ≤ vec_capacity pieces },
+    ghost placeable: { All IsPlaceable spare_ranges },
+    ghost piece_room: { vec_len pieces + length spare_ranges ≤ vec_capacity pieces },
     ghost fence_room: { vec_len fences + spare_fences ≤ vec_capacity fences },
 }
 
@@ -48,7 +49,7 @@ impl FlatSpace {
         Ok(FlatSpace {
             pieces: pieces.into_vec(),
             fences: Vec::new(alloc),
-            spare_ranges: Vec::new(alloc),
+            spare_ranges: SpareRanges::new(alloc),
             spare_fences: 0,
         })
     }
@@ -228,7 +229,7 @@ fn overlay_pieces(alloc: Global, pieces: &mut [Piece], first: usize, start: u64,
 impl Space for FlatSpace {
     ghost contents = { λ space. record { pieces = space.pieces.items; fences = space.fences.items } };
 
-    ghost room = { λ space. record { ranges = space.spare_ranges.items; fences = space.spare_fences } };
+    ghost room = { λ space. record { ranges = space.spare_ranges; fences = space.spare_fences } };
 
     ghost valid = { λ space. record {
       placed = record { ascend = space.ascend; end_below = space.end_below };
@@ -282,13 +283,13 @@ impl Space for FlatSpace {
         let ranges = ranges_of(*self.pieces.allocator(), pieces)?;
         self.pieces.reserve(ranges.len())?;
         self.fences.reserve(fences as usize)?;
-        self.spare_ranges = ranges;
+        self.spare_ranges = SpareRanges::from_vec(ranges);
         self.spare_fences = fences;
         Ok(())
     }
 
     fn add_piece(&mut self, piece: Piece) {
-        take_first(&mut self.spare_ranges, piece.range());
+        self.spare_ranges.take_first(piece.range());
         put_spare(&mut self.pieces, piece);
     }
 

@@ -10,6 +10,7 @@ pub mod lookup;
 mod parts;
 pub mod placement;
 pub mod space;
+mod spare;
 pub mod types;
 
 pub use changes::put_piece;

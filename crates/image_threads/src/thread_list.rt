@@ -12,7 +12,6 @@ use ia32_step::{State, Thread, Threads};
 use ks_base::Range;
 use std::alloc::{AllocError, Global};
 use std::marker::Model;
-use std::mem;
 
 /// How many threads may be started in all.
 const MOST_THREADS: usize = 4_096;
@@ -124,22 +123,11 @@ impl ThreadList {
         ensures { self.new ≡ set self.old thread.number thread }
     {
         let number = thread.number;
-        let alloc = self.alloc();
-        set_thread(alloc, &mut self.threads, number as usize, thread);
+        self.threads.set(number as usize, thread);
         if !is_running(thread.state) {
             self.running.retain(|other| *other != number);
         }
     }
-}
-
-/// Puts a thread in the place of that at an index. The list is taken apart for it, which moves no other thread.
-fn set_thread(alloc: Global, threads: &mut Threads, index: usize, thread: Thread)
-    requires { index < length threads.old }
-    ensures { threads.new ≡ set threads.old index thread }
-{
-    let mut items = mem::replace(threads, Threads::new(alloc)).into_vec();
-    items[index] = thread;
-    *threads = Threads::from_vec(items);
 }
 
 fn thread_at(threads: &[Thread], number: u32) -> Option<Thread>

@@ -1,10 +1,12 @@
 -- Laws by which texts are appended piece by piece.
-use Rattle.std.proofs.Common.{◌≡◌, ℕ, ◌+◌, ◌*◌, ◌/◌, ◌%◌, ◌<◌, ◌≤◌, List, [], ◌∷◌, ◌++◌, map, append_assoc, ap, sym, ◌∙◌, OnOk, Result}
-use Rattle.std.proofs.lemmas.List.{map-append}
-use Rattle.std.proofs.lemmas.Result.{on_ok_weaker}
+use Rattle.std.proofs.Common.{◌≡◌, ℕ, ◌+◌, ◌*◌, ◌/◌, ◌%◌, ◌<◌, ◌≤◌, List, [], ◌∷◌, ◌++◌, map, append_assoc, ap, refl, sym, ◌∙◌, OnOk, Result}
+use Rattle.std.specs.List.{flat_map}
+use Rattle.std.proofs.lemmas.List.{map-append, append-nil}
 use Rattle.std.proofs.lemmas.Int.Digits.{digits_of_step}
 use Rattle.std.specs.Int.Digits.{digits_of}
 use Rattle.ks_base.specs.Text.{hex_digit}
+use Rattle.ks_base.specs.Parts.{part_text, with_parts, parts_text}
+use Rattle.ks_base.specs.declared.parts.Part.{Part}
 
 -- the digits of a number that isn't zero are those of its quotient, and then the remainder
 pub digits_push : (base n : ℕ) → 2 ≤ base → 0 < n → map hex_digit (digits_of base n) ≡ map hex_digit (digits_of base (n / base)) ++ hex_digit (n % base) ∷ []
@@ -15,7 +17,11 @@ pub ruleset digit_laws = (digits_push, append_assoc)
 
 pub ruleset append_laws = (append_assoc)
 
--- what two calls append, one after the other
-pub appended_twice : {T E : Type 0} (r : Result T E) (old mid new xs ys : List ℕ) → mid ≡ old ++ xs → OnOk r (new ≡ mid ++ ys) → OnOk r (new ≡ old ++ (xs ++ ys))
-appended_twice r old mid new xs ys first second =
-    on_ok_weaker r (λ last. last ∙ ap (λ zs. zs ++ ys) first ∙ append_assoc old xs ys) second
+-- the text of parts is that of each, one after another
+with_flat : (text : List ℕ) (parts : List Part) → text ++ flat_map part_text parts ≡ with_parts text parts
+with_flat text [] = append-nil text
+with_flat text (part ∷ rest) = sym (append_assoc text (part_text part) (flat_map part_text rest)) ∙ with_flat (text ++ part_text part) rest
+
+pub parts_flat : (parts : List Part) → flat_map part_text parts ≡ parts_text parts
+parts_flat [] = refl
+parts_flat (part ∷ rest) = with_flat (part_text part) rest

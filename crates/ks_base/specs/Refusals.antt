@@ -10,7 +10,6 @@ use Rattle.ks_base.specs.declared.refusals.DifferenceKind.TheVariants.{End, Unde
 use Rattle.ks_base.specs.declared.refusals.Difference.{Difference}
 use Rattle.ks_base.specs.declared.refusals.Place.{Place}
 use Rattle.ks_base.specs.declared.refusals.Place.TheVariants.{Pc, Register, Stack}
-use Rattle.ks_base.specs.declared.refusals.Standing.{Standing}
 use Rattle.ks_base.specs.declared.refusals.ImageFault.{ImageFault}
 use Rattle.ks_base.specs.declared.refusals.ImageFault.TheVariants.{Short, Magic, Limit, Kind, Range, Order, Name, Trailing}
 use Rattle.ks_base.specs.declared.refusals.ConflictName.{ConflictName}
@@ -56,80 +55,30 @@ register_names = codes "eax" ∷ codes "ecx" ∷ codes "edx" ∷ codes "ebx"
 abbrev pub register_name : ℕ → List ℕ
 register_name number = slice_index_or register_names number []
 
--- the place where a thread stands, and before a stack's value its address
-abbrev pub place_text : Place → List ℕ
-place_text Pc = codes "pc"
-place_text (Register number) = codes "register " ++ register_name number
-place_text (Stack address) = codes "stack " ++ hex_text address
+-- the texts that have a form of their own: where a thread has which address of a range, a difference, and two values of one unknown
+abbrev pub busy_text : ℕ → Place → ℕ → List ℕ
+busy_text thread Pc value = codes "busy thread " ++ number_text thread ++ codes " pc " ++ hex_text value
+busy_text thread (Register number) value = codes "busy thread " ++ number_text thread ++ codes " register " ++ register_name number ++ codes " " ++ hex_text value
+busy_text thread (Stack slot) value = codes "busy thread " ++ number_text thread ++ codes " stack " ++ hex_text slot ++ codes " " ++ hex_text value
 
--- an offset after a name, where there is one
-abbrev pub offset_after : Option ℕ → List ℕ
-offset_after None = []
-offset_after (Some offset) = codes "+" ++ offset_text offset
-
--- a place in a section
-abbrev pub spot_text : Spot → List ℕ
-spot_text spot = shown_name spot.section ++ codes "+" ++ offset_text spot.offset
-
--- what two candidates give two values
-abbrev pub conflict_name_text : ConflictName → List ℕ
-conflict_name_text unknown = shown_name unknown.name ++ offset_after unknown.offset
-
--- words, and then a number or a name
-abbrev pub words_number : List ℕ → ℕ → List ℕ
-words_number words n = words ++ number_text n
-
-abbrev pub words_name : List ℕ → List ℕ → List ℕ
-words_name words name = words ++ shown_name name
-
--- words, and then two numbers, a name and one or two numbers, a name and an offset
-abbrev pub words_numbers : List ℕ → ℕ → ℕ → List ℕ
-words_numbers words a b = words ++ number_text a ++ codes " " ++ number_text b
-
-abbrev pub words_name_number : List ℕ → List ℕ → ℕ → List ℕ
-words_name_number words name n = words ++ shown_name name ++ codes " " ++ number_text n
-
-abbrev pub words_name_numbers : List ℕ → List ℕ → ℕ → ℕ → List ℕ
-words_name_numbers words name a b = words ++ shown_name name ++ codes " " ++ number_text a ++ codes " " ++ number_text b
-
-abbrev pub words_name_offset : List ℕ → List ℕ → ℕ → List ℕ
-words_name_offset words name offset = words ++ shown_name name ++ codes " " ++ offset_text offset
-
--- words, and then two addresses, with a name before them or without
-abbrev pub words_addresses : List ℕ → ℕ → ℕ → List ℕ
-words_addresses words a b = words ++ hex_text a ++ codes " " ++ hex_text b
-
-abbrev pub words_name_addresses : List ℕ → List ℕ → ℕ → ℕ → List ℕ
-words_name_addresses words name a b = words ++ shown_name name ++ codes " " ++ hex_text a ++ codes " " ++ hex_text b
-
--- the texts that have a form of their own
 abbrev pub mismatch_text : List ℕ → Difference → List ℕ
 mismatch_text section difference =
     codes "mismatch " ++ shown_name section ++ codes " index " ++ number_text difference.index
     ++ codes " pre " ++ offset_text difference.pre_offset ++ codes " run " ++ hex_text difference.run_address
     ++ codes " " ++ difference_word difference.kind
 
+abbrev pub name_and_offset : List ℕ → Option ℕ → List ℕ
+name_and_offset name None = codes "conflict " ++ shown_name name
+name_and_offset name (Some offset) = codes "conflict " ++ shown_name name ++ codes "+" ++ offset_text offset
+
+abbrev pub conflict_name_text : ConflictName → List ℕ
+conflict_name_text unknown = name_and_offset unknown.name unknown.offset
+
 abbrev pub value_at_text : ℕ → Spot → List ℕ
-value_at_text value spot = codes " " ++ hex_text value ++ codes " at " ++ spot_text spot
+value_at_text value at = codes " " ++ hex_text value ++ codes " at " ++ shown_name at.section ++ codes "+" ++ offset_text at.offset
 
 abbrev pub conflict_text : ConflictName → ℕ → ℕ → Spot → Spot → List ℕ
-conflict_text unknown a b at_a at_b =
-    codes "conflict " ++ conflict_name_text unknown ++ value_at_text a at_a ++ value_at_text b at_b
-
-abbrev pub too_small_text : List ℕ → ℕ → List ℕ
-too_small_text section room = codes "too small " ++ shown_name section ++ codes " room " ++ number_text room
-
-abbrev pub place_value_text : Place → ℕ → List ℕ
-place_value_text place value = codes " " ++ place_text place ++ codes " " ++ hex_text value
-
-abbrev pub busy_text : Standing → List ℕ
-busy_text standing = codes "busy thread " ++ number_text standing.thread ++ place_value_text standing.place standing.value
-
-abbrev pub stack_out_text : ℕ → ℕ → List ℕ
-stack_out_text thread esp = codes "stack out thread " ++ number_text thread ++ codes " " ++ hex_text esp
-
-abbrev pub bad_image_text : ℕ → ImageFault → List ℕ
-bad_image_text offset fault = codes "bad image at " ++ number_text offset ++ codes " " ++ image_word fault
+conflict_text unknown a b at_a at_b = conflict_name_text unknown ++ value_at_text a at_a ++ value_at_text b at_b
 
 -- the number of a refusal; 0 stands for want of memory, which has no reply
 unfoldable pub refusal_number : Refusal → ℕ
@@ -175,40 +124,40 @@ refusal_number Memory = 0
 unfoldable pub refusal_text : Refusal → List ℕ
 refusal_text NotElf = codes "not elf"
 refusal_text NotRel386 = codes "not i386 relocatable"
-refusal_text (BadHeader offset) = words_number (codes "bad header ") offset
-refusal_text (BadSection index) = words_number (codes "bad section ") index
-refusal_text (BadSymbol index) = words_number (codes "bad symbol ") index
-refusal_text (BadReloc from index) = words_numbers (codes "bad relocation ") from index
-refusal_text (UnknownReloc section index type) = words_name_numbers (codes "unknown relocation ") section index type
-refusal_text (NotOneFunction section) = words_name (codes "not one function ") section
-refusal_text (DoubleName section) = words_name (codes "double name ") section
+refusal_text (BadHeader offset) = codes "bad header " ++ number_text offset
+refusal_text (BadSection index) = codes "bad section " ++ number_text index
+refusal_text (BadSymbol index) = codes "bad symbol " ++ number_text index
+refusal_text (BadReloc from index) = codes "bad relocation " ++ number_text from ++ codes " " ++ number_text index
+refusal_text (UnknownReloc section index kind) = codes "unknown relocation " ++ shown_name section ++ codes " " ++ number_text index ++ codes " " ++ number_text kind
+refusal_text (NotOneFunction section) = codes "not one function " ++ shown_name section
+refusal_text (DoubleName section) = codes "double name " ++ shown_name section
 refusal_text (TooLarge what) = codes "too large " ++ large_word what
-refusal_text (DataChanged section) = words_name (codes "data changed ") section
+refusal_text (DataChanged section) = codes "data changed " ++ shown_name section
 refusal_text NoChange = codes "no change"
-refusal_text (Interior section offset) = words_name_offset (codes "interior ") section offset
-refusal_text (NoCandidate name) = words_name (codes "no candidate ") name
+refusal_text (Interior section offset) = codes "interior " ++ shown_name section ++ codes " " ++ offset_text offset
+refusal_text (NoCandidate name) = codes "no candidate " ++ shown_name name
 refusal_text (Mismatch section difference) = mismatch_text section difference
-refusal_text (Ambiguous section a b) = words_name_addresses (codes "ambiguous ") section a b
+refusal_text (Ambiguous section a b) = codes "ambiguous " ++ shown_name section ++ codes " " ++ hex_text a ++ codes " " ++ hex_text b
 refusal_text (Conflict unknown a b at_a at_b) = conflict_text unknown a b at_a at_b
-refusal_text (Unresolved name) = words_name (codes "unresolved ") name
-refusal_text (TwoNames name a b) = words_name_addresses (codes "two names ") name a b
-refusal_text (PreUndecoded section offset) = words_name_offset (codes "pre undecoded ") section offset
-refusal_text (TooSmall section room) = too_small_text section room
-refusal_text (Overlap a b) = words_addresses (codes "overlap ") a b
-refusal_text (NoRoom bytes) = words_number (codes "no room ") bytes
+refusal_text (Unresolved name) = codes "unresolved " ++ shown_name name
+refusal_text (TwoNames name a b) = codes "two names " ++ shown_name name ++ codes " " ++ hex_text a ++ codes " " ++ hex_text b
+refusal_text (PreUndecoded section offset) = codes "pre undecoded " ++ shown_name section ++ codes " " ++ offset_text offset
+refusal_text (TooSmall section room) = codes "too small " ++ shown_name section ++ codes " room " ++ number_text room
+refusal_text (Overlap a b) = codes "overlap " ++ hex_text a ++ codes " " ++ hex_text b
+refusal_text (NoRoom bytes) = codes "no room " ++ number_text bytes
 refusal_text TooMany = codes "too many updates"
-refusal_text (Busy standing) = busy_text standing
-refusal_text (StackOut thread esp) = stack_out_text thread esp
+refusal_text (Busy standing) = busy_text standing.thread standing.place standing.value
+refusal_text (StackOut thread esp) = codes "stack out thread " ++ number_text thread ++ codes " " ++ hex_text esp
 refusal_text NothingApplied = codes "nothing applied"
-refusal_text (BadImage offset fault) = bad_image_text offset fault
-refusal_text (BadLine number) = words_number (codes "bad line ") number
-refusal_text (NoThread thread) = words_number (codes "no thread ") thread
-refusal_text (NoSymbol name) = words_name (codes "no symbol ") name
+refusal_text (BadImage offset fault) = codes "bad image at " ++ number_text offset ++ codes " " ++ image_word fault
+refusal_text (BadLine number) = codes "bad line " ++ number_text number
+refusal_text (NoThread thread) = codes "no thread " ++ number_text thread
+refusal_text (NoSymbol name) = codes "no symbol " ++ shown_name name
 refusal_text NoStack = codes "no stack"
-refusal_text (BadString section index) = words_name_number (codes "bad string ") section index
-refusal_text (BadTarget section index) = words_name_number (codes "bad target ") section index
+refusal_text (BadString section index) = codes "bad string " ++ shown_name section ++ codes " " ++ number_text index
+refusal_text (BadTarget section index) = codes "bad target " ++ shown_name section ++ codes " " ++ number_text index
 refusal_text TooManyThreads = codes "too many threads"
-refusal_text (NameTaken name) = words_name (codes "name taken ") name
+refusal_text (NameTaken name) = codes "name taken " ++ shown_name name
 refusal_text Memory = []
 
 -- the line that is printed for a refusal, with its line feed; nothing for want of memory

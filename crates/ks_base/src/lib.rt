@@ -3,6 +3,7 @@
 #![tactic(auto)]
 
 pub mod list;
+mod parts;
 pub mod places;
 mod refusal_texts;
 pub mod refusals;
@@ -12,8 +13,7 @@ pub mod reports;
 pub use list::ListOf;
 pub use places::{Bytes, Name, Names, Range, Ranges, Spot};
 pub use refusals::{
-    ConflictName, Difference, DifferenceKind, Fault, ImageFault, Large, Place, Refusal, StackOut,
-    Standing,
+    ConflictName, Difference, DifferenceKind, Fault, ImageFault, Large, Place, Refusal, Standing,
 };
 pub use reply::Line;
 pub use reports::{Added, AddedList, Replaced, ReplacedList, Report};

@@ -1,5 +1,5 @@
 //! A list in order, which clauses see as the list of its items.
-ghost use Rattle.std.specs.Prelude.{◌≡◌, ◌++◌, ◌==◌, [], ◌∷◌, length, OnOk, OnErr, IfOk, IsNone, ◌↔◌, option_to_list};
+ghost use Rattle.std.specs.Prelude.{◌≡◌, ◌++◌, ◌<◌, ◌==◌, [], ◌∷◌, length, set, OnOk, OnErr, IfOk, IsNone, ◌↔◌, option_to_list};
 ghost use Rattle.std.specs.Option.{option_copied};
 ghost use Rattle.std.specs.List.{slice_get};
 ghost use Rattle.std.specs.Cmp.{on_equiv, on_total, on_po, on_per};
@@ -68,6 +68,16 @@ impl<T> ListOf<T> {
         ensures none { IsNone result ↔ (self.old ≡ []) }
     {
         self.items.pop()
+    }
+
+    /// Puts `item` in the place of that at index `i`. It takes no memory.
+    pub fn set(&mut self, i: usize, item: T)
+    where
+        T: Drop,
+        requires { i < length self.old }
+        ensures { self.new ≡ set self.old i item }
+    {
+        self.items[i] = item;
     }
 
     /// How many items the list has.

@@ -96,15 +96,6 @@ pub struct Standing {
     pub value: u32,
 }
 
-/// That a thread's ESP is outside its stack.
-#[derive(Clone, Copy, PartialEq, Eq, Debug)]
-pub struct StackOut {
-    /// The thread's number.
-    pub thread: u32,
-    /// Its ESP.
-    pub esp: u32,
-}
-
 /// Which rule an image breaks.
 #[derive(Clone, Copy, PartialEq, Eq, Debug)]
 pub enum ImageFault {

@@ -1,3 +1,5 @@
+-- Public clauses cite Outside, Answered, Kept and Loads, and of what lives in memory InMemory and Held. Fronts,
+-- KeptLaws and LoadLaws are laws of these, which the crates above use.
 pub mod Outside
 pub mod Answered
 pub mod Fronts

@@ -62,6 +62,8 @@ pub trait Sink {
         ensures failed { IsErrOf result SinkFault.SinkFailed → Rose (faults self.old) (faults self.new) }
         // An Ok that took nothing of a piece that isn't empty is a fault, too.
         ensures stuck { result ≡ Ok 0 → 0 < length piece.now → Rose (faults self.old) (faults self.new) }
+        // A call that took something, or that memory was wanting for, is no fault.
+        ensures steady { IfOk result (λ n. 0 < n → faults self.new ≡ faults self.old) }
         ensures memory { IsErrOf result SinkFault.Memory → faults self.new ≡ faults self.old }
         ensures never_falls { faults self.old ≤ faults self.new }
         ensures quiet_kept { quiet self.old → quiet self.new }

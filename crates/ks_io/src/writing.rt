@@ -11,8 +11,11 @@ use crate::types::SinkFault;
 pub fn write_all<O: Sink>(out: &mut O, piece: &[u8]) -> Result<(), SinkFault>
     ensures ok { OnOk result (O.taken out.new ≡ grown (O.taken out.old) piece.now) }
     ensures part { OnErr result (TookPart (O.taken out.old) piece.now (O.taken out.new)) }
+    // The count of faults rises exactly where the sink failed.
     ensures failed { IsErrOf result SinkFault.SinkFailed
         → Rose (O.faults out.old) (O.faults out.new) }
+    ensures steady { OnOk result (O.faults out.new ≡ O.faults out.old) }
+    ensures memory { IsErrOf result SinkFault.Memory → O.faults out.new ≡ O.faults out.old }
     ensures kept { SinkKept O.faults O.quiet out.old out.new }
     ensures quiet_answer { O.quiet out.old → result ≢ Err SinkFault.SinkFailed }
 {

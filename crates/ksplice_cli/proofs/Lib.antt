@@ -6,4 +6,5 @@ pub mod Pages
 pub mod OneLoading
 pub mod OneAnswer
 pub mod Promised
+pub mod Readers
 pub mod Sessions

@@ -1,8 +1,9 @@
+-- Public clauses cite Calls (what a call comes to), by Words, Reply, Difference and Answer, and Promises in laws.
+-- What stands in inside is the code's own.
 pub mod Words
-pub mod Asks
 pub mod Difference
-pub mod Verbs
 pub mod Answer
 pub mod Reply
 pub mod Calls
 pub mod Promises
+pub mod inside

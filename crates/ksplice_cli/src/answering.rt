@@ -2,7 +2,7 @@
 ghost use Rattle.std.specs.Prelude.{◌≡◌, ◌≢◌, Some, None, map, string_bytes, true};
 ghost use Rattle.ks_io.specs.Kept.{FilesKept, SinkKept};
 ghost use Rattle.ks_io.specs.Outside.{Rose};
-ghost use Rattle.ksplice_cli.specs.Asks.{asked_by};
+ghost use Rattle.ksplice_cli.specs.inside.Asks.{asked_by};
 ghost use Rattle.ksplice_cli.specs.Calls.{Answers, is_carried_out, is_status};
 ghost use Rattle.ksplice_cli.specs.Words.{reading};
 
@@ -45,6 +45,7 @@ pub fn ksplice<F: Files, O: Sink>(
     ensures files { FilesKept F.told F.counts F.quiet files.old files.new }
     ensures out { SinkKept O.faults O.quiet out.old out.new }
     ensures sink { result.code ≡ 5 → Rose (O.faults out.old) (O.faults out.new) }
+    ensures steady { result.code ≢ 5 → O.faults out.new ≡ O.faults out.old }
     ensures quiet { O.quiet out.old → result.code ≢ 5 }
 {
     match read_words(words) {
@@ -66,6 +67,7 @@ fn carry_out<F: Files, O: Sink>(
     ensures files { FilesKept F.told F.counts F.quiet files.old files.new }
     ensures out { SinkKept O.faults O.quiet out.old out.new }
     ensures sink { result.code ≡ 5 → Rose (O.faults out.old) (O.faults out.new) }
+    ensures steady { result.code ≢ 5 → O.faults out.new ≡ O.faults out.old }
     ensures quiet { O.quiet out.old → result.code ≢ 5 }
 {
     match command {

@@ -28,6 +28,7 @@ pub fn diff<F: Files, O: Sink>(
     ensures files { FilesKept F.told F.counts F.quiet files.old files.new }
     ensures out { SinkKept O.faults O.quiet out.old out.new }
     ensures sink { result.code ≡ 5 → Rose (O.faults out.old) (O.faults out.new) }
+    ensures steady { result.code ≢ 5 → O.faults out.new ≡ O.faults out.old }
     ensures quiet { O.quiet out.old → result.code ≢ 5 }
 {
     let limit = OBJECT_LIMIT;
@@ -45,6 +46,7 @@ fn print_difference<O: Sink>(alloc: Global, pre: &[u8], post: &[u8], out: &mut O
     ensures status { is_carried_out result.code ≡ true }
     ensures out { SinkKept O.faults O.quiet out.old out.new }
     ensures sink { result.code ≡ 5 → Rose (O.faults out.old) (O.faults out.new) }
+    ensures steady { result.code ≢ 5 → O.faults out.new ≡ O.faults out.old }
     ensures quiet { O.quiet out.old → result.code ≢ 5 }
 {
     match compare(alloc, pre, post) {

@@ -31,6 +31,7 @@ pub fn code<F: Files, O: Sink>(
     ensures files { FilesKept F.told F.counts F.quiet files.old files.new }
     ensures out { SinkKept O.faults O.quiet out.old out.new }
     ensures sink { result.code ≡ 5 → Rose (O.faults out.old) (O.faults out.new) }
+    ensures steady { result.code ≢ 5 → O.faults out.new ≡ O.faults out.old }
     ensures quiet { O.quiet out.old → result.code ≢ 5 }
 {
     let wanted = [Wanted {
@@ -49,6 +50,7 @@ fn print_code<O: Sink>(alloc: Global, bytes: &[u8], name: &str, out: &mut O) -> 
     ensures status { is_carried_out result.code ≡ true }
     ensures answer { OneComesOut (λ answer. answer ≡ code_answer bytes.now name.now) (O.taken out.old) (O.taken out.new) result.code }
     ensures sink { result.code ≡ 5 → Rose (O.faults out.old) (O.faults out.new) }
+    ensures steady { result.code ≢ 5 → O.faults out.new ≡ O.faults out.old }
     ensures out { SinkKept O.faults O.quiet out.old out.new }
     ensures quiet { O.quiet out.old → result.code ≢ 5 }
 {
@@ -73,6 +75,7 @@ fn print_listing<O: Sink>(alloc: Global, listing: &mut Listing, out: &mut O) -> 
     ensures status { is_carried_out result.code ≡ true }
     ensures answer { ComesOut (answer_of listing.old 0) (O.taken out.old) (O.taken out.new) result.code }
     ensures sink { result.code ≡ 5 → Rose (O.faults out.old) (O.faults out.new) }
+    ensures steady { result.code ≢ 5 → O.faults out.new ≡ O.faults out.old }
     ensures out { SinkKept O.faults O.quiet out.old out.new }
     ensures quiet { O.quiet out.old → result.code ≢ 5 }
 {
@@ -92,6 +95,8 @@ fn print_page<O: Sink>(alloc: Global, listing: &mut Listing, out: &mut O) -> Opt
         → ComesOut (answer_of listing.old 0) (O.taken out.old) now status) }
     ensures shorter { IfNone result (length listing.new < length listing.old) }
     ensures sink { IfSome result (λ status. status.code ≡ 5 → Rose (O.faults out.old) (O.faults out.new)) }
+    ensures steady { IfSome result (λ status. status.code ≢ 5 → O.faults out.new ≡ O.faults out.old) }
+    ensures going { IfNone result (O.faults out.new ≡ O.faults out.old) }
     ensures out { SinkKept O.faults O.quiet out.old out.new }
     ensures quiet { IfSome result (λ status. O.quiet out.old → status.code ≢ 5) }
 {

@@ -3,7 +3,7 @@ ghost use Rattle.std.specs.Prelude.{◌≡◌, ◌++◌, Some, IfOk, OnOk};
 ghost use Rattle.std.specs.Option.{option_copied};
 ghost use Rattle.std.specs.List.{flat_map};
 ghost use Rattle.ksplice_cli.specs.Difference.{function_in, function_of, verb_line, section_line, line_in, dropped_line, listing_by, listing};
-ghost use Rattle.ksplice_cli.specs.Verbs.{verb_at};
+ghost use Rattle.ksplice_cli.specs.inside.Verbs.{verb_at};
 
 use crate::verb::Verb;
 use crate::verbs::verbs_of;

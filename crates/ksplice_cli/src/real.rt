@@ -1,6 +1,7 @@
 //! The outside as the operating system gives it: its files, and standard output. Of what a file holds, or of what a
 //! reader of the output sees, nothing is told; the counts are kept as the traits ask.
-ghost use Rattle.std.specs.Prelude.{◌≤◌, length, IfOk, OnOk};
+ghost use Rattle.std.specs.Prelude.{◌≡◌, ◌≢◌, ◌≤◌, ◌<◌, [], length, take, IfOk, IfSome, OnOk, IsErrOf};
+ghost use Rattle.std.specs.Io.KnownBytes.{Appends};
 
 use ks_io::{FileFault, Files, Sink, SinkFault};
 use std::io::{Error, ErrorKind, Read, Write};
@@ -38,7 +39,7 @@ impl<R: rt::Files> Files for RealFiles<'_, R> {
 
     fn load(&mut self, name: &str, limit: u32, into: &mut Vec<u8>) -> Result<(), FileFault> {
         into.clear();
-        match read_at_most(self.rt, name, limit, into) {
+        match read_file(self.rt, name, limit, into) {
             Ok(()) => Ok(()),
             Err(fault) => {
                 into.clear();
@@ -54,25 +55,39 @@ impl<R: rt::Files> Files for RealFiles<'_, R> {
     }
 }
 
-// Appends a file's bytes, of which no more than `limit` and one are read.
-fn read_at_most<R: rt::Files>(
+// Opens a file and reads it whole.
+fn read_file<R: rt::Files>(
     rt: &R,
     name: &str,
     limit: u32,
     into: &mut Vec<u8>,
 ) -> Result<(), FileFault>
+    requires { into.old.items ≡ [] }
     ensures { OnOk result (length into.new.items ≤ limit) }
 {
     let file = fs::open(rt, name).map_err(|error| fault_of(&error))?;
-    let mut front = file.take(u64::from(limit) + 1);
-    front.read_to_end(into).map_err(|error| fault_of(&error))?;
-    if into.len() > limit as usize {
-        return Err(FileFault::TooLong);
-    }
-    Ok(())
+    read_at_most(file, limit, into)
 }
 
-fn fault_of(error: &Error) -> FileFault {
+// Reads all that a reader has left, where that is no more than `limit` bytes: it is never cut. Of a longer one `limit` and
+// one bytes are read, and it is too long.
+fn read_at_most<S: Read + Drop>(source: S, limit: u32, into: &mut Vec<u8>) -> Result<(), FileFault>
+    requires { into.old.items ≡ [] }
+    ensures at_most { OnOk result (length into.new.items ≤ limit) }
+    ensures whole { OnOk result (IfSome (S.remaining source) (λ left. into.new.items ≡ left)) }
+    ensures longer { IsErrOf result FileFault.TooLong → IfSome (S.remaining source) (λ left. limit < length left) }
+{
+    let mut front = source.take(u64::from(limit) + 1);
+    match front.read_to_end(into) {
+        Ok(_) if into.len() > limit as usize => Err(FileFault::TooLong),
+        Ok(_) => Ok(()),
+        Err(error) => Err(fault_of(&error)),
+    }
+}
+
+fn fault_of(error: &Error) -> FileFault
+    ensures { result ≢ FileFault.TooLong }
+{
     match error.kind() {
         ErrorKind::NotFound => FileFault::Missing,
         ErrorKind::OutOfMemory => FileFault::Memory,
@@ -103,7 +118,7 @@ impl<R: Print> Sink for RealSink<'_, R> {
     ghost quiet = { λ _. ⊥ };
 
     fn write(&mut self, piece: &[u8]) -> Result<usize, SinkFault> {
-        match write_through(self.rt, piece) {
+        match write_through(&mut io::writer(self.rt), piece) {
             Ok(count) if count > 0 || piece.is_empty() => Ok(count),
             _ => {
                 self.faults = self.faults.saturating_add(1);
@@ -113,11 +128,11 @@ impl<R: Print> Sink for RealSink<'_, R> {
     }
 }
 
-// Writes a front of the piece and flushes it.
-fn write_through<R: Print>(rt: &R, piece: &[u8]) -> io::Result<usize>
-    ensures { IfOk result (λ count. count ≤ length piece.now) }
+// Writes a front of the piece and flushes it; answers how many bytes that is.
+fn write_through<W: Write>(output: &mut W, piece: &[u8]) -> io::Result<usize>
+    ensures within { IfOk result (λ count. count ≤ length piece.now) }
+    ensures front { IfOk result (λ count. Appends (W.contents output.old) (W.contents output.new) (take count piece.now)) }
 {
-    let mut output = io::writer(rt);
     let count = output.write(piece)?;
     output.flush()?;
     Ok(count)

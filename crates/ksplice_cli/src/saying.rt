@@ -20,6 +20,7 @@ pub fn say<O: Sink>(out: &mut O, output: &[u8], status: Status) -> Status
     ensures status { (result ≡ status) ⊎ (result.code ≡ 5) ⊎ (result.code ≡ 6) }
     ensures out { SinkKept O.faults O.quiet out.old out.new }
     ensures sink { result.code ≡ 5 → Rose (O.faults out.old) (O.faults out.new) }
+    ensures steady { result.code ≢ 5 → O.faults out.new ≡ O.faults out.old }
     ensures quiet { O.quiet out.old → result.code ≢ 5 }
 {
     match write_all(out, output) {
@@ -37,6 +38,7 @@ pub fn refuse<O: Sink>(alloc: Global, refusal: &Refusal, out: &mut O) -> Status
     ensures status { is_carried_out result.code ≡ true }
     ensures out { SinkKept O.faults O.quiet out.old out.new }
     ensures sink { result.code ≡ 5 → Rose (O.faults out.old) (O.faults out.new) }
+    ensures steady { result.code ≢ 5 → O.faults out.new ≡ O.faults out.old }
     ensures quiet { O.quiet out.old → result.code ≢ 5 }
 {
     if let Refusal::Memory = refusal {
@@ -73,6 +75,7 @@ pub fn end_with_file<O: Sink>(
     ensures status { is_carried_out result.code ≡ true }
     ensures out { SinkKept O.faults O.quiet out.old out.new }
     ensures sink { result.code ≡ 5 → Rose (O.faults out.old) (O.faults out.new) }
+    ensures steady { result.code ≢ 5 → O.faults out.new ≡ O.faults out.old }
     ensures quiet { O.quiet out.old → result.code ≢ 5 }
 {
     if let FileFault::Memory = fault {

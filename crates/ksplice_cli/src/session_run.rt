@@ -33,6 +33,7 @@ pub fn run<F: Files, O: Sink>(
     ensures files { FilesKept F.told F.counts F.quiet files.old files.new }
     ensures out { SinkKept O.faults O.quiet out.old out.new }
     ensures sink { result.code ≡ 5 → Rose (O.faults out.old) (O.faults out.new) }
+    ensures steady { result.code ≢ 5 → O.faults out.new ≡ O.faults out.old }
     ensures quiet { O.quiet out.old → result.code ≢ 5 }
 {
     let wanted = [
@@ -66,6 +67,7 @@ fn print_session<F: Files, O: Sink>(
     ensures files { FilesKept F.told F.counts F.quiet files.old files.new }
     ensures out { SinkKept O.faults O.quiet out.old out.new }
     ensures sink { result.code ≡ 5 → Rose (O.faults out.old) (O.faults out.new) }
+    ensures steady { result.code ≢ 5 → O.faults out.new ≡ O.faults out.old }
     ensures quiet { O.quiet out.old → result.code ≢ 5 }
 {
     match read_session(alloc, image, script) {

@@ -2,6 +2,7 @@
 mod builder;
 mod images;
 mod objects;
+mod real_files;
 
 use crate::answering::ksplice;
 use builder::object;

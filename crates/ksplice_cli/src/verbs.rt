@@ -2,7 +2,7 @@
 ghost use Rattle.std.specs.Prelude.{◌≡◌, ℕ, List, Some, if◌then◌else◌, IfOk, OnOk};
 ghost use Rattle.i386_reloc.specs.Normal.{same_bytes};
 ghost use Rattle.ksplice_cli.specs.Difference.{is_among, verb_of};
-ghost use Rattle.ksplice_cli.specs.Verbs.{verb_at};
+ghost use Rattle.ksplice_cli.specs.inside.Verbs.{verb_at};
 
 use crate::verb::Verb;
 use extract_post::Extract;

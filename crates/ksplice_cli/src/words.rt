@@ -2,7 +2,7 @@
 ghost use Rattle.std.specs.Prelude.{◌≡◌, map, string_bytes, option_map};
 ghost use Rattle.std.specs.List.{list_any};
 ghost use Rattle.ksplice_cli.specs.Words.{reading, command_of, begins_with_dash};
-ghost use Rattle.ksplice_cli.specs.Asks.{asked_by};
+ghost use Rattle.ksplice_cli.specs.inside.Asks.{asked_by};
 
 use crate::command::Command;
 

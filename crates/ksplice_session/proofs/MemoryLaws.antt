@@ -17,7 +17,7 @@ use Rattle.image_file.specs.Reading.{Contents as Image}
 use Rattle.image_memory.specs.Ranges.{are_same}
 use Rattle.image_threads.specs.Spawning.{is_stack, AreStacks, is_writable}
 use Rattle.update_stack.specs.CallTable.{stack_piece, all_pieces}
-use Rattle.ksplice_session.specs.Stacks.{FitsAmong, FitAmong}
+use Rattle.ksplice_session.specs.inside.Stacks.{FitsAmong, FitAmong}
 
 pub no_stacks : (regions : List Piece) (stacks : List Range) → length stacks < 1 → regions ≡ all_pieces regions stacks
 unfolding all_pieces

@@ -29,9 +29,9 @@ use Rattle.ksplice_session.specs.Replies.{Told, told_of, files_of}
 use Rattle.ksplice_session.specs.Session.{Ran, held_of, NoneBehind, Played, nothing_played, play_line, played, files_along, ran_by, lacking, file_line, lost_line, whole_output, At, Ends, AllDone, AllRun, FileStopped, SinkStopped, SinkAtFile, MemoryInLine, MemoryAfterLine, MemoryAtFile, SessionEnds}
 use Rattle.ksplice_session.specs.declared.types.Answer.{Answer}
 use Rattle.ksplice_session.specs.Answers.{answer_of}
-use Rattle.ksplice_session.specs.LineEnds.{LineEnds, ToldEnds, FileEnds, written_end, file_end, CutAt, SinkCut, MemoryCut, EventsCut, LostAt, LineWritten, SinkLost, MemoryLost, Replied, WasRun, EndedBy, AtLine, AtFile}
+use Rattle.ksplice_session.specs.inside.LineEnds.{LineEnds, ToldEnds, FileEnds, written_end, file_end, CutAt, SinkCut, MemoryCut, EventsCut, LostAt, LineWritten, SinkLost, MemoryLost, Replied, WasRun, EndedBy, AtLine, AtFile}
 use Rattle.ksplice_session.proofs.AnswerLaws.{told_same}
-use Rattle.ksplice_session.specs.ScriptEnds.{line_of, IsFiled, AreFiled, HaveRun}
+use Rattle.ksplice_session.specs.inside.ScriptEnds.{line_of, IsFiled, AreFiled, HaveRun}
 
 -- the line that has these files is run, and then the others
 ran_by-one : (line : Command) (lines : List Command) (mine rest : List (List ℕ)) → length mine ≡ length (files_of line)

@@ -118,7 +118,8 @@ fn refused(alloc: Global, refusal: &Refusal) -> Result<Answer, AllocError>
 }
 
 fn is_memory(refusal: &Refusal) -> bool
-    ensures { result ≡ false → refusal.now ≢ Memory }
+    ensures memory { result ≡ true → refusal.now ≡ Memory }
+    ensures other { result ≡ false → refusal.now ≢ Memory }
 {
     matches!(refusal, Refusal::Memory)
 }

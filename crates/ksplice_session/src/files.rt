@@ -36,6 +36,8 @@ pub fn write_file_line<O: Sink>(
     ensures ok { OnOk result (O.taken out.new ≡ grown (O.taken out.old) (file_line name.now fault)) }
     ensures part { OnErr result (TookPart (O.taken out.old) (file_line name.now fault) (O.taken out.new)) }
     ensures failed { IsErrOf result SinkFault.SinkFailed → Rose (O.faults out.old) (O.faults out.new) }
+    ensures steady { OnOk result (O.faults out.new ≡ O.faults out.old) }
+    ensures memory { IsErrOf result SinkFault.Memory → O.faults out.new ≡ O.faults out.old }
     ensures kept { SinkKept O.faults O.quiet out.old out.new }
     ensures quiet { O.quiet out.old → result ≢ Err SinkFault.SinkFailed }
 {

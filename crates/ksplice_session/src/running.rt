@@ -4,9 +4,9 @@ ghost use Rattle.std.specs.List.{All};
 ghost use Rattle.ks_io.specs.Kept.{FilesKept, SinkKept};
 ghost use Rattle.ks_io.specs.Outside.{Rose};
 ghost use Rattle.script_lines.specs.Allowed.{IsAllowed};
-ghost use Rattle.ksplice_session.specs.LineEnds.{LineEnds, ToldEnds, FileEnds, written_end, file_end};
+ghost use Rattle.ksplice_session.specs.inside.LineEnds.{LineEnds, ToldEnds, FileEnds, written_end, file_end};
 ghost use Rattle.ksplice_session.specs.Replies.{told_of};
-ghost use Rattle.ksplice_session.specs.ScriptEnds.{ScriptEnds};
+ghost use Rattle.ksplice_session.specs.inside.ScriptEnds.{ScriptEnds};
 ghost use Rattle.ksplice_session.specs.Session.{SessionEnds};
 
 use crate::answers::answer;
@@ -33,6 +33,7 @@ pub fn run_session<F: Files, O: Sink>(
     ensures files { FilesKept F.told F.counts F.quiet files.old files.new }
     ensures out { SinkKept O.faults O.quiet out.old out.new }
     ensures sink { result ≡ SessionEnd.SinkEnd → Rose (O.faults out.old) (O.faults out.new) }
+    ensures steady { result ≢ SessionEnd.SinkEnd → O.faults out.new ≡ O.faults out.old }
     ensures quiet { O.quiet out.old → result ≢ SessionEnd.SinkEnd }
 {
     match run_lines(alloc, session, script.as_slice(), files, out) {
@@ -55,6 +56,7 @@ fn run_lines<F: Files, O: Sink>(
     ensures files { FilesKept F.told F.counts F.quiet files.old files.new }
     ensures out { SinkKept O.faults O.quiet out.old out.new }
     ensures sink { IsErrOf result SessionEnd.SinkEnd → Rose (O.faults out.old) (O.faults out.new) }
+    ensures steady { result ≢ Err SessionEnd.SinkEnd → O.faults out.new ≡ O.faults out.old }
     ensures quiet { O.quiet out.old → result ≢ Err SessionEnd.SinkEnd }
 {
     let mut refused = false;
@@ -79,6 +81,7 @@ fn run_line<F: Files, O: Sink>(
     ensures files { FilesKept F.told F.counts F.quiet files.old files.new }
     ensures out { SinkKept O.faults O.quiet out.old out.new }
     ensures sink { IsErrOf result SessionEnd.SinkEnd → Rose (O.faults out.old) (O.faults out.new) }
+    ensures steady { result ≢ Err SessionEnd.SinkEnd → O.faults out.new ≡ O.faults out.old }
     ensures quiet { O.quiet out.old → result ≢ Err SessionEnd.SinkEnd }
 {
     let wanted = files_of(command);
@@ -100,6 +103,7 @@ fn reply<O: Sink>(
         (O.taken out.old) (O.taken out.new) session.new result }
     ensures out { SinkKept O.faults O.quiet out.old out.new }
     ensures sink { IsErrOf result SessionEnd.SinkEnd → Rose (O.faults out.old) (O.faults out.new) }
+    ensures steady { result ≢ Err SessionEnd.SinkEnd → O.faults out.new ≡ O.faults out.old }
     ensures quiet { O.quiet out.old → result ≢ Err SessionEnd.SinkEnd }
 {
     match answer(alloc, session, command) {
@@ -129,6 +133,7 @@ fn end_at_file<O: Sink>(
     ensures ends { FileEnds file.now fault (O.taken out.old) (O.taken out.new) result }
     ensures out { SinkKept O.faults O.quiet out.old out.new }
     ensures sink { result ≡ SessionEnd.SinkEnd → Rose (O.faults out.old) (O.faults out.new) }
+    ensures steady { result ≢ SessionEnd.SinkEnd → O.faults out.new ≡ O.faults out.old }
     ensures quiet { O.quiet out.old → result ≢ SessionEnd.SinkEnd }
 {
     if let FileFault::Memory = fault {

@@ -9,7 +9,7 @@ use Rattle.std.proofs.lemmas.List.Folds.{list_any_at, Any-from_list_any, sum_by-
 use Rattle.reachability.specs.Reached.{Reached, has_edge, Tells, HasItsSuccessors}
 use Rattle.reachability.specs.Reached.Reached.{Seed, Next}
 use Rattle.reachability.proofs.TellsLaws.{tells_from}
-use Rattle.reachability.specs.Walk.{Walk, unmarked, marked, seeded, visited}
+use Rattle.reachability.specs.inside.Walk.{Walk, unmarked, marked, seeded, visited}
 
 -- whether a node is marked
 abbrev pub is_marked : Walk → ℕ → Bool

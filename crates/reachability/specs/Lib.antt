@@ -1,2 +1,3 @@
+-- Public clauses cite Reached. What stands in inside is the code's own.
 pub mod Reached
-pub mod Walk
+pub mod inside

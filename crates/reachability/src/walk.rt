@@ -2,7 +2,7 @@
 ghost use Rattle.std.specs.Prelude.{◌≡◌, ◌<◌, ℕ, Bool, false, length, OnOk, IfOk};
 ghost use Rattle.std.specs.List.{slice_index, slice_index_or, fold, All};
 ghost use Rattle.reachability.specs.Reached.{Reached, Tells, HasItsSuccessors};
-ghost use Rattle.reachability.specs.Walk.{unmarked, marked, marked_if, seeded, visited};
+ghost use Rattle.reachability.specs.inside.Walk.{unmarked, marked, marked_if, seeded, visited};
 
 use ks_base::ListOf;
 use std::alloc::{AllocError, Global};
@@ -20,7 +20,7 @@ struct Reaching {
 }
 
 impl Model for Reaching {
-    ghost use Rattle.reachability.specs.Walk.{Walk};
+    ghost use Rattle.reachability.specs.inside.Walk.{Walk};
 
     ghost Value = { Walk };
 

@@ -11,7 +11,7 @@ use Rattle.std.proofs.lemmas.Nat.Bits.{bit_at-trailing_zeros}
 use Rattle.std.proofs.lemmas.List.{take-append-drop, drop-drop, drop_all, length-drop, append-nil, length-take-le, length-append, get_or_append_left, get_or-take, get_or-append_right, length_push, take_at}
 use Rattle.std.proofs.lemmas.List.Edits.{get_or-between, length-between}
 use borrow.Rule.Slice.PartMut.{put_mid}
-use Rattle.symbol_table.specs.Blocks.{block_begin, InBlocks}
+use Rattle.symbol_table.specs.inside.Blocks.{block_begin, InBlocks}
 
 -- ---- where blocks begin
 twice : (t : ℕ) → 2 ^ suc t ≡ 2 * 2 ^ t

@@ -14,18 +14,22 @@ use Rattle.std.proofs.lemmas.List.Sorted.{ranks_by, IsPermutation-refl, IsPermut
 use Rattle.symbol_table.specs.declared.symbols.Symbol.{Symbol}
 use Rattle.symbol_table.specs.declared.entries.Entry.{Entry}
 use Rattle.symbol_table.specs.declared.entries.Index.{Index}
-use Rattle.symbol_table.specs.declared.entries.Index.TheVariants.{Functions, Data, Names}
-use Rattle.symbol_table.specs.Entries.{is_in, entry_at, entries_from, name_of, address_order, entry_less, HasAll}
-use Rattle.symbol_table.specs.Blocks.{InBlocks}
+use Rattle.symbol_table.specs.declared.entries.Index.TheVariants.{Functions, Data, Globals, Names}
+use Rattle.symbol_table.specs.inside.Entries.{is_in, entry_at, entries_from, name_of, address_order, name_less, entry_less, HasAll}
+use Rattle.symbol_table.specs.inside.Blocks.{InBlocks}
 use Rattle.symbol_table.proofs.BlockLaws.{in_blocks_sorted, before_push}
 use Rattle.symbol_table.proofs.FunctionLaws.{address_laws}
 
 -- ---- the orders
+name_laws : (symbols : List Symbol) → IsStrictWeakOrder (name_less symbols)
+name_laws symbols =
+    ranks_by (then_total (on_total (λ (entry : Entry). name_of (slice_get symbols entry.place)) nat_list_cmp_total) (then_total (on_total (λ (entry : Entry). entry.address) nat_cmp_total) (back_total (on_total (λ (entry : Entry). entry.place) nat_cmp_total)))) (λ (entry : Entry). entry)
+
 pub entry_laws : (index : Index) (symbols : List Symbol) → IsStrictWeakOrder (entry_less index symbols)
 entry_laws Functions symbols = address_laws
 entry_laws Data symbols = address_laws
-entry_laws Names symbols =
-    ranks_by (then_total (on_total (λ (entry : Entry). name_of (slice_get symbols entry.place)) nat_list_cmp_total) (then_total (on_total (λ (entry : Entry). entry.address) nat_cmp_total) (back_total (on_total (λ (entry : Entry). entry.place) nat_cmp_total)))) (λ (entry : Entry). entry)
+entry_laws Globals symbols = name_laws symbols
+entry_laws Names symbols = name_laws symbols
 
 -- ---- a test of all entries
 or_false : (a b : Bool) → ((a || false) || b) ≡ (a || b)
@@ -81,15 +85,19 @@ still index symbols new entries k d has less =
     stays symbols new (get_or entries k d).place _ refl (false_from_ne_true (lost (get_or entries k d)) (λ yes. false≢true (sym none ∙ list_any_at lost entries k d less yes)))
 
 -- the blocks stay in order
+names_later : (index : Index) (symbols : List Symbol) (new : Symbol) (entries : List Entry) → HasAll index symbols entries → InBlocks (name_less symbols) entries → InBlocks (name_less (symbols ++ new ∷ [])) entries
+names_later index symbols new entries has blocks end within k d above below =
+    let later = get_or entries (k + 1) d in
+    let earlier = get_or entries k d in
+    ap (λ o. is_lt (ordering_then (slice_cmp nat_cmp (name_of o) (name_of (slice_get (symbols ++ new ∷ []) earlier.place))) (address_order later earlier))) (still index symbols new entries (k + 1) d has (omega arith))
+    ∙ ap (λ o. is_lt (ordering_then (slice_cmp nat_cmp (name_of (slice_get symbols later.place)) (name_of o)) (address_order later earlier))) (still index symbols new entries k d has (omega arith))
+    ∙ blocks end within k d above below
+
 pub blocks_later : (index : Index) (symbols : List Symbol) (new : Symbol) (entries : List Entry) → HasAll index symbols entries → InBlocks (entry_less index (symbols ++ new ∷ [])) entries
 blocks_later Functions symbols new entries has end within k d above below = has.blocks end within k d above below
 blocks_later Data symbols new entries has end within k d above below = has.blocks end within k d above below
-blocks_later Names symbols new entries has end within k d above below =
-    let later = get_or entries (k + 1) d in
-    let earlier = get_or entries k d in
-    ap (λ o. is_lt (ordering_then (slice_cmp nat_cmp (name_of o) (name_of (slice_get (symbols ++ new ∷ []) earlier.place))) (address_order later earlier))) (still Names symbols new entries (k + 1) d has (omega arith))
-    ∙ ap (λ o. is_lt (ordering_then (slice_cmp nat_cmp (name_of (slice_get symbols later.place)) (name_of o)) (address_order later earlier))) (still Names symbols new entries k d has (omega arith))
-    ∙ has.blocks end within k d above below
+blocks_later Globals symbols new entries has end within k d above below = names_later Globals symbols new entries has has.blocks end within k d above below
+blocks_later Names symbols new entries has end within k d above below = names_later Names symbols new entries has has.blocks end within k d above below
 
 entries_from-push : (index : Index) (place : ℕ) (symbols : List Symbol) (new : Symbol) → entries_from index place (symbols ++ new ∷ []) ≡ entries_from index place symbols ++ entry_at index new (place + length symbols)
 entries_from-push index place [] new = (let e : place ≡ place + 0 = omega arith in append-nil (entry_at index new place) ∙ ap (entry_at index new) e)

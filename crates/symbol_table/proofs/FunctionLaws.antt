@@ -15,8 +15,8 @@ use Rattle.symbol_table.specs.declared.symbols.Symbol.{Symbol}
 use Rattle.symbol_table.specs.declared.entries.Entry.{Entry}
 use Rattle.symbol_table.specs.Symbols.{nearer, function_below}
 use Rattle.symbol_table.specs.declared.entries.Index.TheVariants.{Functions}
-use Rattle.symbol_table.specs.Entries.{address_less, entries_from, HasAll}
-use Rattle.symbol_table.specs.Functions.{greater_entry, entry_below, Marks}
+use Rattle.symbol_table.specs.inside.Entries.{address_less, entries_from, HasAll}
+use Rattle.symbol_table.specs.inside.Functions.{greater_entry, entry_below, Marks}
 use Rattle.symbol_table.proofs.BlockLaws.{drop_between}
 
 -- ---- the order of entries

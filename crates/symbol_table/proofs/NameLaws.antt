@@ -2,7 +2,6 @@
 use Rattle.std.proofs.Common.{◌≡◌, ℕ, suc, zero, ◌+◌, ◌<◌, ◌≤◌, Bool, true, false, cond, not, ◌||◌, ◌&&◌, eqb, ltb, leb, List, [], ◌∷◌, ◌++◌, map, length, get_or, take, drop, refl, sym, ◌∙◌, ap, subst, Option, Some, None, inl, inr, arith}
 use Rattle.std.specs.List.{slice_get, between, filter, filter_map, cons_option, list_any}
 use Rattle.std.specs.List.Sorted.{IsSortedBy, IsPartitionedBy, IsPartitionPoint, IsPermutation, IsNonDecreasingBy}
-use Rattle.std.specs.Option.{is_some}
 use Rattle.std.specs.Ordering.{nat_cmp, ordering_then, ordering_reverse, is_lt, is_le, is_eq, ordering_index}
 use Rattle.std.specs.declared.cmp.Ordering.{Ordering}
 use Rattle.std.specs.declared.cmp.Ordering.TheVariants.{Less, Equal, Greater}
@@ -19,13 +18,12 @@ use Rattle.std.proofs.lemmas.Map.Text.{is_eq-slice_cmp}
 use Rattle.std.proofs.lemmas.Map.Views.{any-filter_same}
 use Rattle.symbol_table.specs.declared.symbols.Symbol.{Symbol}
 use Rattle.symbol_table.specs.declared.entries.Entry.{Entry}
-use Rattle.symbol_table.specs.declared.entries.Index.TheVariants.{Names}
+use Rattle.symbol_table.specs.declared.entries.Index.TheVariants.{Globals, Names}
 use Rattle.symbol_table.specs.declared.kinds.Kind.{Kind}
-use Rattle.symbol_table.specs.declared.kinds.Kind.TheVariants.{Global}
-use Rattle.symbol_table.specs.Kinds.{is_of_kind, is_listed}
+use Rattle.symbol_table.specs.inside.Kinds.{is_of_kind, is_listed}
 use Rattle.symbol_table.specs.Symbols.{ascending, addresses_of, address_of, is_named, is_global_named, global_addresses}
-use Rattle.symbol_table.specs.Entries.{name_of, order_of, order_at, address_order, name_less, HasAll}
-use Rattle.symbol_table.specs.Names.{is_before, is_not_after, is_named_at, stands_at, kind_address, found_at, is_global_at, is_global_entry}
+use Rattle.symbol_table.specs.inside.Entries.{name_of, order_of, order_at, address_order, name_less, HasAll}
+use Rattle.symbol_table.specs.inside.Names.{is_before, is_not_after, is_named_at, stands_at, kind_address, found_at, is_entry_of}
 use Rattle.symbol_table.proofs.BlockLaws.{drop_between}
 use Rattle.symbol_table.proofs.AscendingLaws.{has, same_members, has-ascending, ascends-ascending}
 use Rattle.symbol_table.proofs.EntryLaws.{entry_laws, any_entry}
@@ -241,20 +239,18 @@ any_filtered p test (entry ∷ rest) =
       | false ↦ any_filtered p test rest
     ]
 
-shuffled : (named here global : Bool) → (named && (here && global)) ≡ ((global && named) && here)
-shuffled false here true = refl
-shuffled false here false = refl
-shuffled true true true = refl
-shuffled true true false = refl
-shuffled true false true = refl
-shuffled true false false = refl
+shuffled : (global named here : Bool) → (global && (named && here)) ≡ ((global && named) && here)
+shuffled false named here = refl
+shuffled true named here = refl
 
-global_one : (symbols : List Symbol) (name : List ℕ) (address k : ℕ) (symbol : Symbol) → slice_get symbols k ≡ Some symbol → is_global_entry symbols name address (record { address = symbol.address; place = k }) ≡ (is_global_named name symbol && eqb address symbol.address)
-global_one symbols name address k symbol is =
-    ap (λ o. is_eq (order_of name o) && (eqb address symbol.address && is_some (kind_address Global o))) is
-    ∙ ap (λ b. b && (eqb address symbol.address && is_some (kind_address Global (Some symbol)))) (is_eq-slice_cmp symbol.name name)
-    ∙ ap (λ b. is_named name symbol && (eqb address symbol.address && b)) (elim symbol.global as (λ b. is_some (cond b (Some symbol.address) None) ≡ b) [ true ↦ refl | false ↦ refl ])
-    ∙ shuffled (is_named name symbol) (eqb address symbol.address) symbol.global
+any_alike : (p q : Symbol → Bool) (symbols : List Symbol) → ((symbol : Symbol) → p symbol ≡ q symbol) → list_any p symbols ≡ list_any q symbols
+any_alike p q [] same = refl
+any_alike p q (symbol ∷ rest) same = ap (λ b. b || list_any p rest) (same symbol) ∙ ap (λ b. q symbol || b) (any_alike p q rest same)
+
+entry_of_one : (symbols : List Symbol) (name : List ℕ) (address k : ℕ) (symbol : Symbol) → slice_get symbols k ≡ Some symbol → is_entry_of symbols name address (record { address = symbol.address; place = k }) ≡ (is_named name symbol && eqb address symbol.address)
+entry_of_one symbols name address k symbol is =
+    ap (λ o. is_eq (order_of name o) && eqb address symbol.address) is
+    ∙ ap (λ b. b && eqb address symbol.address) (is_eq-slice_cmp symbol.name name)
 
 -- looking through blocks
 pub found_here : (p : Entry → Bool) (entries : List Entry) (begin end : ℕ) → begin ≤ end → list_any p (between begin end entries) ≡ true → list_any p entries ≡ true
@@ -268,11 +264,26 @@ none_here p entries begin end order here later =
     ap (list_any p) (drop_between entries begin end order) ∙ list_any-append p (between begin end entries) (drop end entries)
     ∙ ap (λ b. b || list_any p (drop end entries)) here ∙ later
 
-pub any_named : (symbols : List Symbol) (name : List ℕ) (address : ℕ) (entries : List Entry) → list_any (is_global_at symbols) (filter (stands_at address) (filter (is_named_at symbols name) entries)) ≡ list_any (is_global_entry symbols name address) entries
-any_named symbols name address entries = any_filtered (stands_at address) (is_global_at symbols) (filter (is_named_at symbols name) entries) ∙ any_filtered (is_named_at symbols name) (λ entry. stands_at address entry && is_global_at symbols entry) entries
+-- a list of entries that pass a test has one
+has_length : {X : Type 0} (p : X → Bool) (xs : List X) → list_any p xs ≡ ltb 0 (length (filter p xs))
+has_length p [] = refl
+has_length p (x ∷ xs) =
+    elim (p x) as (λ b. (b || list_any p xs) ≡ ltb 0 (length (cond b (x ∷ filter p xs) (filter p xs)))) [
+      | true ↦ sym (some_longer (length (filter p xs)))
+      | false ↦ has_length p xs
+    ]
+  where
+    some_longer : (n : ℕ) → ltb 0 (suc n) ≡ true
+    some_longer n = grind (arith, nat_tests)
 
-pub any_global : (symbols : List Symbol) (name : List ℕ) (address : ℕ) (entries : List Entry) → HasAll Names symbols entries → list_any (is_global_entry symbols name address) entries ≡ list_any (eqb address) (global_addresses symbols name)
+pub any_named : (symbols : List Symbol) (name : List ℕ) (address : ℕ) (entries : List Entry) → ltb 0 (length (filter (stands_at address) (filter (is_named_at symbols name) entries))) ≡ list_any (is_entry_of symbols name address) entries
+any_named symbols name address entries =
+    sym (has_length (stands_at address) (filter (is_named_at symbols name) entries))
+    ∙ any_filtered (is_named_at symbols name) (stands_at address) entries
+
+pub any_global : (symbols : List Symbol) (name : List ℕ) (address : ℕ) (entries : List Entry) → HasAll Globals symbols entries → list_any (is_entry_of symbols name address) entries ≡ list_any (eqb address) (global_addresses symbols name)
 any_global symbols name address entries all =
-    any_entry Names symbols entries (is_global_entry symbols name address) (λ symbol. is_global_named name symbol && eqb address symbol.address) all (global_one symbols name address)
+    any_entry Globals symbols entries (is_entry_of symbols name address) (λ symbol. is_named name symbol && eqb address symbol.address) all (entry_of_one symbols name address)
+    ∙ any_alike _ _ symbols (λ symbol. shuffled symbol.global (is_named name symbol) (eqb address symbol.address))
     ∙ sym (has_wanted address (is_global_named name) symbols)
     ∙ sym (has-ascending address (map address_of (filter (is_global_named name) symbols)))

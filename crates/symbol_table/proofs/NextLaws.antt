@@ -9,8 +9,8 @@ use Rattle.symbol_table.specs.declared.symbols.Symbol.{Symbol}
 use Rattle.symbol_table.specs.declared.entries.Entry.{Entry}
 use Rattle.symbol_table.specs.declared.entries.Index.TheVariants.{Functions, Data}
 use Rattle.symbol_table.specs.Symbols.{address_of, next_address}
-use Rattle.symbol_table.specs.Entries.{is_in, HasAll}
-use Rattle.symbol_table.specs.Next.{any_address, IsNext, lesser}
+use Rattle.symbol_table.specs.inside.Entries.{is_in, HasAll}
+use Rattle.symbol_table.specs.inside.Next.{any_address, IsNext, lesser}
 use Rattle.symbol_table.proofs.BlockLaws.{drop_between}
 use Rattle.symbol_table.proofs.EntryLaws.{any_entry}
 

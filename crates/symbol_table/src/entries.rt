@@ -3,8 +3,8 @@ ghost use Rattle.std.specs.Prelude.{◌≡◌, ◌+◌, ◌<◌, ◌≤◌, ◌+
 ghost use Rattle.std.specs.List.{slice_get};
 ghost use Rattle.std.specs.List.Sorted.{IsPermutation, IsSortedBy};
 ghost use Rattle.std.specs.Ordering.{is_lt};
-ghost use Rattle.symbol_table.specs.Blocks.{InBlocks};
-ghost use Rattle.symbol_table.specs.Entries.{is_in, entry_at, entries_from, name_of, order_at, address_order, address_less, entry_less, HasAll};
+ghost use Rattle.symbol_table.specs.inside.Blocks.{InBlocks};
+ghost use Rattle.symbol_table.specs.inside.Entries.{is_in, entry_at, entries_from, name_of, order_at, address_order, address_less, entry_less, HasAll};
 
 use crate::blocks::block_begin;
 use crate::symbols::Symbol;
@@ -17,11 +17,13 @@ pub(crate) struct Entry {
     pub(crate) place: usize,
 }
 
-// An index: of the functions or of the data in order of the addresses, or of all symbols in order of the names.
+// An index: of the functions or of the data in order of the addresses, or of the global or of all symbols in order of
+// the names, and those of one name in order of the addresses.
 #[derive(Clone, Copy)]
 pub(crate) enum Index {
     Functions,
     Data,
+    Globals,
     Names,
 }
 
@@ -32,6 +34,7 @@ fn is_in(index: Index, symbol: &Symbol) -> bool
     match index {
         Index::Functions => symbol.function,
         Index::Data => !symbol.function,
+        Index::Globals => symbol.global,
         Index::Names => true,
     }
 }
@@ -64,6 +67,13 @@ pub(crate) fn address_order(entry: &Entry, other: &Entry) -> Ordering
         .then(other.place.cmp(&entry.place))
 }
 
+// How the names of two entries' symbols stand.
+fn name_order(symbols: &[Symbol], entry: &Entry, other: &Entry) -> Ordering
+    ensures { result ≡ order_at symbols.now (name_of (slice_get symbols.now other.now.place)) entry.now }
+{
+    order_at(symbols, entry, name_at(symbols, other.place))
+}
+
 // How an entry of an index stands to another.
 fn entry_order(index: Index, symbols: &[Symbol], entry: &Entry, other: &Entry) -> Ordering
     ensures { is_lt result ≡ entry_less index symbols.now entry.now other.now }
@@ -72,7 +82,8 @@ fn entry_order(index: Index, symbols: &[Symbol], entry: &Entry, other: &Entry) -
     match index {
         Index::Functions => by_address,
         Index::Data => by_address,
-        Index::Names => order_at(symbols, entry, name_at(symbols, other.place)).then(by_address),
+        Index::Globals => name_order(symbols, entry, other).then(by_address),
+        Index::Names => name_order(symbols, entry, other).then(by_address),
     }
 }
 

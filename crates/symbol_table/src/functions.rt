@@ -2,11 +2,11 @@
 ghost use Rattle.std.specs.Prelude.{◌≡◌, ◌≤◌, IfSome, if◌then◌else◌};
 ghost use Rattle.std.specs.List.Sorted.{IsSortedBy};
 ghost use Rattle.std.specs.Option.{option_copied};
-ghost use Rattle.symbol_table.specs.Blocks.{InBlocks};
+ghost use Rattle.symbol_table.specs.inside.Blocks.{InBlocks};
 ghost use Rattle.symbol_table.specs.declared.entries.Index.TheVariants.{Functions};
 ghost use Rattle.symbol_table.specs.Symbols.{function_below};
-ghost use Rattle.symbol_table.specs.Entries.{address_less, HasAll};
-ghost use Rattle.symbol_table.specs.Functions.{greater_entry, entry_below};
+ghost use Rattle.symbol_table.specs.inside.Entries.{address_less, HasAll};
+ghost use Rattle.symbol_table.specs.inside.Functions.{greater_entry, entry_below};
 
 use crate::blocks::block_begin;
 use crate::entries::{Entry, address_order};

@@ -1,13 +1,13 @@
 //! The three kinds of symbol that are looked up by name.
-ghost use Rattle.std.specs.Prelude.{◌≡◌, ◌==◌, IfOk};
+ghost use Rattle.std.specs.Prelude.{◌≡◌, ◌==◌, IfOk, nat_lt, length};
 ghost use Rattle.std.specs.List.{slice_get, filter, list_any};
 ghost use Rattle.std.specs.List.Sorted.{IsPermutation, IsSortedBy};
 ghost use Rattle.symbol_table.specs.Symbols.{addresses_of, global_addresses};
-ghost use Rattle.symbol_table.specs.Kinds.{is_of_kind, is_listed};
-ghost use Rattle.symbol_table.specs.declared.entries.Index.TheVariants.{Names};
-ghost use Rattle.symbol_table.specs.Entries.{name_less, HasAll};
-ghost use Rattle.symbol_table.specs.Names.{kind_address, found_at, is_named_at, stands_at, is_global_at};
-ghost use Rattle.symbol_table.specs.Blocks.{InBlocks};
+ghost use Rattle.symbol_table.specs.inside.Kinds.{is_of_kind, is_listed};
+ghost use Rattle.symbol_table.specs.declared.entries.Index.TheVariants.{Globals, Names};
+ghost use Rattle.symbol_table.specs.inside.Entries.{name_less, HasAll};
+ghost use Rattle.symbol_table.specs.inside.Names.{kind_address, found_at, is_named_at, stands_at};
+ghost use Rattle.symbol_table.specs.inside.Blocks.{InBlocks};
 
 use crate::addresses::{Addresses, put_in_order};
 use crate::blocks::block_begin;
@@ -101,25 +101,24 @@ pub(crate) fn addresses_of(
     put_in_order(addresses_found(alloc, symbols, entries, kind, name)?)
 }
 
-// Whether a name has a global symbol at an address, of entries in order of the names.
-fn is_global_in_block(symbols: &[Symbol], entries: &[Entry], name: &Name, address: u32) -> bool
+// Whether an entry of a name stands at an address, of entries in order of the names.
+fn stands_in_block(symbols: &[Symbol], entries: &[Entry], name: &Name, address: u32) -> bool
     requires { IsSortedBy (name_less symbols.now) entries.now }
-    ensures { result ≡ list_any (is_global_at symbols.now) (filter (stands_at address) (filter (is_named_at symbols.now name.now) entries.now)) }
+    ensures { result ≡ nat_lt 0 (length (filter (stands_at address) (filter (is_named_at symbols.now name.now) entries.now))) }
 {
-    entries_at(entries_named(symbols, entries, name.as_slice()), address)
-        .iter()
-        .any(|entry| kind_address(symbols, entry.place, Kind::Global).is_some())
+    let named = entries_named(symbols, entries, name.as_slice());
+    !entries_at(named, address).is_empty()
 }
 
-// Whether a name has a global symbol at an address.
+// Whether a name has a global symbol at an address, by the index of the global symbols.
 pub(crate) fn is_global(symbols: &[Symbol], entries: &[Entry], name: &Name, address: u32) -> bool
-    requires { HasAll Names symbols.now entries.now }
+    requires { HasAll Globals symbols.now entries.now }
     ensures { result ≡ list_any (λ a. address == a) (global_addresses symbols.now name.now) }
 {
     let mut end = entries.len();
     while end > 0 {
         let begin = block_begin(end);
-        if is_global_in_block(symbols, &entries[begin..end], name, address) {
+        if stands_in_block(symbols, &entries[begin..end], name, address) {
             return true;
         }
         end = begin;

@@ -2,8 +2,8 @@
 ghost use Rattle.std.specs.Prelude.{◌≡◌, ◌≤◌, true, false, length};
 ghost use Rattle.std.specs.List.{filter};
 ghost use Rattle.std.specs.List.Sorted.{IsPartitionPoint, IsSortedBy, IsNonDecreasingBy};
-ghost use Rattle.symbol_table.specs.Entries.{name_less};
-ghost use Rattle.symbol_table.specs.Names.{is_before, is_not_after, is_named_at, stands_at};
+ghost use Rattle.symbol_table.specs.inside.Entries.{name_less};
+ghost use Rattle.symbol_table.specs.inside.Names.{is_before, is_not_after, is_named_at, stands_at};
 
 use crate::entries::{Entry, order_at};
 use crate::symbols::Symbol;

@@ -1,9 +1,9 @@
 //! The least address above an address.
 ghost use Rattle.std.specs.Prelude.{◌≡◌, nat_lt};
 ghost use Rattle.std.specs.List.Sorted.{IsSortedBy};
-ghost use Rattle.symbol_table.specs.Blocks.{InBlocks};
-ghost use Rattle.symbol_table.specs.Entries.{address_less};
-ghost use Rattle.symbol_table.specs.Next.{any_address, lesser, IsNext};
+ghost use Rattle.symbol_table.specs.inside.Blocks.{InBlocks};
+ghost use Rattle.symbol_table.specs.inside.Entries.{address_less};
+ghost use Rattle.symbol_table.specs.inside.Next.{any_address, lesser, IsNext};
 
 use crate::blocks::block_begin;
 use crate::entries::Entry;

@@ -25,7 +25,8 @@ pub struct SymbolTable {
     symbols: Vec<Symbol>,
     // the indices of the symbols, each in blocks that are in order
     functions: Vec<Entry>,
-    data: Vec<Entry>,
+    data_entries: Vec<Entry>,
+    globals: Vec<Entry>,
     names: Vec<Entry>,
     spare: usize,
 }
@@ -38,9 +39,9 @@ impl Model for SymbolTable {
 
     ghost view = { λ t. record { symbols = t.symbols.items; spare = t.spare } };
 
-    ghost use Rattle.symbol_table.specs.Indexed.{IsIndexed};
+    ghost use Rattle.symbol_table.specs.inside.Indexed.{IsIndexed};
 
-    ghost invariant = { λ t. IsIndexed t.symbols t.functions t.data t.names t.spare };
+    ghost invariant = { λ t. IsIndexed t.symbols t.functions t.data_entries t.globals t.names t.spare };
 }
 
 impl SymbolTable {
@@ -52,7 +53,8 @@ impl SymbolTable {
         SymbolTable {
             symbols: Vec::new(alloc),
             functions: Vec::new(alloc),
-            data: Vec::new(alloc),
+            data_entries: Vec::new(alloc),
+            globals: Vec::new(alloc),
             names: Vec::new(alloc),
             spare: 0,
         }
@@ -144,19 +146,19 @@ impl SymbolTable {
     {
         lesser(
             next_of(self.functions.as_slice(), address),
-            next_of(self.data.as_slice(), address),
+            next_of(self.data_entries.as_slice(), address),
         )
     }
 
     /// Whether a global symbol of a name stands at an address: whether the address is one of
     /// [`globals_of`](SymbolTable::globals_of). It takes no memory, and no more time than the square of the
-    /// logarithm of the number of symbols, and the number of those of that name at that address.
+    /// logarithm of the number of symbols.
     pub fn is_global(&self, name: &Name, address: u32) -> bool
         ensures { result ≡ list_any (λ a. address == a) (global_addresses self.now.symbols name.now) }
     {
         is_global(
             self.symbols.as_slice(),
-            self.names.as_slice(),
+            self.globals.as_slice(),
             name,
             address,
         )
@@ -176,7 +178,9 @@ impl SymbolTable {
         let count = self.symbols.len();
         self.functions
             .reserve(count - self.functions.len() + wanted)?;
-        self.data.reserve(count - self.data.len() + wanted)?;
+        self.data_entries
+            .reserve(count - self.data_entries.len() + wanted)?;
+        self.globals.reserve(count - self.globals.len() + wanted)?;
         self.names.reserve(count - self.names.len() + wanted)?;
         self.spare = wanted;
         Ok(())
@@ -191,7 +195,8 @@ impl SymbolTable {
         let _ = self.symbols.push(symbol);
         let symbols = self.symbols.as_slice();
         note_last(&mut self.functions, Index::Functions, symbols);
-        note_last(&mut self.data, Index::Data, symbols);
+        note_last(&mut self.data_entries, Index::Data, symbols);
+        note_last(&mut self.globals, Index::Globals, symbols);
         note_last(&mut self.names, Index::Names, symbols);
         self.spare -= 1;
     }
@@ -206,7 +211,8 @@ impl SymbolTable {
         self.symbols.truncate(kept);
         let symbols = self.symbols.as_slice();
         list_entries(&mut self.functions, Index::Functions, symbols);
-        list_entries(&mut self.data, Index::Data, symbols);
+        list_entries(&mut self.data_entries, Index::Data, symbols);
+        list_entries(&mut self.globals, Index::Globals, symbols);
         list_entries(&mut self.names, Index::Names, symbols);
     }
 }

@@ -19,6 +19,7 @@ loop-rest-preserved g c =
       front = before.front ++ take n c.loop-rest.rest.now;
       splits = grind (arith, common_steps, further);
       written = c.in_ok-count.ensures.took ∙ ap (λ was. grown was (take n c.loop-rest.rest.now)) before.written ∙ grown-append _ _ _;
+      steady = c.in_ok-count.ensures.steady (omega arith) ∙ before.steady;
       kept = SinkKept-trans before.kept (record {
         never_falls = c.write.ensures.never_falls;
         quiet_kept = c.write.ensures.quiet_kept;

@@ -9,6 +9,7 @@ invariant-loop-rest g l = record {
   front : List ℕ;
   splits : front ++ l.rest ≡ l.piece;
   written : g.O.Sink.taken l.out ≡ grown (g.O.Sink.taken l.initial.out) front;
+  steady : g.O.Sink.faults l.out ≡ g.O.Sink.faults l.initial.out;
   kept : SinkKept g.O.Sink.faults g.O.Sink.quiet l.initial.out l.out;
 }
 

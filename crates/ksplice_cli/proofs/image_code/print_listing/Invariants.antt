@@ -1,4 +1,4 @@
-use Rattle.std.proofs.Common.{ℕ, List, Option, length}
+use Rattle.std.proofs.Common.{◌≡◌, ℕ, List, Option, length}
 use Rattle.ks_io.specs.Kept.{SinkKept}
 use Rattle.ksplice_cli.specs.Answer.{ComesOut, answer_of}
 use Rattle.ksplice_cli.proofs.image_code.print_listing.Given as goal
@@ -7,6 +7,7 @@ use Rattle.ksplice_cli.proofs.image_code.print_listing.Given as goal
 abbrev pub invariant-loop-status : goal.invariant-loop-status
 invariant-loop-status g l = record {
   comes_out : (now : Option (List ℕ)) (status : ℕ) → ComesOut (answer_of l.listing 0) (g.O.Sink.taken l.out) now status → ComesOut (answer_of l.fn.listing 0) (g.O.Sink.taken l.fn.out) now status;
+  steady : g.O.Sink.faults l.out ≡ g.O.Sink.faults l.fn.out;
   kept : SinkKept g.O.Sink.faults g.O.Sink.quiet l.fn.out l.out;
 }
 

@@ -1,7 +1,7 @@
 use Rattle.std.proofs.Common.{◌≡◌, ◌++◌, drop}
 use Rattle.std.specs.List.{flat_map}
 use Rattle.ksplice_cli.specs.Difference.{line_in}
-use Rattle.ksplice_cli.specs.Verbs.{verb_at}
+use Rattle.ksplice_cli.specs.inside.Verbs.{verb_at}
 use Rattle.ksplice_cli.proofs.listing.put_sections.Given as goal
 
 -- the lines so far, and then those of the other sections, are those of all

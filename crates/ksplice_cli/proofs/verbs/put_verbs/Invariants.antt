@@ -1,6 +1,6 @@
 use Rattle.std.proofs.Common.{◌≡◌, ℕ, cond, List, Some, drop}
 use Rattle.ksplice_cli.specs.Difference.{is_among}
-use Rattle.ksplice_cli.specs.Verbs.{verb_at}
+use Rattle.ksplice_cli.specs.inside.Verbs.{verb_at}
 use Rattle.ksplice_cli.proofs.verbs.put_verbs.Given as goal
 
 -- the names so far, and then the others, have the verb

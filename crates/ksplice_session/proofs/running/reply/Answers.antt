@@ -1,7 +1,7 @@
 use Rattle.std.proofs.Common.{[], Bool, Result, refl, sym, subst}
 use Rattle.ksplice_session.specs.declared.types.SessionEnd.{SessionEnd}
 use Rattle.ksplice_session.specs.Replies.{told_of}
-use Rattle.ksplice_session.specs.LineEnds.{ToldEnds, EventsCut}
+use Rattle.ksplice_session.specs.inside.LineEnds.{ToldEnds, EventsCut}
 use Rattle.ksplice_session.proofs.SessionLaws.{reply_written}
 use Rattle.ksplice_session.proofs.running.reply.Goals as goal
 

@@ -1,12 +1,14 @@
 use Rattle.std.proofs.Common.{◌+◌, ◌||◌, Ok, Err, List, [], ◌∷◌, ◌++◌, take, drop, refl, sym, ◌∙◌, ap, subst, arith}
+use Rattle.std.specs.Prelude.{is_ok}
+use Rattle.std.proofs.lemmas.Bool.{false≢true}
 use Rattle.std.proofs.lemmas.List.{take_more}
 use Rattle.std.proofs.lemmas.Result.{err_from_is_err_and}
 use Rattle.ks_io.specs.KeptLaws.{FilesKept-refl, FilesKept-trans, SinkKept-refl, SinkKept-trans}
 use Rattle.ks_io.specs.Loads.{Told as ToldFiles}
 use Rattle.script_lines.specs.declared.types.Command.{Command}
-use Rattle.ksplice_session.specs.LineEnds.{LineEnds}
+use Rattle.ksplice_session.specs.inside.LineEnds.{LineEnds}
 use Rattle.ksplice_session.specs.Session.{SessionEnds}
-use Rattle.ksplice_session.specs.ScriptEnds.{HaveRun}
+use Rattle.ksplice_session.specs.inside.ScriptEnds.{HaveRun}
 use Rattle.ksplice_session.proofs.SessionLaws.{none_run, one_run, line_exit, whole_at}
 use Rattle.ksplice_session.proofs.running.run_lines.Goals as goal
 
@@ -14,6 +16,7 @@ pub loop-command-init : goal.loop-command-init
 loop-command-init g c = record {
   ran = none_run (g.F.Files.told c.args.files.now) c.args.session.now (g.F.Files.counts c.args.files.now) (g.O.Sink.taken c.args.out.now);
   files = FilesKept-refl g.F.Files.told g.F.Files.counts g.F.Files.quiet c.args.files.now;
+  steady = refl;
   out = SinkKept-refl g.O.Sink.faults g.O.Sink.quiet c.args.out.now;
 }
 
@@ -36,6 +39,7 @@ loop-command-preserved g c =
       ran = subst (λ (xs : List Command). HaveRun told c.args.session.now xs (counts c.args.files.now) (counts c.run_line.new.files) (taken c.args.out.now) (taken c.run_line.new.out)
           c.run_line.new.session (c.loop-command.refused || c.in_ok-was_refused.was_refused)) (sym more) ran;
       files = FilesKept-trans before.files c.run_line.ensures.files;
+      steady = c.in_ok-was_refused.ensures.steady (λ ended. false≢true (sym (ap is_ok ended))) ∙ before.steady;
       out = SinkKept-trans before.out c.run_line.ensures.out;
     }
 

@@ -1,5 +1,5 @@
 use Rattle.std.proofs.Common.{◌+◌, ◌<◌, length, arith, sym, subst}
-use Rattle.reachability.specs.Walk.{Walk}
+use Rattle.reachability.specs.inside.Walk.{Walk}
 use Rattle.reachability.proofs.WalkLaws.{IsWalk, walk_goes_on}
 use Rattle.reachability.proofs.walk.reached_of.Goals as goal
 

@@ -2,7 +2,7 @@ use Rattle.std.proofs.Common.{◌≡◌, List, length, sym, subst, arith}
 use Rattle.std.proofs.lemmas.List.{with_items_is}
 use Rattle.std.proofs.lemmas.List.Sorted.{length_permutation}
 use Rattle.symbol_table.specs.declared.entries.Entry.{Entry}
-use Rattle.symbol_table.specs.Entries.{HasAll}
+use Rattle.symbol_table.specs.inside.Entries.{HasAll}
 use Rattle.symbol_table.proofs.EntryLaws.{all_sorted}
 use Rattle.symbol_table.proofs.entries.list_entries.Goals as goal
 

@@ -1,6 +1,6 @@
 use Rattle.std.proofs.Common.{◌≡◌, ◌≤◌, take, vec_len}
 use Rattle.std.specs.Prelude.{vec_capacity}
-use Rattle.symbol_table.specs.Entries.{entries_from}
+use Rattle.symbol_table.specs.inside.Entries.{entries_from}
 use Rattle.symbol_table.proofs.entries.list_symbols.Given as goal
 
 abbrev pub invariant-loop-place : goal.invariant-loop-place

@@ -2,8 +2,8 @@ use Rattle.std.proofs.Common.{rules, ◌≡◌, ◌-◌, ◌∙◌, List, length
 use Rattle.std.proofs.lemmas.List.{with_items_is, length-take-le}
 use Rattle.std.proofs.lemmas.List.Sorted.{length_permutation, IsPermutation-refl}
 use Rattle.symbol_table.specs.declared.entries.Entry.{Entry}
-use Rattle.symbol_table.specs.Entries.{entry_less, HasAll}
-use Rattle.symbol_table.specs.Blocks.{InBlocks}
+use Rattle.symbol_table.specs.inside.Entries.{entry_less, HasAll}
+use Rattle.symbol_table.specs.inside.Blocks.{InBlocks}
 use Rattle.symbol_table.proofs.EntryLaws.{last_parts, noted, blocks_still, pushed_blocks, unpushed_blocks}
 use Rattle.symbol_table.proofs.entries.note_last.Goals as goal
 

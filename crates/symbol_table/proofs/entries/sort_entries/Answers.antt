@@ -1,7 +1,7 @@
 use Rattle.std.proofs.Common.{rules, ◌≡◌}
 use Rattle.std.specs.Ordering.{is_lt}
 use Rattle.std.proofs.lemmas.Fn.{always_returns_same}
-use Rattle.symbol_table.specs.Entries.{entry_less}
+use Rattle.symbol_table.specs.inside.Entries.{entry_less}
 use Rattle.symbol_table.proofs.EntryLaws.{entry_laws}
 use Rattle.symbol_table.proofs.entries.sort_entries.Goals as goal
 

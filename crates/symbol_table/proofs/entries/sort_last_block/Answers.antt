@@ -2,7 +2,7 @@ use Rattle.std.proofs.Common.{◌≡◌, ◌-◌, ◌∙◌, length, arith}
 use Rattle.std.specs.List.{between}
 use Rattle.std.proofs.lemmas.List.Edits.{length-between}
 use Rattle.std.proofs.lemmas.List.Sorted.{IsPermutation-put_mid, length_permutation}
-use Rattle.symbol_table.specs.Entries.{entry_less}
+use Rattle.symbol_table.specs.inside.Entries.{entry_less}
 use Rattle.symbol_table.proofs.BlockLaws.{blocks_from_last}
 use Rattle.symbol_table.proofs.entries.sort_last_block.Goals as goal
 

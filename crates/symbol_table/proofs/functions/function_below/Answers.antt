@@ -1,7 +1,7 @@
 use Rattle.std.proofs.Common.{◌∙◌, Option, sym, subst}
 use Rattle.symbol_table.specs.declared.entries.Entry.{Entry}
 use Rattle.symbol_table.specs.Symbols.{function_below}
-use Rattle.symbol_table.specs.Functions.{Marks}
+use Rattle.symbol_table.specs.inside.Functions.{Marks}
 use Rattle.symbol_table.proofs.FunctionLaws.{seen_at, marked, marked_symbol, marked_none, marked_low, seen_low}
 use Rattle.symbol_table.proofs.functions.function_below.Goals as goal
 

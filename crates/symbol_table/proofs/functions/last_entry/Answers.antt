@@ -2,8 +2,8 @@ use Rattle.std.proofs.Common.{◌≡◌, ◌≤◌, ◌∙◌, length, drop, Opt
 use Rattle.std.specs.Prelude.{IfSome}
 use Rattle.std.proofs.lemmas.List.{drop_all}
 use Rattle.symbol_table.specs.declared.entries.Entry.{Entry}
-use Rattle.symbol_table.specs.Entries.{address_less}
-use Rattle.symbol_table.specs.Functions.{greater_entry, entry_below}
+use Rattle.symbol_table.specs.inside.Entries.{address_less}
+use Rattle.symbol_table.specs.inside.Functions.{greater_entry, entry_below}
 use Rattle.symbol_table.proofs.BlockLaws.{block_sorted_at}
 use Rattle.symbol_table.proofs.FunctionLaws.{last_more, below_reaches}
 use Rattle.symbol_table.proofs.functions.last_entry.Goals as goal

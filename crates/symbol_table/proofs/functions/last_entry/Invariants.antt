@@ -1,5 +1,5 @@
 use Rattle.std.proofs.Common.{◌≡◌, ◌≤◌, length, drop}
-use Rattle.symbol_table.specs.Functions.{entry_below}
+use Rattle.symbol_table.specs.inside.Functions.{entry_below}
 use Rattle.symbol_table.proofs.functions.last_entry.Given as goal
 
 abbrev pub invariant-loop-end : goal.invariant-loop-end

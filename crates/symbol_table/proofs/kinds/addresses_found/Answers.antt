@@ -1,8 +1,8 @@
 use Rattle.std.proofs.Common.{◌≡◌, ◌++◌, ◌∙◌, ℕ, List, drop, refl, subst, sym, arith}
 use Rattle.std.specs.List.Sorted.{IsPermutation}
 use Rattle.std.proofs.lemmas.Slice.{pushed}
-use Rattle.symbol_table.specs.Names.{found_at}
-use Rattle.symbol_table.specs.Entries.{name_less}
+use Rattle.symbol_table.specs.inside.Names.{found_at}
+use Rattle.symbol_table.specs.inside.Entries.{name_less}
 use Rattle.symbol_table.proofs.BlockLaws.{block_sorted_at}
 use Rattle.symbol_table.proofs.NameLaws.{found_more}
 use Rattle.symbol_table.proofs.kinds.addresses_found.Goals as goal

@@ -1,6 +1,6 @@
 use Rattle.std.proofs.Common.{◌≤◌, length, drop}
 use Rattle.std.specs.List.Sorted.{IsPermutation}
-use Rattle.symbol_table.specs.Names.{found_at}
+use Rattle.symbol_table.specs.inside.Names.{found_at}
 use Rattle.symbol_table.proofs.kinds.addresses_found.Given as goal
 
 abbrev pub invariant-loop-end : goal.invariant-loop-end

@@ -1,6 +1,6 @@
 use Rattle.std.proofs.Common.{◌≡◌, List, ℕ, subst}
 use Rattle.std.specs.Result.{IfOk}
-use Rattle.symbol_table.specs.Kinds.{is_listed}
+use Rattle.symbol_table.specs.inside.Kinds.{is_listed}
 use Rattle.symbol_table.specs.Symbols.{ascending, addresses_of}
 use Rattle.symbol_table.proofs.NameLaws.{found_by_name}
 use Rattle.symbol_table.proofs.kinds.addresses_of.Goals as goal

@@ -1,6 +1,6 @@
 use Rattle.std.proofs.Common.{rules}
 use Rattle.std.proofs.lemmas.List.Sorted.{IsPartitionPoint-from_clause}
-use Rattle.symbol_table.specs.Names.{is_before}
+use Rattle.symbol_table.specs.inside.Names.{is_before}
 use Rattle.symbol_table.proofs.NameLaws.{parted_before}
 use Rattle.symbol_table.proofs.names.begin_of.Goals as goal
 

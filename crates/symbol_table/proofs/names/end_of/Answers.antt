@@ -1,6 +1,6 @@
 use Rattle.std.proofs.Common.{rules}
 use Rattle.std.proofs.lemmas.List.Sorted.{IsPartitionPoint-from_clause}
-use Rattle.symbol_table.specs.Names.{is_not_after}
+use Rattle.symbol_table.specs.inside.Names.{is_not_after}
 use Rattle.symbol_table.proofs.NameLaws.{parted_up_to}
 use Rattle.symbol_table.proofs.names.end_of.Goals as goal
 

@@ -1,7 +1,7 @@
 use Rattle.std.proofs.Common.{◌≤◌, ◌-◌, ltb, leb, get_or, rules, arith}
 use Rattle.std.proofs.lemmas.List.Sorted.{IsPartitionPoint-from_clause, IsPartitionedBy-leb, IsPartitionedBy-ltb}
 use Rattle.symbol_table.specs.declared.entries.Entry.{Entry}
-use Rattle.symbol_table.specs.Names.{stands_at}
+use Rattle.symbol_table.specs.inside.Names.{stands_at}
 use Rattle.symbol_table.proofs.NameLaws.{filter_part, points_rise, under_up_to, under_not_at, between_at, over_not_at}
 use Rattle.symbol_table.proofs.names.entries_at.Goals as goal
 

@@ -1,6 +1,6 @@
 use Rattle.std.proofs.Common.{◌≤◌, ◌-◌, get_or, arith}
-use Rattle.symbol_table.specs.Entries.{order_at}
-use Rattle.symbol_table.specs.Names.{is_before, is_not_after, is_named_at}
+use Rattle.symbol_table.specs.inside.Entries.{order_at}
+use Rattle.symbol_table.specs.inside.Names.{is_before, is_not_after, is_named_at}
 use Rattle.symbol_table.proofs.NameLaws.{filter_part, points_rise, before_up_to, named_between, before_not_named, after_not_named, named_rise}
 use Rattle.symbol_table.proofs.names.entries_named.Goals as goal
 

@@ -1,8 +1,8 @@
 use Rattle.std.proofs.Common.{◌≡◌, ℕ, List, length, drop, refl, sym, subst, Option, None, arith}
 use Rattle.std.proofs.lemmas.List.{drop_all}
 use Rattle.symbol_table.specs.declared.entries.Entry.{Entry}
-use Rattle.symbol_table.specs.Entries.{address_less}
-use Rattle.symbol_table.specs.Next.{any_address, IsNext}
+use Rattle.symbol_table.specs.inside.Entries.{address_less}
+use Rattle.symbol_table.specs.inside.Next.{any_address, IsNext}
 use Rattle.symbol_table.proofs.BlockLaws.{block_sorted_at}
 use Rattle.symbol_table.proofs.NextLaws.{next_more}
 use Rattle.symbol_table.proofs.next.next_of.Goals as goal

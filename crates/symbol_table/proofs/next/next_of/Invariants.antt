@@ -1,5 +1,5 @@
 use Rattle.std.proofs.Common.{◌≤◌, length, drop}
-use Rattle.symbol_table.specs.Next.{any_address, IsNext}
+use Rattle.symbol_table.specs.inside.Next.{any_address, IsNext}
 use Rattle.symbol_table.proofs.next.next_of.Given as goal
 
 abbrev pub invariant-loop-end : goal.invariant-loop-end

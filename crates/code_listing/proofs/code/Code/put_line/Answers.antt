@@ -1,5 +1,5 @@
 use Rattle.std.proofs.Common.{◌+◌, ◌≤◌, ◌<◌, ◌++◌, ap, sym, ◌∙◌, arith}
-use Rattle.code_listing.specs.Extent.{Extent}
+use Rattle.code_listing.specs.inside.Extent.{Extent}
 use Rattle.code_listing.specs.Lines.{instruction_line}
 use Rattle.code_listing.specs.Listing.{lines_by, listing}
 use Rattle.code_listing.proofs.ListingLaws.{last_line, first_line}

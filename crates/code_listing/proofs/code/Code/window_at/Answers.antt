@@ -1,7 +1,7 @@
 use Rattle.std.proofs.Common.{◌≡◌, [], ap, subst}
 use Rattle.image_memory.specs.Contents.{Contents}
 use Rattle.image_memory.specs.Fetch.{TellsView}
-use Rattle.code_listing.specs.Extent.{Extent}
+use Rattle.code_listing.specs.inside.Extent.{Extent}
 use Rattle.code_listing.proofs.ViewLaws.{view_met}
 use Rattle.code_listing.proofs.code.Code.window_at.Goals as goal
 

@@ -1,6 +1,6 @@
 use Rattle.std.proofs.Common.{◌≡◌, length, take}
 use Rattle.std.specs.List.{fold}
-use Rattle.reachability.specs.Walk.{marked}
+use Rattle.reachability.specs.inside.Walk.{marked}
 use Rattle.reachability.proofs.walk.Reaching.mark_all.Given as goal
 
 abbrev pub invariant-loop-node : goal.invariant-loop-node

@@ -1,5 +1,5 @@
 use Rattle.std.proofs.Common.{◌≡◌, length}
-use Rattle.reachability.specs.Walk.{seeded}
+use Rattle.reachability.specs.inside.Walk.{seeded}
 use Rattle.reachability.proofs.walk.Reaching.mark_seeds.Given as goal
 
 abbrev pub invariant-loop-node : goal.invariant-loop-node

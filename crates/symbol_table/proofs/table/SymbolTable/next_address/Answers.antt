@@ -1,7 +1,7 @@
 use Rattle.std.proofs.Common.{◌∙◌, List, sym, ap, subst}
 use Rattle.symbol_table.specs.declared.entries.Entry.{Entry}
 use Rattle.symbol_table.specs.declared.entries.Index.TheVariants.{Functions, Data}
-use Rattle.symbol_table.specs.Entries.{HasAll}
+use Rattle.symbol_table.specs.inside.Entries.{HasAll}
 use Rattle.symbol_table.specs.Symbols.{next_address}
 use Rattle.symbol_table.specs.Table.{Table}
 use Rattle.symbol_table.proofs.NextLaws.{next_found}

@@ -1,0 +1,3 @@
+-- What the code works with, said by contracts inside this crate alone.
+pub mod Asks
+pub mod Verbs

@@ -1,0 +1,4 @@
+-- What the code has in the middle of a session, said by contracts inside this crate alone.
+pub mod LineEnds
+pub mod ScriptEnds
+pub mod Stacks

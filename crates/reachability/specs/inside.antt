@@ -1,0 +1,2 @@
+-- The walk of the code, said by contracts inside this crate alone.
+pub mod Walk
