@@ -42,15 +42,15 @@ pub(crate) fn symbols_of(
     ensures count { IfOk result (λ x. length x.0.symbols ≡ count) }
     ensures kept { IfOk result (λ x. All (λ symbol. IsTrue (keeps_symbol pieces.now symbol)) x.0.symbols) }
 {
-    let mut symbols = SymbolTable::new(alloc);
+    let mut symbols = Vec::new(alloc);
     let mut offset = first;
     for _ in 0..count {
         let symbol = symbol_of(alloc, bytes, pieces, offset)?;
         offset += 16 + symbol.name.len() as u32;
         symbols.reserve(1)?;
-        symbols.add(symbol);
+        symbols.push_reserved(symbol);
     }
-    Ok((symbols, offset))
+    Ok((SymbolTable::from_symbols(alloc, symbols)?, offset))
 }
 
 // The symbol at an offset.

@@ -1,5 +1,5 @@
 //! The indices of the symbols: entries that lead to symbols, in blocks that are in order.
-ghost use Rattle.std.specs.Prelude.{◌≡◌, ◌+◌, ◌<◌, ◌≤◌, ◌++◌, ◌-◌, take, length, vec_len, vec_capacity};
+ghost use Rattle.std.specs.Prelude.{◌≡◌, ◌+◌, ◌<◌, ◌≤◌, ◌++◌, ◌-◌, take, length, vec_len, vec_capacity, IfOk};
 ghost use Rattle.std.specs.List.{slice_get};
 ghost use Rattle.std.specs.List.Sorted.{IsPermutation, IsSortedBy};
 ghost use Rattle.std.specs.Ordering.{is_lt};
@@ -8,6 +8,7 @@ ghost use Rattle.symbol_table.specs.inside.Entries.{is_in, entry_at, entries_fro
 
 use crate::blocks::block_begin;
 use crate::symbols::Symbol;
+use std::alloc::{AllocError, Global};
 use std::cmp::Ordering;
 
 // An entry of an index: the address of a symbol, and the symbol's place in the table.
@@ -158,4 +159,19 @@ pub(crate) fn list_entries(entries: &mut Vec<Entry>, index: Index, symbols: &[Sy
 {
     list_symbols(entries, index, symbols);
     sort_entries(entries.as_mut_slice(), index, symbols);
+}
+
+// The entries of all symbols of an index, in order, with room for those of as many symbols.
+pub(crate) fn entries_of(
+    alloc: Global,
+    index: Index,
+    symbols: &[Symbol],
+) -> Result<Vec<Entry>, AllocError>
+    ensures all { IfOk result (λ entries. HasAll index symbols.now entries.items) }
+    ensures len { IfOk result (λ entries. vec_len entries ≤ length symbols.now) }
+    ensures capacity { IfOk result (λ entries. length symbols.now ≤ vec_capacity entries) }
+{
+    let mut entries = Vec::with_capacity(alloc, symbols.len())?;
+    list_entries(&mut entries, index, symbols);
+    Ok(entries)
 }

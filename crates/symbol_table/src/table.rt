@@ -6,7 +6,7 @@ ghost use Rattle.ks_base.specs.Gives.{Gives};
 ghost use Rattle.symbol_table.specs.Symbols.{function_addresses, global_addresses, data_addresses, name_below, only_address, function_named, next_address};
 
 use crate::addresses::Addresses;
-use crate::entries::{Entry, Index, list_entries, note_last};
+use crate::entries::{Entry, Index, entries_of, list_entries, note_last};
 use crate::functions::function_below;
 use crate::kinds::{Kind, addresses_of, is_global};
 use crate::next::{lesser, next_of};
@@ -58,6 +58,25 @@ impl SymbolTable {
             names: Vec::new(alloc),
             spare: 0,
         }
+    }
+
+    /// The table of some symbols, in their order, without spare places. Each index is sorted once, so that it is
+    /// made faster than by [`add`](SymbolTable::add) of each symbol. An error comes for want of memory alone.
+    pub fn from_symbols(alloc: Global, symbols: Vec<Symbol>) -> Result<Self, AllocError>
+        ensures { IfOk result (λ table. table ≡ record { symbols = symbols.items; spare = 0 }) }
+    {
+        let functions = entries_of(alloc, Index::Functions, symbols.as_slice())?;
+        let data_entries = entries_of(alloc, Index::Data, symbols.as_slice())?;
+        let globals = entries_of(alloc, Index::Globals, symbols.as_slice())?;
+        let names = entries_of(alloc, Index::Names, symbols.as_slice())?;
+        Ok(SymbolTable {
+            symbols,
+            functions,
+            data_entries,
+            globals,
+            names,
+            spare: 0,
+        })
     }
 
     /// How many symbols the table has.
