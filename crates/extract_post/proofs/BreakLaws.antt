@@ -17,7 +17,7 @@ use Rattle.extract_post.specs.Extract.IsBroken.{OldData, NewData}
 use Rattle.extract_post.specs.inside.Closures.{HasDistinctNames, SeedReaches}
 use Rattle.i386_reloc.specs.Places.{place_of_target}
 use Rattle.extract_post.specs.inside.Found.{FirstBroken, Broken}
-use Rattle.extract_post.specs.inside.Marks.{marked, Marks, tests, TellDataOf, AreBoth, AreApart, Stays, breaks_at, breaks, breaks_in, NoBreakBelow, FirstBreak}
+use Rattle.extract_post.specs.inside.Marks.{marked, TellEach, TellWhich, tests, TellDataOf, AreBoth, AreApart, Stays, breaks_at, breaks, breaks_in, NoBreakBelow, FirstBreak}
 use Rattle.i386_reloc.specs.NamedPlaces.{section_found}
 use Rattle.extract_post.proofs.Links.{option_cases, target_of_place, place_of_goes}
 use Rattle.extract_post.proofs.Tells.{tells_through}
@@ -30,7 +30,9 @@ tells_both_ways P true there back = there refl
 tells_both_ways P false there back = λ p. let e : false ≡ true = back p in cc
 
 -- members that pass a test of names
-pub tested_members : (pre post sections : List NormalSection) (f : List ℕ → Bool) (members passed marks : List Bool) → Marks (Member pre post) sections members → passed ≡ tests f sections → AreBoth passed members marks → Marks (λ name. Member pre post name × (f name ≡ true)) sections marks
+pub tested_members : (pre post sections : List NormalSection) (f : List ℕ → Bool) (members passed marks : List Bool) →
+    TellEach (Member pre post) sections members → passed ≡ tests f sections → AreBoth passed members marks →
+    TellWhich (λ name. Member pre post name × (f name ≡ true)) sections marks
 tested_members pre post sections f members passed marks told tested both =
     record {
       len = both.len ∙ (ap length tested ∙ length-map sections (λ s. f s.name));
@@ -38,7 +40,7 @@ tested_members pre post sections f members passed marks told tested both =
           let a : marked passed i ≡ f s.name = ap (λ m. marked m i) tested ∙ tests_at f sections i s at in
           tells_through (marked marks i) (λ (x : (f s.name ≡ true) × Member pre post s.name). (x.1, x.0)) (λ (x : Member pre post s.name × (f s.name ≡ true)). (x.1, x.0))
           (rw (both.each i)
-          (rw a (tells_and (f s.name ≡ true) (Member pre post s.name) (f s.name) (marked members i) (tells_test (f s.name)) (λ _. told.each i s at))));
+          (rw a (tells_and (f s.name ≡ true) (Member pre post s.name) (f s.name) (marked members i) (tells_test (f s.name)) (λ _. told i s at))));
     }
 
 tells_and_not : (P Q : Type 0) (a b : Bool) → Tells a P → Tells b Q → Tells (a && not b) (P × (Q → ⊥))
@@ -46,18 +48,22 @@ tells_and_not P Q true true p q = λ (x : P × (Q → ⊥)). x.1 q
 tells_and_not P Q true false p q = (p, q)
 tells_and_not P Q false b p q = λ (x : P × (Q → ⊥)). p x.0
 
-pub tell_staying : (pre post : List NormalSection) (members code marks : List Bool) → Marks (Member pre post) post members → code ≡ tests (is_in is_code_class post) post → AreApart code members marks → Marks (Stays pre post) post marks
+pub tell_staying : (pre post : List NormalSection) (members code marks : List Bool) →
+    TellEach (Member pre post) post members → code ≡ tests (is_in is_code_class post) post →
+    AreApart code members marks → TellWhich (Stays pre post) post marks
 tell_staying pre post members code marks told tested apart =
     record {
       len = apart.len ∙ (ap length tested ∙ length-map post (λ s. is_in is_code_class post s.name));
       each = λ i s at.
           let a : marked code i ≡ is_in is_code_class post s.name = ap (λ m. marked m i) tested ∙ tests_at (is_in is_code_class post) post i s at in
           rw (apart.each i)
-          (rw a (tells_and_not (is_in is_code_class post s.name ≡ true) (Member pre post s.name) (is_in is_code_class post s.name) (marked members i) (tells_test (is_in is_code_class post s.name)) (told.each i s at)));
+          (rw a (tells_and_not (is_in is_code_class post s.name ≡ true) (Member pre post s.name) (is_in is_code_class post s.name) (marked members i) (tells_test (is_in is_code_class post s.name)) (told i s at)));
     }
 
 -- data
-pub tell_data_marks : (post : List NormalSection) (test : List ℕ → Bool) → ((name : List ℕ) → test name ≡ true → is_in is_data_class post name ≡ true) → (starts marks : List Bool) → starts ≡ tests test post → TellDataOf post starts marks → Marks (IsDataOf post test) post marks
+pub tell_data_marks : (post : List NormalSection) (test : List ℕ → Bool) →
+    ((name : List ℕ) → test name ≡ true → is_in is_data_class post name ≡ true) → (starts marks : List Bool) →
+    starts ≡ tests test post → TellDataOf post starts marks → TellWhich (IsDataOf post test) post marks
 tell_data_marks post test there_is starts marks tested told =
     record {
       len = told.len;
@@ -66,25 +72,31 @@ tell_data_marks post test there_is starts marks tested told =
       start : (i : ℕ) (s : NormalSection) → slice_get post i ≡ Some s → marked starts i ≡ test s.name
       start i s at = ap (λ m. marked m i) tested ∙ tests_at test post i s at
 
-      there : (i : ℕ) (s : NormalSection) → slice_get post i ≡ Some s → ((marked starts i ≡ true) ⊎ SeedReaches post starts s.name) × ((marked starts i ≡ true) ⊎ (is_in is_read_only_class post s.name ≡ true)) → IsDataOf post test s.name
+      there : (i : ℕ) (s : NormalSection) → slice_get post i ≡ Some s →
+          ((marked starts i ≡ true) ⊎ SeedReaches post starts s.name) × ((is_in is_read_only_class post s.name ≡ true) ⊎ (marked starts i ≡ true)) →
+          IsDataOf post test s.name
       there i s at (inl seeded, more) = Itself s.name (sym (start i s at) ∙ seeded)
-      there i s at (inr it, inl seeded) = Itself s.name (sym (start i s at) ∙ seeded)
-      there i s at (inr it, inr constant) = Reached it.section.name s.name (sym (start it.place it.section it.at) ∙ it.seeded) it.reaches constant
+      there i s at (inr it, inr seeded) = Itself s.name (sym (start i s at) ∙ seeded)
+      there i s at (inr it, inl constant) = Reached it.section.name s.name (sym (start it.place it.section it.at) ∙ it.seeded) it.reaches constant
 
-      back : (i : ℕ) (s : NormalSection) → slice_get post i ≡ Some s → (name : List ℕ) → s.name ≡ name → IsDataOf post test name → ((marked starts i ≡ true) ⊎ SeedReaches post starts name) × ((marked starts i ≡ true) ⊎ (is_in is_read_only_class post name ≡ true))
-      back i s at name same (Itself n passes) = let e : marked starts i ≡ true = start i s at ∙ (ap test same ∙ passes) in (inl e, inl e)
+      back : (i : ℕ) (s : NormalSection) → slice_get post i ≡ Some s → (name : List ℕ) → s.name ≡ name →
+          IsDataOf post test name →
+          ((marked starts i ≡ true) ⊎ SeedReaches post starts name) × ((is_in is_read_only_class post name ≡ true) ⊎ (marked starts i ≡ true))
+      back i s at name same (Itself n passes) = let e : marked starts i ≡ true = start i s at ∙ (ap test same ∙ passes) in (inl e, inr e)
       back i s at name same (Reached from n passes reaches constant) =
           elim (option_cases (section_named post from)) [
             | inl none ↦ absurd (let data_there = there_is from passes in let e : false ≡ true = rw none at data_there in cc)
             | inr some ↦
                 let (k, at_k, is) = section_found post from some.0 some.1 in
-                (inr (record { place = k; section = some.0; at = at_k; seeded = start k some.0 at_k ∙ (ap test is ∙ passes); reaches = rw is reaches }), inr constant)
+                (inr (record { place = k; section = some.0; at = at_k; seeded = start k some.0 at_k ∙ (ap test is ∙ passes); reaches = rw is reaches }), inl constant)
           ]
 
-pub both_is_data : (pre post : List NormalSection) (name : List ℕ) → is_in_both is_data_class pre post name ≡ true → is_in is_data_class post name ≡ true
+pub both_is_data : (pre post : List NormalSection) (name : List ℕ) → is_in_both is_data_class pre post name ≡ true →
+    is_in is_data_class post name ≡ true
 both_is_data pre post name both = (and_parts (is_in is_data_class pre name) (is_in is_data_class post name) both).1
 
-pub new_is_data : (pre post : List NormalSection) (name : List ℕ) → is_new_data pre post name ≡ true → is_in is_data_class post name ≡ true
+pub new_is_data : (pre post : List NormalSection) (name : List ℕ) → is_new_data pre post name ≡ true →
+    is_in is_data_class post name ≡ true
 new_is_data pre post name new = (and_parts (is_in is_data_class post name) (not (is_there pre name)) new).0
 
 three : (a b c : Bool) → a ≡ true → b ≡ true → c ≡ true → (a && b && c) ≡ true
@@ -98,11 +110,13 @@ three_parts false b c h = absurd cc
 
 -- a reference breaks
 module _ (pre post : List NormalSection) (distinct : HasDistinctNames post) (old new changed stays : List Bool)
-    (old_told : Marks (IsDataOf post (is_in_both is_data_class pre post)) post old)
-    (new_told : Marks (IsDataOf post (is_new_data pre post)) post new)
-    (changed_told : Marks (IsChanged pre post) post changed)
-    (stays_told : Marks (Stays pre post) post stays) where
-  breaks_there : (i : ℕ) (s : NormalSection) → slice_get post i ≡ Some s → (r : Ref) → (o : Option ℕ) → place_of_target post r.target ≡ o → is_interior r ≡ true → breaks_at (marked old i) (marked new i) changed stays o ≡ true → IsBroken pre post (s.name, r)
+    (old_told : TellWhich (IsDataOf post (is_in_both is_data_class pre post)) post old)
+    (new_told : TellWhich (IsDataOf post (is_new_data pre post)) post new)
+    (changed_told : TellWhich (IsChanged pre post) post changed)
+    (stays_told : TellWhich (Stays pre post) post stays) where
+  breaks_there : (i : ℕ) (s : NormalSection) → slice_get post i ≡ Some s → (r : Ref) → (o : Option ℕ) →
+      place_of_target post r.target ≡ o → is_interior r ≡ true →
+      breaks_at (marked old i) (marked new i) changed stays o ≡ true → IsBroken pre post (s.name, r)
   breaks_there i s at r None none interior it = absurd cc
   breaks_there i s at r (Some p) some interior it =
       let (t, at_t, goes) = target_of_place post r.target p some in
@@ -133,7 +147,9 @@ module _ (pre post : List NormalSection) (distinct : HasDistinctNames post) (old
             record { place = k; section = some.0; at = at_k; same = same; target = place_of_goes post distinct r.target k some.0 at_k goes_k }
       ]
 
-  breaks_back : (i : ℕ) (s : NormalSection) → slice_get post i ≡ Some s → (x : List ℕ × Ref) → s.name ≡ x.0 → IsBroken pre post x → (is_interior x.1 ≡ true) × (breaks_at (marked old i) (marked new i) changed stays (place_of_target post x.1.target) ≡ true)
+  breaks_back : (i : ℕ) (s : NormalSection) → slice_get post i ≡ Some s → (x : List ℕ × Ref) → s.name ≡ x.0 →
+      IsBroken pre post x →
+      (is_interior x.1 ≡ true) × (breaks_at (marked old i) (marked new i) changed stays (place_of_target post x.1.target) ≡ true)
   breaks_back i s at x same (OldData name r code is goes changed_is) =
       let parts = and_parts (goes_to code r) (is_interior r) goes in
       let there = code_at r code (and_parts (is_in is_code_class pre code) (is_in is_code_class post code) changed_is.1).1 parts.0 in
@@ -150,17 +166,20 @@ module _ (pre post : List NormalSection) (distinct : HasDistinctNames post) (old
       let b : marked stays k ≡ true = tells_true (Stays pre post there.section.name) (marked stays k) (stays_told.each k there.section there.at) (subst (Stays pre post) (sym there.same) stay) in
       (parts.2, rw there.target (or_right (marked old i && marked changed k) (marked new i && marked stays k) (and_from (marked new i) (marked stays k) a b)))
 
-  break_tells : (i : ℕ) (s : NormalSection) → slice_get post i ≡ Some s → (r : Ref) → Tells (breaks post (marked old i) (marked new i) changed stays r) (IsBroken pre post (s.name, r))
+  break_tells : (i : ℕ) (s : NormalSection) → slice_get post i ≡ Some s → (r : Ref) →
+      Tells (breaks post (marked old i) (marked new i) changed stays r) (IsBroken pre post (s.name, r))
   break_tells i s at r =
       tells_both_ways (IsBroken pre post (s.name, r)) (breaks post (marked old i) (marked new i) changed stays r)
       (λ it. let parts = and_parts (is_interior r) (breaks_at (marked old i) (marked new i) changed stays (place_of_target post r.target)) it in breaks_there i s at r (place_of_target post r.target) refl parts.0 parts.1)
       (λ broken. let parts = breaks_back i s at (s.name, r) refl broken in and_from (is_interior r) (breaks_at (marked old i) (marked new i) changed stays (place_of_target post r.target)) parts.0 parts.1)
 
-  no_break : (i : ℕ) (s : NormalSection) → slice_get post i ≡ Some s → breaks_in post old new changed stays i s ≡ None → NoneIs (λ r. IsBroken pre post (s.name, r)) s.refs
+  no_break : (i : ℕ) (s : NormalSection) → slice_get post i ≡ Some s →
+      breaks_in post old new changed stays i s ≡ None → NoneIs (λ r. IsBroken pre post (s.name, r)) s.refs
   no_break i s at none =
       none_of_test (breaks post (marked old i) (marked new i) changed stays) (λ r. IsBroken pre post (s.name, r)) (break_tells i s at) s.refs none
 
-  found_break : (i k : ℕ) → NoBreakBelow post old new changed stays i → (s : NormalSection) → slice_get post i ≡ Some s → breaks_in post old new changed stays i s ≡ Some k → FirstBroken pre post i k
+  found_break : (i k : ℕ) → NoBreakBelow post old new changed stays i → (s : NormalSection) →
+      slice_get post i ≡ Some s → breaks_in post old new changed stays i s ≡ Some k → FirstBroken pre post i k
   found_break i k none s at found =
       let (r, at_r, first) = first_of_test (breaks post (marked old i) (marked new i) changed stays) (λ r. IsBroken pre post (s.name, r)) (break_tells i s at) s.refs k found in
       record {

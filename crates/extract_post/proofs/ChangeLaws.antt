@@ -1,7 +1,7 @@
 -- What marks tell of sections that are other than in the first object.
-use Rattle.std.proofs.Common.{◌≡◌, ◌⊎◌, inl, inr, ℕ, ◌+◌, ◌-◌, ◌*◌, ◌<◌, ◌≤◌, nat_le, Bool, true, false, not, ◌&&◌, ◌||◌, List, length, Option, Some, None, refl, sym, ap, subst, ◌∙◌, arith}
+use Rattle.std.proofs.Common.{◌≡◌, ◌⊎◌, inl, inr, ℕ, ◌+◌, ◌*◌, ◌<◌, Bool, true, false, not, ◌&&◌, ◌||◌, List, length, Option, Some, None, refl, sym, ap, subst, ◌∙◌, arith}
 use Rattle.std.specs.List.{slice_get}
-use Rattle.std.proofs.lemmas.Bool.{cases_lt, and_parts, and_from, and_left, leb-true, le-leb}
+use Rattle.std.proofs.lemmas.Bool.{cases_lt, and_parts, and_left}
 use Rattle.std.proofs.lemmas.Option.{slice_get_within, slice_get_cases}
 use Rattle.std.proofs.lemmas.List.{length-map, get_or_past}
 use Rattle.reachability.specs.Reached.{Tells}
@@ -21,7 +21,7 @@ use Rattle.extract_post.specs.Extract.{other_class, DataDiffers}
 use Rattle.extract_post.specs.Extract.DataDiffers.{OtherClass, Itself as DataItself, Through as DataThrough}
 use Rattle.extract_post.specs.inside.Seeds.{IsSeed, AreSeeds}
 use Rattle.extract_post.specs.inside.Closures.{ReachesSeed}
-use Rattle.extract_post.specs.inside.Marks.{marked, Marks, tests, TellReaching, TellReachesChanged, AreBoth, AreEither, AreOther, AreShifted, shifted, marked_at, is_other}
+use Rattle.extract_post.specs.inside.Marks.{marked, TellWhich, tests, TellReaching, TellChanged, AreBoth, AreEither, ArePart, marked_at, is_other}
 use Rattle.i386_reloc.specs.PlaceLaws.{section_named_at}
 use Rattle.i386_reloc.specs.NamedPlaces.{section_at_place, section_found}
 use Rattle.extract_post.proofs.Links.{option_cases}
@@ -43,25 +43,30 @@ code_class_other Writable is = refl
 code_class_other Strings is = refl
 code_class_other ReadOnly is = absurd cc
 
-has_other : (wanted : Class → Bool) → ((c : Class) → wanted c ≡ true → is_read_only_class c ≡ false) → (o : Option NormalSection) → has_class wanted o ≡ true → has_class is_read_only_class o ≡ false
+has_other : (wanted : Class → Bool) → ((c : Class) → wanted c ≡ true → is_read_only_class c ≡ false) →
+    (o : Option NormalSection) → has_class wanted o ≡ true → has_class is_read_only_class o ≡ false
 has_other wanted other None is = refl
 has_other wanted other (Some s) is = other s.class is
 
-unchanged : (wanted : Class → Bool) → ((c : Class) → wanted c ≡ true → is_read_only_class c ≡ false) → (of pre post : List NormalSection) (name : List ℕ) → is_in wanted of name ≡ true → is_changed_constant of pre post name ≡ false
+unchanged : (wanted : Class → Bool) → ((c : Class) → wanted c ≡ true → is_read_only_class c ≡ false) →
+    (of pre post : List NormalSection) (name : List ℕ) → is_in wanted of name ≡ true →
+    is_changed_constant of pre post name ≡ false
 unchanged wanted other of pre post name is =
     and_left (is_in is_read_only_class of name) (not (same_in pre post name)) (has_other wanted other (section_named of name) is)
 
 -- what is the same for code and for data: in both objects, and not the same or reaching changed constants
-tells_differing : (wanted : Class → Bool) → ((c : Class) → wanted c ≡ true → is_read_only_class c ≡ false) → (pre post : List NormalSection) (reaching changed in_both both : List Bool) → TellReachesChanged pre post reaching → AreOther pre post reaching changed → in_both ≡ tests (is_in_both wanted pre post) post → AreBoth in_both changed both →
+tells_differing : (wanted : Class → Bool) → ((c : Class) → wanted c ≡ true → is_read_only_class c ≡ false) →
+    (pre post : List NormalSection) (changed in_both both : List Bool) → TellChanged pre post changed →
+    in_both ≡ tests (is_in_both wanted pre post) post → AreBoth in_both changed both →
     (i : ℕ) (s : NormalSection) → slice_get post i ≡ Some s → Tells (marked both i) ((is_in_both wanted pre post s.name ≡ true) × ((is_other pre post s.name ≡ true) ⊎ ReachesChanged pre post s.name))
-tells_differing wanted other pre post reaching changed in_both both told are tested joined i s at =
+tells_differing wanted other pre post changed in_both both told tested joined i s at =
     let P = is_in_both wanted pre post s.name ≡ true in
     let Q = (is_other pre post s.name ≡ true) ⊎ ReachesChanged pre post s.name in
     let a : marked in_both i ≡ is_in_both wanted pre post s.name = ap (λ m. marked m i) tested ∙ tests_at (is_in_both wanted pre post) post i s at in
     rw (joined.each i)
-    (rw (a, are.each i s at)
-    (tells_and P Q (is_in_both wanted pre post s.name) (is_other pre post s.name || marked reaching i) (tells_test (is_in_both wanted pre post s.name))
-    (λ in_both. tells_or (is_other pre post s.name ≡ true) (ReachesChanged pre post s.name) (is_other pre post s.name) (marked reaching i) (tells_test (is_other pre post s.name)) (let parts = and_parts (is_in wanted pre s.name) (is_in wanted post s.name) in_both in told.each i s at (unchanged wanted other pre pre post s.name parts.0) (unchanged wanted other post pre post s.name parts.1)))))
+    (rw a
+    (tells_and P Q (is_in_both wanted pre post s.name) (marked changed i) (tells_test (is_in_both wanted pre post s.name))
+    (λ in_both. let parts = and_parts (is_in wanted pre s.name) (is_in wanted post s.name) in_both in told.each i s at (unchanged wanted other pre pre post s.name parts.0) (unchanged wanted other post pre post s.name parts.1))))
 
 -- data
 abbrev DataAt : List NormalSection → List NormalSection → List ℕ → Type 0
@@ -81,8 +86,12 @@ data_back pre post name (DataThrough n both reaches) = inr (both, inr reaches)
 abbrev other_class_at : List NormalSection → List NormalSection → List ℕ → Bool
 other_class_at pre post name = other_class (section_named pre name) (section_named post name)
 
-pub tell_data : (pre post : List NormalSection) (reaching changed in_both data_marks classes marks : List Bool) → TellReachesChanged pre post reaching → AreOther pre post reaching changed → in_both ≡ tests (is_in_both is_data_class pre post) post → AreBoth in_both changed data_marks → classes ≡ tests (λ name. other_class (section_named pre name) (section_named post name)) post → AreEither classes data_marks marks → Marks (DataDiffers pre post) post marks
-tell_data pre post reaching changed in_both data_marks classes marks told are tested joined class_tested either =
+pub tell_data : (pre post : List NormalSection) (changed in_both data_marks classes marks : List Bool) →
+    TellChanged pre post changed → in_both ≡ tests (is_in_both is_data_class pre post) post →
+    AreBoth in_both changed data_marks →
+    classes ≡ tests (λ name. other_class (section_named pre name) (section_named post name)) post →
+    AreEither classes data_marks marks → TellWhich (DataDiffers pre post) post marks
+tell_data pre post changed in_both data_marks classes marks told tested joined class_tested either =
     record {
       len = either.len ∙ (ap length class_tested ∙ length-map post (λ s. other_class (section_named pre s.name) (section_named post s.name)));
       each = λ i s at.
@@ -93,44 +102,47 @@ tell_data pre post reaching changed in_both data_marks classes marks told are te
           (rw (either.each i)
           (rw a
           (tells_or P Q (other_class (section_named pre s.name) (section_named post s.name)) (marked data_marks i) (tells_test (other_class (section_named pre s.name) (section_named post s.name)))
-          (tells_differing is_data_class data_class_other pre post reaching changed in_both data_marks told are tested joined i s at))));
+          (tells_differing is_data_class data_class_other pre post changed in_both data_marks told tested joined i s at))));
     }
 
 -- code
 abbrev SeedAt : List NormalSection → List NormalSection → List ℕ → Type 0
 SeedAt pre post name =
-    ((is_in_both is_code_class pre post name ≡ true) × ((is_other pre post name ≡ true) ⊎ ReachesChanged pre post name)) ⊎ ((is_in is_code_class post name && not (is_there pre name)) ≡ true)
+    ((is_in is_code_class post name && not (is_there pre name)) ≡ true) ⊎ ((is_in_both is_code_class pre post name ≡ true) × ((is_other pre post name ≡ true) ⊎ ReachesChanged pre post name))
 
 seed_there : (pre post : List NormalSection) (name : List ℕ) → SeedAt pre post name → IsSeed pre post name
-seed_there pre post name (inl (both, inl other)) = inl (DiffersItself name both other)
-seed_there pre post name (inl (both, inr reaches)) = inl (DiffersThrough name both reaches)
-seed_there pre post name (inr alone) = inr alone
+seed_there pre post name (inl alone) = inr alone
+seed_there pre post name (inr (both, inl other)) = inl (DiffersItself name both other)
+seed_there pre post name (inr (both, inr reaches)) = inl (DiffersThrough name both reaches)
 
 differs_back : (pre post : List NormalSection) (name : List ℕ) → Differs pre post name → SeedAt pre post name
-differs_back pre post name (DiffersItself n both other) = inl (both, inl other)
-differs_back pre post name (DiffersThrough n both reaches) = inl (both, inr reaches)
+differs_back pre post name (DiffersItself n both other) = inr (both, inl other)
+differs_back pre post name (DiffersThrough n both reaches) = inr (both, inr reaches)
 
 seed_back : (pre post : List NormalSection) (name : List ℕ) → IsSeed pre post name → SeedAt pre post name
 seed_back pre post name (inl it) = differs_back pre post name it
-seed_back pre post name (inr alone) = inr alone
+seed_back pre post name (inr alone) = inl alone
 
 abbrev alone_at : List NormalSection → List NormalSection → List ℕ → Bool
 alone_at pre post name = is_in is_code_class post name && not (is_there pre name)
 
-pub tell_seeds : (pre post : List NormalSection) (reaching changed in_both code alone marks : List Bool) → TellReachesChanged pre post reaching → AreOther pre post reaching changed → in_both ≡ tests (is_in_both is_code_class pre post) post → AreBoth in_both changed code → alone ≡ tests (λ name. is_in is_code_class post name && not (is_there pre name)) post → AreEither code alone marks → Marks (IsSeed pre post) post marks
-tell_seeds pre post reaching changed in_both code alone marks told are tested joined alone_tested either =
+pub tell_seeds : (pre post : List NormalSection) (changed in_both code alone marks : List Bool) →
+    TellChanged pre post changed → in_both ≡ tests (is_in_both is_code_class pre post) post →
+    AreBoth in_both changed code →
+    alone ≡ tests (λ name. is_in is_code_class post name && not (is_there pre name)) post →
+    AreEither alone code marks → TellWhich (IsSeed pre post) post marks
+tell_seeds pre post changed in_both code alone marks told tested joined alone_tested either =
     record {
-      len = either.len ∙ (joined.len ∙ (ap length tested ∙ length-map post (λ s. is_in_both is_code_class pre post s.name)));
+      len = either.len ∙ (ap length alone_tested ∙ length-map post (λ s. alone_at pre post s.name));
       each = λ i s at.
-          let P = (is_in_both is_code_class pre post s.name ≡ true) × ((is_other pre post s.name ≡ true) ⊎ ReachesChanged pre post s.name) in
-          let Q = (is_in is_code_class post s.name && not (is_there pre s.name)) ≡ true in
-          let a : marked alone i ≡ (is_in is_code_class post s.name && not (is_there pre s.name)) = ap (λ m. marked m i) alone_tested ∙ tests_at (alone_at pre post) post i s at in
+          let P = alone_at pre post s.name ≡ true in
+          let Q = (is_in_both is_code_class pre post s.name ≡ true) × ((is_other pre post s.name ≡ true) ⊎ ReachesChanged pre post s.name) in
+          let a : marked alone i ≡ alone_at pre post s.name = ap (λ m. marked m i) alone_tested ∙ tests_at (alone_at pre post) post i s at in
           tells_through (marked marks i) (seed_there pre post s.name) (seed_back pre post s.name)
           (rw (either.each i)
           (rw a
-          (tells_or P Q (marked code i) (is_in is_code_class post s.name && not (is_there pre s.name))
-          (tells_differing is_code_class code_class_other pre post reaching changed in_both code told are tested joined i s at)
-          (tells_test (is_in is_code_class post s.name && not (is_there pre s.name))))));
+          (tells_or P Q (alone_at pre post s.name) (marked code i) (tells_test (alone_at pre post s.name))
+          (tells_differing is_code_class code_class_other pre post changed in_both code told tested joined i s at))));
     }
 
 -- the seeds as nodes
@@ -149,46 +161,49 @@ marked_within marks i is =
       | inr past ↦ absurd (let e : false ≡ true = sym (get_or_past marks i false past) ∙ is in cc)
     ]
 
-pub seeds_are : (pre post : List NormalSection) (first seeds : List Bool) (count : ℕ) → count ≡ 3 * (length pre + length post) → Marks (IsSeed pre post) post first → AreShifted first (length pre) count seeds → AreSeeds pre post seeds
+pub seeds_are : (pre post : List NormalSection) (first seeds : List Bool) (count : ℕ) →
+    count ≡ 3 * (length pre + length post) → TellWhich (IsSeed pre post) post first → ArePart first 0 count seeds →
+    AreSeeds pre post seeds
 seeds_are pre post first seeds count all told are =
     record {
       sound = λ node is.
           let below : node < length seeds = marked_within seeds node is in
           let below_count : node < count = omega (arith, are.len) in
-          let moved : shifted first (length pre) node ≡ true = sym (are.each node below_count) ∙ is in
-          let parts = and_parts (nat_le (length pre) node) (marked first (node - length pre)) moved in
-          let behind : length pre ≤ node = leb-true (length pre) node parts.0 in
-          let within : node - length pre < length post = let w = marked_within first (node - length pre) parts.1 in omega (arith, told.len) in
-          inr (elim (option_cases (slice_get post (node - length pre))) [
-            | inl none ↦ absurd (elim (slice_get_cases post (node - length pre)).1 [ inl it ↦ (let e : None ≡ Some it.0 = sym none ∙ it.2 in cc) | inr past ↦ omega arith ])
+          let e : 0 + node ≡ node = omega arith in
+          let it : marked first node ≡ true = ap (marked first) (sym e) ∙ (sym (are.each node below_count) ∙ is) in
+          let within : node < length post = let w = marked_within first node it in omega (arith, told.len) in
+          elim (option_cases (slice_get post node)) [
+            | inl none ↦ absurd (elim (slice_get_cases post node).1 [ inl it ↦ (let e : None ≡ Some it.0 = sym none ∙ it.2 in cc) | inr past ↦ omega arith ])
             | inr some ↦ record {
-              place = node - length pre;
+              place = node;
               section = some.0;
               at = some.1;
               is_node = omega arith;
-              is_seed = true_tells (IsSeed pre post some.0.name) (marked first (node - length pre)) (told.each (node - length pre) some.0 some.1) parts.1;
+              is_seed = true_tells (IsSeed pre post some.0.name) (marked first node) (told.each node some.0 some.1) it;
             }
-          ]);
+          ];
       complete = λ i s at seed.
           let within : i < length post = slice_get_within post i s at in
-          let back : length pre + i - length pre ≡ i = omega arith in
-          are.each (length pre + i) (omega arith)
-          ∙ and_from (nat_le (length pre) (length pre + i)) (marked first (length pre + i - length pre)) (le-leb (length pre) (length pre + i) (omega arith))
-          (ap (λ k. marked first k) back ∙ tells_true (IsSeed pre post s.name) (marked first i) (told.each i s at) seed);
+          let e : 0 + i ≡ i = omega arith in
+          rw e (are.each i (omega arith) ∙ (ap (marked first) e ∙ tells_true (IsSeed pre post s.name) (marked first i) (told.each i s at) seed));
     }
 
 -- reaching changed constants in either object
-pub reaches_from : (sections : List NormalSection) (name other : List ℕ) → Reaches sections name other → section_named sections name ≡ None → ⊥
+pub reaches_from : (sections : List NormalSection) (name other : List ℕ) → Reaches sections name other →
+    section_named sections name ≡ None → ⊥
 reaches_from sections name other (Refers n o refers) none =
     let some = (and_parts (is_in is_constant_class sections o) (some_reference (goes_to o) (section_named sections n)) refers).1 in
     let e : false ≡ true = rw none at some in cc
 reaches_from sections name other (Further n between o before refers) none = reaches_from sections n between before none
 
-pub reaches_to : (sections : List NormalSection) (name other : List ℕ) → Reaches sections name other → is_in is_constant_class sections other ≡ true
+pub reaches_to : (sections : List NormalSection) (name other : List ℕ) → Reaches sections name other →
+    is_in is_constant_class sections other ≡ true
 reaches_to sections name other (Refers n o refers) = (and_parts (is_in is_constant_class sections o) (some_reference (goes_to o) (section_named sections n)) refers).0
 reaches_to sections name other (Further n between o before refers) = (and_parts (is_in is_constant_class sections o) (some_reference (goes_to o) (section_named sections between)) refers).0
 
-seed_of_reached : (pre post sections : List NormalSection) (name other : List ℕ) → Reaches sections name other → is_changed_constant sections pre post other ≡ true → ReachesSeed sections (tests (is_changed_constant sections pre post) sections) name
+seed_of_reached : (pre post sections : List NormalSection) (name other : List ℕ) → Reaches sections name other →
+    is_changed_constant sections pre post other ≡ true →
+    ReachesSeed sections (tests (is_changed_constant sections pre post) sections) name
 seed_of_reached pre post sections name other reaches changed =
     elim (option_cases (section_named sections other)) [
       | inl none ↦ absurd (let it = reaches_to sections name other reaches in let e : false ≡ true = rw none at it in cc)
@@ -203,7 +218,8 @@ seed_of_reached pre post sections name other reaches changed =
           }
     ]
 
-changed_of_seed : (pre post sections : List NormalSection) (name : List ℕ) (it : ReachesSeed sections (tests (is_changed_constant sections pre post) sections) name) → is_changed_constant sections pre post it.section.name ≡ true
+changed_of_seed : (pre post sections : List NormalSection) (name : List ℕ) (it : ReachesSeed sections (tests (is_changed_constant sections pre post) sections) name) →
+    is_changed_constant sections pre post it.section.name ≡ true
 changed_of_seed pre post sections name it =
     sym (tests_at (is_changed_constant sections pre post) sections it.place it.section it.at) ∙ it.seeded
 
@@ -211,10 +227,15 @@ only_reaching : (P Q : Type 0) (mark seed : Bool) → seed ≡ false → Tells m
 only_reaching P Q mark seed unseeded told =
     tells_through mark (λ (it : (seed ≡ true) ⊎ Q). elim it [ inl seeded ↦ absurd (let e : false ≡ true = sym unseeded ∙ seeded in cc) | inr q ↦ q ]) (λ q. inr q) told
 
-no_section : (sections : List NormalSection) (name : List ℕ) → place_named sections name ≡ None → section_named sections name ≡ None
+no_section : (sections : List NormalSection) (name : List ℕ) → place_named sections name ≡ None →
+    section_named sections name ≡ None
 no_section sections name none = section_named_at sections name ∙ rw none refl
 
-at_pre : (pre post : List NormalSection) (old : List Bool) → TellReaching pre (tests (is_changed_constant pre pre post) pre) old → (name : List ℕ) → is_changed_constant pre pre post name ≡ false → (o : Option ℕ) → place_named pre name ≡ o → section_named pre name ≡ section_named pre name → Tells (marked_at old o) (ReachesSeed pre (tests (is_changed_constant pre pre post) pre) name)
+at_pre : (pre post : List NormalSection) (old : List Bool) →
+    TellReaching pre (tests (is_changed_constant pre pre post) pre) old → (name : List ℕ) →
+    is_changed_constant pre pre post name ≡ false → (o : Option ℕ) → place_named pre name ≡ o →
+    section_named pre name ≡ section_named pre name →
+    Tells (marked_at old o) (ReachesSeed pre (tests (is_changed_constant pre pre post) pre) name)
 at_pre pre post old told name unchanged None there same =
     λ (it : ReachesSeed pre (tests (is_changed_constant pre pre post) pre) name). reaches_from pre name it.section.name it.reaches (no_section pre name there)
 at_pre pre post old told name unchanged (Some p) there same =
@@ -224,25 +245,37 @@ at_pre pre post old told name unchanged (Some p) there same =
     (only_reaching (Unit {0}) (ReachesSeed pre (tests (is_changed_constant pre pre post) pre) t.name) (marked old p) (marked (tests (is_changed_constant pre pre post) pre) p)
     (tests_at (is_changed_constant pre pre post) pre p t at ∙ (ap (is_changed_constant pre pre post) is ∙ unchanged)) (told.each p t at))
 
-pub tell_changed : (pre post : List NormalSection) (old new moved marks : List Bool) → TellReaching pre (tests (is_changed_constant pre pre post) pre) old → TellReaching post (tests (is_changed_constant post pre post) post) new → moved ≡ tests (λ name. marked_at old (place_named pre name)) post → AreEither new moved marks → TellReachesChanged pre post marks
-tell_changed pre post old new moved marks told_old told_new tested either =
+pub tell_changed : (pre post : List NormalSection) (other old new moved either marks : List Bool) →
+    other ≡ tests (is_other pre post) post → TellReaching pre (tests (is_changed_constant pre pre post) pre) old →
+    TellReaching post (tests (is_changed_constant post pre post) post) new →
+    moved ≡ tests (λ name. marked_at old (place_named pre name)) post → AreEither other new either →
+    AreEither either moved marks → TellChanged pre post marks
+tell_changed pre post other old new moved either marks are told_old told_new tested first second =
     record {
-      len = either.len ∙ told_new.len;
+      len = second.len ∙ (first.len ∙ (ap length are ∙ length-map post (λ s. is_other pre post s.name)));
       each = λ i s at pre_unchanged post_unchanged.
+          let O = is_other pre post s.name ≡ true in
           let P = ReachesSeed post (tests (is_changed_constant post pre post) post) s.name in
           let Q = ReachesSeed pre (tests (is_changed_constant pre pre post) pre) s.name in
           let a : marked moved i ≡ marked_at old (place_named pre s.name) = ap (λ m. marked m i) tested ∙ tests_at (λ name. marked_at old (place_named pre name)) post i s at in
-          tells_through (marked marks i) (there i s at) (back i s at)
-          (rw (either.each i)
-          (rw a
-          (tells_or P Q (marked new i) (marked_at old (place_named pre s.name))
-          (only_reaching (Unit {0}) P (marked new i) (marked (tests (is_changed_constant post pre post) post) i) (tests_at (is_changed_constant post pre post) post i s at ∙ post_unchanged) (told_new.each i s at))
+          let b : marked other i ≡ is_other pre post s.name = ap (λ m. marked m i) are ∙ tests_at (is_other pre post) post i s at in
+          tells_through (marked marks i) (there s.name) (back s.name)
+          (rw (second.each i, first.each i)
+          (rw (a, b)
+          (tells_or (O ⊎ P) Q (is_other pre post s.name || marked new i) (marked_at old (place_named pre s.name))
+          (tells_or O P (is_other pre post s.name) (marked new i) (tells_test (is_other pre post s.name))
+          (only_reaching (Unit {0}) P (marked new i) (marked (tests (is_changed_constant post pre post) post) i) (tests_at (is_changed_constant post pre post) post i s at ∙ post_unchanged) (told_new.each i s at)))
           (at_pre pre post old told_old s.name pre_unchanged (place_named pre s.name) refl refl))));
     } where
-      there : (i : ℕ) (s : NormalSection) → slice_get post i ≡ Some s → ReachesSeed post (tests (is_changed_constant post pre post) post) s.name ⊎ ReachesSeed pre (tests (is_changed_constant pre pre post) pre) s.name → ReachesChanged pre post s.name
-      there i s at (inl it) = InPost it.section.name it.reaches (changed_of_seed pre post post s.name it)
-      there i s at (inr it) = InPre it.section.name it.reaches (changed_of_seed pre post pre s.name it)
+      there : (name : List ℕ) →
+          ((is_other pre post name ≡ true) ⊎ ReachesSeed post (tests (is_changed_constant post pre post) post) name) ⊎ ReachesSeed pre (tests (is_changed_constant pre pre post) pre) name →
+          (is_other pre post name ≡ true) ⊎ ReachesChanged pre post name
+      there name (inl (inl other)) = inl other
+      there name (inl (inr it)) = inr (InPost it.section.name it.reaches (changed_of_seed pre post post name it))
+      there name (inr it) = inr (InPre it.section.name it.reaches (changed_of_seed pre post pre name it))
 
-      back : (i : ℕ) (s : NormalSection) → slice_get post i ≡ Some s → ReachesChanged pre post s.name → ReachesSeed post (tests (is_changed_constant post pre post) post) s.name ⊎ ReachesSeed pre (tests (is_changed_constant pre pre post) pre) s.name
-      back i s at (InPre other reaches changed) = inr (seed_of_reached pre post pre s.name other reaches changed)
-      back i s at (InPost other reaches changed) = inl (seed_of_reached pre post post s.name other reaches changed)
+      back : (name : List ℕ) → (is_other pre post name ≡ true) ⊎ ReachesChanged pre post name →
+          ((is_other pre post name ≡ true) ⊎ ReachesSeed post (tests (is_changed_constant post pre post) post) name) ⊎ ReachesSeed pre (tests (is_changed_constant pre pre post) pre) name
+      back name (inl other) = inl (inl other)
+      back name (inr (InPre other reaches changed)) = inr (seed_of_reached pre post pre name other reaches changed)
+      back name (inr (InPost other reaches changed)) = inl (inr (seed_of_reached pre post post name other reaches changed))

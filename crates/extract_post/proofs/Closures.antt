@@ -37,13 +37,16 @@ pub record RefersBy (sections : List NormalSection) (s t : NormalSection) : Type
   pub among : Among s.refs reference
   pub goes : goes_to t.name reference ≡ true
 
-pub refers_from_link : (sections : List NormalSection) → HasDistinctNames sections → (link : Link) (is : IsLink sections link) → is_constant_class link.to_class ≡ true → refers_on sections is.source.name is.target.name ≡ true
+pub refers_from_link : (sections : List NormalSection) → HasDistinctNames sections →
+    (link : Link) (is : IsLink sections link) → is_constant_class link.to_class ≡ true →
+    refers_on sections is.source.name is.target.name ≡ true
 refers_from_link sections distinct link is constant =
     rw (named_at sections distinct link.to is.target is.at_to, named_at sections distinct link.from is.source is.at_from)
     (and_from (is_constant_class is.target.class) (list_any (goes_to is.target.name) is.source.refs) (rw (← is.to_class) constant) (is.among (goes_to is.target.name) is.goes))
 
 -- where a section refers on to a name, it is the name of a section of read-only data or texts
-pub refers_to_section : (sections : List NormalSection) (name other : List ℕ) → refers_on sections name other ≡ true → (j : ℕ) × (t : NormalSection) × (slice_get sections j ≡ Some t) × (t.name ≡ other) × (is_constant_class t.class ≡ true)
+pub refers_to_section : (sections : List NormalSection) (name other : List ℕ) → refers_on sections name other ≡ true →
+    (j : ℕ) × (t : NormalSection) × (slice_get sections j ≡ Some t) × (t.name ≡ other) × (is_constant_class t.class ≡ true)
 refers_to_section sections name other refers =
     let constant = (and_parts (is_in is_constant_class sections other) (some_reference (goes_to other) (section_named sections name)) refers).0 in
     elim (option_cases (section_named sections other)) [
@@ -54,26 +57,34 @@ refers_to_section sections name other refers =
           (j, it.0, at, same, is_constant)
     ]
 
-pub reference_found : (sections : List NormalSection) → HasDistinctNames sections → (i : ℕ) (s : NormalSection) → slice_get sections i ≡ Some s → (t : NormalSection) → refers_on sections s.name t.name ≡ true → RefersBy sections s t
+pub reference_found : (sections : List NormalSection) → HasDistinctNames sections → (i : ℕ) (s : NormalSection) →
+    slice_get sections i ≡ Some s → (t : NormalSection) → refers_on sections s.name t.name ≡ true →
+    RefersBy sections s t
 reference_found sections distinct i s at t refers =
     let some = (and_parts (is_in is_constant_class sections t.name) (some_reference (goes_to t.name) (section_named sections s.name)) refers).1 in
     let any : list_any (goes_to t.name) s.refs ≡ true = rw (named_at sections distinct i s at) at some in
     let (r, among, goes) = item_found (goes_to t.name) s.refs any in
     record { reference = r; among = among; goes = goes }
 
-pub target_constant : (sections : List NormalSection) → HasDistinctNames sections → (j : ℕ) (t : NormalSection) → slice_get sections j ≡ Some t → (name : List ℕ) → refers_on sections name t.name ≡ true → is_constant_class t.class ≡ true
+pub target_constant : (sections : List NormalSection) → HasDistinctNames sections → (j : ℕ) (t : NormalSection) →
+    slice_get sections j ≡ Some t → (name : List ℕ) → refers_on sections name t.name ≡ true →
+    is_constant_class t.class ≡ true
 target_constant sections distinct j t at name refers =
     let constant = (and_parts (is_in is_constant_class sections t.name) (some_reference (goes_to t.name) (section_named sections name)) refers).0 in
     rw (named_at sections distinct j t at) at constant
 
 -- the edges of links, where something is referred to
-pub forward_edge : (sections : List NormalSection) → HasDistinctNames sections → (i : ℕ) (s : NormalSection) → slice_get sections i ≡ Some s → (j : ℕ) (t : NormalSection) → slice_get sections j ≡ Some t → refers_on sections s.name t.name ≡ true → connects (flat_map forward (links_in sections)) i j ≡ true
+pub forward_edge : (sections : List NormalSection) → HasDistinctNames sections → (i : ℕ) (s : NormalSection) →
+    slice_get sections i ≡ Some s → (j : ℕ) (t : NormalSection) → slice_get sections j ≡ Some t →
+    refers_on sections s.name t.name ≡ true → connects (flat_map forward (links_in sections)) i j ≡ true
 forward_edge sections distinct i s at_i j t at_j refers =
     let r = reference_found sections distinct i s at_i t refers in
     edge_of_link forward sections (link_between i s j t r.reference) (link_is_in sections distinct i s at_i j t at_j r.reference r.among r.goes) i j
     (rw (target_constant sections distinct j t at_j s.name refers) (first_edge i j []))
 
-pub backward_edge : (sections : List NormalSection) → HasDistinctNames sections → (i : ℕ) (s : NormalSection) → slice_get sections i ≡ Some s → (j : ℕ) (t : NormalSection) → slice_get sections j ≡ Some t → refers_on sections s.name t.name ≡ true → connects (flat_map backward (links_in sections)) j i ≡ true
+pub backward_edge : (sections : List NormalSection) → HasDistinctNames sections → (i : ℕ) (s : NormalSection) →
+    slice_get sections i ≡ Some s → (j : ℕ) (t : NormalSection) → slice_get sections j ≡ Some t →
+    refers_on sections s.name t.name ≡ true → connects (flat_map backward (links_in sections)) j i ≡ true
 backward_edge sections distinct i s at_i j t at_j refers =
     let r = reference_found sections distinct i s at_i t refers in
     edge_of_link backward sections (link_between i s j t r.reference) (link_is_in sections distinct i s at_i j t at_j r.reference r.among r.goes) j i
@@ -87,7 +98,8 @@ pub record RefersAt (sections : List NormalSection) (i j : ℕ) : Type 0 where
   pub at_target : slice_get sections j ≡ Some target
   pub refers : refers_on sections source.name target.name ≡ true
 
-refers_at : (sections : List NormalSection) → HasDistinctNames sections → (link : Link) → IsLink sections link → is_constant_class link.to_class ≡ true → (i j : ℕ) → link.from ≡ i → link.to ≡ j → RefersAt sections i j
+refers_at : (sections : List NormalSection) → HasDistinctNames sections → (link : Link) → IsLink sections link →
+    is_constant_class link.to_class ≡ true → (i j : ℕ) → link.from ≡ i → link.to ≡ j → RefersAt sections i j
 refers_at sections distinct link is constant i j from to =
     record {
       source = is.source;
@@ -97,7 +109,8 @@ refers_at sections distinct link is constant i j from to =
       refers = refers_from_link sections distinct link is constant;
     }
 
-pub forward_refers : (sections : List NormalSection) → HasDistinctNames sections → (i j : ℕ) → connects (flat_map forward (links_in sections)) i j ≡ true → RefersAt sections i j
+pub forward_refers : (sections : List NormalSection) → HasDistinctNames sections → (i j : ℕ) →
+    connects (flat_map forward (links_in sections)) i j ≡ true → RefersAt sections i j
 forward_refers sections distinct i j it =
     let (link, is, one) = link_of_edge forward sections i j it in
     elim (cases_Bool (is_constant_class link.to_class)) [
@@ -108,7 +121,8 @@ forward_refers sections distinct i j it =
       | inr other ↦ absurd (let e : false ≡ true = rw other at one in cc)
     ]
 
-pub backward_refers : (sections : List NormalSection) → HasDistinctNames sections → (i j : ℕ) → connects (flat_map backward (links_in sections)) j i ≡ true → RefersAt sections i j
+pub backward_refers : (sections : List NormalSection) → HasDistinctNames sections → (i j : ℕ) →
+    connects (flat_map backward (links_in sections)) j i ≡ true → RefersAt sections i j
 backward_refers sections distinct i j it =
     let (link, is, one) = link_of_edge backward sections j i it in
     elim (cases_Bool (is_constant_class link.to_class)) [
@@ -120,7 +134,8 @@ backward_refers sections distinct i j it =
     ]
 
 -- one more reference in front
-pub reaches_before : (sections : List NormalSection) (name between other : List ℕ) → refers_on sections name between ≡ true → Reaches sections between other → Reaches sections name other
+pub reaches_before : (sections : List NormalSection) (name between other : List ℕ) →
+    refers_on sections name between ≡ true → Reaches sections between other → Reaches sections name other
 reaches_before sections name between other refers (Refers a b next) = Further name between other (Refers name between refers) next
 reaches_before sections name between other refers (Further a c b reaches next) = Further name c other (reaches_before sections name between c refers reaches) next
 
@@ -138,12 +153,15 @@ along_reaches sections Q a b (Further x m y reaches refers) begins goes_on =
     (j, t, at, same, constant, goes_on i s at_i constant_i j t at constant (rw (same_i, same) refers) q)
 
 -- what is reached is read-only data or texts
-pub reached_constant : (sections : List NormalSection) → HasDistinctNames sections → (a b : List ℕ) → Reaches sections a b → (j : ℕ) (t : NormalSection) → slice_get sections j ≡ Some t → t.name ≡ b → is_constant_class t.class ≡ true
+pub reached_constant : (sections : List NormalSection) → HasDistinctNames sections → (a b : List ℕ) →
+    Reaches sections a b → (j : ℕ) (t : NormalSection) → slice_get sections j ≡ Some t → t.name ≡ b →
+    is_constant_class t.class ≡ true
 reached_constant sections distinct a b (Refers x y refers) j t at same = target_constant sections distinct j t at x (rw same refers)
 reached_constant sections distinct a b (Further x m y reaches refers) j t at same = target_constant sections distinct j t at m (rw same refers)
 
 -- The same backwards, from the end to what the section refers to.
-pub back_reaches : (sections : List NormalSection) → HasDistinctNames sections → (Q : ℕ → Type 0) (G : Type 0) (a b : List ℕ) → Reaches sections a b →
+pub back_reaches : (sections : List NormalSection) → HasDistinctNames sections →
+    (Q : ℕ → Type 0) (G : Type 0) (a b : List ℕ) → Reaches sections a b →
     ((j : ℕ) (t : NormalSection) → slice_get sections j ≡ Some t → is_constant_class t.class ≡ true → refers_on sections a t.name ≡ true → Q j → G) →
     ((i : ℕ) (s : NormalSection) → slice_get sections i ≡ Some s → is_constant_class s.class ≡ true → (j : ℕ) (t : NormalSection) → slice_get sections j ≡ Some t → is_constant_class t.class ≡ true → refers_on sections s.name t.name ≡ true → Q j → Q i) →
     ((j : ℕ) (t : NormalSection) → slice_get sections j ≡ Some t → t.name ≡ b → Q j) → G
@@ -155,7 +173,9 @@ back_reaches sections distinct Q G a b (Further x m y reaches refers) ends goes_
     back_reaches sections distinct Q G x m reaches ends goes_on (λ i s at_i same_i.
     goes_on i s at_i (reached_constant sections distinct x m reaches i s at_i same_i) j t at constant (rw (same_i, same) refers) (from_end j t at same))
 
-pub forward_sound : (sections : List NormalSection) → HasDistinctNames sections → (seeds : List Bool) (i : ℕ) → ReachedAlong (flat_map forward (links_in sections)) seeds i → (s : NormalSection) → slice_get sections i ≡ Some s → (slice_index_or seeds i false ≡ true) ⊎ SeedReaches sections seeds s.name
+pub forward_sound : (sections : List NormalSection) → HasDistinctNames sections → (seeds : List Bool) (i : ℕ) →
+    ReachedAlong (flat_map forward (links_in sections)) seeds i → (s : NormalSection) →
+    slice_get sections i ≡ Some s → (slice_index_or seeds i false ≡ true) ⊎ SeedReaches sections seeds s.name
 forward_sound sections distinct seeds i (Seed node seeded) s at = inl seeded
 forward_sound sections distinct seeds i (Next node next reached it) s at =
     let r = forward_refers sections distinct node next it in
@@ -166,7 +186,9 @@ forward_sound sections distinct seeds i (Next node next reached it) s at =
       | inr more ↦ inr (record { place = more.place; section = more.section; at = more.at; seeded = more.seeded; reaches = Further more.section.name r.source.name s.name more.reaches refers })
     ]
 
-pub backward_sound : (sections : List NormalSection) → HasDistinctNames sections → (seeds : List Bool) (i : ℕ) → ReachedAlong (flat_map backward (links_in sections)) seeds i → (s : NormalSection) → slice_get sections i ≡ Some s → (slice_index_or seeds i false ≡ true) ⊎ ReachesSeed sections seeds s.name
+pub backward_sound : (sections : List NormalSection) → HasDistinctNames sections → (seeds : List Bool) (i : ℕ) →
+    ReachedAlong (flat_map backward (links_in sections)) seeds i → (s : NormalSection) →
+    slice_get sections i ≡ Some s → (slice_index_or seeds i false ≡ true) ⊎ ReachesSeed sections seeds s.name
 backward_sound sections distinct seeds i (Seed node seeded) s at = inl seeded
 backward_sound sections distinct seeds i (Next node next reached it) s at =
     let r = backward_refers sections distinct next node it in
@@ -178,11 +200,15 @@ backward_sound sections distinct seeds i (Next node next reached it) s at =
     ]
 
 -- places of one name are one place
-pub same_place : (sections : List NormalSection) → HasDistinctNames sections → (i : ℕ) (s : NormalSection) → slice_get sections i ≡ Some s → (j : ℕ) (t : NormalSection) → slice_get sections j ≡ Some t → s.name ≡ t.name → i ≡ j
+pub same_place : (sections : List NormalSection) → HasDistinctNames sections → (i : ℕ) (s : NormalSection) →
+    slice_get sections i ≡ Some s → (j : ℕ) (t : NormalSection) → slice_get sections j ≡ Some t → s.name ≡ t.name →
+    i ≡ j
 same_place sections distinct i s at_i j t at_j same =
     same_Some i j (sym (placed sections distinct i s at_i) ∙ ap (place_named sections) same ∙ placed sections distinct j t at_j)
 
-pub forward_complete : (sections : List NormalSection) → HasDistinctNames sections → (seeds : List Bool) (i : ℕ) (s : NormalSection) → slice_get sections i ≡ Some s → SeedReaches sections seeds s.name → ReachedAlong (flat_map forward (links_in sections)) seeds i
+pub forward_complete : (sections : List NormalSection) → HasDistinctNames sections →
+    (seeds : List Bool) (i : ℕ) (s : NormalSection) → slice_get sections i ≡ Some s →
+    SeedReaches sections seeds s.name → ReachedAlong (flat_map forward (links_in sections)) seeds i
 forward_complete sections distinct seeds i s at seed =
     let edges = flat_map forward (links_in sections) in
     let (j, t, at_j, same, constant, reached) = along_reaches sections (ReachedAlong edges seeds) seed.section.name s.name seed.reaches
@@ -190,7 +216,9 @@ forward_complete sections distinct seeds i s at seed =
     (λ i s at_i constant_i j t at_j constant refers reached. Next i j reached (forward_edge sections distinct i s at_i j t at_j refers)) in
     rw (same_place sections distinct i s at j t at_j (sym same)) reached
 
-pub backward_complete : (sections : List NormalSection) → HasDistinctNames sections → (seeds : List Bool) (i : ℕ) (s : NormalSection) → slice_get sections i ≡ Some s → ReachesSeed sections seeds s.name → ReachedAlong (flat_map backward (links_in sections)) seeds i
+pub backward_complete : (sections : List NormalSection) → HasDistinctNames sections →
+    (seeds : List Bool) (i : ℕ) (s : NormalSection) → slice_get sections i ≡ Some s →
+    ReachesSeed sections seeds s.name → ReachedAlong (flat_map backward (links_in sections)) seeds i
 backward_complete sections distinct seeds i s at seed =
     let edges = flat_map backward (links_in sections) in
     back_reaches sections distinct (ReachedAlong edges seeds) (ReachedAlong edges seeds i) s.name seed.section.name seed.reaches

@@ -57,7 +57,8 @@ isnt {P} false p = (λ is x. let e : false ≡ true = p.1 x in absurd cc, λ (no
 abbrev IsAmong : List (List ℕ) → List ℕ → Type 0
 IsAmong names name = list_any (λ other. same_bytes other name) names ≡ true
 
-among_passes : (test : List ℕ → Bool) (names : List (List ℕ)) (name : List ℕ) → IsAmong names name → test name ≡ true → list_any test names ≡ true
+among_passes : (test : List ℕ → Bool) (names : List (List ℕ)) (name : List ℕ) → IsAmong names name →
+    test name ≡ true → list_any test names ≡ true
 among_passes test [] name among passes = absurd cc
 among_passes test (x ∷ xs) name among passes =
     elim (or_cases (same_bytes x name) (list_any (λ other. same_bytes other name) xs) among) [
@@ -65,19 +66,23 @@ among_passes test (x ∷ xs) name among passes =
       | inr later ↦ or_right (test x) (list_any test xs) (among_passes test xs name later passes)
     ]
 
-any_passes : (test : List ℕ → Bool) (names : List (List ℕ)) → list_any test names ≡ true → (name : List ℕ) × (test name ≡ true)
+any_passes : (test : List ℕ → Bool) (names : List (List ℕ)) → list_any test names ≡ true →
+    (name : List ℕ) × (test name ≡ true)
 any_passes test [] some = absurd cc
 any_passes test (x ∷ xs) some =
     elim (or_cases (test x) (list_any test xs) some) [ inl here ↦ (x, here) | inr later ↦ any_passes test xs later ]
 
-some_of : {P : List ℕ → Type 0} (test : List ℕ → Bool) (names : List (List ℕ)) → ((name : List ℕ) → Decides (test name) (P name)) → ((name : List ℕ) → P name → IsAmong names name) → Decides (list_any test names) ((name : List ℕ) × P name)
+some_of : {P : List ℕ → Type 0} (test : List ℕ → Bool) (names : List (List ℕ)) →
+    ((name : List ℕ) → Decides (test name) (P name)) → ((name : List ℕ) → P name → IsAmong names name) →
+    Decides (list_any test names) ((name : List ℕ) × P name)
 some_of {P} test names decides among = (
   λ some. let (name, passes) = any_passes test names some in (name, (decides name).0 passes),
   λ (x : (name : List ℕ) × P name). among_passes test names x.0 (among x.0 x.1) ((decides x.0).1 x.1),
 )
 
 -- a name that a list of sections has
-in_names : (wanted : Class → Bool) (sections : List NormalSection) (name : List ℕ) → is_in wanted sections name ≡ true → IsAmong (names_of sections) name
+in_names : (wanted : Class → Bool) (sections : List NormalSection) (name : List ℕ) →
+    is_in wanted sections name ≡ true → IsAmong (names_of sections) name
 in_names wanted [] name is = absurd cc
 in_names wanted (s ∷ rest) name is =
     elim (cases_Bool (same_bytes s.name name)) [
@@ -97,31 +102,36 @@ among_right xs ys name is =
 
 -- ---- steps, one after another
 
-leads_step : (step : List ℕ → List ℕ → Bool) (names : List (List ℕ)) (a b : List ℕ) → step a b ≡ true → leads step names a b ≡ true
+leads_step : (step : List ℕ → List ℕ → Bool) (names : List (List ℕ)) (a b : List ℕ) → step a b ≡ true →
+    leads step names a b ≡ true
 leads_step step [] a b is = is
 leads_step step (x ∷ xs) a b is =
     or_left (leads step xs a b) (leads step xs a x && leads step xs x b) (leads_step step xs a b is)
 
-around : (step : List ℕ → List ℕ → Bool) (xs : List (List ℕ)) (x a b : List ℕ) → leads step xs a x ≡ true → leads step xs x b ≡ true → leads step (x ∷ xs) a b ≡ true
+around : (step : List ℕ → List ℕ → Bool) (xs : List (List ℕ)) (x a b : List ℕ) → leads step xs a x ≡ true →
+    leads step xs x b ≡ true → leads step (x ∷ xs) a b ≡ true
 around step xs x a b to from =
     or_right (leads step xs a b) (leads step xs a x && leads step xs x b) (and_from (leads step xs a x) (leads step xs x b) to from)
 
 -- what leads to or from the first name does so by the others alone
-to_first : (step : List ℕ → List ℕ → Bool) (xs : List (List ℕ)) (x a : List ℕ) → leads step (x ∷ xs) a x ≡ true → leads step xs a x ≡ true
+to_first : (step : List ℕ → List ℕ → Bool) (xs : List (List ℕ)) (x a : List ℕ) → leads step (x ∷ xs) a x ≡ true →
+    leads step xs a x ≡ true
 to_first step xs x a is =
     elim (or_cases (leads step xs a x) (leads step xs a x && leads step xs x x) is) [
       | inl by ↦ by
       | inr more ↦ (and_parts (leads step xs a x) (leads step xs x x) more).0
     ]
 
-from_first : (step : List ℕ → List ℕ → Bool) (xs : List (List ℕ)) (x b : List ℕ) → leads step (x ∷ xs) x b ≡ true → leads step xs x b ≡ true
+from_first : (step : List ℕ → List ℕ → Bool) (xs : List (List ℕ)) (x b : List ℕ) → leads step (x ∷ xs) x b ≡ true →
+    leads step xs x b ≡ true
 from_first step xs x b is =
     elim (or_cases (leads step xs x b) (leads step xs x x && leads step xs x b) is) [
       | inl by ↦ by
       | inr more ↦ (and_parts (leads step xs x x) (leads step xs x b) more).1
     ]
 
-leads_through : (step : List ℕ → List ℕ → Bool) (names : List (List ℕ)) (a m b : List ℕ) → IsAmong names m → leads step names a m ≡ true → leads step names m b ≡ true → leads step names a b ≡ true
+leads_through : (step : List ℕ → List ℕ → Bool) (names : List (List ℕ)) (a m b : List ℕ) → IsAmong names m →
+    leads step names a m ≡ true → leads step names m b ≡ true → leads step names a b ≡ true
 leads_through step [] a m b among to from = absurd cc
 leads_through step (x ∷ xs) a m b among to from =
     elim (or_cases (same_bytes x m) (list_any (λ other. same_bytes other m) xs) among) [
@@ -148,7 +158,9 @@ leads_through step (x ∷ xs) a m b among to from =
           ]
     ]
 
-leads_sound : (step : List ℕ → List ℕ → Bool) (R : List ℕ → List ℕ → Type 0) → ((a b : List ℕ) → step a b ≡ true → R a b) → ((a m b : List ℕ) → R a m → R m b → R a b) → (names : List (List ℕ)) (a b : List ℕ) → leads step names a b ≡ true → R a b
+leads_sound : (step : List ℕ → List ℕ → Bool) (R : List ℕ → List ℕ → Type 0) →
+    ((a b : List ℕ) → step a b ≡ true → R a b) → ((a m b : List ℕ) → R a m → R m b → R a b) →
+    (names : List (List ℕ)) (a b : List ℕ) → leads step names a b ≡ true → R a b
 leads_sound step R one more [] a b is = one a b is
 leads_sound step R one more (x ∷ xs) a b is =
     elim (or_cases (leads step xs a b) (leads step xs a x && leads step xs x b) is) [
@@ -160,15 +172,18 @@ leads_sound step R one more (x ∷ xs) a b is =
 
 -- ---- reaching
 
-reaches_on : (sections : List NormalSection) (a m b : List ℕ) → Reaches sections a m → Reaches sections m b → Reaches sections a b
+reaches_on : (sections : List NormalSection) (a m b : List ℕ) → Reaches sections a m → Reaches sections m b →
+    Reaches sections a b
 reaches_on sections a m b to (Refers x y refers) = Further a x y to refers
 reaches_on sections a m b to (Further x n y from refers) = Further a n y (reaches_on sections a x n to from) refers
 
-refers_names : (sections : List NormalSection) (name other : List ℕ) → refers_on sections name other ≡ true → IsAmong (names_of sections) other
+refers_names : (sections : List NormalSection) (name other : List ℕ) → refers_on sections name other ≡ true →
+    IsAmong (names_of sections) other
 refers_names sections name other refers =
     in_names is_constant_class sections other (and_parts (is_in is_constant_class sections other) (some_reference (goes_to other) (section_named sections name)) refers).0
 
-reaches_names : (sections : List NormalSection) (name other : List ℕ) → Reaches sections name other → IsAmong (names_of sections) other
+reaches_names : (sections : List NormalSection) (name other : List ℕ) → Reaches sections name other →
+    IsAmong (names_of sections) other
 reaches_names sections name other (Refers x y refers) = refers_names sections x y refers
 reaches_names sections name other (Further x m y to refers) = refers_names sections m y refers
 
@@ -184,13 +199,15 @@ reaches_is sections a b = (
   reaches_back sections a b,
 )
 
-changed_in_is : (of pre post : List NormalSection) (name : List ℕ) → Decides (reaches_changed_in of pre post name) ((other : List ℕ) × (Reaches of name other × (is_changed_constant of pre post other ≡ true)))
+changed_in_is : (of pre post : List NormalSection) (name : List ℕ) →
+    Decides (reaches_changed_in of pre post name) ((other : List ℕ) × (Reaches of name other × (is_changed_constant of pre post other ≡ true)))
 changed_in_is of pre post name =
     some_of {P = λ other. Reaches of name other × (is_changed_constant of pre post other ≡ true)} (λ other. reaches of name other && is_changed_constant of pre post other) (names_of of)
     (λ other. both (reaches of name other) (is_changed_constant of pre post other) (reaches_is of name other) (of_test (is_changed_constant of pre post other)))
     (λ other x. reaches_names of name other x.0)
 
-reaches_changed_is : (pre post : List NormalSection) (name : List ℕ) → Decides (reaches_changed pre post name) (ReachesChanged pre post name)
+reaches_changed_is : (pre post : List NormalSection) (name : List ℕ) →
+    Decides (reaches_changed pre post name) (ReachesChanged pre post name)
 reaches_changed_is pre post name =
     through (reaches_changed pre post name) there back (either (reaches_changed_in pre pre post name) (reaches_changed_in post pre post name) (changed_in_is pre pre post name) (changed_in_is post pre post name)) where
       At : List NormalSection → Type 0
@@ -209,7 +226,8 @@ reaches_changed_is pre post name =
 abbrev IsFirstMember : List NormalSection → List NormalSection → List ℕ → Type 0
 IsFirstMember pre post name = Differs pre post name ⊎ ((is_in is_code_class post name && not (is_there pre name)) ≡ true)
 
-differs_is : (pre post : List NormalSection) (name : List ℕ) → Decides (is_in_both is_code_class pre post name && (not (same_in pre post name) || reaches_changed pre post name)) (Differs pre post name)
+differs_is : (pre post : List NormalSection) (name : List ℕ) →
+    Decides (is_in_both is_code_class pre post name && (not (same_in pre post name) || reaches_changed pre post name)) (Differs pre post name)
 differs_is pre post name =
     through (is_in_both is_code_class pre post name && (not (same_in pre post name) || reaches_changed pre post name)) there back
     (both (is_in_both is_code_class pre post name) (not (same_in pre post name) || reaches_changed pre post name) (of_test (is_in_both is_code_class pre post name))
@@ -225,16 +243,19 @@ differs_is pre post name =
       back (DiffersItself n in_both other) = (in_both, inl other)
       back (DiffersThrough n in_both to) = (in_both, inr to)
 
-first_member_is : (pre post : List NormalSection) (name : List ℕ) → Decides (is_first_member pre post name) (IsFirstMember pre post name)
+first_member_is : (pre post : List NormalSection) (name : List ℕ) →
+    Decides (is_first_member pre post name) (IsFirstMember pre post name)
 first_member_is pre post name =
     either (is_in_both is_code_class pre post name && (not (same_in pre post name) || reaches_changed pre post name)) (is_in is_code_class post name && not (is_there pre name)) (differs_is pre post name) (of_test (is_in is_code_class post name && not (is_there pre name)))
 
-first_member_names : (pre post : List NormalSection) (name : List ℕ) → IsFirstMember pre post name → IsAmong (names_of post) name
+first_member_names : (pre post : List NormalSection) (name : List ℕ) → IsFirstMember pre post name →
+    IsAmong (names_of post) name
 first_member_names pre post name (inl (DiffersItself n in_both other)) = in_names is_code_class post n (and_parts (is_in is_code_class pre n) (is_in is_code_class post n) in_both).1
 first_member_names pre post name (inl (DiffersThrough n in_both to)) = in_names is_code_class post n (and_parts (is_in is_code_class pre n) (is_in is_code_class post n) in_both).1
 first_member_names pre post name (inr alone) = in_names is_code_class post name (and_parts (is_in is_code_class post name) (not (is_there pre name)) alone).0
 
-points_on_is : (sections : List NormalSection) (a b : List ℕ) → Decides (points_on sections a b) (PointsInto sections a b)
+points_on_is : (sections : List NormalSection) (a b : List ℕ) →
+    Decides (points_on sections a b) (PointsInto sections a b)
 points_on_is sections a b =
     through (points_on sections a b) there back
     (either (points_into sections a b) (list_any test (names_of sections)) (of_test (points_into sections a b))
@@ -348,7 +369,8 @@ member_is pre post name =
       test : List ℕ → Bool
       test from = is_first_member pre post from && chain pre post from name
 
-changed_is : (pre post : List NormalSection) (name : List ℕ) → Decides (is_changed pre post name) (IsChanged pre post name)
+changed_is : (pre post : List NormalSection) (name : List ℕ) →
+    Decides (is_changed pre post name) (IsChanged pre post name)
 changed_is pre post name =
     both (is_member pre post name) (is_in_both is_code_class pre post name) (member_is pre post name) (of_test (is_in_both is_code_class pre post name))
 
@@ -356,19 +378,23 @@ added_is : (pre post : List NormalSection) (name : List ℕ) → Decides (is_add
 added_is pre post name =
     both (is_member pre post name) (is_in is_code_class post name && not (is_there pre name)) (member_is pre post name) (of_test (is_in is_code_class post name && not (is_there pre name)))
 
-dropped_is : (pre post : List NormalSection) (name : List ℕ) → Decides (is_dropped pre post name) (IsDropped pre post name)
+dropped_is : (pre post : List NormalSection) (name : List ℕ) →
+    Decides (is_dropped pre post name) (IsDropped pre post name)
 dropped_is pre post name =
     both (is_member pre post name) (is_in is_code_class pre name && not (is_there post name)) (member_is pre post name) (of_test (is_in is_code_class pre name && not (is_there post name)))
 
 -- ---- data
 
-new_names : (pre post : List NormalSection) (name : List ℕ) → is_new_data pre post name ≡ true → IsAmong (names_of post) name
+new_names : (pre post : List NormalSection) (name : List ℕ) → is_new_data pre post name ≡ true →
+    IsAmong (names_of post) name
 new_names pre post name is = in_names is_data_class post name (and_parts (is_in is_data_class post name) (not (is_there pre name)) is).0
 
-old_names : (pre post : List NormalSection) (name : List ℕ) → is_in_both is_data_class pre post name ≡ true → IsAmong (names_of post) name
+old_names : (pre post : List NormalSection) (name : List ℕ) → is_in_both is_data_class pre post name ≡ true →
+    IsAmong (names_of post) name
 old_names pre post name is = in_names is_data_class post name (and_parts (is_in is_data_class pre name) (is_in is_data_class post name) is).1
 
-carried_is : (pre post : List NormalSection) (name : List ℕ) → Decides (is_carried pre post name) (IsCarried pre post name)
+carried_is : (pre post : List NormalSection) (name : List ℕ) →
+    Decides (is_carried pre post name) (IsCarried pre post name)
 carried_is pre post name =
     through (is_carried pre post name) (λ (x : (from : List ℕ) × At from). record { from = x.0; brought = x.1.0; reaches = x.1.1 }) (λ it. (it.from, (it.brought, it.reaches)))
     (some_of {P = At} test (names_of post)
@@ -391,7 +417,8 @@ carried_is pre post name =
       brought_names from (inl x) = in_names is_code_class post from x.1
       brought_names from (inr is) = new_names pre post from is
 
-differing_is : (pre post : List NormalSection) (name : List ℕ) → Decides (data_differs pre post name) (DataDiffers pre post name)
+differing_is : (pre post : List NormalSection) (name : List ℕ) →
+    Decides (data_differs pre post name) (DataDiffers pre post name)
 differing_is pre post name =
     through (data_differs pre post name) there back
     (either (other_class (section_named pre name) (section_named post name)) (is_in_both is_data_class pre post name && (not (same_in pre post name) || reaches_changed pre post name))
@@ -413,7 +440,9 @@ differing_is pre post name =
       back (DataItself n in_both other) = inr (in_both, inl other)
       back (DataThrough n in_both to) = inr (in_both, inr to)
 
-data_of_is : (post : List NormalSection) (test : List ℕ → Bool) → ((name : List ℕ) → test name ≡ true → IsAmong (names_of post) name) → (name : List ℕ) → Decides (is_data_of post test name) (IsDataOf post test name)
+data_of_is : (post : List NormalSection) (test : List ℕ → Bool) →
+    ((name : List ℕ) → test name ≡ true → IsAmong (names_of post) name) → (name : List ℕ) →
+    Decides (is_data_of post test name) (IsDataOf post test name)
 data_of_is post test among name =
     through (is_data_of post test name) there back
     (either (test name) (list_any (λ from. test from && reaches post from name) (names_of post) && is_in is_read_only_class post name) (of_test (test name))
@@ -423,11 +452,13 @@ data_of_is post test among name =
       At : List ℕ → Type 0
       At from = (test from ≡ true) × Reaches post from name
 
-      there : (test name ≡ true) ⊎ (((from : List ℕ) × At from) × (is_in is_read_only_class post name ≡ true)) → IsDataOf post test name
+      there : (test name ≡ true) ⊎ (((from : List ℕ) × At from) × (is_in is_read_only_class post name ≡ true)) →
+          IsDataOf post test name
       there (inl is) = OfItself name is
       there (inr (x, constant)) = OfReached x.0 name x.1.0 x.1.1 constant
 
-      back : IsDataOf post test name → (test name ≡ true) ⊎ (((from : List ℕ) × At from) × (is_in is_read_only_class post name ≡ true))
+      back : IsDataOf post test name →
+          (test name ≡ true) ⊎ (((from : List ℕ) × At from) × (is_in is_read_only_class post name ≡ true))
       back (OfItself n is) = inl is
       back (OfReached from n is to constant) = inr ((from, (is, to)), constant)
 
@@ -455,7 +486,8 @@ broken_is pre post x =
       NewAt : Ref → List ℕ → Type 0
       NewAt r code = ((is_in is_code_class post code && goes_to code r && is_interior r) ≡ true) × (Member pre post code → ⊥)
 
-      code_names : (code : List ℕ) (r : Ref) → (is_in is_code_class post code && goes_to code r && is_interior r) ≡ true → IsAmong (names_of post) code
+      code_names : (code : List ℕ) (r : Ref) →
+          (is_in is_code_class post code && goes_to code r && is_interior r) ≡ true → IsAmong (names_of post) code
       code_names code r is =
           let front = (and_parts (is_in is_code_class post code && goes_to code r) (is_interior r) is).0 in
           in_names is_code_class post code (and_parts (is_in is_code_class post code) (goes_to code r) front).0
@@ -475,7 +507,8 @@ broken_is pre post x =
 
 -- ---- the answer
 
-first_found : {X : Type 0} (test : X → Bool) (P : X → Type 0) → ((x : X) → Decides (test x) (P x)) → (xs : List X) (x : X) → find test xs ≡ Some x → IsFirst P xs x
+first_found : {X : Type 0} (test : X → Bool) (P : X → Type 0) → ((x : X) → Decides (test x) (P x)) →
+    (xs : List X) (x : X) → find test xs ≡ Some x → IsFirst P xs x
 first_found test P decides [] x found = absurd cc
 first_found test P decides (y ∷ ys) x found =
     elim (cases_Bool (test y)) [
@@ -487,7 +520,8 @@ first_found test P decides (y ∷ ys) x found =
           Later y ys x (λ p. let e : false ≡ true = sym fails ∙ (decides y).1 p in cc) (first_found test P decides ys x later)
     ]
 
-none_found : {X : Type 0} (test : X → Bool) (P : X → Type 0) → ((x : X) → Decides (test x) (P x)) → (xs : List X) → find test xs ≡ None → NoneIs P xs
+none_found : {X : Type 0} (test : X → Bool) (P : X → Type 0) → ((x : X) → Decides (test x) (P x)) → (xs : List X) →
+    find test xs ≡ None → NoneIs P xs
 none_found test P decides [] none = All-nil (λ x. P x → ⊥)
 none_found test P decides (y ∷ ys) none =
     elim (cases_Bool (test y)) [
@@ -497,7 +531,8 @@ none_found test P decides (y ∷ ys) none =
           All-cons (λ x. P x → ⊥) y ys (λ p. let e : false ≡ true = sym fails ∙ (decides y).1 p in cc) (none_found test P decides ys later)
     ]
 
-picks : (test : List ℕ → Bool) (P : List ℕ → Type 0) → ((name : List ℕ) → Decides (test name) (P name)) → (sections : List NormalSection) → Picks P sections (picked test sections)
+picks : (test : List ℕ → Bool) (P : List ℕ → Type 0) → ((name : List ℕ) → Decides (test name) (P name)) →
+    (sections : List NormalSection) → Picks P sections (picked test sections)
 picks test P decides [] = Ends
 picks test P decides (s ∷ rest) =
     elim (cases_Bool (test s.name)) [
@@ -515,17 +550,21 @@ lists_are pre post =
       dropped = picks (is_dropped pre post) (IsDropped pre post) (dropped_is pre post) pre;
     }
 
-some_first_is : (pre post : List NormalSection) → Decides (list_any (is_first_member pre post) (names_of post)) ((name : List ℕ) × IsFirstMember pre post name)
+some_first_is : (pre post : List NormalSection) →
+    Decides (list_any (is_first_member pre post) (names_of post)) ((name : List ℕ) × IsFirstMember pre post name)
 some_first_is pre post =
     some_of {P = IsFirstMember pre post} (is_first_member pre post) (names_of post) (first_member_is pre post) (first_member_names pre post)
 
 -- where there is no first member there is none
-first_of_member : (pre post : List NormalSection) (name : List ℕ) → Member pre post name → (first : List ℕ) × IsFirstMember pre post first
+first_of_member : (pre post : List NormalSection) (name : List ℕ) → Member pre post name →
+    (first : List ℕ) × IsFirstMember pre post first
 first_of_member pre post name (Differing n it) = (n, inl it)
 first_of_member pre post name (OnlyInPost n it) = (n, inr it)
 first_of_member pre post name (Joined n other member tied) = first_of_member pre post n member
 
-answers_with : (pre post : List NormalSection) → NoneIs (λ s. DataDiffers pre post s.name) post → (o : Option (List ℕ × Ref)) → find (is_broken pre post) (places post) ≡ o → Extracts pre post (extracted_with pre post o)
+answers_with : (pre post : List NormalSection) → NoneIs (λ s. DataDiffers pre post s.name) post →
+    (o : Option (List ℕ × Ref)) → find (is_broken pre post) (places post) ≡ o →
+    Extracts pre post (extracted_with pre post o)
 answers_with pre post same (Some x) found =
     Broken x.0 x.1 same (first_found (is_broken pre post) (IsBroken pre post) (broken_is pre post) (places post) x found)
 answers_with pre post same None none =
@@ -540,7 +579,8 @@ answers_with pre post same None none =
           let e : false ≡ true = sym nobody ∙ (some_first_is pre post).1 it in cc))
     ]
 
-answers_by : (pre post : List NormalSection) (o : Option NormalSection) → find (λ s. data_differs pre post s.name) post ≡ o → Extracts pre post (extracted_by pre post o)
+answers_by : (pre post : List NormalSection) (o : Option NormalSection) →
+    find (λ s. data_differs pre post s.name) post ≡ o → Extracts pre post (extracted_by pre post o)
 answers_by pre post (Some section) found =
     OtherData section (first_found (λ s. data_differs pre post s.name) (λ s. DataDiffers pre post s.name) (λ s. differing_is pre post s.name) post section found)
 answers_by pre post None none =
@@ -550,8 +590,10 @@ answers : (pre post : List NormalSection) → Extracts pre post (extracted pre p
 unfolding extracted
 answers pre post = answers_by pre post (find (λ s. data_differs pre post s.name) post) refl
 
-pub is_extracted : (pre post : List NormalSection) (answer : Result Extract Refusal) → Extracts pre post answer → answer ≡ extracted pre post
+pub is_extracted : (pre post : List NormalSection) (answer : Result Extract Refusal) → Extracts pre post answer →
+    answer ≡ extracted pre post
 is_extracted pre post answer is = one_result pre post answer (extracted pre post) is (answers pre post)
 
-pub extracted_is : (pre post : List NormalSection) (answer : Result Extract Refusal) → answer ≡ extracted pre post → Extracts pre post answer
+pub extracted_is : (pre post : List NormalSection) (answer : Result Extract Refusal) → answer ≡ extracted pre post →
+    Extracts pre post answer
 extracted_is pre post answer same = subst (Extracts pre post) (sym same) (answers pre post)

@@ -76,7 +76,8 @@ two_edges a b c d = edge a b ∷ edge c d ∷ []
 pub data Joining (n : Numbers) (link : Link) : Type 0 where
   CodeToCode : is_code_class link.from_class ≡ true → is_code_class link.to_class ≡ true → link.interior ≡ true →
       joins n link ≡ two_edges (member_node n link.from) (member_node n link.to) (member_node n link.to) (member_node n link.from) → Joining n link
-  ReadOnlyToCode : is_read_only_class link.from_class ≡ true → is_code_class link.to_class ≡ true → link.interior ≡ true →
+  ReadOnlyToCode : is_read_only_class link.from_class ≡ true → is_code_class link.to_class ≡ true →
+      link.interior ≡ true →
       joins n link ≡ two_edges (from_node n link.from) (member_node n link.to) (member_node n link.to) (into_node n link.from) → Joining n link
   CodeToConstant : is_code_class link.from_class ≡ true → is_constant_class link.to_class ≡ true →
       joins n link ≡ two_edges (member_node n link.from) (from_node n link.to) (into_node n link.to) (member_node n link.from) → Joining n link
@@ -94,7 +95,8 @@ to_code n link code interior =
       ]
     ]
 
-to_constant : (n : Numbers) (link : Link) → is_code_class link.to_class ≡ false → is_constant_class link.to_class ≡ true → Joining n link
+to_constant : (n : Numbers) (link : Link) → is_code_class link.to_class ≡ false →
+    is_constant_class link.to_class ≡ true → Joining n link
 to_constant n link not_code constant =
     elim (cases_Bool (is_code_class link.from_class)) [
       | inl from_code ↦ CodeToConstant from_code constant (rw (not_code, constant, from_code) refl)
@@ -128,7 +130,8 @@ two_ends a b c d x y it =
       or_same false true it = refl
       or_same false false it = it
 
-      two_are : (a b c d x y : ℕ) → connects (two_edges a b c d) x y ≡ true → connects (edge a b ∷ []) x y || connects (edge c d ∷ []) x y ≡ true
+      two_are : (a b c d x y : ℕ) → connects (two_edges a b c d) x y ≡ true →
+          connects (edge a b ∷ []) x y || connects (edge c d ∷ []) x y ≡ true
       two_are a b c d x y it = or_same (a == x && b == y) (c == x && d == y) it
 
 -- An edge between two nodes of an object, and that it hands on what the first node says.
@@ -145,32 +148,46 @@ pub record Hands (pre post sections : List NormalSection) (n : Numbers) (a b : �
   pub is_to : node_of n kind_to to ≡ b
   pub hands : Fact pre post sections kind_from source.name → Fact pre post sections kind_to target.name
 
-hands_on : (pre post sections : List NormalSection) (n : Numbers) (link : Link) (a b : ℕ) (kind_from kind_to : Kind) → (is : IsLink sections link) → node_of n kind_from link.from ≡ a → node_of n kind_to link.to ≡ b → (Fact pre post sections kind_from is.source.name → Fact pre post sections kind_to is.target.name) → Hands pre post sections n a b
+hands_on : (pre post sections : List NormalSection) (n : Numbers) (link : Link) (a b : ℕ) (kind_from kind_to : Kind) →
+    (is : IsLink sections link) → node_of n kind_from link.from ≡ a → node_of n kind_to link.to ≡ b →
+    (Fact pre post sections kind_from is.source.name → Fact pre post sections kind_to is.target.name) →
+    Hands pre post sections n a b
 hands_on pre post sections n link a b kind_from kind_to is is_from is_to hands =
     record { kind_from = kind_from; from = link.from; source = is.source; at_source = is.at_from; is_from = is_from; kind_to = kind_to; to = link.to; target = is.target; at_target = is.at_to; is_to = is_to; hands = hands }
 
-hands_back : (pre post sections : List NormalSection) (n : Numbers) (link : Link) (a b : ℕ) (kind_from kind_to : Kind) → (is : IsLink sections link) → node_of n kind_from link.to ≡ a → node_of n kind_to link.from ≡ b → (Fact pre post sections kind_from is.target.name → Fact pre post sections kind_to is.source.name) → Hands pre post sections n a b
+hands_back : (pre post sections : List NormalSection) (n : Numbers) (link : Link) (a b : ℕ) (kind_from kind_to : Kind) →
+    (is : IsLink sections link) → node_of n kind_from link.to ≡ a → node_of n kind_to link.from ≡ b →
+    (Fact pre post sections kind_from is.target.name → Fact pre post sections kind_to is.source.name) →
+    Hands pre post sections n a b
 hands_back pre post sections n link a b kind_from kind_to is is_from is_to hands =
     record { kind_from = kind_from; from = link.to; source = is.target; at_source = is.at_to; is_from = is_from; kind_to = kind_to; to = link.from; target = is.source; at_target = is.at_from; is_to = is_to; hands = hands }
 
 -- what a link says by names
-source_in : (sections : List NormalSection) → HasDistinctNames sections → (link : Link) → (is : IsLink sections link) → (wanted : Class → Bool) → wanted link.from_class ≡ true → is_in wanted sections is.source.name ≡ true
+source_in : (sections : List NormalSection) → HasDistinctNames sections → (link : Link) →
+    (is : IsLink sections link) → (wanted : Class → Bool) → wanted link.from_class ≡ true →
+    is_in wanted sections is.source.name ≡ true
 source_in sections distinct link is wanted it =
     rw (named_at sections distinct link.from is.source is.at_from) (rw (← is.from_class) it)
 
-points_from_link : (sections : List NormalSection) → HasDistinctNames sections → (link : Link) → (is : IsLink sections link) → is_code_class link.to_class ≡ true → link.interior ≡ true → points_into sections is.source.name is.target.name ≡ true
+points_from_link : (sections : List NormalSection) → HasDistinctNames sections → (link : Link) →
+    (is : IsLink sections link) → is_code_class link.to_class ≡ true → link.interior ≡ true →
+    points_into sections is.source.name is.target.name ≡ true
 points_from_link sections distinct link is code interior =
     rw (named_at sections distinct link.to is.target is.at_to, named_at sections distinct link.from is.source is.at_from)
     (and_from (is_code_class is.target.class) (list_any (λ r. goes_to is.target.name r && is_interior r) is.source.refs)
     (rw (← is.to_class) code)
     (is.among (λ r. goes_to is.target.name r && is_interior r) (and_from (goes_to is.target.name is.reference) (is_interior is.reference) is.goes (sym is.interior ∙ interior))))
 
-into_reaches : (sections : List NormalSection) (source target between : List ℕ) → refers_on sections source target ≡ true → (target ≡ between) ⊎ Reaches sections target between → Reaches sections source between
+into_reaches : (sections : List NormalSection) (source target between : List ℕ) →
+    refers_on sections source target ≡ true → (target ≡ between) ⊎ Reaches sections target between →
+    Reaches sections source between
 into_reaches sections source target between refers (inl same) = Refers source between (rw (← same) refers)
 into_reaches sections source target between refers (inr reaches) = reaches_before sections source target between refers reaches
 
 -- each edge of an object hands on what its node says
-link_hands : (pre post sections : List NormalSection) → HasDistinctNames sections → Ties pre post sections → (n : Numbers) (link : Link) → IsLink sections link → (a b : ℕ) → Joining n link → connects (joins n link) a b ≡ true → Hands pre post sections n a b
+link_hands : (pre post sections : List NormalSection) → HasDistinctNames sections → Ties pre post sections →
+    (n : Numbers) (link : Link) → IsLink sections link → (a b : ℕ) → Joining n link →
+    connects (joins n link) a b ≡ true → Hands pre post sections n a b
 link_hands pre post sections distinct ties n link is a b (CodeToCode from_code to_code interior edges) it =
     let two : connects (two_edges (member_node n link.from) (member_node n link.to) (member_node n link.to) (member_node n link.from)) a b ≡ true = rw edges at it in
     let tied = ties is.source.name is.target.name (source_in sections distinct link is is_code_class from_code) (Itself is.source.name is.target.name (points_from_link sections distinct link is to_code interior)) in
@@ -204,7 +221,9 @@ link_hands pre post sections distinct ties n link is a b (ConstantToConstant fro
 link_hands pre post sections distinct ties n link is a b (NoEdge edges) it =
     absurd (let e : false ≡ true = rw edges at it in cc)
 
-pub joins_hands : (pre post sections : List NormalSection) → HasDistinctNames sections → Ties pre post sections → (n : Numbers) (a b : ℕ) → connects (flat_map (joins n) (links_in sections)) a b ≡ true → Hands pre post sections n a b
+pub joins_hands : (pre post sections : List NormalSection) → HasDistinctNames sections → Ties pre post sections →
+    (n : Numbers) (a b : ℕ) → connects (flat_map (joins n) (links_in sections)) a b ≡ true →
+    Hands pre post sections n a b
 joins_hands pre post sections distinct ties n a b it =
     let (link, is, one) = link_of_edge (joins n) sections a b it in
     link_hands pre post sections distinct ties n link is a b (joining n link) one

@@ -26,7 +26,8 @@ use Rattle.extract_post.specs.inside.Edges.{Link, link_to, links_of, links_from,
 abbrev pub Among : {X : Type 0} → List X → X → Type 0
 Among {X} xs x = (test : X → Bool) → test x ≡ true → list_any test xs ≡ true
 
-pub item_found : {X : Type 0} (test : X → Bool) (xs : List X) → list_any test xs ≡ true → (x : X) × Among xs x × (test x ≡ true)
+pub item_found : {X : Type 0} (test : X → Bool) (xs : List X) → list_any test xs ≡ true →
+    (x : X) × Among xs x × (test x ≡ true)
 item_found test [] some = absurd cc
 item_found test (x ∷ xs) some =
     elim (or_cases (test x) (list_any test xs) some) [
@@ -38,18 +39,22 @@ pub option_cases : {X : Type 0} (o : Option X) → (o ≡ None) ⊎ ((x : X) × 
 option_cases None = inl refl
 option_cases (Some x) = inr (x, refl)
 
-pub any_in_flat_map : {X Y : Type 0} (test : Y → Bool) (f : X → List Y) (xs : List X) → list_any test (flat_map f xs) ≡ list_any (λ x. list_any test (f x)) xs
+pub any_in_flat_map : {X Y : Type 0} (test : Y → Bool) (f : X → List Y) (xs : List X) →
+    list_any test (flat_map f xs) ≡ list_any (λ x. list_any test (f x)) xs
 any_in_flat_map test f [] = refl
 any_in_flat_map test f (x ∷ xs) =
     list_any-append test (f x) (flat_map f xs) ∙ ap (λ b. list_any test (f x) || b) (any_in_flat_map test f xs)
 
 -- Where names are distinct, a section stands at the place of its name.
-name_apart : (name : List ℕ) (sections : List NormalSection) → AllByRecursion (λ other. same_bytes name other ≡ false) (map name_of sections) → (i : ℕ) (s : NormalSection) → slice_get sections i ≡ Some s → same_bytes name s.name ≡ false
+name_apart : (name : List ℕ) (sections : List NormalSection) →
+    AllByRecursion (λ other. same_bytes name other ≡ false) (map name_of sections) → (i : ℕ) (s : NormalSection) →
+    slice_get sections i ≡ Some s → same_bytes name s.name ≡ false
 name_apart name [] others i s at = absurd cc
 name_apart name (x ∷ xs) others zero s at = let e : x ≡ s = same_Some x s at in rw (← e) others.0
 name_apart name (x ∷ xs) others (suc i) s at = name_apart name xs others.1 i s at
 
-pub placed : (sections : List NormalSection) → HasDistinctNames sections → (i : ℕ) (s : NormalSection) → slice_get sections i ≡ Some s → place_named sections s.name ≡ Some i
+pub placed : (sections : List NormalSection) → HasDistinctNames sections → (i : ℕ) (s : NormalSection) →
+    slice_get sections i ≡ Some s → place_named sections s.name ≡ Some i
 unfolding IsDistinct
 placed [] distinct i s at = absurd cc
 placed (x ∷ xs) distinct zero s at =
@@ -58,18 +63,23 @@ placed (x ∷ xs) distinct zero s at =
 placed (x ∷ xs) distinct (suc i) s at =
     rw (name_apart x.name xs distinct.0 i s at, placed xs distinct.1 i s at) refl
 
-pub named_at : (sections : List NormalSection) → HasDistinctNames sections → (i : ℕ) (s : NormalSection) → slice_get sections i ≡ Some s → section_named sections s.name ≡ Some s
+pub named_at : (sections : List NormalSection) → HasDistinctNames sections → (i : ℕ) (s : NormalSection) →
+    slice_get sections i ≡ Some s → section_named sections s.name ≡ Some s
 named_at sections distinct i s at = section_named_at sections s.name ∙ rw (placed sections distinct i s at) at
 
 -- the place of a target is the place of a section to which it goes
-pub target_of_place : (sections : List NormalSection) (target : Target) (i : ℕ) → place_of_target sections target ≡ Some i → (t : NormalSection) × (slice_get sections i ≡ Some t) × (goes_to_target t.name target ≡ true)
+pub target_of_place : (sections : List NormalSection) (target : Target) (i : ℕ) →
+    place_of_target sections target ≡ Some i →
+    (t : NormalSection) × (slice_get sections i ≡ Some t) × (goes_to_target t.name target ≡ true)
 target_of_place sections (Section name) i at =
     let (t, here, same) = section_at_place sections name i at in (t, here, rw same (nat_list_eq_equiv.refl name))
 target_of_place sections (Text name offset text) i at =
     let (t, here, same) = section_at_place sections name i at in (t, here, rw same (nat_list_eq_equiv.refl name))
 target_of_place sections (Outside name) i at = absurd cc
 
-pub place_of_goes : (sections : List NormalSection) → HasDistinctNames sections → (target : Target) (i : ℕ) (t : NormalSection) → slice_get sections i ≡ Some t → goes_to_target t.name target ≡ true → place_of_target sections target ≡ Some i
+pub place_of_goes : (sections : List NormalSection) → HasDistinctNames sections →
+    (target : Target) (i : ℕ) (t : NormalSection) → slice_get sections i ≡ Some t →
+    goes_to_target t.name target ≡ true → place_of_target sections target ≡ Some i
 place_of_goes sections distinct (Section name) i t at goes = rw ((bytes_decides name t.name).0 goes) (placed sections distinct i t at)
 place_of_goes sections distinct (Text name offset text) i t at goes = rw ((bytes_decides name t.name).0 goes) (placed sections distinct i t at)
 place_of_goes sections distinct (Outside name) i t at goes = absurd cc
@@ -93,7 +103,9 @@ pub record IsLink (sections : List NormalSection) (link : Link) : Type 0 where
   pub interior : link.interior ≡ is_interior reference
 
 -- the link of one reference
-link_of_target : (p : Link → Bool) (sections : List NormalSection) (from : ℕ) (class : Class) (r : Ref) (o : Option ℕ) → list_any p (link_to sections from class r o) ≡ true → (to : ℕ) × (target : NormalSection) × (o ≡ Some to) × (slice_get sections to ≡ Some target) × (p (record { from = from; from_class = class; to = to; to_class = target.class; interior = is_interior r }) ≡ true)
+link_of_target : (p : Link → Bool) (sections : List NormalSection) (from : ℕ) (class : Class) (r : Ref) (o : Option ℕ) →
+    list_any p (link_to sections from class r o) ≡ true →
+    (to : ℕ) × (target : NormalSection) × (o ≡ Some to) × (slice_get sections to ≡ Some target) × (p (record { from = from; from_class = class; to = to; to_class = target.class; interior = is_interior r }) ≡ true)
 link_of_target p sections from class r None some = absurd cc
 link_of_target p sections from class r (Some to) some =
     elim (option_cases (slice_get sections to)) [
@@ -107,7 +119,9 @@ abbrev links_by : List NormalSection → ℕ → Class → Ref → List Link
 links_by sections from class r = link_to sections from class r (place_of_target sections r.target)
 
 -- the links of one section
-link_of_section : (p : Link → Bool) (sections : List NormalSection) (from : ℕ) (source : NormalSection) → slice_get sections from ≡ Some source → list_any p (links_of sections from source) ≡ true → (link : Link) × IsLink sections link × (p link ≡ true)
+link_of_section : (p : Link → Bool) (sections : List NormalSection) (from : ℕ) (source : NormalSection) →
+    slice_get sections from ≡ Some source → list_any p (links_of sections from source) ≡ true →
+    (link : Link) × IsLink sections link × (p link ≡ true)
 link_of_section p sections from source at some =
     let (r, among, passes) = item_found (λ r. list_any p (links_by sections from source.class r)) source.refs (rw (any_in_flat_map p (links_by sections from source.class) source.refs) at some) in
     let (to, target, there, at_to, it) = link_of_target p sections from source.class r (place_of_target sections r.target) passes in
@@ -129,7 +143,9 @@ link_of_section p sections from source at some =
       it,
     )
 
-link_from : (p : Link → Bool) (sections : List NormalSection) (place : ℕ) (rest : List NormalSection) → ((i : ℕ) (s : NormalSection) → slice_get rest i ≡ Some s → slice_get sections (place + i) ≡ Some s) → list_any p (links_from sections place rest) ≡ true → (link : Link) × IsLink sections link × (p link ≡ true)
+link_from : (p : Link → Bool) (sections : List NormalSection) (place : ℕ) (rest : List NormalSection) →
+    ((i : ℕ) (s : NormalSection) → slice_get rest i ≡ Some s → slice_get sections (place + i) ≡ Some s) →
+    list_any p (links_from sections place rest) ≡ true → (link : Link) × IsLink sections link × (p link ≡ true)
 link_from p sections place [] within some = absurd cc
 link_from p sections place (s ∷ rest) within some =
     elim (or_cases (list_any p (links_of sections place s)) (list_any p (links_from sections (suc place) rest)) (sym (list_any-append p (links_of sections place s) (links_from sections (suc place) rest)) ∙ some)) [
@@ -137,12 +153,15 @@ link_from p sections place (s ∷ rest) within some =
       | inr later ↦ link_from p sections (suc place) rest (λ i t at. let e : suc place + i ≡ place + suc i = omega arith in rw e (within (suc i) t at)) later
     ]
 
-pub link_found : (p : Link → Bool) (sections : List NormalSection) → list_any p (links_in sections) ≡ true → (link : Link) × IsLink sections link × (p link ≡ true)
+pub link_found : (p : Link → Bool) (sections : List NormalSection) → list_any p (links_in sections) ≡ true →
+    (link : Link) × IsLink sections link × (p link ≡ true)
 link_found p sections some =
     link_from p sections 0 sections (λ i s at. let e : 0 + i ≡ i = omega arith in rw e at) some
 
 -- each reference from a section to a section is a link
-links_with : (p : Link → Bool) (sections : List NormalSection) (place : ℕ) (rest : List NormalSection) (i : ℕ) (s : NormalSection) → slice_get rest i ≡ Some s → list_any p (links_of sections (place + i) s) ≡ true → list_any p (links_from sections place rest) ≡ true
+links_with : (p : Link → Bool) (sections : List NormalSection) (place : ℕ) (rest : List NormalSection) (i : ℕ) (s : NormalSection) →
+    slice_get rest i ≡ Some s → list_any p (links_of sections (place + i) s) ≡ true →
+    list_any p (links_from sections place rest) ≡ true
 links_with p sections place [] i s at some = absurd cc
 links_with p sections place (x ∷ rest) zero s at some =
     let e : place + 0 ≡ place = omega arith in
@@ -156,7 +175,10 @@ links_with p sections place (x ∷ rest) (suc i) s at some =
     list_any-append p (links_of sections place x) (links_from sections (suc place) rest)
     ∙ or_right (list_any p (links_of sections place x)) (list_any p (links_from sections (suc place) rest)) (links_with p sections (suc place) rest i s at there)
 
-pub link_is_in : (sections : List NormalSection) → HasDistinctNames sections → (from : ℕ) (source : NormalSection) → slice_get sections from ≡ Some source → (to : ℕ) (target : NormalSection) → slice_get sections to ≡ Some target → (r : Ref) → Among source.refs r → goes_to target.name r ≡ true → Among (links_in sections) (link_between from source to target r)
+pub link_is_in : (sections : List NormalSection) → HasDistinctNames sections → (from : ℕ) (source : NormalSection) →
+    slice_get sections from ≡ Some source → (to : ℕ) (target : NormalSection) → slice_get sections to ≡ Some target →
+    (r : Ref) → Among source.refs r → goes_to target.name r ≡ true →
+    Among (links_in sections) (link_between from source to target r)
 link_is_in sections distinct from source at_from to target at_to r among goes =
     λ p passes.
     let e : 0 + from ≡ from = omega arith in
@@ -166,10 +188,14 @@ link_is_in sections distinct from source at_from to target at_to r among goes =
     ∙ among (λ r. list_any p (links_by sections from source.class r)) (rw (place_of_goes sections distinct r.target to target at_to goes) (rw at_to (or_left _ _ passes)))))
 
 -- the edges of links
-pub link_of_edge : (f : Link → List Edge) (sections : List NormalSection) (a b : ℕ) → connects (flat_map f (links_in sections)) a b ≡ true → (link : Link) × IsLink sections link × (connects (f link) a b ≡ true)
+pub link_of_edge : (f : Link → List Edge) (sections : List NormalSection) (a b : ℕ) →
+    connects (flat_map f (links_in sections)) a b ≡ true →
+    (link : Link) × IsLink sections link × (connects (f link) a b ≡ true)
 link_of_edge f sections a b some =
     link_found (λ link. connects (f link) a b) sections (sym (any_in_flat_map (λ e. e.from == a && e.to == b) f (links_in sections)) ∙ some)
 
-pub edge_of_link : (f : Link → List Edge) (sections : List NormalSection) (link : Link) → Among (links_in sections) link → (a b : ℕ) → connects (f link) a b ≡ true → connects (flat_map f (links_in sections)) a b ≡ true
+pub edge_of_link : (f : Link → List Edge) (sections : List NormalSection) (link : Link) →
+    Among (links_in sections) link → (a b : ℕ) → connects (f link) a b ≡ true →
+    connects (flat_map f (links_in sections)) a b ≡ true
 edge_of_link f sections link among a b it =
     any_in_flat_map (λ e. e.from == a && e.to == b) f (links_in sections) ∙ among (λ link. connects (f link) a b) it

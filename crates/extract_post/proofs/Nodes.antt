@@ -41,7 +41,8 @@ numbered total AsMember at = at
 numbered total AsFrom at = total + at
 numbered total AsInto at = total + (total + at)
 
-node_is_numbered : (pre post : List NormalSection) (side : Side) (kind : Kind) (i : ℕ) → node_at pre post side kind i ≡ numbered (length pre + length post) kind (member_node (numbers_of pre post side) i)
+node_is_numbered : (pre post : List NormalSection) (side : Side) (kind : Kind) (i : ℕ) →
+    node_at pre post side kind i ≡ numbered (length pre + length post) kind (member_node (numbers_of pre post side) i)
 node_is_numbered pre post Pre AsMember i = refl
 node_is_numbered pre post Pre AsFrom i = refl
 node_is_numbered pre post Pre AsInto i = refl
@@ -49,11 +50,13 @@ node_is_numbered pre post Post AsMember i = refl
 node_is_numbered pre post Post AsFrom i = refl
 node_is_numbered pre post Post AsInto i = refl
 
-within_total : (pre post : List NormalSection) (side : Side) (i : ℕ) → i < length (sections_of pre post side) → member_node (numbers_of pre post side) i < length pre + length post
+within_total : (pre post : List NormalSection) (side : Side) (i : ℕ) → i < length (sections_of pre post side) →
+    member_node (numbers_of pre post side) i < length pre + length post
 within_total pre post Pre i within = omega arith
 within_total pre post Post i within = omega arith
 
-same_kind : (total p q : ℕ) → p < total → q < total → (k l : Kind) → numbered total k p ≡ numbered total l q → (k ≡ l) × (p ≡ q)
+same_kind : (total p q : ℕ) → p < total → q < total → (k l : Kind) → numbered total k p ≡ numbered total l q →
+    (k ≡ l) × (p ≡ q)
 same_kind total p q in_p in_q AsMember AsMember same = (refl, same)
 same_kind total p q in_p in_q AsMember AsFrom same = absurd (omega arith)
 same_kind total p q in_p in_q AsMember AsInto same = absurd (omega arith)
@@ -64,7 +67,9 @@ same_kind total p q in_p in_q AsInto AsMember same = absurd (omega arith)
 same_kind total p q in_p in_q AsInto AsFrom same = absurd (omega arith)
 same_kind total p q in_p in_q AsInto AsInto same = (refl, omega arith)
 
-same_side : (pre post : List NormalSection) (s t : Side) (i j : ℕ) → i < length (sections_of pre post s) → j < length (sections_of pre post t) → member_node (numbers_of pre post s) i ≡ member_node (numbers_of pre post t) j → (s ≡ t) × (i ≡ j)
+same_side : (pre post : List NormalSection) (s t : Side) (i j : ℕ) → i < length (sections_of pre post s) →
+    j < length (sections_of pre post t) →
+    member_node (numbers_of pre post s) i ≡ member_node (numbers_of pre post t) j → (s ≡ t) × (i ≡ j)
 same_side pre post Pre Pre i j in_i in_j same = (refl, omega arith)
 same_side pre post Pre Post i j in_i in_j same = absurd (omega arith)
 same_side pre post Post Pre i j in_i in_j same = absurd (omega arith)
@@ -82,7 +87,8 @@ pub record Node (pre post : List NormalSection) (number : ℕ) : Type 0 where
 abbrev pub Says : (pre post : List NormalSection) (number : ℕ) → Node pre post number → Type 0
 Says pre post number node = Fact pre post (sections_of pre post node.side) node.kind node.section.name
 
-pub says_same : (pre post : List NormalSection) (number : ℕ) (x y : Node pre post number) → Says pre post number x → Says pre post number y
+pub says_same : (pre post : List NormalSection) (number : ℕ) (x y : Node pre post number) → Says pre post number x →
+    Says pre post number y
 says_same pre post number x y says =
     let total = length pre + length post in
     let in_x = slice_get_within (sections_of pre post x.side) x.place x.section x.at in
@@ -102,7 +108,8 @@ pub record HandsOn (pre post : List NormalSection) (a b : ℕ) : Type 0 where
   pub to : Node pre post b
   pub hands : Says pre post a from → Says pre post b to
 
-hands_of : (pre post : List NormalSection) (side : Side) (a b : ℕ) → Hands pre post (sections_of pre post side) (numbers_of pre post side) a b → HandsOn pre post a b
+hands_of : (pre post : List NormalSection) (side : Side) (a b : ℕ) →
+    Hands pre post (sections_of pre post side) (numbers_of pre post side) a b → HandsOn pre post a b
 hands_of pre post side a b h =
     record {
       from = record { side = side; kind = h.kind_from; place = h.from; section = h.source; at = h.at_source; is_number = h.is_from };
@@ -119,7 +126,8 @@ pub record Twin (pre post : List NormalSection) (a b : ℕ) : Type 0 where
   pub at_other : place_named post section.name ≡ Some other
   pub ends : ((member_node (pre_numbers pre post) place ≡ a) × (member_node (post_numbers pre post) other ≡ b)) ⊎ ((member_node (post_numbers pre post) other ≡ a) × (member_node (pre_numbers pre post) place ≡ b))
 
-twin_of_section : (pre post : List NormalSection) (place : ℕ) (section : NormalSection) (rest : List NormalSection) (a b : ℕ) → slice_get pre place ≡ Some section →
+twin_of_section : (pre post : List NormalSection) (place : ℕ) (section : NormalSection) (rest : List NormalSection) (a b : ℕ) →
+    slice_get pre place ≡ Some section →
     connects (twins_from (pre_numbers pre post) (post_numbers pre post) post place (section ∷ rest)) a b ≡ true → Twin pre post a b ⊎ (connects (twins_from (pre_numbers pre post) (post_numbers pre post) post (suc place) rest) a b ≡ true)
 twin_of_section pre post place section rest a b at it =
     elim (option_cases (place_named post section.name)) [
@@ -135,7 +143,8 @@ twin_of_section pre post place section rest a b at it =
           ]
     ]
 
-twin_from : (pre post : List NormalSection) (place : ℕ) (rest : List NormalSection) (a b : ℕ) → ((i : ℕ) (s : NormalSection) → slice_get rest i ≡ Some s → slice_get pre (place + i) ≡ Some s) →
+twin_from : (pre post : List NormalSection) (place : ℕ) (rest : List NormalSection) (a b : ℕ) →
+    ((i : ℕ) (s : NormalSection) → slice_get rest i ≡ Some s → slice_get pre (place + i) ≡ Some s) →
     connects (twins_from (pre_numbers pre post) (post_numbers pre post) post place rest) a b ≡ true → Twin pre post a b
 twin_from pre post place [] a b within it = absurd cc
 twin_from pre post place (s ∷ rest) a b within it =
@@ -146,7 +155,8 @@ twin_from pre post place (s ∷ rest) a b within it =
       | inr later ↦ twin_from pre post (suc place) rest a b (λ i t at. let e : suc place + i ≡ place + suc i = omega arith in rw e (within (suc i) t at)) later
     ]
 
-pub twin_found : (pre post : List NormalSection) (a b : ℕ) → connects (twins_from (pre_numbers pre post) (post_numbers pre post) post 0 pre) a b ≡ true → Twin pre post a b
+pub twin_found : (pre post : List NormalSection) (a b : ℕ) →
+    connects (twins_from (pre_numbers pre post) (post_numbers pre post) post 0 pre) a b ≡ true → Twin pre post a b
 twin_found pre post a b it = twin_from pre post 0 pre a b (λ i s at. let e : 0 + i ≡ i = omega arith in rw e at) it
 
 twin_hands : (pre post : List NormalSection) (a b : ℕ) → Twin pre post a b → HandsOn pre post a b
@@ -169,7 +179,8 @@ twin_hands pre post a b twin =
 abbrev all_edges : (first second third : List Edge) → List Edge
 all_edges first second third = first ++ second ++ third
 
-edge_cases : (first second third : List Edge) (a b : ℕ) → connects (all_edges first second third) a b ≡ true → (connects first a b ≡ true) ⊎ ((connects second a b ≡ true) ⊎ (connects third a b ≡ true))
+edge_cases : (first second third : List Edge) (a b : ℕ) → connects (all_edges first second third) a b ≡ true →
+    (connects first a b ≡ true) ⊎ ((connects second a b ≡ true) ⊎ (connects third a b ≡ true))
 edge_cases first second third a b it =
     let test : Edge → Bool = λ e. e.from == a && e.to == b in
     elim (or_cases (connects (first ++ second) a b) (connects third a b) (sym (list_any-append test (first ++ second) third) ∙ it)) [
@@ -180,7 +191,8 @@ edge_cases first second third a b it =
       | inr here ↦ inr (inr here)
     ]
 
-pub edge_hands : (pre post : List NormalSection) → HasDistinctNames pre → HasDistinctNames post → (a b : ℕ) → connects (member_edges pre post) a b ≡ true → HandsOn pre post a b
+pub edge_hands : (pre post : List NormalSection) → HasDistinctNames pre → HasDistinctNames post → (a b : ℕ) →
+    connects (member_edges pre post) a b ≡ true → HandsOn pre post a b
 unfolding member_edges
 edge_hands pre post distinct_pre distinct_post a b it =
     elim (edge_cases (flat_map (joins (pre_numbers pre post)) (links_in pre)) (flat_map (joins (post_numbers pre post)) (links_in post)) (twins_from (pre_numbers pre post) (post_numbers pre post) post 0 pre) a b it) [
@@ -201,18 +213,15 @@ pub record Holds (pre post : List NormalSection) (number : ℕ) : Type 0 where
   pub node : Node pre post number
   pub says : Says pre post number node
 
-pub reached_holds : (pre post : List NormalSection) → HasDistinctNames pre → HasDistinctNames post → (seeds : List Bool) → AreSeeds pre post seeds → (number : ℕ) → ReachedAlong (member_edges pre post) seeds number → Holds pre post number
+pub reached_holds : (pre post : List NormalSection) → HasDistinctNames pre → HasDistinctNames post →
+    (seeds : List Bool) → AreSeeds pre post seeds → (number : ℕ) → ReachedAlong (member_edges pre post) seeds number →
+    Holds pre post number
 reached_holds pre post distinct_pre distinct_post seeds are number (Seed node seeded) =
-    elim (are.sound node seeded) [
-      | inl seed ↦ record {
-        node = record { side = Pre; kind = AsMember; place = seed.place; section = seed.section; at = seed.at; is_number = sym seed.is_node };
-        says = seed_member pre post seed.section.name seed.is_seed;
-      }
-      | inr seed ↦ record {
-        node = record { side = Post; kind = AsMember; place = seed.place; section = seed.section; at = seed.at; is_number = sym seed.is_node };
-        says = seed_member pre post seed.section.name seed.is_seed;
-      }
-    ]
+    let seed = are.sound node seeded in
+    record {
+      node = record { side = Post; kind = AsMember; place = seed.place; section = seed.section; at = seed.at; is_number = sym seed.is_node };
+      says = seed_member pre post seed.section.name seed.is_seed;
+    }
 reached_holds pre post distinct_pre distinct_post seeds are number (Next node next reached it) =
     let before = reached_holds pre post distinct_pre distinct_post seeds are node reached in
     let h = edge_hands pre post distinct_pre distinct_post node next it in

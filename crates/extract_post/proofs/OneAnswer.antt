@@ -12,7 +12,8 @@ use Rattle.extract_post.specs.Extract.IsFirst.{Here, Later}
 use Rattle.extract_post.specs.Extract.Extracts.{OtherData, Broken, NoMember, Extracted}
 
 -- the names that are picked are these alone
-one_pick : (P : List ℕ → Type 0) (sections : List NormalSection) (one other : List (List ℕ)) → Picks P sections one → Picks P sections other → one ≡ other
+one_pick : (P : List ℕ → Type 0) (sections : List NormalSection) (one other : List (List ℕ)) → Picks P sections one →
+    Picks P sections other → one ≡ other
 one_pick P [] _ _ Ends Ends = refl
 one_pick P (section ∷ sections) _ _ (Takes _ _ names _ rest) (Takes _ _ names' _ rest') = ap (λ xs. section.name ∷ xs) (one_pick P sections names names' rest rest')
 one_pick P (section ∷ sections) _ _ (Takes _ _ names has rest) (Leaves _ _ names' has_not rest') = absurd (has_not has)
@@ -20,7 +21,8 @@ one_pick P (section ∷ sections) _ _ (Leaves _ _ names has_not rest) (Takes _ _
 one_pick P (section ∷ sections) _ _ (Leaves _ _ names _ rest) (Leaves _ _ names' _ rest') = one_pick P sections names names' rest rest'
 
 -- the first item is one, and then not none
-one_first : {X : Type 0} (P : X → Type 0) (xs : List X) (one other : X) → IsFirst P xs one → IsFirst P xs other → one ≡ other
+one_first : {X : Type 0} (P : X → Type 0) (xs : List X) (one other : X) → IsFirst P xs one → IsFirst P xs other →
+    one ≡ other
 one_first P [] one other first _ = elim first [ ]
 one_first P (x ∷ xs) _ _ (Here _ _ _) (Here _ _ _) = refl
 one_first P (x ∷ xs) _ other (Here _ _ has) (Later _ _ _ has_not _) = absurd (has_not has)
@@ -32,10 +34,12 @@ first_or_none P [] other first none = elim first [ ]
 first_or_none P (x ∷ xs) _ (Here _ _ has) none = All-head (λ y. P y → ⊥) x xs none has
 first_or_none P (x ∷ xs) other (Later _ _ _ _ first) none = first_or_none P xs other first (All-tail (λ y. P y → ⊥) x xs none)
 
-same_lists : (one other : Extract) → one.changed ≡ other.changed → one.added ≡ other.added → one.carried ≡ other.carried → one.new_data ≡ other.new_data → one.dropped ≡ other.dropped → one ≡ other
+same_lists : (one other : Extract) → one.changed ≡ other.changed → one.added ≡ other.added →
+    one.carried ≡ other.carried → one.new_data ≡ other.new_data → one.dropped ≡ other.dropped → one ≡ other
 same_lists one other a b c d e = λ i. record { changed = a i; added = b i; carried = c i; new_data = d i; dropped = e i }
 
-one_list : (pre post : List NormalSection) (one other : Extract) → IsExtract pre post one → IsExtract pre post other → one ≡ other
+one_list : (pre post : List NormalSection) (one other : Extract) → IsExtract pre post one → IsExtract pre post other →
+    one ≡ other
 one_list pre post one other is is' =
     same_lists one other
     (one_pick _ post one.changed other.changed is.changed is'.changed)
@@ -44,7 +48,8 @@ one_list pre post one other is is' =
     (one_pick _ post one.new_data other.new_data is.new_data is'.new_data)
     (one_pick _ pre one.dropped other.dropped is.dropped is'.dropped)
 
-pub one_result : (pre post : List NormalSection) (one other : Result Extract Refusal) → Extracts pre post one → Extracts pre post other → one ≡ other
+pub one_result : (pre post : List NormalSection) (one other : Result Extract Refusal) → Extracts pre post one →
+    Extracts pre post other → one ≡ other
 one_result pre post _ _ (OtherData section first) (OtherData section' first') = ap (λ s. Err (refusal.DataChanged s.name)) (one_first _ post section section' first first')
 one_result pre post _ _ (OtherData section first) (Broken name r none _) = absurd (first_or_none _ post section first none)
 one_result pre post _ _ (OtherData section first) (NoMember none _ _) = absurd (first_or_none _ post section first none)

@@ -21,20 +21,34 @@ seeded_or from_seed from_more (inl seeded) = from_seed seeded
 seeded_or from_seed from_more (inr more) = from_more more
 
 -- a section is marked, or a marked one reaches it
-pub forward_tells : (sections : List NormalSection) → HasDistinctNames sections → (seeds : List Bool) (mark : Bool) (i : ℕ) (s : NormalSection) → slice_get sections i ≡ Some s → Tells mark (ReachedAlong (flat_map forward (links_in sections)) seeds i) → Tells mark ((slice_index_or seeds i false ≡ true) ⊎ SeedReaches sections seeds s.name)
+pub forward_tells : (sections : List NormalSection) → HasDistinctNames sections →
+    (seeds : List Bool) (mark : Bool) (i : ℕ) (s : NormalSection) → slice_get sections i ≡ Some s →
+    Tells mark (ReachedAlong (flat_map forward (links_in sections)) seeds i) →
+    Tells mark ((slice_index_or seeds i false ≡ true) ⊎ SeedReaches sections seeds s.name)
 forward_tells sections distinct seeds mark i s at told =
     tells_through mark (λ reached. forward_sound sections distinct seeds i reached s at) (seeded_or (λ seeded. Seed i seeded) (forward_complete sections distinct seeds i s at)) told
 
 -- a section is marked, or reaches a marked one
-pub backward_tells : (sections : List NormalSection) → HasDistinctNames sections → (seeds : List Bool) (mark : Bool) (i : ℕ) (s : NormalSection) → slice_get sections i ≡ Some s → Tells mark (ReachedAlong (flat_map backward (links_in sections)) seeds i) → Tells mark ((slice_index_or seeds i false ≡ true) ⊎ ReachesSeed sections seeds s.name)
+pub backward_tells : (sections : List NormalSection) → HasDistinctNames sections →
+    (seeds : List Bool) (mark : Bool) (i : ℕ) (s : NormalSection) → slice_get sections i ≡ Some s →
+    Tells mark (ReachedAlong (flat_map backward (links_in sections)) seeds i) →
+    Tells mark ((slice_index_or seeds i false ≡ true) ⊎ ReachesSeed sections seeds s.name)
 backward_tells sections distinct seeds mark i s at told =
     tells_through mark (λ reached. backward_sound sections distinct seeds i reached s at) (seeded_or (λ seeded. Seed i seeded) (backward_complete sections distinct seeds i s at)) told
 
 -- a section of pre, or of post, is a member
-pub member_tells_pre : (pre post : List NormalSection) → HasDistinctNames pre → HasDistinctNames post → (seeds : List Bool) → AreSeeds pre post seeds → (mark : Bool) (i : ℕ) (s : NormalSection) → slice_get pre i ≡ Some s → Tells mark (ReachedAlong (member_edges pre post) seeds (member_node (pre_numbers pre post) i)) → Tells mark (Member pre post s.name)
+pub member_tells_pre : (pre post : List NormalSection) → HasDistinctNames pre → HasDistinctNames post →
+    (seeds : List Bool) → AreSeeds pre post seeds → (mark : Bool) (i : ℕ) (s : NormalSection) →
+    slice_get pre i ≡ Some s →
+    Tells mark (ReachedAlong (member_edges pre post) seeds (member_node (pre_numbers pre post) i)) →
+    Tells mark (Member pre post s.name)
 member_tells_pre pre post distinct_pre distinct_post seeds are mark i s at told =
     tells_through mark (member_sound_pre pre post distinct_pre distinct_post seeds are i s at) (member_complete_pre pre post distinct_pre distinct_post seeds are i s at) told
 
-pub member_tells_post : (pre post : List NormalSection) → HasDistinctNames pre → HasDistinctNames post → (seeds : List Bool) → AreSeeds pre post seeds → (mark : Bool) (i : ℕ) (s : NormalSection) → slice_get post i ≡ Some s → Tells mark (ReachedAlong (member_edges pre post) seeds (member_node (post_numbers pre post) i)) → Tells mark (Member pre post s.name)
+pub member_tells_post : (pre post : List NormalSection) → HasDistinctNames pre → HasDistinctNames post →
+    (seeds : List Bool) → AreSeeds pre post seeds → (mark : Bool) (i : ℕ) (s : NormalSection) →
+    slice_get post i ≡ Some s →
+    Tells mark (ReachedAlong (member_edges pre post) seeds (member_node (post_numbers pre post) i)) →
+    Tells mark (Member pre post s.name)
 member_tells_post pre post distinct_pre distinct_post seeds are mark i s at told =
     tells_through mark (member_sound_post pre post distinct_pre distinct_post seeds are i s at) (member_complete_post pre post distinct_pre distinct_post seeds are i s at) told

@@ -28,7 +28,9 @@ record PointsAt (sections : List NormalSection) (s t : NormalSection) : Type 0 w
   interior : is_interior reference ≡ true
   code : is_code_class t.class ≡ true
 
-points_found : (sections : List NormalSection) → HasDistinctNames sections → (i : ℕ) (s : NormalSection) → slice_get sections i ≡ Some s → (j : ℕ) (t : NormalSection) → slice_get sections j ≡ Some t → points_into sections s.name t.name ≡ true → PointsAt sections s t
+points_found : (sections : List NormalSection) → HasDistinctNames sections → (i : ℕ) (s : NormalSection) →
+    slice_get sections i ≡ Some s → (j : ℕ) (t : NormalSection) → slice_get sections j ≡ Some t →
+    points_into sections s.name t.name ≡ true → PointsAt sections s t
 points_found sections distinct i s at_i j t at_j points =
     let parts = and_parts (is_in is_code_class sections t.name) (some_reference (λ r. goes_to t.name r && is_interior r) (section_named sections s.name)) points in
     let any : list_any (λ r. goes_to t.name r && is_interior r) s.refs ≡ true = rw (named_at sections distinct i s at_i) at parts.1 in
@@ -42,7 +44,9 @@ record BothWays (edges : List Edge) (a b c d : ℕ) : Type 0 where
   first : connects edges a b ≡ true
   second : connects edges c d ≡ true
 
-both_ways_of : (sections : List NormalSection) → HasDistinctNames sections → (n : Numbers) (i : ℕ) (s : NormalSection) → slice_get sections i ≡ Some s → (j : ℕ) (t : NormalSection) → slice_get sections j ≡ Some t → (r : Ref) → Among s.refs r → goes_to t.name r ≡ true → (a b c d : ℕ) →
+both_ways_of : (sections : List NormalSection) → HasDistinctNames sections →
+    (n : Numbers) (i : ℕ) (s : NormalSection) → slice_get sections i ≡ Some s → (j : ℕ) (t : NormalSection) →
+    slice_get sections j ≡ Some t → (r : Ref) → Among s.refs r → goes_to t.name r ≡ true → (a b c d : ℕ) →
     joins n (link_between i s j t r) ≡ two_edges a b c d → BothWays (flat_map (joins n) (links_in sections)) a b c d
 both_ways_of sections distinct n i s at_i j t at_j r among goes a b c d edges =
     let link = link_between i s j t r in
@@ -52,26 +56,34 @@ both_ways_of sections distinct n i s at_i j t at_j r among goes a b c d edges =
       second = edge_of_link (joins n) sections link is_in c d (rw edges (later_edge (edge a b) (edge c d ∷ []) c d (first_edge c d [])));
     }
 
-code_points : (sections : List NormalSection) → HasDistinctNames sections → (n : Numbers) (i : ℕ) (s : NormalSection) → slice_get sections i ≡ Some s → (j : ℕ) (t : NormalSection) → slice_get sections j ≡ Some t → is_code_class s.class ≡ true → points_into sections s.name t.name ≡ true →
+code_points : (sections : List NormalSection) → HasDistinctNames sections →
+    (n : Numbers) (i : ℕ) (s : NormalSection) → slice_get sections i ≡ Some s → (j : ℕ) (t : NormalSection) →
+    slice_get sections j ≡ Some t → is_code_class s.class ≡ true → points_into sections s.name t.name ≡ true →
     BothWays (flat_map (joins n) (links_in sections)) (member_node n i) (member_node n j) (member_node n j) (member_node n i)
 code_points sections distinct n i s at_i j t at_j code points =
     let p = points_found sections distinct i s at_i j t at_j points in
     both_ways_of sections distinct n i s at_i j t at_j p.reference p.among p.goes _ _ _ _ (rw (p.code, p.interior, code) refl)
 
-read_only_points : (sections : List NormalSection) → HasDistinctNames sections → (n : Numbers) (i : ℕ) (s : NormalSection) → slice_get sections i ≡ Some s → (j : ℕ) (t : NormalSection) → slice_get sections j ≡ Some t → is_read_only_class s.class ≡ true → points_into sections s.name t.name ≡ true →
+read_only_points : (sections : List NormalSection) → HasDistinctNames sections →
+    (n : Numbers) (i : ℕ) (s : NormalSection) → slice_get sections i ≡ Some s → (j : ℕ) (t : NormalSection) →
+    slice_get sections j ≡ Some t → is_read_only_class s.class ≡ true → points_into sections s.name t.name ≡ true →
     BothWays (flat_map (joins n) (links_in sections)) (from_node n i) (member_node n j) (member_node n j) (into_node n i)
 read_only_points sections distinct n i s at_i j t at_j read_only points =
     let p = points_found sections distinct i s at_i j t at_j points in
     both_ways_of sections distinct n i s at_i j t at_j p.reference p.among p.goes _ _ _ _ (rw (p.code, p.interior, read_only_not_code s.class read_only, read_only) refl)
 
-code_refers : (sections : List NormalSection) → HasDistinctNames sections → (n : Numbers) (i : ℕ) (s : NormalSection) → slice_get sections i ≡ Some s → (j : ℕ) (t : NormalSection) → slice_get sections j ≡ Some t → is_code_class s.class ≡ true → refers_on sections s.name t.name ≡ true →
+code_refers : (sections : List NormalSection) → HasDistinctNames sections →
+    (n : Numbers) (i : ℕ) (s : NormalSection) → slice_get sections i ≡ Some s → (j : ℕ) (t : NormalSection) →
+    slice_get sections j ≡ Some t → is_code_class s.class ≡ true → refers_on sections s.name t.name ≡ true →
     BothWays (flat_map (joins n) (links_in sections)) (member_node n i) (from_node n j) (into_node n j) (member_node n i)
 code_refers sections distinct n i s at_i j t at_j code refers =
     let r = reference_found sections distinct i s at_i t refers in
     let constant = target_constant sections distinct j t at_j s.name refers in
     both_ways_of sections distinct n i s at_i j t at_j r.reference r.among r.goes _ _ _ _ (rw (constant_not_code t.class constant, constant, code) refl)
 
-constant_refers : (sections : List NormalSection) → HasDistinctNames sections → (n : Numbers) (i : ℕ) (s : NormalSection) → slice_get sections i ≡ Some s → (j : ℕ) (t : NormalSection) → slice_get sections j ≡ Some t → is_constant_class s.class ≡ true → refers_on sections s.name t.name ≡ true →
+constant_refers : (sections : List NormalSection) → HasDistinctNames sections →
+    (n : Numbers) (i : ℕ) (s : NormalSection) → slice_get sections i ≡ Some s → (j : ℕ) (t : NormalSection) →
+    slice_get sections j ≡ Some t → is_constant_class s.class ≡ true → refers_on sections s.name t.name ≡ true →
     BothWays (flat_map (joins n) (links_in sections)) (from_node n i) (from_node n j) (into_node n j) (into_node n i)
 constant_refers sections distinct n i s at_i j t at_j constant_s refers =
     let r = reference_found sections distinct i s at_i t refers in
@@ -82,13 +94,17 @@ constant_refers sections distinct n i s at_i j t at_j constant_s refers =
 abbrev pub Includes : List Edge → List NormalSection → Numbers → Type 0
 Includes edges sections n = (a b : ℕ) → connects (flat_map (joins n) (links_in sections)) a b ≡ true → connects edges a b ≡ true
 
-class_at : (sections : List NormalSection) → HasDistinctNames sections → (wanted : Class → Bool) (name : List ℕ) → is_in wanted sections name ≡ true → (i : ℕ) (s : NormalSection) → slice_get sections i ≡ Some s → s.name ≡ name → wanted s.class ≡ true
+class_at : (sections : List NormalSection) → HasDistinctNames sections → (wanted : Class → Bool) (name : List ℕ) →
+    is_in wanted sections name ≡ true → (i : ℕ) (s : NormalSection) → slice_get sections i ≡ Some s → s.name ≡ name →
+    wanted s.class ≡ true
 class_at sections distinct wanted name it i s at same =
     let here : is_in wanted sections s.name ≡ true = rw same it in
     rw (named_at sections distinct i s at) at here
 
 -- a section of a name and of a class
-pub section_in : (sections : List NormalSection) (wanted : Class → Bool) (name : List ℕ) → is_in wanted sections name ≡ true → (i : ℕ) × (s : NormalSection) × (slice_get sections i ≡ Some s) × (s.name ≡ name)
+pub section_in : (sections : List NormalSection) (wanted : Class → Bool) (name : List ℕ) →
+    is_in wanted sections name ≡ true →
+    (i : ℕ) × (s : NormalSection) × (slice_get sections i ≡ Some s) × (s.name ≡ name)
 section_in sections wanted name it =
     elim (option_cases (section_named sections name)) [
       | inl none ↦ absurd (let e : false ≡ true = rw none at it in cc)
@@ -96,7 +112,9 @@ section_in sections wanted name it =
     ]
 
 -- from the section that points to the one that it points into
-pub tie_forward : (sections : List NormalSection) → HasDistinctNames sections → (n : Numbers) (edges : List Edge) (seeds : List Bool) → Includes edges sections n → (a b : List ℕ) → is_in is_code_class sections a ≡ true → PointsInto sections a b →
+pub tie_forward : (sections : List NormalSection) → HasDistinctNames sections →
+    (n : Numbers) (edges : List Edge) (seeds : List Bool) → Includes edges sections n → (a b : List ℕ) →
+    is_in is_code_class sections a ≡ true → PointsInto sections a b →
     (i : ℕ) (s : NormalSection) → slice_get sections i ≡ Some s → s.name ≡ a → ReachedAlong edges seeds (member_node n i) → (j : ℕ) × (t : NormalSection) × (slice_get sections j ≡ Some t) × (t.name ≡ b) × ReachedAlong edges seeds (member_node n j)
 tie_forward sections distinct n edges seeds includes a b code (Itself x y points) i s at_i same reached =
     let (j, t, at_j, same_t) = section_in sections is_code_class y (and_parts (is_in is_code_class sections y) (some_reference (λ r. goes_to y r && is_interior r) (section_named sections x)) points).0 in
@@ -112,7 +130,9 @@ tie_forward sections distinct n edges seeds includes a b code (Through x m y rea
     (j, t, at_j, same_t, Next (from_node n k) (member_node n j) from (includes _ _ both.first))
 
 -- and back
-pub tie_back : (sections : List NormalSection) → HasDistinctNames sections → (n : Numbers) (edges : List Edge) (seeds : List Bool) → Includes edges sections n → (a b : List ℕ) → is_in is_code_class sections a ≡ true → PointsInto sections a b →
+pub tie_back : (sections : List NormalSection) → HasDistinctNames sections →
+    (n : Numbers) (edges : List Edge) (seeds : List Bool) → Includes edges sections n → (a b : List ℕ) →
+    is_in is_code_class sections a ≡ true → PointsInto sections a b →
     (i : ℕ) (s : NormalSection) → slice_get sections i ≡ Some s → s.name ≡ a → ((j : ℕ) (t : NormalSection) → slice_get sections j ≡ Some t → t.name ≡ b → ReachedAlong edges seeds (member_node n j)) → ReachedAlong edges seeds (member_node n i)
 tie_back sections distinct n edges seeds includes a b code (Itself x y points) i s at_i same reached =
     let (j, t, at_j, same_t) = section_in sections is_code_class y (and_parts (is_in is_code_class sections y) (some_reference (λ r. goes_to y r && is_interior r) (section_named sections x)) points).0 in

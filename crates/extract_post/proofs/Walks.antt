@@ -29,11 +29,14 @@ is_within nodes e inside =
     let both = and_parts (nat_lt e.from nodes) (nat_lt e.to nodes) (not-false (nat_lt e.from nodes && nat_lt e.to nodes) inside) in
     record { from = ltb-true e.from nodes both.0; to = ltb-true e.to nodes both.1 }
 
-pub none_outside : (nodes : ℕ) (edges : List Edge) → list_any (is_outside nodes) edges ≡ false → All (IsWithin nodes) edges
+pub none_outside : (nodes : ℕ) (edges : List Edge) → list_any (is_outside nodes) edges ≡ false →
+    All (IsWithin nodes) edges
 none_outside nodes edges none =
     All-weaker (λ e. is_outside nodes e ≡ false) (IsWithin nodes) (is_within nodes) edges (none_any (is_outside nodes) edges none)
 
-pub edges_within : (f : Link → List Edge) (nodes : ℕ) (sections : List NormalSection) → ((link : Link) → IsLink sections link → list_any (is_outside nodes) (f link) ≡ false) → All (IsWithin nodes) (flat_map f (links_in sections))
+pub edges_within : (f : Link → List Edge) (nodes : ℕ) (sections : List NormalSection) →
+    ((link : Link) → IsLink sections link → list_any (is_outside nodes) (f link) ≡ false) →
+    All (IsWithin nodes) (flat_map f (links_in sections))
 edges_within f nodes sections within =
     none_outside nodes (flat_map f (links_in sections))
     (any_in_flat_map (is_outside nodes) f (links_in sections)
@@ -42,14 +45,17 @@ edges_within f nodes sections within =
       | inr none ↦ none
     ]))
 
-pub edge_within : (nodes from to : ℕ) → from < nodes → to < nodes → list_any (is_outside nodes) (edge from to ∷ []) ≡ false
+pub edge_within : (nodes from to : ℕ) → from < nodes → to < nodes →
+    list_any (is_outside nodes) (edge from to ∷ []) ≡ false
 edge_within nodes from to a b = rw (lt-ltb from nodes a, lt-ltb to nodes b) refl
 
-pub link_places : (sections : List NormalSection) (link : Link) → IsLink sections link → (link.from < length sections) × (link.to < length sections)
+pub link_places : (sections : List NormalSection) (link : Link) → IsLink sections link →
+    (link.from < length sections) × (link.to < length sections)
 link_places sections link is =
     (slice_get_within sections link.from is.source is.at_from, slice_get_within sections link.to is.target is.at_to)
 
-pub forward_within : (sections : List NormalSection) → All (IsWithin (length sections)) (flat_map forward (links_in sections))
+pub forward_within : (sections : List NormalSection) →
+    All (IsWithin (length sections)) (flat_map forward (links_in sections))
 forward_within sections =
     edges_within forward (length sections) sections
     (λ link is. let places = link_places sections link is in
@@ -58,7 +64,8 @@ forward_within sections =
       | inr other ↦ rw other refl
     ])
 
-pub backward_within : (sections : List NormalSection) → All (IsWithin (length sections)) (flat_map backward (links_in sections))
+pub backward_within : (sections : List NormalSection) →
+    All (IsWithin (length sections)) (flat_map backward (links_in sections))
 backward_within sections =
     edges_within backward (length sections) sections
     (λ link is. let places = link_places sections link is in
@@ -67,7 +74,11 @@ backward_within sections =
       | inr other ↦ rw other refl
     ])
 
-pub tell_reaching : (sections : List NormalSection) → HasDistinctNames sections → (seeds marks : List Bool) (edges : List Edge) → edges ≡ flat_map backward (links_in sections) → (nodes : ℕ) → nodes ≡ length sections → length marks ≡ nodes → ((node : ℕ) → node < nodes → Tells (slice_index_or marks node false) (ReachedAlong edges seeds node)) → TellReaching sections seeds marks
+pub tell_reaching : (sections : List NormalSection) → HasDistinctNames sections →
+    (seeds marks : List Bool) (edges : List Edge) → edges ≡ flat_map backward (links_in sections) → (nodes : ℕ) →
+    nodes ≡ length sections → length marks ≡ nodes →
+    ((node : ℕ) → node < nodes → Tells (slice_index_or marks node false) (ReachedAlong edges seeds node)) →
+    TellReaching sections seeds marks
 tell_reaching sections distinct seeds marks edges same nodes count len told =
     record {
       len = len ∙ count;
@@ -77,7 +88,11 @@ tell_reaching sections distinct seeds marks edges same nodes count len told =
           backward_tells sections distinct seeds (slice_index_or marks i false) i s at (subst P same (told i (omega arith)));
     }
 
-pub tell_reached : (sections : List NormalSection) → HasDistinctNames sections → (seeds marks : List Bool) (edges : List Edge) → edges ≡ flat_map forward (links_in sections) → (nodes : ℕ) → nodes ≡ length sections → length marks ≡ nodes → ((node : ℕ) → node < nodes → Tells (slice_index_or marks node false) (ReachedAlong edges seeds node)) → TellReached sections seeds marks
+pub tell_reached : (sections : List NormalSection) → HasDistinctNames sections →
+    (seeds marks : List Bool) (edges : List Edge) → edges ≡ flat_map forward (links_in sections) → (nodes : ℕ) →
+    nodes ≡ length sections → length marks ≡ nodes →
+    ((node : ℕ) → node < nodes → Tells (slice_index_or marks node false) (ReachedAlong edges seeds node)) →
+    TellReached sections seeds marks
 tell_reached sections distinct seeds marks edges same nodes count len told =
     record {
       len = len ∙ count;

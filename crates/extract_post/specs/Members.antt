@@ -17,8 +17,10 @@ is_changed_constant of pre post name = is_in is_read_only_class of name && not (
 
 -- In one of two objects a section reaches one that is read-only there, and isn't the same in both.
 pub data ReachesChanged (pre post : List NormalSection) (name : List ℕ) : Type 0 where
-  InPre : (other : List ℕ) → Reaches pre name other → IsTrue (is_changed_constant pre pre post other) → ReachesChanged pre post name
-  InPost : (other : List ℕ) → Reaches post name other → IsTrue (is_changed_constant post pre post other) → ReachesChanged pre post name
+  InPre : (other : List ℕ) → Reaches pre name other → IsTrue (is_changed_constant pre pre post other) →
+      ReachesChanged pre post name
+  InPost : (other : List ℕ) → Reaches post name other → IsTrue (is_changed_constant post pre post other) →
+      ReachesChanged pre post name
 
 -- whether both objects have a section of this name, of a wanted class in each
 abbrev pub is_in_both : (Class → Bool) → List NormalSection → List NormalSection → List ℕ → Bool
@@ -26,8 +28,10 @@ is_in_both wanted pre post name = is_in wanted pre name && is_in wanted post nam
 
 -- A code section of both objects differs where it isn't the same, or in one of them reaches a read-only section that isn't.
 pub data Differs (pre post : List NormalSection) : List ℕ → Type 0 where
-  Itself : (name : List ℕ) → IsTrue (is_in_both is_code_class pre post name) → IsTrue (not (same_in pre post name)) → Differs pre post name
-  Through : (name : List ℕ) → IsTrue (is_in_both is_code_class pre post name) → ReachesChanged pre post name → Differs pre post name
+  Itself : (name : List ℕ) → IsTrue (is_in_both is_code_class pre post name) → IsTrue (not (same_in pre post name)) →
+      Differs pre post name
+  Through : (name : List ℕ) → IsTrue (is_in_both is_code_class pre post name) → ReachesChanged pre post name →
+      Differs pre post name
 
 -- whether the section of a name has a reference to the interior of a code section of another name
 abbrev pub points_into : List NormalSection → List ℕ → List ℕ → Bool
@@ -37,7 +41,9 @@ points_into sections name code =
 -- A section has a reference to the interior of a code section, itself or in a read-only section that it reaches.
 pub data PointsInto (sections : List NormalSection) : List ℕ → List ℕ → Type 0 where
   Itself : (name code : List ℕ) → IsTrue (points_into sections name code) → PointsInto sections name code
-  Through : (name between code : List ℕ) → Reaches sections name between → IsTrue (is_in is_read_only_class sections between) → IsTrue (points_into sections between code) → PointsInto sections name code
+  Through : (name between code : List ℕ) → Reaches sections name between →
+      IsTrue (is_in is_read_only_class sections between) → IsTrue (points_into sections between code) →
+      PointsInto sections name code
 
 -- Two code sections are tied where, in either object, one of them has a reference to the interior of the other, itself or
 -- in a read-only section that it reaches.
@@ -49,7 +55,8 @@ pub data Tied (pre post : List NormalSection) : List ℕ → List ℕ → Type 0
 -- The members: code sections that differ, those of post alone, and each one that is tied to a member.
 pub data Member (pre post : List NormalSection) : List ℕ → Type 0 where
   Differing : (name : List ℕ) → Differs pre post name → Member pre post name
-  OnlyInPost : (name : List ℕ) → IsTrue (is_in is_code_class post name && not (is_there pre name)) → Member pre post name
+  OnlyInPost : (name : List ℕ) → IsTrue (is_in is_code_class post name && not (is_there pre name)) →
+      Member pre post name
   Joined : (name other : List ℕ) → Member pre post name → Tied pre post name other → Member pre post other
 
 -- Members of both objects are changed, members of post alone are added, members of pre alone are dropped.

@@ -1,16 +1,16 @@
 //! Which classes the sections of a name have in two objects.
-ghost use Rattle.std.specs.Prelude.{◌≡◌, not, ◌&&◌};
+ghost use Rattle.std.specs.Prelude.{◌≡◌};
 ghost use Rattle.i386_reloc.specs.Reaches.{is_in};
-ghost use Rattle.extract_post.specs.inside.Wanted.{is_wanted};
+ghost use Rattle.extract_post.specs.inside.Asked.{is_wanted, passes};
 ghost use Rattle.i386_reloc.specs.Normal.{section_named};
 ghost use Rattle.extract_post.specs.Extract.{other_class};
-ghost use Rattle.extract_post.specs.Members.{is_there, is_in_both};
+ghost use Rattle.extract_post.specs.Members.{is_there};
 
-use crate::types::Wanted;
+use crate::types::{Asked, Wanted};
 use i386_reloc::{Class, Normal};
 use section_equal::same_class;
 
-/// Whether sections of this class are asked for.
+/// Whether a class is wanted.
 fn is_wanted(wanted: Wanted, class: Class) -> bool
     ensures { result ≡ is_wanted wanted class }
 {
@@ -29,8 +29,8 @@ fn is_there(normal: &Normal<'_>, name: &[u8]) -> bool
     normal.find(name).is_some()
 }
 
-/// Whether an object has a section of this name that is asked for.
-pub(crate) fn is_in(wanted: Wanted, normal: &Normal<'_>, name: &[u8]) -> bool
+/// Whether an object has a section of this name, of a wanted class.
+fn is_in(wanted: Wanted, normal: &Normal<'_>, name: &[u8]) -> bool
     ensures { result ≡ is_in (is_wanted wanted) normal.now name.now }
 {
     match normal.find(name) {
@@ -40,7 +40,7 @@ pub(crate) fn is_in(wanted: Wanted, normal: &Normal<'_>, name: &[u8]) -> bool
 }
 
 /// Whether both objects have a section of this name, of two classes.
-pub(crate) fn is_of_other_class(pre: &Normal<'_>, post: &Normal<'_>, name: &[u8]) -> bool
+fn is_of_other_class(pre: &Normal<'_>, post: &Normal<'_>, name: &[u8]) -> bool
     ensures { result ≡ other_class (section_named pre.now name.now) (section_named post.now name.now) }
 {
     match (pre.find(name), post.find(name)) {
@@ -49,16 +49,14 @@ pub(crate) fn is_of_other_class(pre: &Normal<'_>, post: &Normal<'_>, name: &[u8]
     }
 }
 
-/// Whether both objects have a section of this name that is asked for.
-pub(crate) fn is_in_both(wanted: Wanted, pre: &Normal<'_>, post: &Normal<'_>, name: &[u8]) -> bool
-    ensures { result ≡ is_in_both (is_wanted wanted) pre.now post.now name.now }
+/// Whether the section of this name in the first of two objects is asked for.
+pub(crate) fn passes(asked: Asked, here: &Normal<'_>, there: &Normal<'_>, name: &[u8]) -> bool
+    ensures { result ≡ passes asked here.now there.now name.now }
 {
-    is_in(wanted, pre, name) && is_in(wanted, post, name)
-}
-
-/// Whether an object has a section of this name that is asked for, and the other has no section of it.
-pub(crate) fn is_alone(wanted: Wanted, with: &Normal<'_>, without: &Normal<'_>, name: &[u8]) -> bool
-    ensures { result ≡ (is_in (is_wanted wanted) with.now name.now && not (is_there without.now name.now)) }
-{
-    is_in(wanted, with, name) && !is_there(without, name)
+    match asked {
+        Asked::Here(wanted) => is_in(wanted, here, name),
+        Asked::InBoth(wanted) => is_in(wanted, there, name) && is_in(wanted, here, name),
+        Asked::Alone(wanted) => is_in(wanted, here, name) && !is_there(there, name),
+        Asked::OtherClass => is_of_other_class(there, here, name),
+    }
 }

@@ -3,17 +3,15 @@ ghost use Rattle.std.specs.Prelude.{◌≡◌, ◌≢◌, ◌<◌, ◌+◌, ◌*
 ghost use Rattle.extract_post.specs.inside.Closures.{HasDistinctNames};
 ghost use Rattle.extract_post.specs.Extract.{Extracts};
 
-use crate::breaking::first_broken;
 use crate::changes::{differing_data, first_members};
+use crate::interiors::first_broken;
 use crate::linking::links;
-use crate::marks::{first_marked, part};
 use crate::members::member_nodes;
 use crate::naming::{data_changed, interior, lists};
-use crate::reaching::reaching_changed;
+use crate::reaching::changed_sections;
 use crate::types::Extract;
 use i386_reloc::Normal;
 use ks_base::Refusal;
-use section_equal::same_sections;
 use std::alloc::{AllocError, Global};
 
 /// What an update from `pre` to `post` is made of. Refuses the first that holds of these: a section of `post` is in
@@ -47,39 +45,22 @@ fn answer<'a>(
 {
     let old = links(alloc, pre)?;
     let new = links(alloc, post)?;
-    let same = same_sections(alloc, pre, post)?;
-    let reaching = reaching_changed(alloc, pre, post, old.as_slice(), new.as_slice(), &same)?;
-    let differing = differing_data(alloc, pre, post, same.post.as_slice(), reaching.as_slice())?;
-    if let Some(place) = first_marked(differing.as_slice()) {
+    let changed = changed_sections(alloc, pre, post, old.as_slice(), new.as_slice())?;
+    let differing = differing_data(alloc, pre, post, &changed)?;
+    if let Some(place) = differing.first() {
         let refusal = data_changed(alloc, post, place)?;
         return Ok(Err(refusal));
     }
-    let first = first_members(alloc, pre, post, same.post.as_slice(), reaching.as_slice())?;
-    let nodes = member_nodes(
-        alloc,
-        pre,
-        post,
-        old.as_slice(),
-        new.as_slice(),
-        first.as_slice(),
-    )?;
-    let pre_members = part(alloc, nodes.as_slice(), 0, pre.len())?;
-    let post_members = part(alloc, nodes.as_slice(), pre.len(), post.len())?;
-    let broken = first_broken(alloc, pre, post, new.as_slice(), post_members.as_slice())?;
+    let seeds = first_members(alloc, pre, post, &changed)?;
+    let members = member_nodes(alloc, pre, post, old.as_slice(), new.as_slice(), &seeds)?;
+    let broken = first_broken(alloc, pre, post, new.as_slice(), &members)?;
     if let Some((place, k)) = broken {
         let refusal = interior(alloc, post, place, k)?;
         return Ok(Err(refusal));
     }
-    let Some(_first) = first_marked(first.as_slice()) else {
+    let Some(_first) = seeds.first() else {
         return Ok(Err(Refusal::NoChange));
     };
-    let extract = lists(
-        alloc,
-        pre,
-        post,
-        new.as_slice(),
-        pre_members.as_slice(),
-        post_members.as_slice(),
-    )?;
+    let extract = lists(alloc, pre, post, new.as_slice(), &members)?;
     Ok(Ok(extract))
 }

@@ -1,44 +1,64 @@
 //! References of data to the interior of functions that an update can't keep.
 ghost use Rattle.std.specs.Prelude.{◌≡◌, ◌<◌, Some, IfOk, length, position};
 ghost use Rattle.std.specs.List.{slice_get};
-ghost use Rattle.extract_post.specs.inside.Edges.{links_in};
-ghost use Rattle.extract_post.specs.inside.Closures.{HasDistinctNames};
-ghost use Rattle.extract_post.specs.inside.Marks.{breaks_at, breaks, TellDataOf, FirstBreak};
 ghost use Rattle.i386_reloc.specs.Places.{reference_at};
+ghost use Rattle.extract_post.specs.Members.{Member};
+ghost use Rattle.extract_post.specs.inside.Closures.{HasDistinctNames};
+ghost use Rattle.extract_post.specs.inside.Edges.{links_in};
+ghost use Rattle.extract_post.specs.inside.Found.{Broken};
+ghost use Rattle.extract_post.specs.inside.Marks.{breaks_at, breaks, TellEach, TellDataOf, FirstBreak};
 
 use crate::linking::place_of_target;
-use crate::marks::{both, either, is_marked};
-use crate::marks_by_name::sections_in;
+use crate::marking::Marks;
 use crate::reaching::reached;
-use crate::types::{Link, Wanted};
+use crate::types::{Asked, Link, Wanted};
 use i386_reloc::{Normal, NormalSection, Ref};
 use std::alloc::{AllocError, Global};
 
-/// Which sections are marked ones of data, or read-only data that a marked one reaches.
-pub(crate) fn data_of(
+/// The places of the first broken reference's section and of itself in it, `None` where none is broken.
+pub(crate) fn first_broken(
+    alloc: Global,
+    pre: &Normal<'_>,
+    post: &Normal<'_>,
+    links: &[Link],
+    members: &Marks,
+) -> Result<Option<(usize, usize)>, AllocError>
+    requires distinct { HasDistinctNames post.now }
+    requires links { links.now ≡ links_in post.now }
+    requires members { TellEach (Member pre.now post.now) post.now members.now }
+    ensures { IfOk result (λ found. Broken pre.now post.now found) }
+{
+    let in_both = Marks::of(alloc, Asked::InBoth(Wanted::Data), post, pre)?;
+    let alone = Marks::of(alloc, Asked::Alone(Wanted::Data), post, pre)?;
+    let old = data_of(alloc, post, links, &in_both)?;
+    let new = data_of(alloc, post, links, &alone)?;
+    let changed = Marks::of(alloc, Asked::InBoth(Wanted::Code), post, pre)?.and(members);
+    let stays = Marks::of(alloc, Asked::Here(Wanted::Code), post, pre)?.without(members);
+    Ok(first_break(post, &old, &new, &changed, &stays))
+}
+
+// Which sections are marked ones of data, or read-only data that a marked one reaches.
+fn data_of(
     alloc: Global,
     post: &Normal<'_>,
     links: &[Link],
-    starts: &[bool],
-) -> Result<Vec<bool>, AllocError>
+    starts: &Marks,
+) -> Result<Marks, AllocError>
     requires distinct { HasDistinctNames post.now }
     requires links { links.now ≡ links_in post.now }
     requires starts { length starts.now ≡ length post.now }
-    ensures { IfOk result (λ marks. TellDataOf post.now starts.now marks.items) }
+    ensures { IfOk result (λ marks. TellDataOf post.now starts.now marks) }
 {
-    let reached = reached(alloc, post, links, starts)?;
-    let constants = sections_in(alloc, Wanted::ReadOnly, post)?;
-    let wanted = either(alloc, starts, constants.as_slice())?;
-    let marks = both(alloc, reached.as_slice(), wanted.as_slice())?;
-    Ok(marks)
+    let wanted = Marks::of(alloc, Asked::Here(Wanted::ReadOnly), post, post)?.or(starts);
+    Ok(reached(alloc, post, links, starts)?.and(&wanted))
 }
 
 // Whether a reference to a place breaks: from old data to a changed section, or from new data to one that stays.
-fn breaks_at(old: bool, new: bool, changed: &[bool], stays: &[bool], place: Option<usize>) -> bool
+fn breaks_at(old: bool, new: bool, changed: &Marks, stays: &Marks, place: Option<usize>) -> bool
     ensures { result ≡ breaks_at old new changed.now stays.now place }
 {
     match place {
-        Some(place) => old && is_marked(changed, place) || new && is_marked(stays, place),
+        Some(place) => old && changed.has(place) || new && stays.has(place),
         None => false,
     }
 }
@@ -48,8 +68,8 @@ fn breaks(
     post: &Normal<'_>,
     old: bool,
     new: bool,
-    changed: &[bool],
-    stays: &[bool],
+    changed: &Marks,
+    stays: &Marks,
     place: usize,
     k: usize,
     r: &Ref<'_>,
@@ -66,8 +86,8 @@ fn first_in(
     post: &Normal<'_>,
     old: bool,
     new: bool,
-    changed: &[bool],
-    stays: &[bool],
+    changed: &Marks,
+    stays: &Marks,
     place: usize,
     section: &NormalSection<'_>,
 ) -> Option<usize>
@@ -83,13 +103,13 @@ fn first_in(
     None
 }
 
-/// The first reference that breaks, as the places of its section and of itself in it.
-pub(crate) fn first_break(
+// The first reference that breaks, as the places of its section and of itself in it.
+fn first_break(
     post: &Normal<'_>,
-    old: &[bool],
-    new: &[bool],
-    changed: &[bool],
-    stays: &[bool],
+    old: &Marks,
+    new: &Marks,
+    changed: &Marks,
+    stays: &Marks,
 ) -> Option<(usize, usize)>
     ensures { FirstBreak post.now old.now new.now changed.now stays.now result }
 {
@@ -97,8 +117,8 @@ pub(crate) fn first_break(
     for i in 0..sections.len() {
         let found = first_in(
             post,
-            is_marked(old, i),
-            is_marked(new, i),
+            old.has(i),
+            new.has(i),
             changed,
             stays,
             i,

@@ -1,7 +1,6 @@
 //! The difference of two objects: which functions an update replaces, adds and drops, and which data it brings with it.
 #![tactic(auto)]
 
-mod breaking;
 mod carrying;
 mod changes;
 mod classes;
@@ -10,8 +9,7 @@ mod extracting;
 mod interiors;
 mod laws;
 mod linking;
-mod marks;
-mod marks_by_name;
+mod marking;
 mod member_edges;
 mod members;
 mod naming;

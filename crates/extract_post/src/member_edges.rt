@@ -179,11 +179,11 @@ pub(crate) fn member_edges(
     ensures { IfOk result (λ edges. edges.items ≡ member_edges pre.now post.now) }
 {
     let total = (pre.len() + post.len()) as u32;
-    let old = Numbers { base: 0, total };
-    let new = Numbers {
-        base: pre.len() as u32,
+    let old = Numbers {
+        base: post.len() as u32,
         total,
     };
+    let new = Numbers { base: 0, total };
     let mut edges = Vec::new(alloc);
     add_joins(&mut edges, old, pre_links)?;
     add_joins(&mut edges, new, post_links)?;

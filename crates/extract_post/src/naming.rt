@@ -1,21 +1,18 @@
 //! The names that an extract is made of, and the names that refusals give.
-ghost use Rattle.std.specs.Prelude.{◌≡◌, ◌<◌, IfOk, Some, length};
+ghost use Rattle.std.specs.Prelude.{◌≡◌, ◌<◌, ◌+◌, ◌*◌, ◌^◌, IfOk, Some, length};
 ghost use Rattle.std.specs.List.{slice_get};
 ghost use Rattle.i386_reloc.specs.declared.types.NormalSection.{NormalSection};
 ghost use Rattle.i386_reloc.specs.declared.types.Ref.{Ref};
 ghost use Rattle.extract_post.specs.inside.Closures.{HasDistinctNames};
 ghost use Rattle.extract_post.specs.inside.Edges.{links_in};
-ghost use Rattle.extract_post.specs.Extract.{Picks, IsExtract};
-ghost use Rattle.extract_post.specs.inside.Marks.{Marks, IsFresh};
-ghost use Rattle.extract_post.specs.Members.{Member, IsChanged, IsAdded, IsDropped, IsCarried};
+ghost use Rattle.extract_post.specs.inside.Marks.{TellMembers};
+ghost use Rattle.extract_post.specs.Extract.{IsExtract};
 
-use crate::breaking::changed;
 use crate::carrying::carried;
-use crate::marks::{both, marked_names, name_of};
-use crate::marks_by_name::sections_alone;
-use crate::types::{Extract, Link, Wanted};
+use crate::marking::{Marks, name_of};
+use crate::types::{Asked, Extract, Link, Wanted};
 use i386_reloc::Normal;
-use ks_base::{Names, Refusal};
+use ks_base::Refusal;
 use std::alloc::{AllocError, Global};
 
 /// The refusal that names a section whose data are others.
@@ -50,105 +47,31 @@ pub(crate) fn interior(
     Ok(Refusal::Interior(name, offset))
 }
 
-// The functions of both objects that are members.
-fn changed_names(
-    alloc: Global,
-    pre: &Normal<'_>,
-    post: &Normal<'_>,
-    members: &[bool],
-) -> Result<Names, AllocError>
-    requires { Marks (Member pre.now post.now) post.now members.now }
-    ensures { IfOk result (λ names. Picks (IsChanged pre.now post.now) post.now names) }
-{
-    let marks = changed(alloc, pre, post, members)?;
-    let names = marked_names(alloc, post.as_slice(), marks.as_slice())?;
-    Ok(names)
-}
-
-// The functions of the second object alone that are members.
-fn added_names(
-    alloc: Global,
-    pre: &Normal<'_>,
-    post: &Normal<'_>,
-    members: &[bool],
-) -> Result<Names, AllocError>
-    requires { Marks (Member pre.now post.now) post.now members.now }
-    ensures { IfOk result (λ names. Picks (IsAdded pre.now post.now) post.now names) }
-{
-    let alone = sections_alone(alloc, Wanted::Code, post, pre)?;
-    let marks = both(alloc, alone.as_slice(), members)?;
-    let names = marked_names(alloc, post.as_slice(), marks.as_slice())?;
-    Ok(names)
-}
-
-// The functions of the first object alone that are members.
-fn dropped_names(
-    alloc: Global,
-    pre: &Normal<'_>,
-    post: &Normal<'_>,
-    members: &[bool],
-) -> Result<Names, AllocError>
-    requires { Marks (Member pre.now post.now) pre.now members.now }
-    ensures { IfOk result (λ names. Picks (IsDropped pre.now post.now) pre.now names) }
-{
-    let alone = sections_alone(alloc, Wanted::Code, pre, post)?;
-    let marks = both(alloc, alone.as_slice(), members)?;
-    let names = marked_names(alloc, pre.as_slice(), marks.as_slice())?;
-    Ok(names)
-}
-
-// The read-only data and texts that go with them.
-fn carried_names(
-    alloc: Global,
-    pre: &Normal<'_>,
-    post: &Normal<'_>,
-    links: &[Link],
-    members: &[bool],
-) -> Result<Names, AllocError>
-    requires distinct { HasDistinctNames post.now }
-    requires links { links.now ≡ links_in post.now }
-    requires members { Marks (Member pre.now post.now) post.now members.now }
-    ensures { IfOk result (λ names. Picks (IsCarried pre.now post.now) post.now names) }
-{
-    let marks = carried(alloc, pre, post, links, members)?;
-    let names = marked_names(alloc, post.as_slice(), marks.as_slice())?;
-    Ok(names)
-}
-
-// The data of the second object alone.
-fn new_data_names(alloc: Global, pre: &Normal<'_>, post: &Normal<'_>) -> Result<Names, AllocError>
-    ensures { IfOk result (λ names. Picks (IsFresh pre.now post.now) post.now names) }
-{
-    let marks = sections_alone(alloc, Wanted::Data, post, pre)?;
-    let names = marked_names(alloc, post.as_slice(), marks.as_slice())?;
-    Ok(names)
-}
-
 /// The lists of an extract, by the marks of the members of both objects.
 pub(crate) fn lists(
     alloc: Global,
     pre: &Normal<'_>,
     post: &Normal<'_>,
     links: &[Link],
-    pre_members: &[bool],
-    post_members: &[bool],
+    members: &Marks,
 ) -> Result<Extract, AllocError>
+    requires few { 3 * (length pre.now + length post.now) < 2 ^ 32 }
     requires distinct { HasDistinctNames post.now }
     requires links { links.now ≡ links_in post.now }
-    requires pre_members { Marks (Member pre.now post.now) pre.now pre_members.now }
-    requires post_members { Marks (Member pre.now post.now) post.now post_members.now }
+    requires members { TellMembers pre.now post.now members.now }
     ensures { IfOk result (λ extract. IsExtract pre.now post.now extract) }
 {
-    let changed = changed_names(alloc, pre, post, post_members)?;
-    let added = added_names(alloc, pre, post, post_members)?;
-    let carried = carried_names(alloc, pre, post, links, post_members)?;
-    let new_data = new_data_names(alloc, pre, post)?;
-    let dropped = dropped_names(alloc, pre, post, pre_members)?;
+    let pre_members = members.part(alloc, post.len(), pre.len())?;
+    let changed = Marks::of(alloc, Asked::InBoth(Wanted::Code), post, pre)?.and(members);
+    let added = Marks::of(alloc, Asked::Alone(Wanted::Code), post, pre)?.and(members);
+    let carried = carried(alloc, pre, post, links, members)?;
+    let new_data = Marks::of(alloc, Asked::Alone(Wanted::Data), post, pre)?;
+    let dropped = Marks::of(alloc, Asked::Alone(Wanted::Code), pre, post)?.and(&pre_members);
     Ok(Extract {
-        changed,
-        added,
-        carried,
-        new_data,
-        dropped,
+        changed: changed.names(alloc, post.as_slice())?,
+        added: added.names(alloc, post.as_slice())?,
+        carried: carried.names(alloc, post.as_slice())?,
+        new_data: new_data.names(alloc, post.as_slice())?,
+        dropped: dropped.names(alloc, pre.as_slice())?,
     })
 }

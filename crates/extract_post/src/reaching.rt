@@ -1,19 +1,18 @@
 //! Which sections reach marked ones, and which are reached from marked ones.
-ghost use Rattle.std.specs.Prelude.{◌≡◌, ◌<◌, IfOk, length};
-ghost use Rattle.extract_post.specs.inside.Closures.{HasDistinctNames};
-ghost use Rattle.extract_post.specs.inside.Edges.{links_in};
+ghost use Rattle.std.specs.Prelude.{◌≡◌, IfOk, List, length};
+ghost use Rattle.i386_reloc.specs.declared.types.NormalSection.{NormalSection};
 ghost use Rattle.i386_reloc.specs.Places.{place_named};
 ghost use Rattle.extract_post.specs.Members.{is_changed_constant};
-ghost use Rattle.extract_post.specs.inside.Marks.{TellReaching, TellReached, TellReachesChanged, tests, marked_at};
-ghost use Rattle.section_equal.specs.Same.{same_names};
+ghost use Rattle.extract_post.specs.inside.Closures.{HasDistinctNames};
+ghost use Rattle.extract_post.specs.inside.Edges.{links_in};
+ghost use Rattle.extract_post.specs.inside.Marks.{TellReaching, TellReached, TellChanged, tests, marked_at, is_other};
 
 use crate::edges::{backward_edges, forward_edges};
-use crate::marks::{apart, either, is_marked_at};
-use crate::marks_by_name::sections_in;
-use crate::types::{Link, Wanted};
+use crate::marking::Marks;
+use crate::types::{Asked, Link, Wanted};
 use i386_reloc::Normal;
 use reachability::reached_along;
-use section_equal::SameSections;
+use section_equal::same_sections;
 use std::alloc::{AllocError, Global};
 
 // Which sections are marked or reach a marked one, by the links of their references.
@@ -22,16 +21,16 @@ fn reaching(
     alloc: Global,
     normal: &Normal<'_>,
     links: &[Link],
-    seeds: &[bool],
-) -> Result<Vec<bool>, AllocError>
+    seeds: &Marks,
+) -> Result<Marks, AllocError>
     requires distinct { HasDistinctNames normal.now }
     requires links { links.now ≡ links_in normal.now }
     requires seeds { length seeds.now ≡ length normal.now }
-    ensures { IfOk result (λ marks. TellReaching normal.now seeds.now marks.items) }
+    ensures { IfOk result (λ marks. TellReaching normal.now seeds.now marks) }
 {
     let edges = backward_edges(alloc, links)?;
-    let marks = reached_along(alloc, normal.len(), edges.as_slice(), seeds)?;
-    Ok(marks)
+    let marks = reached_along(alloc, normal.len(), edges.as_slice(), seeds.as_slice())?;
+    Ok(Marks::new(marks))
 }
 
 /// Which sections are marked or reached from a marked one, by the links of their references.
@@ -40,16 +39,16 @@ pub(crate) fn reached(
     alloc: Global,
     normal: &Normal<'_>,
     links: &[Link],
-    seeds: &[bool],
-) -> Result<Vec<bool>, AllocError>
+    seeds: &Marks,
+) -> Result<Marks, AllocError>
     requires distinct { HasDistinctNames normal.now }
     requires links { links.now ≡ links_in normal.now }
     requires seeds { length seeds.now ≡ length normal.now }
-    ensures { IfOk result (λ marks. TellReached normal.now seeds.now marks.items) }
+    ensures { IfOk result (λ marks. TellReached normal.now seeds.now marks) }
 {
     let edges = forward_edges(alloc, links)?;
-    let marks = reached_along(alloc, normal.len(), edges.as_slice(), seeds)?;
-    Ok(marks)
+    let marks = reached_along(alloc, normal.len(), edges.as_slice(), seeds.as_slice())?;
+    Ok(Marks::new(marks))
 }
 
 // The marks of the first object's sections, at the sections of the second that have their names.
@@ -57,72 +56,54 @@ fn at_names(
     alloc: Global,
     pre: &Normal<'_>,
     post: &Normal<'_>,
-    marks: &[bool],
-) -> Result<Vec<bool>, AllocError>
-    ensures { IfOk result (λ moved. moved.items ≡ tests (λ name. marked_at marks.now (place_named pre.now name)) post.now) }
+    marks: &Marks,
+) -> Result<Marks, AllocError>
+    ensures { IfOk result (λ moved. moved ≡ tests (λ name. marked_at marks.now (place_named pre.now name)) post.now) }
 {
-    post.as_slice()
-        .iter()
-        .map(|s| is_marked_at(marks, pre.place(s.name.as_slice())))
-        .collect(alloc)
+    let mut moved = Vec::new(alloc);
+    for section in post.as_slice() {
+        moved.push(marks.has_at(pre.place(section.name.as_slice())))?;
+    }
+    Ok(Marks::new(moved))
 }
 
-// Which sections of one of two objects are read-only data in it, and not the same in both.
-fn changed_constants<'a>(
+// Which sections of an object are read-only data and marked, or reach such a one in it.
+fn reaching_constants(
     alloc: Global,
-    of: &Normal<'a>,
-    pre: &Normal<'a>,
-    post: &Normal<'a>,
-    same: &[bool],
-) -> Result<Vec<bool>, AllocError>
-    requires { same.now ≡ same_names pre.now post.now of.now }
-    ensures { IfOk result (λ marks. marks.items ≡ tests (is_changed_constant of.now pre.now post.now) of.now) }
+    of: &Normal<'_>,
+    links: &[Link],
+    other: &Marks,
+) -> Result<Marks, AllocError>
+    requires distinct { HasDistinctNames of.now }
+    requires links { links.now ≡ links_in of.now }
+    ensures { IfOk result (λ marks. (pre post : List NormalSection) → other.now ≡ tests (is_other pre post) of.now
+        → TellReaching of.now (tests (is_changed_constant of.now pre post) of.now) marks) }
 {
-    // The contract speaks of both objects.
-    let _objects = (pre.len(), post.len());
-    let constants = sections_in(alloc, Wanted::ReadOnly, of)?;
-    let marks = apart(alloc, constants.as_slice(), same)?;
+    let seeds = Marks::of(alloc, Asked::Here(Wanted::ReadOnly), of, of)?.and(other);
+    let marks = reaching(alloc, of, links, &seeds)?;
     Ok(marks)
 }
 
-// Which sections of an object are changed read-only data or reach one in it.
-fn reaching_constants<'a>(
-    alloc: Global,
-    of: &Normal<'a>,
-    pre: &Normal<'a>,
-    post: &Normal<'a>,
-    links: &[Link],
-    same: &[bool],
-) -> Result<Vec<bool>, AllocError>
-    requires distinct { HasDistinctNames of.now }
-    requires links { links.now ≡ links_in of.now }
-    requires same { same.now ≡ same_names pre.now post.now of.now }
-    ensures { IfOk result (λ marks. TellReaching of.now (tests (is_changed_constant of.now pre.now post.now) of.now) marks.items) }
-{
-    let seeds = changed_constants(alloc, of, pre, post, same)?;
-    reaching(alloc, of, links, seeds.as_slice())
-}
-
-/// Which sections of the second object reach, in either, read-only data of it that isn't the same in both.
-pub(crate) fn reaching_changed<'a>(
+/// Which sections of the second object aren't the same in the first, or reach, in either, read-only data of it that isn't
+/// the same in both.
+pub(crate) fn changed_sections<'a>(
     alloc: Global,
     pre: &Normal<'a>,
     post: &Normal<'a>,
     pre_links: &[Link],
     post_links: &[Link],
-    same: &SameSections,
-) -> Result<Vec<bool>, AllocError>
+) -> Result<Marks, AllocError>
     requires pre_distinct { HasDistinctNames pre.now }
     requires post_distinct { HasDistinctNames post.now }
     requires pre_links { pre_links.now ≡ links_in pre.now }
     requires post_links { post_links.now ≡ links_in post.now }
-    requires pre_same { same.now.pre.items ≡ same_names pre.now post.now pre.now }
-    requires post_same { same.now.post.items ≡ same_names pre.now post.now post.now }
-    ensures { IfOk result (λ marks. TellReachesChanged pre.now post.now marks.items) }
+    ensures { IfOk result (λ marks. TellChanged pre.now post.now marks) }
 {
-    let old = reaching_constants(alloc, pre, pre, post, pre_links, same.pre.as_slice())?;
-    let new = reaching_constants(alloc, post, pre, post, post_links, same.post.as_slice())?;
-    let moved = at_names(alloc, pre, post, old.as_slice())?;
-    let marks = either(alloc, new.as_slice(), moved.as_slice())?;
-    Ok(marks)
+    let same = same_sections(alloc, pre, post)?;
+    let old_other = Marks::unmarked(alloc, same.pre.as_slice())?;
+    let new_other = Marks::unmarked(alloc, same.post.as_slice())?;
+    let old = reaching_constants(alloc, pre, pre_links, &old_other)?;
+    let new = reaching_constants(alloc, post, post_links, &new_other)?;
+    let moved = at_names(alloc, pre, post, &old)?;
+    Ok(new_other.or(&new).or(&moved))
 }

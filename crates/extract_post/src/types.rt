@@ -41,7 +41,20 @@ pub(crate) struct Numbers {
     pub(crate) total: u32,
 }
 
-/// Which sections are asked for, by their class.
+/// Which sections of one of two objects are asked for, by their class and the section of their name in the other one.
+#[derive(Clone, Copy)]
+pub(crate) enum Asked {
+    /// Those of a wanted class.
+    Here(Wanted),
+    /// Those of a wanted class, which are of one in the other object, too.
+    InBoth(Wanted),
+    /// Those of a wanted class whose name the other object hasn't.
+    Alone(Wanted),
+    /// Those that are of another class in the other object.
+    OtherClass,
+}
+
+/// Which classes are wanted.
 #[derive(Clone, Copy)]
 pub(crate) enum Wanted {
     /// Functions.

@@ -27,7 +27,8 @@ arena_rises low high h = grind (arith, nat_tests)
 abbrev header_of : Contents → Header
 header_of image = record { regions = length image.pieces; symbols = length image.symbols; stacks = length image.stacks; arena = image.arena }
 
-header_read : (bytes : List ℕ) (image : Contents) (rest : List ℕ) → Keeps image → Stands bytes 0 (header_spelling image ++ rest) → header_at bytes ≡ Ok (header_of image)
+header_read : (bytes : List ℕ) (image : Contents) (rest : List ℕ) → Keeps image →
+    Stands bytes 0 (header_spelling image ++ rest) → header_at bytes ≡ Ok (header_of image)
 unfolding header_at header_spelling
 header_read bytes image rest keeps s =
     let a = image.arena in
@@ -73,13 +74,15 @@ header_wide : (image : Contents) → length (header_spelling image) ≡ 24
 unfolding header_spelling
 header_wide image = refl
 
-regions_read : (bytes : List ℕ) (image : Contents) (end : ℕ) (rest : List ℕ) → Keeps image → 24 + length (flat_map region_spelling image.pieces) ≡ end
+regions_read : (bytes : List ℕ) (image : Contents) (end : ℕ) (rest : List ℕ) → Keeps image →
+    24 + length (flat_map region_spelling image.pieces) ≡ end
     → Stands bytes 24 (flat_map region_spelling image.pieces ++ rest)
     → items_at (length image.pieces) (region_at bytes image.arena) region_width [] 24 ≡ Ok (image.pieces, end)
 regions_read bytes image end rest keeps last s =
     items_read bytes (region_at bytes image.arena) region_width region_spelling image.pieces region_wide each [] image.pieces 24 end rest refl last s
   where
-    each : (before : List Piece) (x : Piece) (after : List Piece) (offset : ℕ) (rest : List ℕ) → image.pieces ≡ before ++ x ∷ after
+    each : (before : List Piece) (x : Piece) (after : List Piece) (offset : ℕ) (rest : List ℕ) →
+        image.pieces ≡ before ++ x ∷ after
         → Stands bytes offset (region_spelling x ++ rest) → region_at bytes image.arena before offset ≡ Ok x
     each before x after offset rest parts s =
         let up = rw parts at keeps.regions_placed.ascend in
@@ -89,25 +92,29 @@ regions_read bytes image end rest keeps last s =
         region_read bytes image.arena (end_of piece_range 0 before) (total_of piece_range before) offset x rest
         (All_here (λ (y : Piece). IsTrue (keeps_region image.arena y)) image.pieces before x after parts keeps.regions_kept) below (omega arith) s
 
-symbols_read : (bytes : List ℕ) (image : Contents) (offset end : ℕ) (rest : List ℕ) → Keeps image → offset + length (flat_map symbol_spelling image.symbols) ≡ end
+symbols_read : (bytes : List ℕ) (image : Contents) (offset end : ℕ) (rest : List ℕ) → Keeps image →
+    offset + length (flat_map symbol_spelling image.symbols) ≡ end
     → Stands bytes offset (flat_map symbol_spelling image.symbols ++ rest)
     → items_at (length image.symbols) (symbol_at bytes image.pieces) symbol_width [] offset ≡ Ok (image.symbols, end)
 symbols_read bytes image offset end rest keeps last s =
     items_read bytes (symbol_at bytes image.pieces) symbol_width symbol_spelling image.symbols symbol_wide each [] image.symbols offset end rest refl last s
   where
-    each : (before : List Symbol) (x : Symbol) (after : List Symbol) (offset : ℕ) (rest : List ℕ) → image.symbols ≡ before ++ x ∷ after
+    each : (before : List Symbol) (x : Symbol) (after : List Symbol) (offset : ℕ) (rest : List ℕ) →
+        image.symbols ≡ before ++ x ∷ after
         → Stands bytes offset (symbol_spelling x ++ rest) → symbol_at bytes image.pieces before offset ≡ Ok x
     each before x after offset rest parts s =
         symbol_read bytes image.pieces offset x rest keeps.regions_placed.end_below
         (All_here (λ (y : Symbol). IsTrue (keeps_symbol image.pieces y)) image.symbols before x after parts keeps.symbols_kept) s
 
-stacks_read : (bytes : List ℕ) (image : Contents) (offset end : ℕ) (rest : List ℕ) → Keeps image → offset + length (flat_map stack_spelling image.stacks) ≡ end
+stacks_read : (bytes : List ℕ) (image : Contents) (offset end : ℕ) (rest : List ℕ) → Keeps image →
+    offset + length (flat_map stack_spelling image.stacks) ≡ end
     → Stands bytes offset (flat_map stack_spelling image.stacks ++ rest)
     → items_at (length image.stacks) (stack_at bytes image.arena image.pieces) stack_width [] offset ≡ Ok (image.stacks, end)
 stacks_read bytes image offset end rest keeps last s =
     items_read bytes (stack_at bytes image.arena image.pieces) stack_width stack_spelling image.stacks stack_wide each [] image.stacks offset end rest refl last s
   where
-    each : (before : List Range) (x : Range) (after : List Range) (offset : ℕ) (rest : List ℕ) → image.stacks ≡ before ++ x ∷ after
+    each : (before : List Range) (x : Range) (after : List Range) (offset : ℕ) (rest : List ℕ) →
+        image.stacks ≡ before ++ x ∷ after
         → Stands bytes offset (stack_spelling x ++ rest) → stack_at bytes image.arena image.pieces before offset ≡ Ok x
     each before x after offset rest parts s =
         let up = rw parts at keeps.stacks_ascend in

@@ -23,7 +23,8 @@ header_text h = number 0x314D_494B ++ number h.regions ++ number h.symbols ++ nu
 magic_back : (n : ℕ) → all_hold (magic_rules n) ≡ true → n ≡ 0x314D_494B
 magic_back n h = grind (arith, nat_tests)
 
-header_back : (bytes : List ℕ) (header : Header) → IsBytes bytes → header_at bytes ≡ Ok header → Takes bytes 0 (header_text header) 24
+header_back : (bytes : List ℕ) (header : Header) → IsBytes bytes → header_at bytes ≡ Ok header →
+    Takes bytes 0 (header_text header) 24
 unfolding header_at
 header_back bytes header fits e =
     let Q : Type 0 = Takes bytes 0 (header_text header) 24 in
@@ -55,7 +56,8 @@ header_back bytes header fits e =
     let whole : Takes bytes 0 (header_text made) 24 = Takes-then bytes 0 (m ++ number regions ++ number symbols ++ number stacks ++ number low) 20 (number high) 24 to20 t6.0 in
     subst (λ (h : Header). Takes bytes 0 (header_text h) 24) (ok_is made header r6) whole))))))
 
-front_back : (header : Header) (image : Contents) → length image.pieces ≡ header.regions → length image.symbols ≡ header.symbols
+front_back : (header : Header) (image : Contents) → length image.pieces ≡ header.regions →
+    length image.symbols ≡ header.symbols
     → length image.stacks ≡ header.stacks → image.arena ≡ header.arena → header_spelling image ≡ header_text header
 unfolding header_spelling
 front_back header image regions symbols stacks arena = rw (regions, symbols, stacks, arena) refl
@@ -84,7 +86,8 @@ whole_back bytes header regions symbols stacks h r s t over =
     let all : bytes ≡ spelling image ++ drop stacks.1 bytes = to3.parts in
     sym (all ∙ ap (λ (w : List ℕ). spelling image ++ w) (drop_all stacks.1 bytes over) ∙ append-nil (spelling image))
 
-pub image_back : (bytes : List ℕ) (image : Contents) → IsBytes bytes → image_of bytes ≡ Ok image → spelling image ≡ bytes
+pub image_back : (bytes : List ℕ) (image : Contents) → IsBytes bytes → image_of bytes ≡ Ok image →
+    spelling image ≡ bytes
 unfolding image_of
 image_back bytes image fits e =
     let Q : Type 0 = spelling image ≡ bytes in

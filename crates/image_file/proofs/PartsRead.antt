@@ -36,7 +36,8 @@ kind_small Code = omega arith
 kind_small ReadOnly = omega arith
 kind_small Writable = omega arith
 
-length_holds : (arena : Range) (floor total base n : ℕ) → all_hold (length_rules arena 0 0 base n) ≡ true → total + n ≤ 16777216 → floor ≤ base
+length_holds : (arena : Range) (floor total base n : ℕ) → all_hold (length_rules arena 0 0 base n) ≡ true →
+    total + n ≤ 16777216 → floor ≤ base
     → (all_hold (length_rules arena floor total base n) ≡ true) × (base + n ≤ 0xFFFF_0000)
 length_holds arena floor total base n h small above = grind (arith, nat_tests)
 
@@ -64,7 +65,8 @@ region_read bytes arena floor total offset piece rest kept above small s =
 
 -- ---- symbols
 
-held_low : (pieces : List Piece) (a : ℕ) → All (λ piece. (piece_range piece).high ≤ 0xFFFF_0000) pieces → (holding pieces a ≡ None) ⊎ (a < 0xFFFF_0000)
+held_low : (pieces : List Piece) (a : ℕ) → All (λ piece. (piece_range piece).high ≤ 0xFFFF_0000) pieces →
+    (holding pieces a ≡ None) ⊎ (a < 0xFFFF_0000)
 held_low [] a below = inl refl
 held_low (piece ∷ pieces) a below =
     let end = All-head (λ (x : Piece). (piece_range x).high ≤ 0xFFFF_0000) piece pieces below in
@@ -145,7 +147,8 @@ symbol_read bytes pieces offset symbol rest below kept s =
 
 -- ---- stacks
 
-stack_holds : (arena : Range) (pieces : List Piece) (floor total low high : ℕ) → all_hold (stack_high_rules arena pieces 0 0 low high) ≡ true
+stack_holds : (arena : Range) (pieces : List Piece) (floor total low high : ℕ) →
+    all_hold (stack_high_rules arena pieces 0 0 low high) ≡ true
     → total + (high - low) ≤ 16777216 → floor ≤ low
     → (all_hold (stack_high_rules arena pieces floor total low high) ≡ true) × (low ≤ high) × (high ≤ 0xFFFF_0000)
 stack_holds arena pieces floor total low high h small above = grind (arith, nat_tests)

@@ -47,12 +47,14 @@ region_back bytes arena floor total offset piece fits e =
     = Takes-then bytes offset (number k ++ number base ++ number (length content)) (offset + 12) content (offset + (12 + length content)) to12 t4 in
     subst (λ (p : Piece). Takes bytes offset (region_spelling p) (offset + (12 + length p.bytes))) (ok_is made piece r4) whole))))
 
-name_back : (bytes : List ℕ) (offset n : ℕ) (name : List ℕ) → name_at bytes offset n ≡ Ok name → content_at bytes offset n ≡ Ok name
+name_back : (bytes : List ℕ) (offset n : ℕ) (name : List ℕ) → name_at bytes offset n ≡ Ok name →
+    content_at bytes offset n ≡ Ok name
 name_back bytes offset n name e =
     after_bind (content_at bytes offset n ≡ Ok name) name (content_at bytes offset n) (λ x. checked offset (name_rules x) x) e (λ x e1 r1.
     subst (λ (y : List ℕ). content_at bytes offset n ≡ Ok y) (all_kept offset (name_rules x) x name r1).1 e1)
 
-function_back : (pieces : List Piece) (address k : ℕ) → all_hold (symbol_kind_rules pieces address k) ≡ true → cond (eqb k 1) 1 2 ≡ k
+function_back : (pieces : List Piece) (address k : ℕ) → all_hold (symbol_kind_rules pieces address k) ≡ true →
+    cond (eqb k 1) 1 2 ≡ k
 function_back pieces address zero h = absurd cc
 function_back pieces address (suc zero) h = refl
 function_back pieces address (suc (suc zero)) h = refl
@@ -98,7 +100,8 @@ symbol_back bytes pieces offset symbol fits e =
     = Takes-then bytes offset (number address ++ number k ++ number g ++ number (length name)) (offset + 16) name (offset + (16 + length name)) to16 t5 in
     subst (λ (s : Symbol). Takes bytes offset (symbol_spelling s) (offset + (16 + length s.name))) (ok_is made symbol r5) whole)))))
 
-pub stack_back : (bytes : List ℕ) (arena : Range) (pieces : List Piece) (floor total offset : ℕ) (stack : Range) → IsBytes bytes
+pub stack_back : (bytes : List ℕ) (arena : Range) (pieces : List Piece) (floor total offset : ℕ) (stack : Range) →
+    IsBytes bytes
     → stack_after bytes arena pieces floor total offset ≡ Ok stack → Takes bytes offset (stack_spelling stack) (offset + 8)
 unfolding stack_after stack_spelling
 stack_back bytes arena pieces floor total offset stack fits e =

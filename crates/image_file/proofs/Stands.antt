@@ -15,30 +15,35 @@ pub record Stands (bytes : List ℕ) (offset : ℕ) (rest : List ℕ) : Type 0 w
   pub is : drop offset bytes ≡ rest
   pub place : offset + length rest ≡ length bytes
 
-pub behind : (bytes : List ℕ) (offset : ℕ) (x rest : List ℕ) (there : ℕ) → offset + length x ≡ there → Stands bytes offset (x ++ rest) → Stands bytes there rest
+pub behind : (bytes : List ℕ) (offset : ℕ) (x rest : List ℕ) (there : ℕ) → offset + length x ≡ there →
+    Stands bytes offset (x ++ rest) → Stands bytes there rest
 behind bytes offset x rest there h s = record {
   is = rw (← h) (sym (drop-drop (length x) offset bytes) ∙ ap (λ (w : List ℕ). drop (length x) w) s.is ∙ drop_at x rest (length x) refl);
   place = let p = s.place in omega (arith, length-append x rest);
 }
 
-pub content_read : (bytes : List ℕ) (offset : ℕ) (x rest : List ℕ) (n : ℕ) → length x ≡ n → Stands bytes offset (x ++ rest) → content_at bytes offset n ≡ Ok x
+pub content_read : (bytes : List ℕ) (offset : ℕ) (x rest : List ℕ) (n : ℕ) → length x ≡ n →
+    Stands bytes offset (x ++ rest) → content_at bytes offset n ≡ Ok x
 unfolding content_at
 content_read bytes offset x rest n long s =
     let p = s.place in
     let within : ltb (length bytes) (offset + n) ≡ false = le-ltb (length bytes) (offset + n) (omega (arith, length-append x rest)) in
     rw (within, s.is, take_at x rest n long) refl
 
-pub number_read : (bytes : List ℕ) (offset : ℕ) (n : ℕ) (rest : List ℕ) → n < 2 ^ 32 → Stands bytes offset (number n ++ rest) → number_at bytes offset ≡ Ok n
+pub number_read : (bytes : List ℕ) (offset : ℕ) (n : ℕ) (rest : List ℕ) → n < 2 ^ 32 →
+    Stands bytes offset (number n ++ rest) → number_at bytes offset ≡ Ok n
 unfolding number_at
 number_read bytes offset n rest lt s = rw (content_read bytes offset (number n) rest 4 refl s, from_le_bytes-to_le_bytes_4 n lt) refl
 
-pub all_read : {A : Type 0} (offset : ℕ) (rules : List Rule) (x : A) → all_hold rules ≡ true → checked offset rules x ≡ Ok x
+pub all_read : {A : Type 0} (offset : ℕ) (rules : List Rule) (x : A) → all_hold rules ≡ true →
+    checked offset rules x ≡ Ok x
 all_read offset [] x h = refl
 all_read offset (rule ∷ rules) x h =
     let p = and_parts rule.holds (all_hold rules) h in
     rw p.0 (all_read offset rules x p.1)
 
-pub field_read : (bytes : List ℕ) (offset : ℕ) (rules : ℕ → List Rule) (n : ℕ) (rest : List ℕ) → n < 2 ^ 32 → all_hold (rules n) ≡ true
+pub field_read : (bytes : List ℕ) (offset : ℕ) (rules : ℕ → List Rule) (n : ℕ) (rest : List ℕ) → n < 2 ^ 32 →
+    all_hold (rules n) ≡ true
     → Stands bytes offset (number n ++ rest) → field bytes offset rules ≡ Ok n
 field_read bytes offset rules n rest lt h s = rw (number_read bytes offset n rest lt s) (all_read offset (rules n) n h)
 

@@ -27,12 +27,14 @@ IsBytes-take n bytes h i =
     ]
 
 -- the value of a step that was not refused
-pub bind_ok : {A B : Type 0} (r : Result A Refusal) (f : A → Result B Refusal) (y : B) → (r >>= f) ≡ Ok y → (x : A) × (r ≡ Ok x) × (f x ≡ Ok y)
+pub bind_ok : {A B : Type 0} (r : Result A Refusal) (f : A → Result B Refusal) (y : B) → (r >>= f) ≡ Ok y →
+    (x : A) × (r ≡ Ok x) × (f x ≡ Ok y)
 bind_ok (Ok x) f y e = (x, refl, e)
 bind_ok (Err d) f y e = absurd cc
 
 -- the same, for what follows from it
-pub after_bind : {A B : Type 0} (P : Type 0) (y : B) (r : Result A Refusal) (f : A → Result B Refusal) → (r >>= f) ≡ Ok y → ((x : A) → r ≡ Ok x → f x ≡ Ok y → P) → P
+pub after_bind : {A B : Type 0} (P : Type 0) (y : B) (r : Result A Refusal) (f : A → Result B Refusal) →
+    (r >>= f) ≡ Ok y → ((x : A) → r ≡ Ok x → f x ≡ Ok y → P) → P
 after_bind P y (Ok x) f e follows = follows x refl e
 after_bind P y (Err d) f e follows = absurd cc
 
@@ -52,7 +54,8 @@ pub record Takes (bytes : List ℕ) (from : ℕ) (text : List ℕ) (to : ℕ) : 
   pub place : from + length text ≡ to
   pub within : to ≤ length bytes
 
-pub Takes-then : (bytes : List ℕ) (a : ℕ) (x : List ℕ) (b : ℕ) (y : List ℕ) (c : ℕ) → Takes bytes a x b → Takes bytes b y c → Takes bytes a (x ++ y) c
+pub Takes-then : (bytes : List ℕ) (a : ℕ) (x : List ℕ) (b : ℕ) (y : List ℕ) (c : ℕ) → Takes bytes a x b →
+    Takes bytes b y c → Takes bytes a (x ++ y) c
 Takes-then bytes a x b y c p q = record {
   parts = p.parts ∙ ap (λ (t : List ℕ). x ++ t) q.parts ∙ sym (append_assoc x y (drop c bytes));
   place = let i = p.place in let j = q.place in omega (arith, length-append x y);
@@ -62,7 +65,8 @@ Takes-then bytes a x b y c p q = record {
 pub Takes-none : (bytes : List ℕ) (a : ℕ) → a ≤ length bytes → Takes bytes a [] a
 Takes-none bytes a h = record { parts = refl; place = omega arith; within = h }
 
-content_cut : (bytes : List ℕ) (offset n : ℕ) (x : List ℕ) → content_at bytes offset n ≡ Ok x → (offset + n ≤ length bytes) × (take n (drop offset bytes) ≡ x)
+content_cut : (bytes : List ℕ) (offset n : ℕ) (x : List ℕ) → content_at bytes offset n ≡ Ok x →
+    (offset + n ≤ length bytes) × (take n (drop offset bytes) ≡ x)
 unfolding content_at
 content_cut bytes offset n x e =
     let g = guard_ok (ltb (length bytes) (offset + n)) (BadImage (length bytes) Short) (take n (drop offset bytes)) x e in
@@ -74,7 +78,8 @@ content_long bytes offset n x e =
     let within = g.0 in
     rw (← g.1) (omega (arith, length-take n (drop offset bytes), length-drop offset bytes))
 
-pub content_taken : (bytes : List ℕ) (offset n : ℕ) (x : List ℕ) (to : ℕ) → offset + n ≡ to → content_at bytes offset n ≡ Ok x → Takes bytes offset x to
+pub content_taken : (bytes : List ℕ) (offset n : ℕ) (x : List ℕ) (to : ℕ) → offset + n ≡ to →
+    content_at bytes offset n ≡ Ok x → Takes bytes offset x to
 content_taken bytes offset n x to there e =
     let g = content_cut bytes offset n x e in
     let within = g.0 in
@@ -85,7 +90,8 @@ content_taken bytes offset n x to there e =
       within = omega arith;
     }
 
-pub number_taken : (bytes : List ℕ) (offset n to : ℕ) → offset + 4 ≡ to → IsBytes bytes → number_at bytes offset ≡ Ok n → Takes bytes offset (number n) to
+pub number_taken : (bytes : List ℕ) (offset n to : ℕ) → offset + 4 ≡ to → IsBytes bytes →
+    number_at bytes offset ≡ Ok n → Takes bytes offset (number n) to
 unfolding number_at
 number_taken bytes offset n to there fits e =
     let b = bind_ok (content_at bytes offset 4) (λ four. Ok (from_le_bytes w32 four)) n e in
@@ -95,7 +101,8 @@ number_taken bytes offset n to there fits e =
     let same : number n ≡ b.0 = le_bytes_4 b.0 n (content_long bytes offset 4 b.0 b.1) small (sym is) in
     subst (λ (w : List ℕ). Takes bytes offset w to) (sym same) (content_taken bytes offset 4 b.0 to there b.1)
 
-pub all_kept : {A : Type 0} (offset : ℕ) (rules : List Rule) (x y : A) → checked offset rules x ≡ Ok y → (all_hold rules ≡ true) × (x ≡ y)
+pub all_kept : {A : Type 0} (offset : ℕ) (rules : List Rule) (x y : A) → checked offset rules x ≡ Ok y →
+    (all_hold rules ≡ true) × (x ≡ y)
 all_kept offset [] x y e = (refl, ok_is x y e)
 all_kept {A} offset (rule ∷ rules) x y e =
     elim rule.holds as (λ b. cond b (checked offset rules x) (Err (BadImage offset rule.fault)) ≡ Ok y → (b && all_hold rules ≡ true) × (x ≡ y)) [
@@ -103,7 +110,8 @@ all_kept {A} offset (rule ∷ rules) x y e =
       | false ↦ λ wrong. absurd cc
     ] e
 
-pub field_taken : (bytes : List ℕ) (offset : ℕ) (rules : ℕ → List Rule) (n to : ℕ) → offset + 4 ≡ to → IsBytes bytes → field bytes offset rules ≡ Ok n
+pub field_taken : (bytes : List ℕ) (offset : ℕ) (rules : ℕ → List Rule) (n to : ℕ) → offset + 4 ≡ to → IsBytes bytes →
+    field bytes offset rules ≡ Ok n
     → Takes bytes offset (number n) to × (all_hold (rules n) ≡ true)
 field_taken bytes offset rules n to there fits e =
     let b = bind_ok (number_at bytes offset) (λ m. checked offset (rules m) m) n e in

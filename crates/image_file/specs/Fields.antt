@@ -46,7 +46,8 @@ field bytes offset rules = do
 
 -- So many items one after another, each read by the items before it and its offset, and as wide as
 -- width says; and the offset behind them. The items so far and the first offset are given.
-unfoldable pub items_at : {X : Type 0} → ℕ → (List X → ℕ → Result X Refusal) → (X → ℕ) → List X → ℕ → Result (List X × ℕ) Refusal
+unfoldable pub items_at : {X : Type 0} → ℕ → (List X → ℕ → Result X Refusal) → (X → ℕ) → List X → ℕ →
+    Result (List X × ℕ) Refusal
 items_at zero item width before offset = Ok (before, offset)
 items_at (suc n) item width before offset = do
   x ← item before offset

@@ -99,7 +99,8 @@ head_le : (n m : ℕ) (ms : List ℕ) → Above m ms → has n (m ∷ ms) ≡ tr
 head_le n m ms above one =
     elim (or_cases (eqb n m) (has n ms) one) as (λ _. m ≤ n) [ inl is ↦ (let e = eqb-true n m is in omega arith) | inr later ↦ (let less = above_has m n ms above later in omega arith) ]
 
-same_tails : (z x : ℕ) (xs ys : List ℕ) → Above x xs → Above x ys → (eqb z x || has z xs) ≡ (eqb z x || has z ys) → has z xs ≡ has z ys
+same_tails : (z x : ℕ) (xs ys : List ℕ) → Above x xs → Above x ys → (eqb z x || has z xs) ≡ (eqb z x || has z ys) →
+    has z xs ≡ has z ys
 same_tails z x xs ys above_xs above_ys same =
     elim (eqb z x) as (λ b. eqb z x ≡ b → (b || has z xs) ≡ (b || has z ys) → has z xs ≡ has z ys) [
       | true ↦ λ is _.
@@ -146,7 +147,8 @@ has-dedup n [] = refl
 has-dedup n (m ∷ ms) = has-dedup_from n m ms
 
 -- what is left of sorted numbers without repeats is the numbers, ascending
-pub dedup_is_ascending : (found sorted kept : List ℕ) → IsPermutation found sorted → IsSorted nat_cmp sorted → kept ≡ dedup eqb sorted → kept ≡ ascending found
+pub dedup_is_ascending : (found sorted kept : List ℕ) → IsPermutation found sorted → IsSorted nat_cmp sorted →
+    kept ≡ dedup eqb sorted → kept ≡ ascending found
 dedup_is_ascending found sorted kept moved up is =
     is ∙ same_members (dedup eqb sorted) (ascending found)
     (ascends_by_place (dedup eqb sorted) (λ i j below less. below_from_sorted (dedup eqb sorted) i j 0 (sorted_from_strictly_increasing (dedup eqb sorted) (IsStrictlyIncreasing-dedup sorted up)) below less))

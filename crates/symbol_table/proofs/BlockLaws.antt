@@ -30,12 +30,14 @@ lowest_le (suc k) n pos less =
     let P : ℕ → Type 0 = λ m. 2 ^ under (n % 2) (count_trailing_zeros k (n / 2)) ≤ m in
     subst P (sym parts) (lowest_step (n % 2) (n / 2) (count_trailing_zeros k (n / 2)) (omega arith) (omega arith) (λ some. lowest_le k (n / 2) some (omega (arith, twice k))))
 
-nested_step : (r q t s p u : ℕ) → r < 2 → s < 2 → (r + 2 * q) - 2 ^ under r t < s + 2 * p → s + 2 * p < r + 2 * q → (q - 2 ^ t < p → p < q → q - 2 ^ t ≤ p - 2 ^ u) → (r + 2 * q) - 2 ^ under r t ≤ (s + 2 * p) - 2 ^ under s u
+nested_step : (r q t s p u : ℕ) → r < 2 → s < 2 → (r + 2 * q) - 2 ^ under r t < s + 2 * p → s + 2 * p < r + 2 * q →
+    (q - 2 ^ t < p → p < q → q - 2 ^ t ≤ p - 2 ^ u) → (r + 2 * q) - 2 ^ under r t ≤ (s + 2 * p) - 2 ^ under s u
 nested_step (suc r) q t s p u r_digit s_digit above below inner = absurd (omega arith)
 nested_step zero q t (suc s) p u r_digit s_digit above below inner = omega (arith, twice t)
 nested_step zero q t zero p u r_digit s_digit above below inner = (let le = inner (omega (arith, twice t)) (omega arith) in omega (arith, twice t, twice u))
 
-nested_in : (k m j : ℕ) → m < 2 ^ k → m - 2 ^ count_trailing_zeros k m < j → j < m → m - 2 ^ count_trailing_zeros k m ≤ j - 2 ^ count_trailing_zeros k j
+nested_in : (k m j : ℕ) → m < 2 ^ k → m - 2 ^ count_trailing_zeros k m < j → j < m →
+    m - 2 ^ count_trailing_zeros k m ≤ j - 2 ^ count_trailing_zeros k j
 unfolding count_trailing_zeros
 nested_in zero m j less above below = absurd (omega arith)
 nested_in (suc k) m j less above below =
@@ -57,11 +59,14 @@ pub block_begin_below : (end : ℕ) → 0 < end → block_begin end < end
 block_begin_below end pos = (let one = pow_pos (count_trailing_zeros 64 end) in omega arith)
 
 -- the shift that makes the last block's length
-pub shifted : (end : ℕ) → 0 < end → end < 2 ^ 64 → (1 * 2 ^ count_trailing_zeros 64 end) % 2 ^ 64 ≡ 2 ^ count_trailing_zeros 64 end
+pub shifted : (end : ℕ) → 0 < end → end < 2 ^ 64 →
+    (1 * 2 ^ count_trailing_zeros 64 end) % 2 ^ 64 ≡ 2 ^ count_trailing_zeros 64 end
 shifted end pos fits = one_shl (count_trailing_zeros 64 end) 64 (bit_at-trailing_zeros w64 end pos fits).0
 
 -- ---- one item more
-pub in_blocks_more : {X : Type 0} (less : X → X → Bool) (xs ys : List X) → length ys ≡ length xs + 1 → length ys < 2 ^ 64 → ((k : ℕ) (d : X) → k < block_begin (length ys) → get_or ys k d ≡ get_or xs k d) → InBlocks less xs → IsSortedWithin less ys (block_begin (length ys)) (length ys) → InBlocks less ys
+pub in_blocks_more : {X : Type 0} (less : X → X → Bool) (xs ys : List X) → length ys ≡ length xs + 1 →
+    length ys < 2 ^ 64 → ((k : ℕ) (d : X) → k < block_begin (length ys) → get_or ys k d ≡ get_or xs k d) →
+    InBlocks less xs → IsSortedWithin less ys (block_begin (length ys)) (length ys) → InBlocks less ys
 in_blocks_more less xs ys one_more fits front old last end within k d above below =
     let begin = block_begin (length ys) in
     elim (cases_lt begin end) as (λ _. less (get_or ys (k + 1) d) (get_or ys k d) ≡ false) [
@@ -78,7 +83,8 @@ in_blocks_more less xs ys one_more fits front old last end within k d above belo
     ]
 
 -- a block is in order
-pub block_sorted : {X : Type 0} (less : X → X → Bool) (xs : List X) (end : ℕ) → InBlocks less xs → end ≤ length xs → IsSortedBy less (between (block_begin end) end xs)
+pub block_sorted : {X : Type 0} (less : X → X → Bool) (xs : List X) (end : ℕ) → InBlocks less xs → end ≤ length xs →
+    IsSortedBy less (between (block_begin end) end xs)
 block_sorted less xs end blocks within k d low below =
     let begin = block_begin end in
     let len : length (between begin end xs) ≡ end - begin = length-between xs begin end within in
@@ -92,12 +98,14 @@ pub in_blocks_sorted : {X : Type 0} (less : X → X → Bool) (xs : List X) → 
 in_blocks_sorted less xs up end within k d above below = up k d (omega arith) (omega arith)
 
 -- what is left from a block on is the block and what is left after it
-pub drop_between : {X : Type 0} (xs : List X) (begin end : ℕ) → begin ≤ end → drop begin xs ≡ between begin end xs ++ drop end xs
+pub drop_between : {X : Type 0} (xs : List X) (begin end : ℕ) → begin ≤ end →
+    drop begin xs ≡ between begin end xs ++ drop end xs
 drop_between xs begin end order =
     let e : begin + (end - begin) ≡ end = omega arith in
     sym (take-append-drop (end - begin) (drop begin xs)) ∙ ap (λ ys. between begin end xs ++ ys) (drop-drop (end - begin) begin xs ∙ ap (λ n. drop n xs) e)
 
-pub block_sorted_at : {X : Type 0} (less : X → X → Bool) (xs : List X) (begin end : ℕ) → begin ≡ block_begin end → InBlocks less xs → end ≤ length xs → IsSortedBy less (between begin end xs)
+pub block_sorted_at : {X : Type 0} (less : X → X → Bool) (xs : List X) (begin end : ℕ) → begin ≡ block_begin end →
+    InBlocks less xs → end ≤ length xs → IsSortedBy less (between begin end xs)
 block_sorted_at less xs begin end is blocks within =
     let P : ℕ → Type 0 = λ n. IsSortedBy less (between n end xs) in
     subst P (sym is) (block_sorted less xs end blocks within)
@@ -108,7 +116,9 @@ put_to_end begin xs ys =
     let none : drop (length xs - begin) (drop begin xs) ≡ [] = drop_all (length xs - begin) (drop begin xs) (omega (arith, length-drop begin xs)) in
     ap (λ rest. take begin xs ++ (ys ++ rest)) none ∙ ap (λ rest. take begin xs ++ rest) (append-nil ys)
 
-blocks_joined : {X : Type 0} (less : X → X → Bool) (xs ys : List X) → 0 < length xs → length xs < 2 ^ 64 → length ys ≡ length xs - block_begin (length xs) → IsSortedBy less ys → InBlocks less (take (length xs - 1) xs) → InBlocks less (take (block_begin (length xs)) xs ++ ys)
+blocks_joined : {X : Type 0} (less : X → X → Bool) (xs ys : List X) → 0 < length xs → length xs < 2 ^ 64 →
+    length ys ≡ length xs - block_begin (length xs) → IsSortedBy less ys → InBlocks less (take (length xs - 1) xs) →
+    InBlocks less (take (block_begin (length xs)) xs ++ ys)
 blocks_joined less xs ys some fits len_ys up blocks =
     let begin = block_begin (length xs) in
     let below : begin < length xs = block_begin_below (length xs) some in
@@ -127,14 +137,17 @@ blocks_joined less xs ys some fits len_ys up blocks =
     ∙ ap (λ x. less (get_or ys (k - begin + 1) d) x) (get_or-append_right front ys begin k d len_front low)
     ∙ up (k - begin) d (omega arith) (omega (arith, len_ys))))
 
-pub blocks_from_last : {X : Type 0} (less : X → X → Bool) (xs ys : List X) (begin : ℕ) → 0 < length xs → length xs < 2 ^ 64 → begin ≡ block_begin (length xs) → length ys ≡ length xs - begin → IsSortedBy less ys → InBlocks less (take (length xs - 1) xs) → InBlocks less (put_mid begin (length xs - begin) xs ys)
+pub blocks_from_last : {X : Type 0} (less : X → X → Bool) (xs ys : List X) (begin : ℕ) → 0 < length xs →
+    length xs < 2 ^ 64 → begin ≡ block_begin (length xs) → length ys ≡ length xs - begin → IsSortedBy less ys →
+    InBlocks less (take (length xs - 1) xs) → InBlocks less (put_mid begin (length xs - begin) xs ys)
 blocks_from_last less xs ys begin some fits is len_ys up blocks =
     let P : List _ → Type 0 = InBlocks less in
     let R : ℕ → Type 0 = λ n. InBlocks less (take n xs ++ ys) in
     subst P (sym (put_to_end begin xs ys)) (subst R (sym is) (blocks_joined less xs ys some fits (len_ys ∙ ap (λ n. length xs - n) is) up blocks))
 
 -- the list before one item more
-pub before_push : {X : Type 0} (less : X → X → Bool) (xs : List X) (x : X) → InBlocks less xs → InBlocks less (take (length (xs ++ x ∷ []) - 1) (xs ++ x ∷ []))
+pub before_push : {X : Type 0} (less : X → X → Bool) (xs : List X) (x : X) → InBlocks less xs →
+    InBlocks less (take (length (xs ++ x ∷ []) - 1) (xs ++ x ∷ []))
 before_push less xs x blocks =
     let e : length xs ≡ length (xs ++ x ∷ []) - 1 = omega (arith, length_push xs x) in
     let P : List _ → Type 0 = InBlocks less in

@@ -63,7 +63,8 @@ equal_entries x y one two =
 not_self : (x : Entry) → address_less x x ≡ false
 not_self x = grind (arith, nat_tests)
 
-pub entries_rise : (entries : List Entry) → IsSortedBy address_less entries → IsNonDecreasingBy (λ (entry : Entry). entry.address) entries
+pub entries_rise : (entries : List Entry) → IsSortedBy address_less entries →
+    IsNonDecreasingBy (λ (entry : Entry). entry.address) entries
 unfolding less_by
 entries_rise entries up =
     IsNonDecreasingBy-from_all_adjacent (λ (entry : Entry). entry.address) entries (λ k d less. less_by_address (get_or entries k d).address (get_or entries (k + 1) d).address (get_or entries k d).place (get_or entries (k + 1) d).place (up k d (omega arith) less))
@@ -73,7 +74,8 @@ greater_none : (o : Option Entry) → greater_entry o None ≡ o
 greater_none None = refl
 greater_none (Some entry) = refl
 
-greater_of_greater : (x y z : Entry) → greater_entry (greater_entry (Some x) (Some y)) (Some z) ≡ greater_entry (Some x) (greater_entry (Some y) (Some z))
+greater_of_greater : (x y z : Entry) →
+    greater_entry (greater_entry (Some x) (Some y)) (Some z) ≡ greater_entry (Some x) (greater_entry (Some y) (Some z))
 greater_of_greater x y z =
     elim (address_less y x) as (λ b. address_less y x ≡ b → greater_entry (cond b (Some x) (Some y)) (Some z) ≡ greater_entry (Some x) (cond (address_less z y) (Some y) (Some z))) [
       | true ↦ λ yx. elim (address_less z y) as (λ b. address_less z y ≡ b → cond (address_less z x) (Some x) (Some z) ≡ greater_entry (Some x) (cond b (Some y) (Some z))) [
@@ -99,7 +101,8 @@ greater_joined (Some x) (Some y) None = greater_none (greater_entry (Some x) (So
 greater_joined (Some x) (Some y) (Some z) = greater_of_greater x y z
 
 -- ---- the entry below an address, of several lists
-entry_below_append : (address : ℕ) (entries rest : List Entry) → entry_below address (entries ++ rest) ≡ greater_entry (entry_below address entries) (entry_below address rest)
+entry_below_append : (address : ℕ) (entries rest : List Entry) →
+    entry_below address (entries ++ rest) ≡ greater_entry (entry_below address entries) (entry_below address rest)
 entry_below_append address [] rest = refl
 entry_below_append address (entry ∷ entries) rest =
     elim (leb entry.address address) as (λ b. cond b (greater_entry (Some entry) (entry_below address (entries ++ rest))) (entry_below address (entries ++ rest)) ≡ greater_entry (cond b (greater_entry (Some entry) (entry_below address entries)) (entry_below address entries)) (entry_below address rest)) [
@@ -108,15 +111,18 @@ entry_below_append address (entry ∷ entries) rest =
     ]
 
 -- one block more is looked through
-pub last_more : (address : ℕ) (entries : List Entry) (begin end : ℕ) → begin ≤ end → greater_entry (entry_below address (between begin end entries)) (entry_below address (drop end entries)) ≡ entry_below address (drop begin entries)
+pub last_more : (address : ℕ) (entries : List Entry) (begin end : ℕ) → begin ≤ end →
+    greater_entry (entry_below address (between begin end entries)) (entry_below address (drop end entries)) ≡ entry_below address (drop begin entries)
 last_more address entries begin end order = sym (ap (entry_below address) (drop_between entries begin end order) ∙ entry_below_append address (between begin end entries) (drop end entries))
 
-greater_keeps : (P : Entry → Type 0) (entry : Entry) (o : Option Entry) → P entry → IfSome o P → IfSome (greater_entry (Some entry) o) P
+greater_keeps : (P : Entry → Type 0) (entry : Entry) (o : Option Entry) → P entry → IfSome o P →
+    IfSome (greater_entry (Some entry) o) P
 greater_keeps P entry None one rest = one
 greater_keeps P entry (Some other) one rest =
     elim (address_less other entry) as (λ b. IfSome (cond b (Some entry) (Some other)) P) [ true ↦ one | false ↦ rest ]
 
-pub below_reaches : (address : ℕ) (entries : List Entry) → IfSome (entry_below address entries) (λ entry. entry.address ≤ address)
+pub below_reaches : (address : ℕ) (entries : List Entry) →
+    IfSome (entry_below address entries) (λ entry. entry.address ≤ address)
 below_reaches address [] = tt
 below_reaches address (entry ∷ rest) =
     elim (leb entry.address address) as (λ b. leb entry.address address ≡ b → IfSome (cond b (greater_entry (Some entry) (entry_below address rest)) (entry_below address rest)) (λ (entry : Entry). entry.address ≤ address)) [
@@ -125,16 +131,24 @@ below_reaches address (entry ∷ rest) =
     ] refl
 
 -- ---- what a search by halving finds
-pub below_none : (address : ℕ) (entries : List Entry) → ((k : ℕ) (d : Entry) → k < length entries → leb (get_or entries k d).address address ≡ false) → entry_below address entries ≡ None
+pub below_none : (address : ℕ) (entries : List Entry) →
+    ((k : ℕ) (d : Entry) → k < length entries → leb (get_or entries k d).address address ≡ false) →
+    entry_below address entries ≡ None
 below_none address [] high = refl
 below_none address (entry ∷ rest) high = cond-false _ _ _ (high 0 entry (omega arith)) ∙ below_none address rest (λ k d l. high (suc k) d (omega arith))
 
-greater_at : (entry : Entry) (rest : List Entry) (k : ℕ) → k < length rest → address_less (get_or rest k entry) entry ≡ false → greater_entry (Some entry) (slice_get rest k) ≡ slice_get rest k
+greater_at : (entry : Entry) (rest : List Entry) (k : ℕ) → k < length rest →
+    address_less (get_or rest k entry) entry ≡ false →
+    greater_entry (Some entry) (slice_get rest k) ≡ slice_get rest k
 greater_at entry rest k less far =
     let e = slice_get-get_or rest k entry less in
     ap (greater_entry (Some entry)) e ∙ cond-false _ _ _ far ∙ sym e
 
-below_at : (address : ℕ) (entries : List Entry) (k : ℕ) → k < length entries → ((j : ℕ) (d : Entry) → j < k → address_less (get_or entries k d) (get_or entries j d) ≡ false) → ((j : ℕ) (d : Entry) → j < k + 1 → leb (get_or entries j d).address address ≡ true) → ((j : ℕ) (d : Entry) → k + 1 ≤ j → j < length entries → leb (get_or entries j d).address address ≡ false) → entry_below address entries ≡ slice_get entries k
+below_at : (address : ℕ) (entries : List Entry) (k : ℕ) → k < length entries →
+    ((j : ℕ) (d : Entry) → j < k → address_less (get_or entries k d) (get_or entries j d) ≡ false) →
+    ((j : ℕ) (d : Entry) → j < k + 1 → leb (get_or entries j d).address address ≡ true) →
+    ((j : ℕ) (d : Entry) → k + 1 ≤ j → j < length entries → leb (get_or entries j d).address address ≡ false) →
+    entry_below address entries ≡ slice_get entries k
 below_at address [] k less far low high = absurd (omega arith)
 below_at address (entry ∷ rest) zero less far low high =
     cond-true _ _ _ (low 0 entry (omega arith)) ∙ ap (greater_entry (Some entry)) (below_none address rest (λ j d l. high (suc j) d (omega arith) (omega arith)))
@@ -143,7 +157,10 @@ below_at address (entry ∷ rest) (suc k) less far low high =
     ∙ ap (greater_entry (Some entry)) (below_at address rest k (omega arith) (λ j d l. far (suc j) d (omega arith)) (λ j d l. low (suc j) d (omega arith)) (λ j d g l. high (suc j) d (omega arith) (omega arith)))
     ∙ greater_at entry rest k (omega arith) (far 0 entry (omega arith))
 
-pub below_some : (address : ℕ) (entries : List Entry) (k : ℕ) → IsSortedBy address_less entries → k < length entries → ((j : ℕ) (d : Entry) → j < k + 1 → leb (get_or entries j d).address address ≡ true) → ((j : ℕ) (d : Entry) → k + 1 ≤ j → j < length entries → leb (get_or entries j d).address address ≡ false) → entry_below address entries ≡ slice_get entries k
+pub below_some : (address : ℕ) (entries : List Entry) (k : ℕ) → IsSortedBy address_less entries → k < length entries →
+    ((j : ℕ) (d : Entry) → j < k + 1 → leb (get_or entries j d).address address ≡ true) →
+    ((j : ℕ) (d : Entry) → k + 1 ≤ j → j < length entries → leb (get_or entries j d).address address ≡ false) →
+    entry_below address entries ≡ slice_get entries k
 below_some address entries k up less low high = below_at address entries k less (λ j d l. sorted_far address_less address_laws entries up j k d (omega arith) less) low high
 
 -- ---- the entry below an address rests on which entries there are, not on their order
@@ -154,13 +171,15 @@ passing p (Some entry) = p entry
 any_below : ℕ → (Entry → Bool) → List Entry → Bool
 any_below address p entries = list_any (λ entry. leb entry.address address && p entry) entries
 
-greater_passes_none : (p : Entry → Bool) (entry : Entry) (o : Option Entry) → p entry ≡ false → passing p o ≡ false → passing p (greater_entry (Some entry) o) ≡ false
+greater_passes_none : (p : Entry → Bool) (entry : Entry) (o : Option Entry) → p entry ≡ false → passing p o ≡ false →
+    passing p (greater_entry (Some entry) o) ≡ false
 unfolding passing
 greater_passes_none p entry None one rest = one
 greater_passes_none p entry (Some other) one rest =
     elim (address_less other entry) as (λ b. passing p (cond b (Some entry) (Some other)) ≡ false) [ true ↦ one | false ↦ rest ]
 
-chosen_passes_none : (address : ℕ) (p : Entry → Bool) (entries : List Entry) → any_below address p entries ≡ false → passing p (entry_below address entries) ≡ false
+chosen_passes_none : (address : ℕ) (p : Entry → Bool) (entries : List Entry) → any_below address p entries ≡ false →
+    passing p (entry_below address entries) ≡ false
 unfolding passing any_below
 chosen_passes_none address p [] none = refl
 chosen_passes_none address p (entry ∷ rest) none =
@@ -173,7 +192,8 @@ chosen_passes_none address p (entry ∷ rest) none =
 Falls : (Entry → Bool) → Type 0
 Falls p = (entry : Entry) (o : Option Entry) → passing p (greater_entry (Some entry) o) ≡ false → (p entry ≡ false) × (passing p o ≡ false)
 
-none_passes_chosen : (address : ℕ) (p : Entry → Bool) (entries : List Entry) → Falls p → passing p (entry_below address entries) ≡ false → any_below address p entries ≡ false
+none_passes_chosen : (address : ℕ) (p : Entry → Bool) (entries : List Entry) → Falls p →
+    passing p (entry_below address entries) ≡ false → any_below address p entries ≡ false
 unfolding passing any_below Falls
 none_passes_chosen address p [] falls none = refl
 none_passes_chosen address p (entry ∷ rest) falls none =
@@ -203,25 +223,29 @@ falls_less y entry (Some other) none =
 Alike : List Entry → List Entry → Type 0
 Alike xs ys = (p : Entry → Bool) → list_any p xs ≡ list_any p ys
 
-not_less : (address : ℕ) (xs ys : List Entry) (x y : Entry) → Alike xs ys → entry_below address xs ≡ Some x → entry_below address ys ≡ Some y → address_less y x ≡ false
+not_less : (address : ℕ) (xs ys : List Entry) (x y : Entry) → Alike xs ys → entry_below address xs ≡ Some x →
+    entry_below address ys ≡ Some y → address_less y x ≡ false
 unfolding passing any_below Alike
 not_less address xs ys x y alike is_x is_y =
     let in_ys = none_passes_chosen address (address_less y) ys (falls_less y) (ap (passing (address_less y)) is_y ∙ not_self y) in
     sym (ap (passing (address_less y)) is_x) ∙ chosen_passes_none address (address_less y) xs (alike (λ entry. leb entry.address address && address_less y entry) ∙ in_ys)
 
-none_there : (address : ℕ) (xs ys : List Entry) (x : Entry) → Alike xs ys → entry_below address xs ≡ Some x → entry_below address ys ≡ None → ⊥
+none_there : (address : ℕ) (xs ys : List Entry) (x : Entry) → Alike xs ys → entry_below address xs ≡ Some x →
+    entry_below address ys ≡ None → ⊥
 unfolding passing any_below Alike any_entry
 none_there address xs ys x alike is_x is_y =
     let in_ys = none_passes_chosen address any_entry ys falls_any (ap (passing any_entry) is_y) in
     false≢true (sym (sym (ap (passing any_entry) is_x) ∙ chosen_passes_none address any_entry xs (alike (λ entry. leb entry.address address && true) ∙ in_ys)))
 
-same_below : (address : ℕ) (xs ys : List Entry) (a b : Option Entry) → Alike xs ys → Alike ys xs → entry_below address xs ≡ a → entry_below address ys ≡ b → a ≡ b
+same_below : (address : ℕ) (xs ys : List Entry) (a b : Option Entry) → Alike xs ys → Alike ys xs →
+    entry_below address xs ≡ a → entry_below address ys ≡ b → a ≡ b
 same_below address xs ys None None alike back is_a is_b = refl
 same_below address xs ys (Some x) None alike back is_a is_b = absurd (none_there address xs ys x alike is_a is_b)
 same_below address xs ys None (Some y) alike back is_a is_b = absurd (none_there address ys xs y back is_b is_a)
 same_below address xs ys (Some x) (Some y) alike back is_a is_b = ap Some (equal_entries x y (not_less address ys xs y x back is_b is_a) (not_less address xs ys x y alike is_a is_b))
 
-entry_below_moved : (address : ℕ) (xs ys : List Entry) → IsPermutation xs ys → entry_below address xs ≡ entry_below address ys
+entry_below_moved : (address : ℕ) (xs ys : List Entry) → IsPermutation xs ys →
+    entry_below address xs ≡ entry_below address ys
 unfolding Alike
 entry_below_moved address xs ys moved = same_below address xs ys (entry_below address xs) (entry_below address ys) (λ p. list_any-IsPermutation p xs ys moved) (λ p. sym (list_any-IsPermutation p xs ys moved)) refl refl
 
@@ -237,12 +261,15 @@ cond_turned a b x y =
 MarksFrom : List Symbol → ℕ → Option Entry → Option Symbol → Type 0
 MarksFrom all place o symbol = Marks all o symbol × IfSome o (λ entry. place ≤ entry.place)
 
-marks_earlier : (all : List Symbol) (place : ℕ) (o : Option Entry) (symbol : Option Symbol) → MarksFrom all (place + 1) o symbol → MarksFrom all place o symbol
+marks_earlier : (all : List Symbol) (place : ℕ) (o : Option Entry) (symbol : Option Symbol) →
+    MarksFrom all (place + 1) o symbol → MarksFrom all place o symbol
 unfolding MarksFrom
 marks_earlier all place None symbol marks = marks
 marks_earlier all place (Some entry) symbol marks = (marks.0, omega (arith, marks.1))
 
-marks_greater : (all : List Symbol) (place : ℕ) (first : Symbol) (o : Option Entry) (symbol : Option Symbol) → slice_get all place ≡ Some first → MarksFrom all (place + 1) o symbol → MarksFrom all place (greater_entry (Some (record { address = first.address; place = place })) o) (nearer first symbol)
+marks_greater : (all : List Symbol) (place : ℕ) (first : Symbol) (o : Option Entry) (symbol : Option Symbol) →
+    slice_get all place ≡ Some first → MarksFrom all (place + 1) o symbol →
+    MarksFrom all place (greater_entry (Some (record { address = first.address; place = place })) o) (nearer first symbol)
 unfolding MarksFrom less_by
 marks_greater all place first None None here marks = ((here, refl), omega arith)
 marks_greater all place first None (Some symbol) here marks = absurd marks.0
@@ -258,7 +285,9 @@ marks_greater all place first (Some entry) (Some symbol) here marks =
       | false ↦ ((here, refl), omega arith)
     ])
 
-marked_from : (all : List Symbol) (place : ℕ) (symbols : List Symbol) (address : ℕ) → ((k : ℕ) (symbol : Symbol) → slice_get symbols k ≡ Some symbol → slice_get all (place + k) ≡ Some symbol) → MarksFrom all place (entry_below address (entries_from Functions place symbols)) (function_below symbols address)
+marked_from : (all : List Symbol) (place : ℕ) (symbols : List Symbol) (address : ℕ) →
+    ((k : ℕ) (symbol : Symbol) → slice_get symbols k ≡ Some symbol → slice_get all (place + k) ≡ Some symbol) →
+    MarksFrom all place (entry_below address (entries_from Functions place symbols)) (function_below symbols address)
 unfolding function_below MarksFrom
 marked_from all place [] address here = (tt, tt)
 marked_from all place (first ∷ rest) address here =
@@ -274,14 +303,16 @@ marked_from all place (first ∷ rest) address here =
       | false ↦ marks_earlier all place (entry_below address more) (function_below rest address) later
     ]
 
-pub marked : (symbols : List Symbol) (entries : List Entry) (address : ℕ) → HasAll Functions symbols entries → Marks symbols (entry_below address entries) (function_below symbols address)
+pub marked : (symbols : List Symbol) (entries : List Entry) (address : ℕ) → HasAll Functions symbols entries →
+    Marks symbols (entry_below address entries) (function_below symbols address)
 unfolding MarksFrom
 marked symbols entries address has =
     let P : Option Entry → Type 0 = λ o. Marks symbols o (function_below symbols address) in
     subst P (entry_below_moved address (entries_from Functions 0 symbols) entries has.all) (marked_from symbols 0 symbols address (λ k symbol is. let e : 0 + k ≡ k = omega arith in ap (slice_get symbols) e ∙ is)).0
 
 -- ---- what a lookup answers
-pub marked_symbol : (symbols : List Symbol) (entry : Entry) (o : Option Symbol) → Marks symbols (Some entry) o → slice_get symbols entry.place ≡ o
+pub marked_symbol : (symbols : List Symbol) (entry : Entry) (o : Option Symbol) → Marks symbols (Some entry) o →
+    slice_get symbols entry.place ≡ o
 marked_symbol symbols entry None marks = absurd marks
 marked_symbol symbols entry (Some symbol) marks = marks.0
 
@@ -289,15 +320,18 @@ pub marked_none : (symbols : List Symbol) (o : Option Symbol) → Marks symbols 
 marked_none symbols None marks = refl
 marked_none symbols (Some symbol) marks = absurd marks
 
-pub marked_low : (symbols : List Symbol) (address : ℕ) (entry : Entry) (o : Option Symbol) → Marks symbols (Some entry) o → entry.address ≤ address → IfSome o (λ symbol. symbol.address ≤ address)
+pub marked_low : (symbols : List Symbol) (address : ℕ) (entry : Entry) (o : Option Symbol) →
+    Marks symbols (Some entry) o → entry.address ≤ address → IfSome o (λ symbol. symbol.address ≤ address)
 marked_low symbols address entry None marks low = tt
 marked_low symbols address entry (Some symbol) marks low = omega (arith, marks.1)
 
 -- what `get` lends is the symbol at the place
-pub seen_at : (symbols : List Symbol) (place : ℕ) (r : Option (Bor Symbol)) → IsGetResult symbols place place r → option_copied r ≡ slice_get symbols place
+pub seen_at : (symbols : List Symbol) (place : ℕ) (r : Option (Bor Symbol)) → IsGetResult symbols place place r →
+    option_copied r ≡ slice_get symbols place
 seen_at symbols place None got = sym (slice_get_past symbols place got.3)
 seen_at symbols place (Some symbol) got = ap Some got.1 ∙ sym (slice_get-get_or symbols place symbol.now got.3.0)
 
-pub seen_low : (address : ℕ) (r : Option (Bor Symbol)) (o : Option Symbol) → option_copied r ≡ o → IfSome o (λ symbol. symbol.address ≤ address) → IfSome r (λ symbol. symbol.now.address ≤ address)
+pub seen_low : (address : ℕ) (r : Option (Bor Symbol)) (o : Option Symbol) → option_copied r ≡ o →
+    IfSome o (λ symbol. symbol.address ≤ address) → IfSome r (λ symbol. symbol.now.address ≤ address)
 seen_low address None o is low = tt
 seen_low address (Some symbol) o is low = (let P : Option Symbol → Type 0 = λ one. IfSome one (λ s. s.address ≤ address) in subst P (sym is) low)

@@ -50,19 +50,25 @@ then_first Less b none = none
 then_first Equal b none = refl
 then_first Greater b none = refl
 
-names_rise : (symbols : List Symbol) (entries : List Entry) → IsSortedBy (name_less symbols) entries → IsSortedBy (λ entry other. is_lt (order_at symbols (name_of (slice_get symbols other.place)) entry)) entries
+names_rise : (symbols : List Symbol) (entries : List Entry) → IsSortedBy (name_less symbols) entries →
+    IsSortedBy (λ entry other. is_lt (order_at symbols (name_of (slice_get symbols other.place)) entry)) entries
 names_rise symbols entries up k d low less = then_first (order_at symbols (name_of (slice_get symbols (get_or entries k d).place)) (get_or entries (k + 1) d)) _ (up k d low less)
 
-pub parted_before : (symbols : List Symbol) (entries : List Entry) (name : List ℕ) → IsSortedBy (name_less symbols) entries → IsPartitionedBy (is_before symbols name) entries
+pub parted_before : (symbols : List Symbol) (entries : List Entry) (name : List ℕ) →
+    IsSortedBy (name_less symbols) entries → IsPartitionedBy (is_before symbols name) entries
 parted_before symbols entries name up i j d le less is =
     lt_stays (order_at symbols name (get_or entries i d)) (order_at symbols name (get_or entries j d)) (searchable_from_sorted nat_list_cmp_total (λ (entry : Entry). name_of (slice_get symbols entry.place)) entries name (names_rise symbols entries up) i j d le less) is
 
-pub parted_up_to : (symbols : List Symbol) (entries : List Entry) (name : List ℕ) → IsSortedBy (name_less symbols) entries → IsPartitionedBy (is_not_after symbols name) entries
+pub parted_up_to : (symbols : List Symbol) (entries : List Entry) (name : List ℕ) →
+    IsSortedBy (name_less symbols) entries → IsPartitionedBy (is_not_after symbols name) entries
 parted_up_to symbols entries name up i j d le less is =
     le_stays (order_at symbols name (get_or entries i d)) (order_at symbols name (get_or entries j d)) (searchable_from_sorted nat_list_cmp_total (λ (entry : Entry). name_of (slice_get symbols entry.place)) entries name (names_rise symbols entries up) i j d le less) is
 
 -- ---- a part of a list that a test passes, and no more
-pub filter_part : {X : Type 0} (p : X → Bool) (xs : List X) (low k : ℕ) → low + k ≤ length xs → ((j : ℕ) (d : X) → j < low → p (get_or xs j d) ≡ false) → ((j : ℕ) (d : X) → low ≤ j → j < low + k → p (get_or xs j d) ≡ true) → ((j : ℕ) (d : X) → low + k ≤ j → j < length xs → p (get_or xs j d) ≡ false) → take k (drop low xs) ≡ filter p xs
+pub filter_part : {X : Type 0} (p : X → Bool) (xs : List X) (low k : ℕ) → low + k ≤ length xs →
+    ((j : ℕ) (d : X) → j < low → p (get_or xs j d) ≡ false) →
+    ((j : ℕ) (d : X) → low ≤ j → j < low + k → p (get_or xs j d) ≡ true) →
+    ((j : ℕ) (d : X) → low + k ≤ j → j < length xs → p (get_or xs j d) ≡ false) → take k (drop low xs) ≡ filter p xs
 filter_part p [] zero zero le below within above = refl
 filter_part p [] zero (suc k) le below within above = absurd (omega arith)
 filter_part p [] (suc low) k le below within above = absurd (omega arith)
@@ -97,7 +103,10 @@ before_up_to Equal low = refl
 before_up_to Greater low = absurd (false≢true low)
 
 -- the point of a test that passes more is no earlier
-pub points_rise : (p q : Entry → Bool) (xs : List Entry) (i j : ℕ) → IsPartitionPoint (λ x. p x ≡ true) (λ x. p x ≡ false) xs i → IsPartitionPoint (λ x. q x ≡ true) (λ x. q x ≡ false) xs j → i ≤ length xs → ((x : Entry) → p x ≡ true → q x ≡ true) → i ≤ j
+pub points_rise : (p q : Entry → Bool) (xs : List Entry) (i j : ℕ) →
+    IsPartitionPoint (λ x. p x ≡ true) (λ x. p x ≡ false) xs i →
+    IsPartitionPoint (λ x. q x ≡ true) (λ x. q x ≡ false) xs j → i ≤ length xs →
+    ((x : Entry) → p x ≡ true → q x ≡ true) → i ≤ j
 points_rise p q xs i j low high within weak =
     let d : Entry = record { address = 0; place = 0 } in
     elim (cases_lt j i) as (λ _. i ≤ j) [
@@ -124,7 +133,8 @@ equal_is Less is = absurd (false≢true is)
 equal_is Equal is = refl
 equal_is Greater is = absurd (false≢true is)
 
-same_names : (x y name : List ℕ) → is_eq (slice_cmp nat_cmp x name) ≡ true → is_eq (slice_cmp nat_cmp y name) ≡ true → slice_cmp nat_cmp x y ≡ Equal
+same_names : (x y name : List ℕ) → is_eq (slice_cmp nat_cmp x name) ≡ true → is_eq (slice_cmp nat_cmp y name) ≡ true →
+    slice_cmp nat_cmp x y ≡ Equal
 same_names x y name is_x is_y =
     let one = equal_is (slice_cmp nat_cmp x name) is_x in
     let other = equal_is (slice_cmp nat_cmp y name) is_y in
@@ -137,7 +147,9 @@ address_rises a b p q none =
       | false ↦ λ low _. ltb-false b a low
     ] refl none
 
-named_all : (symbols : List Symbol) (name : List ℕ) (entries : List Entry) (k : ℕ) (d : Entry) → k < length (filter (is_named_at symbols name) entries) → is_named_at symbols name (get_or (filter (is_named_at symbols name) entries) k d) ≡ true
+named_all : (symbols : List Symbol) (name : List ℕ) (entries : List Entry) (k : ℕ) (d : Entry) →
+    k < length (filter (is_named_at symbols name) entries) →
+    is_named_at symbols name (get_or (filter (is_named_at symbols name) entries) k d) ≡ true
 named_all symbols name entries k d less =
     let named = is_named_at symbols name in
     let other : Entry → Bool = λ entry. not (named entry) in
@@ -152,7 +164,9 @@ named_all symbols name entries k d less =
     true_from_not true is = refl
     true_from_not false is = sym is
 
-pub named_rise : (symbols : List Symbol) (name : List ℕ) (entries named : List Entry) → IsSortedBy (name_less symbols) entries → named ≡ filter (is_named_at symbols name) entries → IsNonDecreasingBy (λ (entry : Entry). entry.address) named
+pub named_rise : (symbols : List Symbol) (name : List ℕ) (entries named : List Entry) →
+    IsSortedBy (name_less symbols) entries → named ≡ filter (is_named_at symbols name) entries →
+    IsNonDecreasingBy (λ (entry : Entry). entry.address) named
 named_rise symbols name entries named up is =
     let kept = filter (is_named_at symbols name) entries in
     let sorted = IsSortedBy-filter (name_less symbols) (entry_laws Names symbols) (is_named_at symbols name) entries up in
@@ -164,7 +178,8 @@ named_rise symbols name entries named up is =
     address_rises x.address y.address x.place y.place (sym (ap (λ o. is_lt (ordering_then o (address_order y x))) same) ∙ sorted k d (omega arith) less)))
 
 -- ---- the addresses that a lookup finds
-has_wanted : (n : ℕ) (wanted : Symbol → Bool) (symbols : List Symbol) → has n (map address_of (filter wanted symbols)) ≡ list_any (λ symbol. wanted symbol && eqb n symbol.address) symbols
+has_wanted : (n : ℕ) (wanted : Symbol → Bool) (symbols : List Symbol) →
+    has n (map address_of (filter wanted symbols)) ≡ list_any (λ symbol. wanted symbol && eqb n symbol.address) symbols
 has_wanted n wanted [] = refl
 has_wanted n wanted (symbol ∷ rest) =
     elim (wanted symbol) as (λ b. has n (map address_of (cond b (symbol ∷ filter wanted rest) (filter wanted rest))) ≡ ((b && eqb n symbol.address) || list_any (λ s. wanted s && eqb n s.address) rest)) [
@@ -181,7 +196,8 @@ unfolding gives
 has-cons_option n None later = refl
 has-cons_option n (Some m) later = refl
 
-has-kept : (n : ℕ) (h : Entry → Option ℕ) (entry : Entry) (rest : List Entry) (b : Bool) → has n (filter_map h (cond b (entry ∷ rest) rest)) ≡ ((b && gives n (h entry)) || has n (filter_map h rest))
+has-kept : (n : ℕ) (h : Entry → Option ℕ) (entry : Entry) (rest : List Entry) (b : Bool) →
+    has n (filter_map h (cond b (entry ∷ rest) rest)) ≡ ((b && gives n (h entry)) || has n (filter_map h rest))
 has-kept n h entry rest true = has-cons_option n (h entry) (filter_map h rest)
 has-kept n h entry rest false = refl
 
@@ -189,39 +205,50 @@ has-kept n h entry rest false = refl
 gives_at : ℕ → Kind → List ℕ → List Symbol → Entry → Bool
 gives_at n kind name symbols entry = is_named_at symbols name entry && gives n (kind_address kind (slice_get symbols entry.place))
 
-has_found : (n : ℕ) (kind : Kind) (name : List ℕ) (symbols : List Symbol) (entries : List Entry) → has n (found_at symbols kind name entries) ≡ list_any (gives_at n kind name symbols) entries
+has_found : (n : ℕ) (kind : Kind) (name : List ℕ) (symbols : List Symbol) (entries : List Entry) →
+    has n (found_at symbols kind name entries) ≡ list_any (gives_at n kind name symbols) entries
 unfolding gives_at
 has_found n kind name symbols [] = refl
 has_found n kind name symbols (entry ∷ rest) =
     has-kept n (λ one. kind_address kind (slice_get symbols one.place)) entry (filter (is_named_at symbols name) rest) (is_named_at symbols name entry)
     ∙ ap (λ b. gives_at n kind name symbols entry || b) (has_found n kind name symbols rest)
 
-gives_one : (n : ℕ) (kind : Kind) (name : List ℕ) (symbols : List Symbol) (k : ℕ) (symbol : Symbol) → slice_get symbols k ≡ Some symbol → gives_at n kind name symbols (record { address = symbol.address; place = k }) ≡ (is_listed kind name symbol && eqb n symbol.address)
+gives_one : (n : ℕ) (kind : Kind) (name : List ℕ) (symbols : List Symbol) (k : ℕ) (symbol : Symbol) →
+    slice_get symbols k ≡ Some symbol →
+    gives_at n kind name symbols (record { address = symbol.address; place = k }) ≡ (is_listed kind name symbol && eqb n symbol.address)
 unfolding gives_at gives
 gives_one n kind name symbols k symbol is =
     ap (λ o. is_eq (order_of name o) && gives n (kind_address kind o)) is
     ∙ ap (λ b. b && gives n (kind_address kind (Some symbol))) (is_eq-slice_cmp symbol.name name)
     ∙ elim (is_of_kind kind symbol) as (λ b. (is_named name symbol && gives n (cond b (Some symbol.address) None)) ≡ ((b && is_named name symbol) && eqb n symbol.address)) [ true ↦ refl | false ↦ and_right (is_named name symbol) false refl ]
 
-has_listed : (n : ℕ) (kind : Kind) (name : List ℕ) (symbols : List Symbol) (entries : List Entry) → HasAll Names symbols entries → has n (found_at symbols kind name entries) ≡ has n (map address_of (filter (is_listed kind name) symbols))
+has_listed : (n : ℕ) (kind : Kind) (name : List ℕ) (symbols : List Symbol) (entries : List Entry) →
+    HasAll Names symbols entries →
+    has n (found_at symbols kind name entries) ≡ has n (map address_of (filter (is_listed kind name) symbols))
 has_listed n kind name symbols entries all =
     has_found n kind name symbols entries
     ∙ any_entry Names symbols entries (gives_at n kind name symbols) (λ symbol. is_listed kind name symbol && eqb n symbol.address) all (gives_one n kind name symbols)
     ∙ sym (has_wanted n (is_listed kind name) symbols)
 
 -- numbers in another order are the same, each once and ascending
-pub found_by_name : (kind : Kind) (name : List ℕ) (symbols : List Symbol) (entries : List Entry) (moved : List ℕ) → HasAll Names symbols entries → IsPermutation (found_at symbols kind name entries) moved → ascending moved ≡ addresses_of (is_listed kind name) symbols
+pub found_by_name : (kind : Kind) (name : List ℕ) (symbols : List Symbol) (entries : List Entry) (moved : List ℕ) →
+    HasAll Names symbols entries → IsPermutation (found_at symbols kind name entries) moved →
+    ascending moved ≡ addresses_of (is_listed kind name) symbols
 found_by_name kind name symbols entries moved all same =
     let wanted = map address_of (filter (is_listed kind name) symbols) in
     same_members (ascending moved) (ascending wanted) (ascends-ascending moved) (ascends-ascending wanted) (λ n.
     has-ascending n moved ∙ sym (list_any-IsPermutation (eqb n) (found_at symbols kind name entries) moved same)
     ∙ has_listed n kind name symbols entries all ∙ sym (has-ascending n wanted))
 
-found_append : (symbols : List Symbol) (kind : Kind) (name : List ℕ) (entries rest : List Entry) → found_at symbols kind name (entries ++ rest) ≡ found_at symbols kind name entries ++ found_at symbols kind name rest
+found_append : (symbols : List Symbol) (kind : Kind) (name : List ℕ) (entries rest : List Entry) →
+    found_at symbols kind name (entries ++ rest) ≡ found_at symbols kind name entries ++ found_at symbols kind name rest
 found_append symbols kind name entries rest = ap (filter_map (λ entry. kind_address kind (slice_get symbols entry.place))) (filter-append (is_named_at symbols name) entries rest) ∙ filter_map-append (λ entry. kind_address kind (slice_get symbols entry.place)) (filter (is_named_at symbols name) entries) (filter (is_named_at symbols name) rest)
 
 -- one block more is looked through
-pub found_more : (symbols : List Symbol) (kind : Kind) (name : List ℕ) (entries : List Entry) (begin end : ℕ) (found block : List ℕ) → begin ≤ end → block ≡ found_at symbols kind name (between begin end entries) → IsPermutation (found_at symbols kind name (drop end entries)) found → IsPermutation (found_at symbols kind name (drop begin entries)) (found ++ block)
+pub found_more : (symbols : List Symbol) (kind : Kind) (name : List ℕ) (entries : List Entry) (begin end : ℕ) (found block : List ℕ) →
+    begin ≤ end → block ≡ found_at symbols kind name (between begin end entries) →
+    IsPermutation (found_at symbols kind name (drop end entries)) found →
+    IsPermutation (found_at symbols kind name (drop begin entries)) (found ++ block)
 found_more symbols kind name entries begin end found block order is so_far =
     let here = between begin end entries in
     let rest = drop end entries in
@@ -231,7 +258,8 @@ found_more symbols kind name entries begin end found block order is so_far =
     (subst Q (sym is) (IsPermutation-trans _ _ _ (IsPermutation-append_comm (found_at symbols kind name here) (found_at symbols kind name rest)) (IsPermutation-append_left (found_at symbols kind name here) _ _ so_far)))
 
 -- ---- a global symbol of a name at an address
-any_filtered : (p test : Entry → Bool) (entries : List Entry) → list_any test (filter p entries) ≡ list_any (λ entry. p entry && test entry) entries
+any_filtered : (p test : Entry → Bool) (entries : List Entry) →
+    list_any test (filter p entries) ≡ list_any (λ entry. p entry && test entry) entries
 any_filtered p test [] = refl
 any_filtered p test (entry ∷ rest) =
     elim (p entry) as (λ b. list_any test (cond b (entry ∷ filter p rest) (filter p rest)) ≡ ((b && test entry) || list_any (λ one. p one && test one) rest)) [
@@ -243,23 +271,29 @@ shuffled : (global named here : Bool) → (global && (named && here)) ≡ ((glob
 shuffled false named here = refl
 shuffled true named here = refl
 
-any_alike : (p q : Symbol → Bool) (symbols : List Symbol) → ((symbol : Symbol) → p symbol ≡ q symbol) → list_any p symbols ≡ list_any q symbols
+any_alike : (p q : Symbol → Bool) (symbols : List Symbol) → ((symbol : Symbol) → p symbol ≡ q symbol) →
+    list_any p symbols ≡ list_any q symbols
 any_alike p q [] same = refl
 any_alike p q (symbol ∷ rest) same = ap (λ b. b || list_any p rest) (same symbol) ∙ ap (λ b. q symbol || b) (any_alike p q rest same)
 
-entry_of_one : (symbols : List Symbol) (name : List ℕ) (address k : ℕ) (symbol : Symbol) → slice_get symbols k ≡ Some symbol → is_entry_of symbols name address (record { address = symbol.address; place = k }) ≡ (is_named name symbol && eqb address symbol.address)
+entry_of_one : (symbols : List Symbol) (name : List ℕ) (address k : ℕ) (symbol : Symbol) →
+    slice_get symbols k ≡ Some symbol →
+    is_entry_of symbols name address (record { address = symbol.address; place = k }) ≡ (is_named name symbol && eqb address symbol.address)
 entry_of_one symbols name address k symbol is =
     ap (λ o. is_eq (order_of name o) && eqb address symbol.address) is
     ∙ ap (λ b. b && eqb address symbol.address) (is_eq-slice_cmp symbol.name name)
 
 -- looking through blocks
-pub found_here : (p : Entry → Bool) (entries : List Entry) (begin end : ℕ) → begin ≤ end → list_any p (between begin end entries) ≡ true → list_any p entries ≡ true
+pub found_here : (p : Entry → Bool) (entries : List Entry) (begin end : ℕ) → begin ≤ end →
+    list_any p (between begin end entries) ≡ true → list_any p entries ≡ true
 found_here p entries begin end order is =
     ap (list_any p) (sym (take-append-drop begin entries)) ∙ list_any-append p (take begin entries) (drop begin entries)
     ∙ ap (λ b. list_any p (take begin entries) || b) (ap (list_any p) (drop_between entries begin end order) ∙ list_any-append p (between begin end entries) (drop end entries) ∙ ap (λ b. b || list_any p (drop end entries)) is)
     ∙ or_right (list_any p (take begin entries)) true refl
 
-pub none_here : (p : Entry → Bool) (entries : List Entry) (begin end : ℕ) → begin ≤ end → list_any p (between begin end entries) ≡ false → list_any p (drop end entries) ≡ false → list_any p (drop begin entries) ≡ false
+pub none_here : (p : Entry → Bool) (entries : List Entry) (begin end : ℕ) → begin ≤ end →
+    list_any p (between begin end entries) ≡ false → list_any p (drop end entries) ≡ false →
+    list_any p (drop begin entries) ≡ false
 none_here p entries begin end order here later =
     ap (list_any p) (drop_between entries begin end order) ∙ list_any-append p (between begin end entries) (drop end entries)
     ∙ ap (λ b. b || list_any p (drop end entries)) here ∙ later
@@ -276,12 +310,15 @@ has_length p (x ∷ xs) =
     some_longer : (n : ℕ) → ltb 0 (suc n) ≡ true
     some_longer n = grind (arith, nat_tests)
 
-pub any_named : (symbols : List Symbol) (name : List ℕ) (address : ℕ) (entries : List Entry) → ltb 0 (length (filter (stands_at address) (filter (is_named_at symbols name) entries))) ≡ list_any (is_entry_of symbols name address) entries
+pub any_named : (symbols : List Symbol) (name : List ℕ) (address : ℕ) (entries : List Entry) →
+    ltb 0 (length (filter (stands_at address) (filter (is_named_at symbols name) entries))) ≡ list_any (is_entry_of symbols name address) entries
 any_named symbols name address entries =
     sym (has_length (stands_at address) (filter (is_named_at symbols name) entries))
     ∙ any_filtered (is_named_at symbols name) (stands_at address) entries
 
-pub any_global : (symbols : List Symbol) (name : List ℕ) (address : ℕ) (entries : List Entry) → HasAll Globals symbols entries → list_any (is_entry_of symbols name address) entries ≡ list_any (eqb address) (global_addresses symbols name)
+pub any_global : (symbols : List Symbol) (name : List ℕ) (address : ℕ) (entries : List Entry) →
+    HasAll Globals symbols entries →
+    list_any (is_entry_of symbols name address) entries ≡ list_any (eqb address) (global_addresses symbols name)
 any_global symbols name address entries all =
     any_entry Globals symbols entries (is_entry_of symbols name address) (λ symbol. is_named name symbol && eqb address symbol.address) all (entry_of_one symbols name address)
     ∙ any_alike _ _ symbols (λ symbol. shuffled symbol.global (is_named name symbol) (eqb address symbol.address))

@@ -15,12 +15,14 @@ use Rattle.symbol_table.proofs.BlockLaws.{drop_between}
 use Rattle.symbol_table.proofs.EntryLaws.{any_entry}
 
 -- ---- a test that is stronger finds nothing either
-none_weaker : {X : Type 0} (p q : X → Bool) (xs : List X) → ((x : X) → p x ≡ false → q x ≡ false) → list_any p xs ≡ false → list_any q xs ≡ false
+none_weaker : {X : Type 0} (p q : X → Bool) (xs : List X) → ((x : X) → p x ≡ false → q x ≡ false) →
+    list_any p xs ≡ false → list_any q xs ≡ false
 none_weaker p q [] weak none = refl
 none_weaker p q (x ∷ xs) weak none =
     or_from (q x) (list_any q xs) (weak x (or_parts (p x) (list_any p xs) none).0) (none_weaker p q xs weak (or_parts (p x) (list_any p xs) none).1)
 
-none_by_place : {X : Type 0} (p : X → Bool) (xs : List X) (d : X) → ((k : ℕ) → k < length xs → p (get_or xs k d) ≡ false) → list_any p xs ≡ false
+none_by_place : {X : Type 0} (p : X → Bool) (xs : List X) (d : X) →
+    ((k : ℕ) → k < length xs → p (get_or xs k d) ≡ false) → list_any p xs ≡ false
 none_by_place p [] d each = refl
 none_by_place p (x ∷ xs) d each = ap (λ b. b || list_any p xs) (each 0 (omega arith)) ∙ none_by_place p xs d (λ k less. each (suc k) (omega arith))
 
@@ -33,7 +35,8 @@ between_less low m n x le none =
       | false ↦ λ _. refl
     ] none
 
-pub next_joined : (low : ℕ) (xs ys : List Entry) (a b : Option ℕ) → IsNext low (any_address xs) a → IsNext low (any_address ys) b → IsNext low (λ test. any_address xs test || any_address ys test) (lesser a b)
+pub next_joined : (low : ℕ) (xs ys : List Entry) (a b : Option ℕ) → IsNext low (any_address xs) a →
+    IsNext low (any_address ys) b → IsNext low (λ test. any_address xs test || any_address ys test) (lesser a b)
 next_joined low xs ys None None is_a is_b = or_from _ _ is_a is_b
 next_joined low xs ys None (Some n) is_a is_b =
     (is_b.0, or_right _ _ is_b.1, or_from _ _ (none_weaker (λ entry. ltb low entry.address) _ xs (λ entry. and_left (ltb low entry.address) (ltb entry.address n)) is_a) is_b.2)
@@ -48,22 +51,31 @@ next_joined low xs ys (Some m) (Some n) is_a is_b =
     ] refl
 
 -- the same numbers have the same next one
-pub next_alike : (low : ℕ) (any other : (ℕ → Bool) → Bool) (o : Option ℕ) → ((test : ℕ → Bool) → any test ≡ other test) → IsNext low any o → IsNext low other o
+pub next_alike : (low : ℕ) (any other : (ℕ → Bool) → Bool) (o : Option ℕ) →
+    ((test : ℕ → Bool) → any test ≡ other test) → IsNext low any o → IsNext low other o
 next_alike low any other None alike is = sym (alike (ltb low)) ∙ is
 next_alike low any other (Some n) alike is = (is.0, sym (alike (eqb n)) ∙ is.1, sym (alike (λ m. ltb low m && ltb m n)) ∙ is.2)
 
 -- one block more is looked through
-pub next_more : (low : ℕ) (entries : List Entry) (begin end : ℕ) (a b : Option ℕ) → begin ≤ end → IsNext low (any_address (between begin end entries)) a → IsNext low (any_address (drop end entries)) b → IsNext low (any_address (drop begin entries)) (lesser a b)
+pub next_more : (low : ℕ) (entries : List Entry) (begin end : ℕ) (a b : Option ℕ) → begin ≤ end →
+    IsNext low (any_address (between begin end entries)) a → IsNext low (any_address (drop end entries)) b →
+    IsNext low (any_address (drop begin entries)) (lesser a b)
 next_more low entries begin end a b order is_a is_b =
     next_alike low _ _ (lesser a b) (λ test.
     sym (list_any-append (λ entry. test entry.address) (between begin end entries) (drop end entries))
     ∙ ap (list_any (λ entry. test entry.address)) (sym (drop_between entries begin end order))) (next_joined low (between begin end entries) (drop end entries) a b is_a is_b)
 
 -- ---- what a search by halving finds
-pub next_none : (low : ℕ) (entries : List Entry) (d : Entry) → ((k : ℕ) → k < length entries → leb (get_or entries k d).address low ≡ true) → IsNext low (any_address entries) None
+pub next_none : (low : ℕ) (entries : List Entry) (d : Entry) →
+    ((k : ℕ) → k < length entries → leb (get_or entries k d).address low ≡ true) →
+    IsNext low (any_address entries) None
 next_none low entries d under = none_by_place (λ entry. ltb low entry.address) entries d (λ k less. le-ltb low (get_or entries k d).address (leb-true (get_or entries k d).address low (under k less)))
 
-pub next_some : (low : ℕ) (entries : List Entry) (place : ℕ) (d : Entry) → IsNonDecreasingBy (λ (entry : Entry). entry.address) entries → place < length entries → ((k : ℕ) → k < place → leb (get_or entries k d).address low ≡ true) → leb (get_or entries place d).address low ≡ false → IsNext low (any_address entries) (Some (get_or entries place d).address)
+pub next_some : (low : ℕ) (entries : List Entry) (place : ℕ) (d : Entry) →
+    IsNonDecreasingBy (λ (entry : Entry). entry.address) entries → place < length entries →
+    ((k : ℕ) → k < place → leb (get_or entries k d).address low ≡ true) →
+    leb (get_or entries place d).address low ≡ false →
+    IsNext low (any_address entries) (Some (get_or entries place d).address)
 next_some low entries place d rise less under over =
     let n = (get_or entries place d).address in (
       over_is low n over,
@@ -87,7 +99,8 @@ any_equal p n (m ∷ ms) holds one =
       | inr later ↦ or_right _ _ (any_equal p n ms holds later)
     ]
 
-numbers_next : (low : ℕ) (ns : List ℕ) (a b : Option ℕ) → IsNext low (λ test. list_any test ns) a → IsNext low (λ test. list_any test ns) b → a ≡ b
+numbers_next : (low : ℕ) (ns : List ℕ) (a b : Option ℕ) → IsNext low (λ test. list_any test ns) a →
+    IsNext low (λ test. list_any test ns) b → a ≡ b
 numbers_next low ns None None is_a is_b = refl
 numbers_next low ns None (Some n) is_a is_b = absurd (false≢true (sym is_a ∙ any_equal (ltb low) n ns is_b.0 is_b.1))
 numbers_next low ns (Some m) None is_a is_b = absurd (false≢true (sym is_b ∙ any_equal (ltb low) m ns is_a.0 is_a.1))
@@ -98,7 +111,8 @@ numbers_next low ns (Some m) (Some n) is_a is_b =
     let other = no_less n m is_b.0 is_b.1 is_a.2 in
     ap Some (omega arith)
 
-fold_next : (low n : ℕ) (ns : List ℕ) → ltb low n ≡ true → IsNext low (λ test. test n || list_any test ns) (Some (fold min n (filter (ltb low) ns)))
+fold_next : (low n : ℕ) (ns : List ℕ) → ltb low n ≡ true →
+    IsNext low (λ test. test n || list_any test ns) (Some (fold min n (filter (ltb low) ns)))
 fold_next low n [] above = (above, or_left _ _ (eq-eqb n n refl), or_from _ _ (ap (λ b. b && ltb n n) above ∙ le-ltb n n (omega arith)) refl)
 fold_next low n (m ∷ ms) above =
     elim (ltb low m) as (λ b. ltb low m ≡ b → IsNext low (λ test. test n || (test m || list_any test ms)) (Some (fold min n (cond b (m ∷ filter (ltb low) ms) (filter (ltb low) ms))))) [
@@ -129,7 +143,8 @@ fold_next low n (m ∷ ms) above =
     ] refl
 
 -- a number that isn't above changes nothing
-next_passed : (low n : ℕ) (ns : List ℕ) → ltb low n ≡ false → (o : Option ℕ) → IsNext low (λ test. list_any test ns) o → IsNext low (λ test. test n || list_any test ns) o
+next_passed : (low n : ℕ) (ns : List ℕ) → ltb low n ≡ false → (o : Option ℕ) →
+    IsNext low (λ test. list_any test ns) o → IsNext low (λ test. test n || list_any test ns) o
 next_passed low n ns under None is = or_from _ _ under is
 next_passed low n ns under (Some m) is = (is.0, or_right _ _ is.1, or_from _ _ (and_left (ltb low n) _ under) is.2)
 
@@ -142,7 +157,8 @@ next_reduced low (n ∷ ns) =
     ] refl
 
 -- ---- the functions and the data are all symbols
-both_kinds : (test : ℕ → Bool) (symbols : List Symbol) → (list_any (λ symbol. is_in Functions symbol && test symbol.address) symbols || list_any (λ symbol. is_in Data symbol && test symbol.address) symbols) ≡ list_any test (map address_of symbols)
+both_kinds : (test : ℕ → Bool) (symbols : List Symbol) →
+    (list_any (λ symbol. is_in Functions symbol && test symbol.address) symbols || list_any (λ symbol. is_in Data symbol && test symbol.address) symbols) ≡ list_any test (map address_of symbols)
 both_kinds test [] = refl
 both_kinds test (symbol ∷ rest) =
     elim symbol.function as (λ f. (((f && test symbol.address) || list_any (λ s. is_in Functions s && test s.address) rest) || ((not f && test symbol.address) || list_any (λ s. is_in Data s && test s.address) rest)) ≡ (test symbol.address || list_any test (map address_of rest))) [
@@ -159,7 +175,9 @@ both_kinds test (symbol ∷ rest) =
     moved_right true false c = refl
     moved_right false b c = refl
 
-pub next_found : (symbols : List Symbol) (functions others : List Entry) (low : ℕ) (a b : Option ℕ) → HasAll Functions symbols functions → HasAll Data symbols others → IsNext low (any_address functions) a → IsNext low (any_address others) b → lesser a b ≡ next_address symbols low
+pub next_found : (symbols : List Symbol) (functions others : List Entry) (low : ℕ) (a b : Option ℕ) →
+    HasAll Functions symbols functions → HasAll Data symbols others → IsNext low (any_address functions) a →
+    IsNext low (any_address others) b → lesser a b ≡ next_address symbols low
 next_found symbols functions others low a b has_functions has_others is_a is_b =
     let numbers = map address_of symbols in
     numbers_next low numbers (lesser a b) (next_address symbols low)

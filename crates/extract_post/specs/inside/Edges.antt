@@ -81,11 +81,12 @@ twins_from p q post place (section ∷ rest) = twin (place_named post section.na
   twin None = []
   twin (Some other) = edge (member_node p place) (member_node q other) ∷ edge (member_node q other) (member_node p place) ∷ []
 
+-- post's sections come first
 abbrev pub pre_numbers : List NormalSection → List NormalSection → Numbers
-pre_numbers pre post = record { base = 0; total = length pre + length post }
+pre_numbers pre post = record { base = length post; total = length pre + length post }
 
 abbrev pub post_numbers : List NormalSection → List NormalSection → Numbers
-post_numbers pre post = record { base = length pre; total = length pre + length post }
+post_numbers pre post = record { base = 0; total = length pre + length post }
 
 unfoldable pub member_edges : List NormalSection → List NormalSection → List Edge
 member_edges pre post =

@@ -1,5 +1,5 @@
 -- Marks of sections: a list of marks has a place for each section.
-use Rattle.std.specs.Prelude.{◌≡◌, ◌⊎◌, ◌<◌, IsTrue, ℕ, ◌+◌, ◌-◌, nat_le, Bool, true, false, not, ◌&&◌, ◌||◌, List, [], ◌∷◌, length, map, Option, Some, None, position}
+use Rattle.std.specs.Prelude.{◌≡◌, ◌⊎◌, ◌<◌, ℕ, ◌+◌, Bool, true, false, not, ◌&&◌, ◌||◌, List, [], ◌∷◌, length, map, Option, Some, None, position}
 use Rattle.std.specs.List.{slice_get, slice_index_or}
 use Rattle.reachability.specs.Reached.{Tells}
 use Rattle.i386_reloc.specs.declared.types.Ref.{Ref}
@@ -7,7 +7,7 @@ use Rattle.i386_reloc.specs.declared.types.NormalSection.{NormalSection}
 use Rattle.i386_reloc.specs.Classes.{is_code_class}
 use Rattle.section_equal.specs.Same.{same_in}
 use Rattle.i386_reloc.specs.Reaches.{is_read_only_class, is_in, is_interior}
-use Rattle.extract_post.specs.Members.{is_new_data, is_changed_constant, ReachesChanged, Member}
+use Rattle.extract_post.specs.Members.{is_changed_constant, ReachesChanged, Member}
 use Rattle.extract_post.specs.inside.Closures.{SeedReaches, ReachesSeed}
 use Rattle.i386_reloc.specs.Places.{place_of_target}
 
@@ -15,10 +15,14 @@ use Rattle.i386_reloc.specs.Places.{place_of_target}
 abbrev pub marked : List Bool → ℕ → Bool
 marked marks place = slice_index_or marks place false
 
--- marks that tell of each section whether its name has a property
-pub record Marks (P : List ℕ → Type 0) (sections : List NormalSection) (marks : List Bool) : Type 0 where
+-- marks that tell of each section whether its name has a property; and that are as many
+abbrev pub TellEach : (List ℕ → Type 0) → List NormalSection → List Bool → Type 0
+TellEach P sections marks =
+    (place : ℕ) (section : NormalSection) → slice_get sections place ≡ Some section → Tells (marked marks place) (P section.name)
+
+pub record TellWhich (P : List ℕ → Type 0) (sections : List NormalSection) (marks : List Bool) : Type 0 where
   pub len : length marks ≡ length sections
-  pub each : (place : ℕ) (section : NormalSection) → slice_get sections place ≡ Some section → Tells (marked marks place) (P section.name)
+  pub each : TellEach P sections marks
 
 -- the marks of a test of names
 abbrev pub tests : (List ℕ → Bool) → List NormalSection → List Bool
@@ -27,21 +31,31 @@ tests test sections = map (λ section. test section.name) sections
 -- marks that tell which sections are marked or reach a marked one; and which are marked or reached from one
 pub record TellReaching (sections : List NormalSection) (seeds marks : List Bool) : Type 0 where
   pub len : length marks ≡ length sections
-  pub each : (place : ℕ) (section : NormalSection) → slice_get sections place ≡ Some section → Tells (marked marks place) ((marked seeds place ≡ true) ⊎ ReachesSeed sections seeds section.name)
+  pub each : (place : ℕ) (section : NormalSection) → slice_get sections place ≡ Some section →
+      Tells (marked marks place) ((marked seeds place ≡ true) ⊎ ReachesSeed sections seeds section.name)
 
 pub record TellReached (sections : List NormalSection) (seeds marks : List Bool) : Type 0 where
   pub len : length marks ≡ length sections
-  pub each : (place : ℕ) (section : NormalSection) → slice_get sections place ≡ Some section → Tells (marked marks place) ((marked seeds place ≡ true) ⊎ SeedReaches sections seeds section.name)
+  pub each : (place : ℕ) (section : NormalSection) → slice_get sections place ≡ Some section →
+      Tells (marked marks place) ((marked seeds place ≡ true) ⊎ SeedReaches sections seeds section.name)
 
--- marks of post's sections that tell which reach a changed constant, of those that are none in either object
-pub record TellReachesChanged (pre post : List NormalSection) (marks : List Bool) : Type 0 where
+-- whether the section of a name isn't the same in both objects
+abbrev pub is_other : List NormalSection → List NormalSection → List ℕ → Bool
+is_other pre post name = not (same_in pre post name)
+
+-- marks of post's sections that tell which aren't the same in both or reach a changed constant, of those that are none in
+-- either object
+pub record TellChanged (pre post : List NormalSection) (marks : List Bool) : Type 0 where
   pub len : length marks ≡ length post
-  pub each : (place : ℕ) (section : NormalSection) → slice_get post place ≡ Some section → is_changed_constant pre pre post section.name ≡ false → is_changed_constant post pre post section.name ≡ false → Tells (marked marks place) (ReachesChanged pre post section.name)
+  pub each : (place : ℕ) (section : NormalSection) → slice_get post place ≡ Some section →
+      is_changed_constant pre pre post section.name ≡ false → is_changed_constant post pre post section.name ≡ false →
+      Tells (marked marks place) ((is_other pre post section.name ≡ true) ⊎ ReachesChanged pre post section.name)
 
--- what the search for members has found in both objects
+-- what the search for members has found in both objects: the marks of post's sections come first
 pub record TellMembers (pre post : List NormalSection) (nodes : List Bool) : Type 0 where
-  pub in_pre : (place : ℕ) (section : NormalSection) → slice_get pre place ≡ Some section → Tells (marked nodes place) (Member pre post section.name)
-  pub in_post : (place : ℕ) (section : NormalSection) → slice_get post place ≡ Some section → Tells (marked nodes (length pre + place)) (Member pre post section.name)
+  pub in_pre : (place : ℕ) (section : NormalSection) → slice_get pre place ≡ Some section →
+      Tells (marked nodes (length post + place)) (Member pre post section.name)
+  pub in_post : TellEach (Member pre post) post nodes
 
 -- the marks that both lists have, and that either has
 pub record AreBoth (a b both : List Bool) : Type 0 where
@@ -57,18 +71,10 @@ pub record AreApart (a b apart : List Bool) : Type 0 where
   pub len : length apart ≡ length a
   pub each : (place : ℕ) → marked apart place ≡ (marked a place && not (marked b place))
 
--- some of the marks, from a place on
+-- so many of the marks, from a place on
 pub record ArePart (marks : List Bool) (from count : ℕ) (part : List Bool) : Type 0 where
   pub len : length part ≡ count
   pub each : (place : ℕ) → place < count → marked part place ≡ marked marks (from + place)
-
--- marks that stand behind a number of others, none of which is marked
-abbrev pub shifted : List Bool → ℕ → ℕ → Bool
-shifted marks before place = nat_le before place && marked marks (place - before)
-
-pub record AreShifted (marks : List Bool) (before count : ℕ) (all : List Bool) : Type 0 where
-  pub len : length all ≡ count
-  pub each : (place : ℕ) → place < count → marked all place ≡ shifted marks before place
 
 -- whether the section at a place is marked, where there is one
 abbrev pub marked_at : List Bool → Option ℕ → Bool
@@ -82,15 +88,6 @@ marked_names (section ∷ sections) [] = []
 marked_names (section ∷ sections) (true ∷ marks) = section.name ∷ marked_names sections marks
 marked_names (section ∷ sections) (false ∷ marks) = marked_names sections marks
 
--- whether the section of a name isn't the same in both objects
-abbrev pub is_other : List NormalSection → List NormalSection → List ℕ → Bool
-is_other pre post name = not (same_in pre post name)
-
--- the marks of sections that aren't the same, or are marked
-pub record AreOther (pre post : List NormalSection) (reaching other : List Bool) : Type 0 where
-  pub len : length other ≡ length post
-  pub each : (place : ℕ) (section : NormalSection) → slice_get post place ≡ Some section → marked other place ≡ (is_other pre post section.name || marked reaching place)
-
 -- whether a reference in old or new data goes to the interior of a marked section
 abbrev pub breaks_at : (old new : Bool) (changed stays : List Bool) → Option ℕ → Bool
 breaks_at old new changed stays None = false
@@ -102,7 +99,8 @@ breaks post old new changed stays r = is_interior r && breaks_at old new changed
 -- marks that tell which sections are starts, or read-only data that a start reaches
 pub record TellDataOf (post : List NormalSection) (starts marks : List Bool) : Type 0 where
   pub len : length marks ≡ length post
-  pub each : (place : ℕ) (section : NormalSection) → slice_get post place ≡ Some section → Tells (marked marks place) (((marked starts place ≡ true) ⊎ SeedReaches post starts section.name) × ((marked starts place ≡ true) ⊎ (is_in is_read_only_class post section.name ≡ true)))
+  pub each : (place : ℕ) (section : NormalSection) → slice_get post place ≡ Some section →
+      Tells (marked marks place) (((marked starts place ≡ true) ⊎ SeedReaches post starts section.name) × ((is_in is_read_only_class post section.name ≡ true) ⊎ (marked starts place ≡ true)))
 
 -- the first reference that breaks, of the section at a place
 abbrev pub breaks_in : List NormalSection → (old new changed stays : List Bool) → ℕ → NormalSection → Option ℕ
@@ -125,7 +123,3 @@ FirstBreak post old new changed stays (Some found) = NoBreakBelow post old new c
 -- a code section of post that is no member
 abbrev pub Stays : List NormalSection → List NormalSection → List ℕ → Type 0
 Stays pre post name = (is_in is_code_class post name ≡ true) × (Member pre post name → ⊥)
-
--- data of post alone
-abbrev pub IsFresh : List NormalSection → List NormalSection → List ℕ → Type 0
-IsFresh pre post name = IsTrue (is_new_data pre post name)

@@ -5,21 +5,22 @@ use Rattle.i386_reloc.specs.declared.types.NormalSection.{NormalSection}
 use Rattle.i386_reloc.specs.Classes.{is_code_class}
 use Rattle.i386_reloc.specs.Reaches.{is_in}
 use Rattle.extract_post.specs.Members.{is_there, Differs}
-use Rattle.extract_post.specs.inside.Edges.{Numbers, member_node, pre_numbers, post_numbers}
+use Rattle.extract_post.specs.inside.Edges.{member_node, post_numbers}
 
 -- The members from which the others are found: code sections that differ, and those of post alone.
 abbrev pub IsSeed : List NormalSection → List NormalSection → List ℕ → Type 0
 IsSeed pre post name = Differs pre post name ⊎ IsTrue (is_in is_code_class post name && not (is_there pre name))
 
--- a node is that of such a section, as a member, in a list of sections
-pub record IsSeedNode (pre post sections : List NormalSection) (numbers : Numbers) (node : ℕ) : Type 0 where
+-- a node is that of such a section of post, as a member
+pub record IsSeedNode (pre post : List NormalSection) (node : ℕ) : Type 0 where
   pub place : ℕ
   pub section : NormalSection
-  pub at : slice_get sections place ≡ Some section
-  pub is_node : node ≡ member_node numbers place
+  pub at : slice_get post place ≡ Some section
+  pub is_node : node ≡ member_node (post_numbers pre post) place
   pub is_seed : IsSeed pre post section.name
 
--- the marks are at such nodes alone, and at all that are in post
+-- the marks are at all such nodes, and at no others
 pub record AreSeeds (pre post : List NormalSection) (seeds : List Bool) : Type 0 where
-  pub sound : (node : ℕ) → slice_index_or seeds node false ≡ true → IsSeedNode pre post pre (pre_numbers pre post) node ⊎ IsSeedNode pre post post (post_numbers pre post) node
-  pub complete : (place : ℕ) (section : NormalSection) → slice_get post place ≡ Some section → IsSeed pre post section.name → slice_index_or seeds (member_node (post_numbers pre post) place) false ≡ true
+  pub sound : (node : ℕ) → slice_index_or seeds node false ≡ true → IsSeedNode pre post node
+  pub complete : (place : ℕ) (section : NormalSection) → slice_get post place ≡ Some section →
+      IsSeed pre post section.name → slice_index_or seeds (member_node (post_numbers pre post) place) false ≡ true

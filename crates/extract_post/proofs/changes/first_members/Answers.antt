@@ -3,8 +3,5 @@ use Rattle.extract_post.proofs.changes.first_members.Goals as goal
 
 pub returns : goal.returns
 returns c =
-    tell_seeds c.args.pre.now c.args.post.now c.args.reaching.now c.in_ok-changed.changed.items c.in_ok-in_both.in_both.items c.in_ok-code.code.items c.in_ok-alone.alone.items c.in_ok-marks.marks.items
-    c.requires.reaching c.in_ok-changed.ensures c.in_ok-in_both.ensures
-    (rw (← c.as_slice.ensures.value, ← c.as_slice-2.ensures.value) c.in_ok-code.ensures)
-    c.in_ok-alone.ensures
-    (rw (← c.as_slice-3.ensures.value, ← c.as_slice-4.ensures.value) c.in_ok-marks.ensures)
+    tell_seeds c.args.pre.now c.args.post.now c.args.changed.now c.in_ok-of.field-0 c.and-code.result c.in_ok-of-2.field-0 c.or.result
+    c.requires c.in_ok-of.ensures c.and-code.ensures c.in_ok-of-2.ensures c.or.ensures
