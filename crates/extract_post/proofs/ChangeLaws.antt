@@ -14,7 +14,7 @@ use Rattle.i386_reloc.specs.Places.{place_named}
 use Rattle.section_equal.specs.Same.{same_in}
 use Rattle.i386_reloc.specs.Reaches.{is_constant_class, is_read_only_class, is_data_class, has_class, is_in, some_reference, goes_to, Reaches}
 use Rattle.i386_reloc.specs.Reaches.Reaches.{Refers, Further}
-use Rattle.extract_post.specs.Members.{is_there, is_in_both, is_changed_constant, ReachesChanged, Differs}
+use Rattle.extract_post.specs.Members.{is_there, is_in_both, is_changed_read_only, ReachesChanged, Differs}
 use Rattle.extract_post.specs.Members.ReachesChanged.{InPre, InPost}
 use Rattle.extract_post.specs.Members.Differs.{Itself as DiffersItself, Through as DiffersThrough}
 use Rattle.extract_post.specs.Extract.{other_class, DataDiffers}
@@ -50,11 +50,11 @@ has_other wanted other (Some s) is = other s.class is
 
 unchanged : (wanted : Class → Bool) → ((c : Class) → wanted c ≡ true → is_read_only_class c ≡ false) →
     (of pre post : List NormalSection) (name : List ℕ) → is_in wanted of name ≡ true →
-    is_changed_constant of pre post name ≡ false
+    is_changed_read_only of pre post name ≡ false
 unchanged wanted other of pre post name is =
     and_left (is_in is_read_only_class of name) (not (same_in pre post name)) (has_other wanted other (section_named of name) is)
 
--- what is the same for code and for data: in both objects, and not the same or reaching changed constants
+-- what is the same for code and for data: in both objects, and not the same or reaching changed read-only data
 tells_differing : (wanted : Class → Bool) → ((c : Class) → wanted c ≡ true → is_read_only_class c ≡ false) →
     (pre post : List NormalSection) (changed in_both both : List Bool) → TellChanged pre post changed →
     in_both ≡ tests (is_in_both wanted pre post) post → AreBoth in_both changed both →
@@ -188,7 +188,7 @@ seeds_are pre post first seeds count all told are =
           rw e (are.each i (omega arith) ∙ (ap (marked first) e ∙ tells_true (IsSeed pre post s.name) (marked first i) (told.each i s at) seed));
     }
 
--- reaching changed constants in either object
+-- reaching changed read-only data in either object
 pub reaches_from : (sections : List NormalSection) (name other : List ℕ) → Reaches sections name other →
     section_named sections name ≡ None → ⊥
 reaches_from sections name other (Refers n o refers) none =
@@ -202,8 +202,8 @@ reaches_to sections name other (Refers n o refers) = (and_parts (is_in is_consta
 reaches_to sections name other (Further n between o before refers) = (and_parts (is_in is_constant_class sections o) (some_reference (goes_to o) (section_named sections between)) refers).0
 
 seed_of_reached : (pre post sections : List NormalSection) (name other : List ℕ) → Reaches sections name other →
-    is_changed_constant sections pre post other ≡ true →
-    ReachesSeed sections (tests (is_changed_constant sections pre post) sections) name
+    is_changed_read_only sections pre post other ≡ true →
+    ReachesSeed sections (tests (is_changed_read_only sections pre post) sections) name
 seed_of_reached pre post sections name other reaches changed =
     elim (option_cases (section_named sections other)) [
       | inl none ↦ absurd (let it = reaches_to sections name other reaches in let e : false ≡ true = rw none at it in cc)
@@ -213,15 +213,15 @@ seed_of_reached pre post sections name other reaches changed =
             place = i;
             section = some.0;
             at = at;
-            seeded = tests_at (is_changed_constant sections pre post) sections i some.0 at ∙ (ap (is_changed_constant sections pre post) same ∙ changed);
+            seeded = tests_at (is_changed_read_only sections pre post) sections i some.0 at ∙ (ap (is_changed_read_only sections pre post) same ∙ changed);
             reaches = rw same reaches;
           }
     ]
 
-changed_of_seed : (pre post sections : List NormalSection) (name : List ℕ) (it : ReachesSeed sections (tests (is_changed_constant sections pre post) sections) name) →
-    is_changed_constant sections pre post it.section.name ≡ true
+changed_of_seed : (pre post sections : List NormalSection) (name : List ℕ) (it : ReachesSeed sections (tests (is_changed_read_only sections pre post) sections) name) →
+    is_changed_read_only sections pre post it.section.name ≡ true
 changed_of_seed pre post sections name it =
-    sym (tests_at (is_changed_constant sections pre post) sections it.place it.section it.at) ∙ it.seeded
+    sym (tests_at (is_changed_read_only sections pre post) sections it.place it.section it.at) ∙ it.seeded
 
 only_reaching : (P Q : Type 0) (mark seed : Bool) → seed ≡ false → Tells mark ((seed ≡ true) ⊎ Q) → Tells mark Q
 only_reaching P Q mark seed unseeded told =
@@ -232,22 +232,22 @@ no_section : (sections : List NormalSection) (name : List ℕ) → place_named s
 no_section sections name none = section_named_at sections name ∙ rw none refl
 
 at_pre : (pre post : List NormalSection) (old : List Bool) →
-    TellReaching pre (tests (is_changed_constant pre pre post) pre) old → (name : List ℕ) →
-    is_changed_constant pre pre post name ≡ false → (o : Option ℕ) → place_named pre name ≡ o →
+    TellReaching pre (tests (is_changed_read_only pre pre post) pre) old → (name : List ℕ) →
+    is_changed_read_only pre pre post name ≡ false → (o : Option ℕ) → place_named pre name ≡ o →
     section_named pre name ≡ section_named pre name →
-    Tells (marked_at old o) (ReachesSeed pre (tests (is_changed_constant pre pre post) pre) name)
+    Tells (marked_at old o) (ReachesSeed pre (tests (is_changed_read_only pre pre post) pre) name)
 at_pre pre post old told name unchanged None there same =
-    λ (it : ReachesSeed pre (tests (is_changed_constant pre pre post) pre) name). reaches_from pre name it.section.name it.reaches (no_section pre name there)
+    λ (it : ReachesSeed pre (tests (is_changed_read_only pre pre post) pre) name). reaches_from pre name it.section.name it.reaches (no_section pre name there)
 at_pre pre post old told name unchanged (Some p) there same =
     let (t, at, is) = section_at_place pre name p there in
-    let P : List ℕ → Type 0 = λ n. Tells (marked old p) (ReachesSeed pre (tests (is_changed_constant pre pre post) pre) n) in
+    let P : List ℕ → Type 0 = λ n. Tells (marked old p) (ReachesSeed pre (tests (is_changed_read_only pre pre post) pre) n) in
     subst P is
-    (only_reaching (Unit {0}) (ReachesSeed pre (tests (is_changed_constant pre pre post) pre) t.name) (marked old p) (marked (tests (is_changed_constant pre pre post) pre) p)
-    (tests_at (is_changed_constant pre pre post) pre p t at ∙ (ap (is_changed_constant pre pre post) is ∙ unchanged)) (told.each p t at))
+    (only_reaching (Unit {0}) (ReachesSeed pre (tests (is_changed_read_only pre pre post) pre) t.name) (marked old p) (marked (tests (is_changed_read_only pre pre post) pre) p)
+    (tests_at (is_changed_read_only pre pre post) pre p t at ∙ (ap (is_changed_read_only pre pre post) is ∙ unchanged)) (told.each p t at))
 
 pub tell_changed : (pre post : List NormalSection) (other old new moved either marks : List Bool) →
-    other ≡ tests (is_other pre post) post → TellReaching pre (tests (is_changed_constant pre pre post) pre) old →
-    TellReaching post (tests (is_changed_constant post pre post) post) new →
+    other ≡ tests (is_other pre post) post → TellReaching pre (tests (is_changed_read_only pre pre post) pre) old →
+    TellReaching post (tests (is_changed_read_only post pre post) post) new →
     moved ≡ tests (λ name. marked_at old (place_named pre name)) post → AreEither other new either →
     AreEither either moved marks → TellChanged pre post marks
 tell_changed pre post other old new moved either marks are told_old told_new tested first second =
@@ -255,8 +255,8 @@ tell_changed pre post other old new moved either marks are told_old told_new tes
       len = second.len ∙ (first.len ∙ (ap length are ∙ length-map post (λ s. is_other pre post s.name)));
       each = λ i s at pre_unchanged post_unchanged.
           let O = is_other pre post s.name ≡ true in
-          let P = ReachesSeed post (tests (is_changed_constant post pre post) post) s.name in
-          let Q = ReachesSeed pre (tests (is_changed_constant pre pre post) pre) s.name in
+          let P = ReachesSeed post (tests (is_changed_read_only post pre post) post) s.name in
+          let Q = ReachesSeed pre (tests (is_changed_read_only pre pre post) pre) s.name in
           let a : marked moved i ≡ marked_at old (place_named pre s.name) = ap (λ m. marked m i) tested ∙ tests_at (λ name. marked_at old (place_named pre name)) post i s at in
           let b : marked other i ≡ is_other pre post s.name = ap (λ m. marked m i) are ∙ tests_at (is_other pre post) post i s at in
           tells_through (marked marks i) (there s.name) (back s.name)
@@ -264,18 +264,18 @@ tell_changed pre post other old new moved either marks are told_old told_new tes
           (rw (a, b)
           (tells_or (O ⊎ P) Q (is_other pre post s.name || marked new i) (marked_at old (place_named pre s.name))
           (tells_or O P (is_other pre post s.name) (marked new i) (tells_test (is_other pre post s.name))
-          (only_reaching (Unit {0}) P (marked new i) (marked (tests (is_changed_constant post pre post) post) i) (tests_at (is_changed_constant post pre post) post i s at ∙ post_unchanged) (told_new.each i s at)))
+          (only_reaching (Unit {0}) P (marked new i) (marked (tests (is_changed_read_only post pre post) post) i) (tests_at (is_changed_read_only post pre post) post i s at ∙ post_unchanged) (told_new.each i s at)))
           (at_pre pre post old told_old s.name pre_unchanged (place_named pre s.name) refl refl))));
     } where
       there : (name : List ℕ) →
-          ((is_other pre post name ≡ true) ⊎ ReachesSeed post (tests (is_changed_constant post pre post) post) name) ⊎ ReachesSeed pre (tests (is_changed_constant pre pre post) pre) name →
+          ((is_other pre post name ≡ true) ⊎ ReachesSeed post (tests (is_changed_read_only post pre post) post) name) ⊎ ReachesSeed pre (tests (is_changed_read_only pre pre post) pre) name →
           (is_other pre post name ≡ true) ⊎ ReachesChanged pre post name
       there name (inl (inl other)) = inl other
       there name (inl (inr it)) = inr (InPost it.section.name it.reaches (changed_of_seed pre post post name it))
       there name (inr it) = inr (InPre it.section.name it.reaches (changed_of_seed pre post pre name it))
 
       back : (name : List ℕ) → (is_other pre post name ≡ true) ⊎ ReachesChanged pre post name →
-          ((is_other pre post name ≡ true) ⊎ ReachesSeed post (tests (is_changed_constant post pre post) post) name) ⊎ ReachesSeed pre (tests (is_changed_constant pre pre post) pre) name
+          ((is_other pre post name ≡ true) ⊎ ReachesSeed post (tests (is_changed_read_only post pre post) post) name) ⊎ ReachesSeed pre (tests (is_changed_read_only pre pre post) pre) name
       back name (inl other) = inl (inl other)
       back name (inr (InPre other reaches changed)) = inr (seed_of_reached pre post pre name other reaches changed)
       back name (inr (InPost other reaches changed)) = inl (inr (seed_of_reached pre post post name other reaches changed))

@@ -16,7 +16,7 @@ use Rattle.i386_reloc.specs.Reaches.{is_constant_class, is_read_only_class, is_d
 use Rattle.i386_reloc.specs.Reaches.Reaches.{Refers, Further}
 use Rattle.section_equal.specs.Same.{same_in}
 use Rattle.extract_post.specs.declared.types.Extract.{Extract}
-use Rattle.extract_post.specs.Members.{is_there, is_changed_constant, is_in_both, is_new_data, points_into, PointsInto, ReachesChanged, Differs, Tied, Member, IsChanged, IsAdded, IsDropped, IsCarried}
+use Rattle.extract_post.specs.Members.{is_there, is_changed_read_only, is_in_both, is_new_data, points_into, PointsInto, ReachesChanged, Differs, Tied, Member, IsChanged, IsAdded, IsDropped, IsCarried}
 use Rattle.extract_post.specs.Members.PointsInto.{Itself as PointsItself, Through as PointsThrough}
 use Rattle.extract_post.specs.Members.ReachesChanged.{InPre as ReachesInPre, InPost as ReachesInPost}
 use Rattle.extract_post.specs.Members.Differs.{Itself as DiffersItself, Through as DiffersThrough}
@@ -200,10 +200,10 @@ reaches_is sections a b = (
 )
 
 changed_in_is : (of pre post : List NormalSection) (name : List ℕ) →
-    Decides (reaches_changed_in of pre post name) ((other : List ℕ) × (Reaches of name other × (is_changed_constant of pre post other ≡ true)))
+    Decides (reaches_changed_in of pre post name) ((other : List ℕ) × (Reaches of name other × (is_changed_read_only of pre post other ≡ true)))
 changed_in_is of pre post name =
-    some_of {P = λ other. Reaches of name other × (is_changed_constant of pre post other ≡ true)} (λ other. reaches of name other && is_changed_constant of pre post other) (names_of of)
-    (λ other. both (reaches of name other) (is_changed_constant of pre post other) (reaches_is of name other) (of_test (is_changed_constant of pre post other)))
+    some_of {P = λ other. Reaches of name other × (is_changed_read_only of pre post other ≡ true)} (λ other. reaches of name other && is_changed_read_only of pre post other) (names_of of)
+    (λ other. both (reaches of name other) (is_changed_read_only of pre post other) (reaches_is of name other) (of_test (is_changed_read_only of pre post other)))
     (λ other x. reaches_names of name other x.0)
 
 reaches_changed_is : (pre post : List NormalSection) (name : List ℕ) →
@@ -211,7 +211,7 @@ reaches_changed_is : (pre post : List NormalSection) (name : List ℕ) →
 reaches_changed_is pre post name =
     through (reaches_changed pre post name) there back (either (reaches_changed_in pre pre post name) (reaches_changed_in post pre post name) (changed_in_is pre pre post name) (changed_in_is post pre post name)) where
       At : List NormalSection → Type 0
-      At of = (other : List ℕ) × (Reaches of name other × (is_changed_constant of pre post other ≡ true))
+      At of = (other : List ℕ) × (Reaches of name other × (is_changed_read_only of pre post other ≡ true))
 
       there : At pre ⊎ At post → ReachesChanged pre post name
       there (inl x) = ReachesInPre x.0 x.1.0 x.1.1

@@ -4,7 +4,7 @@ use Rattle.std.specs.List.{slice_get}
 use Rattle.i386_reloc.specs.declared.types.NormalSection.{NormalSection}
 use Rattle.i386_reloc.specs.Reaches.{is_read_only_class, is_in}
 use Rattle.section_equal.specs.Same.{same_names}
-use Rattle.extract_post.specs.Members.{is_changed_constant}
+use Rattle.extract_post.specs.Members.{is_changed_read_only}
 use Rattle.extract_post.specs.inside.Marks.{marked, tests, is_other, AreBoth}
 use Rattle.extract_post.proofs.MarkLaws.{tests_at}
 
@@ -33,9 +33,9 @@ tests_by f (section ∷ sections) (mark ∷ marks) len each =
 -- the read-only data that aren't the same
 pub are_changed : (of pre post : List NormalSection) (other constants marks : List Bool) →
     other ≡ tests (is_other pre post) of → constants ≡ tests (is_in is_read_only_class of) of →
-    AreBoth constants other marks → marks ≡ tests (is_changed_constant of pre post) of
+    AreBoth constants other marks → marks ≡ tests (is_changed_read_only of pre post) of
 are_changed of pre post other constants marks are constant both =
-    tests_by (is_changed_constant of pre post) of marks (both.len ∙ ap length constant ∙ length-tests (is_in is_read_only_class of) of)
+    tests_by (is_changed_read_only of pre post) of marks (both.len ∙ ap length constant ∙ length-tests (is_in is_read_only_class of) of)
     (λ place section at.
     both.each place
     ∙ ap (λ b. b && marked other place) (ap (λ m. marked m place) constant ∙ tests_at (is_in is_read_only_class of) of place section at)

@@ -10,7 +10,7 @@ use Rattle.i386_reloc.specs.Normal.{section_named, name_of}
 use Rattle.i386_reloc.specs.Reaches.{is_read_only_class, is_data_class, is_in, goes_to, is_interior, refers_on}
 use Rattle.section_equal.specs.Same.{same_in}
 use Rattle.extract_post.specs.declared.types.Extract.{Extract}
-use Rattle.extract_post.specs.Members.{is_there, is_changed_constant, is_in_both, is_new_data, points_into}
+use Rattle.extract_post.specs.Members.{is_there, is_changed_read_only, is_in_both, is_new_data, points_into}
 use Rattle.extract_post.specs.Extract.{other_class, places}
 
 -- Whether a name leads to another by steps, where each name between is one of some.
@@ -27,7 +27,7 @@ reaches sections name other = leads (refers_on sections) (names_of sections) nam
 
 abbrev pub reaches_changed_in : (of pre post : List NormalSection) → List ℕ → Bool
 reaches_changed_in of pre post name =
-    list_any (λ other. reaches of name other && is_changed_constant of pre post other) (names_of of)
+    list_any (λ other. reaches of name other && is_changed_read_only of pre post other) (names_of of)
 
 abbrev pub reaches_changed : List NormalSection → List NormalSection → List ℕ → Bool
 reaches_changed pre post name = reaches_changed_in pre pre post name || reaches_changed_in post pre post name

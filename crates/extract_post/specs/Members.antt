@@ -12,14 +12,14 @@ abbrev pub is_there : List NormalSection → List ℕ → Bool
 is_there sections name = is_some (section_named sections name)
 
 -- a section that is read-only in an object, and isn't the same in both
-abbrev pub is_changed_constant : (of pre post : List NormalSection) → List ℕ → Bool
-is_changed_constant of pre post name = is_in is_read_only_class of name && not (same_in pre post name)
+abbrev pub is_changed_read_only : (of pre post : List NormalSection) → List ℕ → Bool
+is_changed_read_only of pre post name = is_in is_read_only_class of name && not (same_in pre post name)
 
 -- In one of two objects a section reaches one that is read-only there, and isn't the same in both.
 pub data ReachesChanged (pre post : List NormalSection) (name : List ℕ) : Type 0 where
-  InPre : (other : List ℕ) → Reaches pre name other → IsTrue (is_changed_constant pre pre post other) →
+  InPre : (other : List ℕ) → Reaches pre name other → IsTrue (is_changed_read_only pre pre post other) →
       ReachesChanged pre post name
-  InPost : (other : List ℕ) → Reaches post name other → IsTrue (is_changed_constant post pre post other) →
+  InPost : (other : List ℕ) → Reaches post name other → IsTrue (is_changed_read_only post pre post other) →
       ReachesChanged pre post name
 
 -- whether both objects have a section of this name, of a wanted class in each

@@ -2,7 +2,7 @@
 ghost use Rattle.std.specs.Prelude.{◌≡◌, IfOk, List, length};
 ghost use Rattle.i386_reloc.specs.declared.types.NormalSection.{NormalSection};
 ghost use Rattle.i386_reloc.specs.Places.{place_named};
-ghost use Rattle.extract_post.specs.Members.{is_changed_constant};
+ghost use Rattle.extract_post.specs.Members.{is_changed_read_only};
 ghost use Rattle.extract_post.specs.inside.Closures.{HasDistinctNames};
 ghost use Rattle.extract_post.specs.inside.Edges.{links_in};
 ghost use Rattle.extract_post.specs.inside.Marks.{TellReaching, TellReached, TellChanged, tests, marked_at, is_other};
@@ -68,7 +68,7 @@ fn at_names(
 }
 
 // Which sections of an object are read-only data and marked, or reach such a one in it.
-fn reaching_constants(
+fn reaching_read_only(
     alloc: Global,
     of: &Normal<'_>,
     links: &[Link],
@@ -77,7 +77,7 @@ fn reaching_constants(
     requires distinct { HasDistinctNames of.now }
     requires links { links.now ≡ links_in of.now }
     ensures { IfOk result (λ marks. (pre post : List NormalSection) → other.now ≡ tests (is_other pre post) of.now
-        → TellReaching of.now (tests (is_changed_constant of.now pre post) of.now) marks) }
+        → TellReaching of.now (tests (is_changed_read_only of.now pre post) of.now) marks) }
 {
     let seeds = Marks::of(alloc, Asked::Here(Wanted::ReadOnly), of, of)?.and(other);
     let marks = reaching(alloc, of, links, &seeds)?;
@@ -102,8 +102,8 @@ pub(crate) fn changed_sections<'a>(
     let same = same_sections(alloc, pre, post)?;
     let old_other = Marks::unmarked(alloc, same.pre.as_slice())?;
     let new_other = Marks::unmarked(alloc, same.post.as_slice())?;
-    let old = reaching_constants(alloc, pre, pre_links, &old_other)?;
-    let new = reaching_constants(alloc, post, post_links, &new_other)?;
+    let old = reaching_read_only(alloc, pre, pre_links, &old_other)?;
+    let new = reaching_read_only(alloc, post, post_links, &new_other)?;
     let moved = at_names(alloc, pre, post, &old)?;
     Ok(new_other.or(&new).or(&moved))
 }

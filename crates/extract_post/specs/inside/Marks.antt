@@ -7,7 +7,7 @@ use Rattle.i386_reloc.specs.declared.types.NormalSection.{NormalSection}
 use Rattle.i386_reloc.specs.Classes.{is_code_class}
 use Rattle.section_equal.specs.Same.{same_in}
 use Rattle.i386_reloc.specs.Reaches.{is_read_only_class, is_in, is_interior}
-use Rattle.extract_post.specs.Members.{is_changed_constant, ReachesChanged, Member}
+use Rattle.extract_post.specs.Members.{is_changed_read_only, ReachesChanged, Member}
 use Rattle.extract_post.specs.inside.Closures.{SeedReaches, ReachesSeed}
 use Rattle.i386_reloc.specs.Places.{place_of_target}
 
@@ -43,12 +43,12 @@ pub record TellReached (sections : List NormalSection) (seeds marks : List Bool)
 abbrev pub is_other : List NormalSection → List NormalSection → List ℕ → Bool
 is_other pre post name = not (same_in pre post name)
 
--- marks of post's sections that tell which aren't the same in both or reach a changed constant, of those that are none in
--- either object
+-- marks of post's sections that tell which aren't the same in both or reach changed read-only data, of those that are
+-- none in either object
 pub record TellChanged (pre post : List NormalSection) (marks : List Bool) : Type 0 where
   pub len : length marks ≡ length post
   pub each : (place : ℕ) (section : NormalSection) → slice_get post place ≡ Some section →
-      is_changed_constant pre pre post section.name ≡ false → is_changed_constant post pre post section.name ≡ false →
+      is_changed_read_only pre pre post section.name ≡ false → is_changed_read_only post pre post section.name ≡ false →
       Tells (marked marks place) ((is_other pre post section.name ≡ true) ⊎ ReachesChanged pre post section.name)
 
 -- what the search for members has found in both objects: the marks of post's sections come first
