@@ -9,8 +9,8 @@ use crate::types::Link;
 use i386_reloc::{Class, Normal, NormalSection, Ref};
 use std::alloc::{AllocError, Global};
 
-/// The place of the section that the reference `k` of the section at a place goes to, `None` where it goes to none of this
-/// object. No name is looked up.
+/// The place of the section that the reference `k` of the section at a place goes to, `None` where it goes to none of
+/// this object. No name is looked up.
 #[tactic(auto, using(crate::proofs::Targets::place_here))]
 pub(crate) fn place_of_target(
     normal: &Normal<'_>,
@@ -29,7 +29,8 @@ pub(crate) fn place_of_target(
 fn link_to(normal: &Normal<'_>, from: u32, k: usize, from_class: Class, r: &Ref<'_>) -> Option<Link>
     requires few { length normal.now < 2 ^ 32 }
     requires at { reference_at normal.now from k ≡ Some r.now }
-    ensures { option_to_list result ≡ link_to normal.now from from_class r.now (place_of_target normal.now r.now.target) }
+    ensures { option_to_list result
+        ≡ link_to normal.now from from_class r.now (place_of_target normal.now r.now.target) }
 {
     let to = place_of_target(normal, from as usize, k, r)?;
     let target = normal.as_slice().get(to)?;

@@ -12,8 +12,8 @@ use i386_reloc::Normal;
 use reachability::reached_along;
 use std::alloc::{AllocError, Global};
 
-/// Which code sections of both objects are members, by the marks of the first ones among the second object's sections. The
-/// marks of the second object's sections come first, then those of the first's.
+/// Which code sections of both objects are members, by the marks of the first ones among the second object's sections.
+/// The marks of the second object's sections come first, then those of the first's.
 #[tactic(auto, using(crate::proofs::Numbered::members_within))]
 pub(crate) fn member_nodes(
     alloc: Global,

@@ -22,7 +22,8 @@ pub(crate) fn data_changed(
     place: usize,
 ) -> Result<Refusal, AllocError>
     requires { place < length post.now }
-    ensures { IfOk result (λ refusal. (section : NormalSection) → slice_get post.now place ≡ Some section → refusal ≡ Refusal.DataChanged section.name) }
+    ensures { IfOk result (λ refusal. (section : NormalSection) → slice_get post.now place ≡ Some section
+        → refusal ≡ Refusal.DataChanged section.name) }
 {
     let section = &post.as_slice()[place];
     let name = name_of(alloc, section)?;
@@ -38,7 +39,8 @@ pub(crate) fn interior(
 ) -> Result<Refusal, AllocError>
     requires place { place < length post.now }
     requires reference { (section : NormalSection) → slice_get post.now place ≡ Some section → k < length section.refs }
-    ensures { IfOk result (λ refusal. (section : NormalSection) (r : Ref) → slice_get post.now place ≡ Some section → slice_get section.refs k ≡ Some r → refusal ≡ Refusal.Interior section.name r.offset) }
+    ensures { IfOk result (λ refusal. (section : NormalSection) (r : Ref) → slice_get post.now place ≡ Some section
+        → slice_get section.refs k ≡ Some r → refusal ≡ Refusal.Interior section.name r.offset) }
 {
     let section = &post.as_slice()[place];
     let refs = section.refs.as_slice();

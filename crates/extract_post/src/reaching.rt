@@ -84,8 +84,8 @@ fn reaching_read_only(
     Ok(marks)
 }
 
-/// Which sections of the second object aren't the same in the first, or reach, in either, read-only data of it that isn't
-/// the same in both.
+/// Which sections of the second object aren't the same in the first, or reach, in either, read-only data of it that
+/// isn't the same in both.
 pub(crate) fn changed_sections<'a>(
     alloc: Global,
     pre: &Normal<'a>,
