@@ -1,29 +1,125 @@
 //! Differences of small objects.
 
-use crate::object_files::{FUNCTION, POINTED, SPLIT, TWO_TEXTS, WHOLE, WITH_DATA};
 use elf32_object::read_object;
 use extract_post::{Extract, extract};
 use i386_reloc::normalise;
 use ks_base::{Line, Names, Refusal};
-use std::alloc::{AllocError, Global};
+use object_builder::{ABSOLUTE, Kind, RELATIVE, Section, object};
+use std::alloc::Global;
 use std::test::Fail;
 
-// What comes of two files.
-fn difference(alloc: Global, pre: &[u8], post: &[u8]) -> Result<Result<Extract, Refusal>, Fail> {
-    let pre = read_object(alloc, pre).ok().ok_or("not read")?;
-    let post = read_object(alloc, post).ok().ok_or("not read")?;
+/// A function that gives 1.
+const F: Section = Section {
+    name: ".text.f",
+    kind: Kind::Global("f"),
+    bytes: b"\xb8\x01\0\0\0\xc3",
+    references: &[],
+};
+
+/// The same that gives 2.
+const F_CHANGED: Section = Section {
+    name: ".text.f",
+    kind: Kind::Global("f"),
+    bytes: b"\xb8\x02\0\0\0\xc3",
+    references: &[],
+};
+
+/// A jump to the start of the cold part, and `ret`.
+const WORK: Section = Section {
+    name: ".text.work",
+    kind: Kind::Global("work"),
+    bytes: b"\xe9\xfc\xff\xff\xff\xc3",
+    references: &[(1, RELATIVE, ".text.unlikely.work")],
+};
+
+/// A jump back, behind that jump.
+const COLD: Section = Section {
+    name: ".text.unlikely.work",
+    kind: Kind::Local("work.cold"),
+    bytes: b"\xe9\x01\0\0\0",
+    references: &[(1, RELATIVE, ".text.work")],
+};
+
+/// The function without a cold part.
+const WORK_ALONE: Section = Section {
+    name: ".text.work",
+    kind: Kind::Global("work"),
+    bytes: b"\xb8\x07\0\0\0\xc3",
+    references: &[],
+};
+
+/// The address of the second byte of `.text.f`.
+const POINTER: Section = Section {
+    name: ".data.t",
+    kind: Kind::Data,
+    bytes: b"\x01\0\0\0",
+    references: &[(0, ABSOLUTE, ".text.f")],
+};
+
+const NUMBER: Section = Section {
+    name: ".data.t",
+    kind: Kind::Data,
+    bytes: b"\x05\0\0\0",
+    references: &[],
+};
+
+const NUMBER_CHANGED: Section = Section {
+    name: ".data.t",
+    kind: Kind::Data,
+    bytes: b"\x09\0\0\0",
+    references: &[],
+};
+
+/// The address of the text of `.rodata.x`.
+const TEXT_OF_X: Section = Section {
+    name: ".data.d",
+    kind: Kind::Data,
+    bytes: b"\0\0\0\0",
+    references: &[(0, ABSOLUTE, ".rodata.x")],
+};
+
+/// The address of the text of `.rodata.y`.
+const TEXT_OF_Y: Section = Section {
+    name: ".data.d",
+    kind: Kind::Data,
+    bytes: b"\0\0\0\0",
+    references: &[(0, ABSOLUTE, ".rodata.y")],
+};
+
+const X: Section = Section {
+    name: ".rodata.x",
+    kind: Kind::Strings,
+    bytes: b"a\0",
+    references: &[],
+};
+
+/// The same bytes, which are no text.
+const X_NO_TEXT: Section = Section {
+    name: ".rodata.x",
+    kind: Kind::ReadOnly,
+    bytes: b"a\0",
+    references: &[],
+};
+
+const Y: Section = Section {
+    name: ".rodata.y",
+    kind: Kind::Strings,
+    bytes: b"a\0",
+    references: &[],
+};
+
+// What comes of two objects.
+fn difference(
+    alloc: Global,
+    pre: &[Section],
+    post: &[Section],
+) -> Result<Result<Extract, Refusal>, Fail> {
+    let (pre, post) = (object(alloc, pre)?, object(alloc, post)?);
+    let pre = read_object(alloc, pre.as_slice()).ok().ok_or("not read")?;
+    let post = read_object(alloc, post.as_slice()).ok().ok_or("not read")?;
     let pre = normalise(alloc, &pre).ok().ok_or("no sections")?;
     let post = normalise(alloc, &post).ok().ok_or("no sections")?;
     Ok(extract(alloc, &pre, &post))
-}
-
-// A file with another byte at a place.
-fn with_byte(alloc: Global, file: &[u8], place: usize, byte: u8) -> Result<Vec<u8>, AllocError> {
-    let mut copy = Vec::from_slice(alloc, file)?;
-    if let Some(there) = copy.get_mut(place) {
-        *there = byte;
-    }
-    Ok(copy)
 }
 
 // Whether names are one name alone.
@@ -37,14 +133,19 @@ fn is_one(names: &Names, name: &[u8]) -> bool {
 #[test]
 fn functions_are_changed_and_dropped(rt: HostRuntime) -> Result<(), Fail> {
     let alloc = rt.alloc();
-    let other = with_byte(alloc, &FUNCTION, 0x35, 2)?;
-    let one = difference(alloc, &FUNCTION, &other)?.ok().ok_or("refused")?;
+    let one = difference(alloc, &[F], &[F_CHANGED])?
+        .ok()
+        .ok_or("refused")?;
     assert!(rt; is_one(&one.changed, b".text.f"));
     assert!(rt; one.added.is_empty() && one.carried.is_empty());
-    let two = difference(alloc, &SPLIT, &WHOLE)?.ok().ok_or("refused")?;
+    let two = difference(alloc, &[WORK, COLD], &[WORK_ALONE])?
+        .ok()
+        .ok_or("refused")?;
     assert!(rt; is_one(&two.changed, b".text.work"));
     assert!(rt; is_one(&two.dropped, b".text.unlikely.work"));
-    let three = difference(alloc, &WHOLE, &SPLIT)?.ok().ok_or("refused")?;
+    let three = difference(alloc, &[WORK_ALONE], &[WORK, COLD])?
+        .ok()
+        .ok_or("refused")?;
     assert!(rt; is_one(&three.changed, b".text.work"));
     assert!(rt; is_one(&three.added, b".text.unlikely.work"));
     Ok(())
@@ -53,7 +154,7 @@ fn functions_are_changed_and_dropped(rt: HostRuntime) -> Result<(), Fail> {
 #[test]
 fn new_data_come_with_a_new_function(rt: HostRuntime) -> Result<(), Fail> {
     let alloc = rt.alloc();
-    let all = difference(alloc, &SPLIT, &WITH_DATA)?
+    let all = difference(alloc, &[WORK, COLD], &[F, NUMBER])?
         .ok()
         .ok_or("refused")?;
     assert!(rt; is_one(&all.added, b".text.f"));
@@ -62,45 +163,49 @@ fn new_data_come_with_a_new_function(rt: HostRuntime) -> Result<(), Fail> {
     Ok(())
 }
 
-// The line of the refusal of two files; nothing where they have a difference.
-fn refusal_line(alloc: Global, pre: &[u8], post: &[u8]) -> Result<Line, Fail> {
+// Whether the refusal of two objects has this line.
+fn is_refused(
+    alloc: Global,
+    pre: &[Section],
+    post: &[Section],
+    wanted: &str,
+) -> Result<bool, Fail> {
     let mut line = Line::new(alloc);
     if let Err(refusal) = difference(alloc, pre, post)? {
         line.put_refusal(&refusal)?;
     }
-    Ok(line)
+    Ok(line.bytes() == wanted.as_bytes())
 }
 
 #[test]
 fn differences_are_refused(rt: HostRuntime) -> Result<(), Fail> {
     let alloc = rt.alloc();
-    let rows: [(&[u8], usize, u8, &str); 3] = [
-        (&FUNCTION, 0x35, 1, "refused 12 no change\n"),
-        (&POINTED, 0x35, 2, "refused 13 interior .data.t 0x0\n"),
-        (&WITH_DATA, 0x3c, 9, "refused 11 data changed .data.t\n"),
-    ];
-    for (file, place, byte, wanted) in rows {
-        let changed = with_byte(alloc, file, place, byte)?;
-        let line = refusal_line(alloc, file, changed.as_slice())?;
-        assert_eq!(rt; line.bytes(), wanted.as_bytes());
-    }
+    assert!(rt; is_refused(alloc, &[F], &[F], "refused 12 no change\n")?);
+    let wanted = "refused 13 interior .data.t 0x0\n";
+    assert!(rt; is_refused(alloc, &[F, POINTER], &[F_CHANGED, POINTER], wanted)?);
+    let wanted = "refused 11 data changed .data.t\n";
+    assert!(rt; is_refused(alloc, &[F, NUMBER], &[F, NUMBER_CHANGED], wanted)?);
     Ok(())
 }
 
-// In the first object `.data.d` reaches `.rodata.x` as texts, in the second it doesn't reach it: that `.rodata.x` is read-only data
-// there is no change of `.data.d`.
+// In the first object `.data.d` reaches `.rodata.x` as texts, in the second it doesn't reach it: that `.rodata.x` is
+// read-only data there is no change of `.data.d`.
 #[test]
 fn a_section_is_of_its_class_where_it_is_reached(rt: HostRuntime) -> Result<(), Fail> {
     let alloc = rt.alloc();
-    let function = with_byte(alloc, &TWO_TEXTS, 0x35, 2)?;
-    let moved = with_byte(alloc, function.as_slice(), 0x45, 2)?;
-    let all = with_byte(alloc, moved.as_slice(), 0x178, 2)?;
-    let same = difference(alloc, &TWO_TEXTS, moved.as_slice())?
+    let before = [F, TEXT_OF_X, X, Y];
+    let same = difference(alloc, &before, &[F_CHANGED, TEXT_OF_Y, X, Y])?
         .ok()
         .ok_or("refused")?;
     assert!(rt; is_one(&same.changed, b".text.f"));
-    let wanted = "refused 11 data changed .rodata.x\n";
-    let line = refusal_line(alloc, &TWO_TEXTS, all.as_slice())?;
-    assert_eq!(rt; line.bytes(), wanted.as_bytes());
+    let after = [F_CHANGED, TEXT_OF_Y, X_NO_TEXT, Y];
+    assert!(rt;
+        is_refused(
+            alloc,
+            &before,
+            &after,
+            "refused 11 data changed .rodata.x\n"
+        )?
+    );
     Ok(())
 }

@@ -5,8 +5,6 @@
 #[cfg(test)]
 mod extracts;
 #[cfg(test)]
-mod object_files;
-#[cfg(test)]
 mod objects;
 #[cfg(test)]
 mod sameness;

@@ -1,5 +1,6 @@
 //! Reads a small object, and broken copies of it.
 
+use crate::objects::Case::{Accepted, Longer, Refused};
 use elf32_object::read_object;
 use elf32_object::types::ObjectFault::{
     self, BadHeader, BadReloc, BadSection, BadSymbol, NotElf, NotRel386, TooLarge,
@@ -87,106 +88,118 @@ fn edited(
     Ok(bytes)
 }
 
-/// Broken copies, and the first rule that each breaks: how many bytes stand behind the object, and the two numbers that are
-/// written into it. The offset 24 is that of a field that isn't looked at.
-static CASES: [(usize, (usize, u32), (usize, u32), Option<ObjectFault>); 64] = [
-    (0, (24, 0x0), (24, 0x0), None),
-    (0, (0, 0x474c457f), (24, 0x0), Some(NotElf)),
-    (0, (4, 0x10102), (24, 0x0), Some(NotRel386)),
-    (0, (5, 0x102), (24, 0x0), Some(NotRel386)),
-    (0, (6, 0x0), (24, 0x0), Some(NotRel386)),
-    (0, (16, 0x30002), (24, 0x0), Some(NotRel386)),
-    (0, (18, 0x1003e), (24, 0x0), Some(NotRel386)),
-    (0, (20, 0x2), (24, 0x0), Some(BadHeader(20))),
-    (0, (40, 0x40), (24, 0x0), Some(BadHeader(40))),
-    (0, (46, 0xb0040), (24, 0x0), Some(BadHeader(46))),
-    (0, (48, 0xa0000), (24, 0x0), Some(BadHeader(48))),
-    (0, (48, 0xa1001), (24, 0x0), Some(TooLarge(Large::Sections))),
-    (0, (48, 0xa1000), (24, 0x0), Some(BadHeader(32))),
-    (0, (32, 0x171), (24, 0x0), Some(BadHeader(32))),
-    (0, (50, 0x4b8000b), (24, 0x0), Some(BadHeader(50))),
-    (0, (50, 0x4b80001), (24, 0x0), Some(BadHeader(50))),
-    (0, (788, 0x328), (24, 0x0), Some(BadHeader(50))),
-    (0, (408, 0x62), (24, 0x0), Some(BadSection(1))),
-    (0, (408, 0x61), (24, 0x0), None),
-    (
+/// A copy of the object, and the first rule that it breaks: numbers of four bytes are written into it at offsets.
+#[derive(Clone, Copy)]
+enum Case {
+    /// With one number, accepted.
+    Accepted(usize, u32),
+    /// With one number, refused.
+    Refused(usize, u32, ObjectFault),
+    /// With so many bytes behind it and two numbers.
+    Longer(usize, (usize, u32), (usize, u32), Option<ObjectFault>),
+}
+
+/// A field that isn't looked at, with what stands in it.
+const UNREAD: (usize, u32) = (24, 0);
+
+static CASES: [Case; 64] = [
+    Accepted(24, 0),
+    Refused(0, 0x474c457f, NotElf),
+    Refused(4, 0x10102, NotRel386),
+    Refused(5, 0x102, NotRel386),
+    Refused(6, 0x0, NotRel386),
+    Refused(16, 0x30002, NotRel386),
+    Refused(18, 0x1003e, NotRel386),
+    Refused(20, 0x2, BadHeader(20)),
+    Refused(40, 0x40, BadHeader(40)),
+    Refused(46, 0xb0040, BadHeader(46)),
+    Refused(48, 0xa0000, BadHeader(48)),
+    Refused(48, 0xa1001, TooLarge(Large::Sections)),
+    Refused(48, 0xa1000, BadHeader(32)),
+    Refused(32, 0x171, BadHeader(32)),
+    Refused(50, 0x4b8000b, BadHeader(50)),
+    Refused(50, 0x4b80001, BadHeader(50)),
+    Refused(788, 0x328, BadHeader(50)),
+    Refused(408, 0x62, BadSection(1)),
+    Accepted(408, 0x61),
+    Longer(
         4098,
         (788, 0x121e),
         (408, 0x21c),
         Some(TooLarge(Large::Name)),
     ),
-    (4098, (788, 0x121e), (408, 0x21d), None),
-    (0, (504, 0x321), (24, 0x0), Some(BadSection(3))),
-    (0, (544, 0x329), (24, 0x0), None),
-    (0, (440, 0x3), (24, 0x0), Some(BadSection(1))),
-    (0, (440, 0x2000), (24, 0x0), Some(BadSection(1))),
-    (0, (440, 0x1000), (24, 0x0), None),
-    (0, (600, 0x3), (24, 0x0), None),
-    (0, (456, 0x406), (24, 0x0), Some(BadSection(2))),
-    (0, (456, 0x806), (24, 0x0), Some(BadSection(2))),
-    (0, (572, 0x2), (24, 0x0), Some(BadSection(5))),
-    (0, (724, 0x18), (24, 0x0), Some(BadSection(8))),
-    (0, (708, 0x88), (24, 0x0), Some(BadSection(8))),
-    (0, (712, 0x0), (24, 0x0), Some(BadSection(8))),
-    (0, (712, 0xb), (24, 0x0), Some(BadSection(8))),
-    (0, (712, 0x3), (24, 0x0), Some(BadSection(8))),
-    (
+    Longer(4098, (788, 0x121e), (408, 0x21d), None),
+    Refused(504, 0x321, BadSection(3)),
+    Accepted(544, 0x329),
+    Refused(440, 0x3, BadSection(1)),
+    Refused(440, 0x2000, BadSection(1)),
+    Accepted(440, 0x1000),
+    Accepted(600, 0x3),
+    Refused(456, 0x406, BadSection(2)),
+    Refused(456, 0x806, BadSection(2)),
+    Refused(572, 0x2, BadSection(5)),
+    Refused(724, 0x18, BadSection(8)),
+    Refused(708, 0x88, BadSection(8)),
+    Refused(712, 0x0, BadSection(8)),
+    Refused(712, 0xb, BadSection(8)),
+    Refused(712, 0x3, BadSection(8)),
+    Longer(
         1048592,
         (708, 0x100010),
-        (24, 0x0),
+        UNREAD,
         Some(TooLarge(Large::Symbols)),
     ),
-    (0, (644, 0xc), (24, 0x0), Some(BadSection(6))),
-    (0, (668, 0xc), (24, 0x0), Some(BadSection(7))),
-    (0, (672, 0x9), (24, 0x0), Some(BadSection(7))),
-    (0, (644, 0xc), (636, 0x5), None),
-    (
+    Refused(644, 0xc, BadSection(6)),
+    Refused(668, 0xc, BadSection(7)),
+    Refused(672, 0x9, BadSection(7)),
+    Longer(0, (644, 0xc), (636, 0x5), None),
+    Longer(
         2097152,
         (668, 0x200000),
-        (24, 0x0),
+        UNREAD,
         Some(TooLarge(Large::Relocations)),
     ),
-    (0, (612, 0x4), (24, 0x0), Some(BadSection(6))),
-    (
-        0,
-        (548, 0x7fffe8),
-        (24, 0x0),
-        Some(TooLarge(Large::Content)),
-    ),
-    (0, (548, 0x7fffe7), (24, 0x0), None),
-    (0, (204, 0xd), (24, 0x0), Some(BadSymbol(6))),
-    (
+    Refused(612, 0x4, BadSection(6)),
+    Refused(548, 0x7fffe8, TooLarge(Large::Content)),
+    Accepted(548, 0x7fffe7),
+    Refused(204, 0xd, BadSymbol(6)),
+    Longer(
         4098,
         (748, 0x122e),
         (204, 0x22c),
         Some(TooLarge(Large::Name)),
     ),
-    (0, (232, 0xb0012), (24, 0x0), Some(BadSymbol(7))),
-    (0, (232, 0x12), (24, 0x0), None),
-    (0, (232, 0xfff10012), (24, 0x0), None),
-    (0, (232, 0xfff20012), (24, 0x0), None),
-    (0, (232, 0xa0012), (24, 0x0), None),
-    (0, (160, 0x9), (24, 0x0), Some(BadSymbol(3))),
-    (0, (160, 0x8), (24, 0x0), None),
-    (0, (192, 0x9), (24, 0x0), None),
-    (0, (88, 0x901), (24, 0x0), Some(BadReloc(6, 0))),
-    (0, (84, 0x3), (24, 0x0), Some(BadReloc(6, 0))),
-    (0, (84, 0x2), (24, 0x0), None),
-    (0, (100, 0x4), (24, 0x0), Some(BadReloc(7, 1))),
-    (0, (100, 0x5), (24, 0x0), None),
-    (0, (100, 0x4), (96, 0x0), None),
-    (0, (100, 0xb), (104, 0x0), Some(BadReloc(7, 1))),
-    (0, (100, 0xa), (104, 0x0), None),
-    (0, (636, 0x2), (84, 0x2), Some(BadReloc(7, 0))),
-    (0, (636, 0x4), (24, 0x0), Some(BadReloc(6, 0))),
+    Refused(232, 0xb0012, BadSymbol(7)),
+    Accepted(232, 0x12),
+    Accepted(232, 0xfff10012),
+    Accepted(232, 0xfff20012),
+    Accepted(232, 0xa0012),
+    Refused(160, 0x9, BadSymbol(3)),
+    Accepted(160, 0x8),
+    Accepted(192, 0x9),
+    Refused(88, 0x901, BadReloc(6, 0)),
+    Refused(84, 0x3, BadReloc(6, 0)),
+    Accepted(84, 0x2),
+    Refused(100, 0x4, BadReloc(7, 1)),
+    Accepted(100, 0x5),
+    Longer(0, (100, 0x4), (96, 0x0), None),
+    Longer(0, (100, 0xb), (104, 0x0), Some(BadReloc(7, 1))),
+    Longer(0, (100, 0xa), (104, 0x0), None),
+    Longer(0, (636, 0x2), (84, 0x2), Some(BadReloc(7, 0))),
+    Refused(636, 0x4, BadReloc(6, 0)),
 ];
 
 #[test]
 fn first_broken_rule(rt: HostRuntime) -> Result<(), Fail> {
-    for (more, first, second, fault) in CASES.iter() {
-        let bytes = edited(rt.alloc(), *more, *first, *second)?;
+    for case in CASES.iter() {
+        let (more, first, second, fault) = match case {
+            Accepted(offset, number) => (0, (*offset, *number), UNREAD, None),
+            Refused(offset, number, fault) => (0, (*offset, *number), UNREAD, Some(*fault)),
+            Longer(more, first, second, fault) => (*more, *first, *second, *fault),
+        };
+        let bytes = edited(rt.alloc(), more, first, second)?;
         let found = read_object(rt.alloc(), &bytes).err();
-        assert_eq!(rt; found, *fault, "at {first:?} {second:?}");
+        assert_eq!(rt; found, fault, "at {first:?} {second:?}");
     }
     Ok(())
 }
@@ -209,7 +222,7 @@ fn files_cut_short_or_too_long(rt: HostRuntime) -> Result<(), Fail> {
         );
     }
     for (more, fault) in [(8_387_800, None), (8_387_801, Some(TooLarge(Large::Bytes)))] {
-        let bytes = edited(rt.alloc(), more, (24, 0), (24, 0))?;
+        let bytes = edited(rt.alloc(), more, UNREAD, UNREAD)?;
         assert_eq!(rt; read_object(rt.alloc(), &bytes).err(), fault);
     }
     Ok(())
