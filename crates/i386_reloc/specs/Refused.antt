@@ -22,7 +22,7 @@ use Rattle.i386_reloc.specs.References.{relocations_of, is_absolute, symbol_of, 
 abbrev pub refused_where : Bool → Refusal → Option Refusal
 refused_where broken why = if broken then Some why else None
 
--- what is wrong with section i alone
+-- what is wrong with section i: an earlier section has its name; it isn't one function
 unfoldable pub name_fault_at : List ℕ → ℕ → Option Refusal
 name_fault_at bytes i = refused_where (is_name_twice bytes i) (refusal.DoubleName (section_name bytes i))
 
@@ -84,7 +84,8 @@ unfoldable pub relocation_fault_at : List ℕ → ℕ → Option Refusal
 relocation_fault_at bytes i =
     if is_loaded bytes i then first_among (relocation_fault_of bytes i) (relocations_of bytes i) else None
 
--- Each fault is looked for in all sections before the next one is.
+-- A name that stands twice is looked for in all sections, then a section that isn't one function, and then the first
+-- relocation that is refused: of one relocation all is looked at before the next.
 unfoldable pub name_fault : List ℕ → Option Refusal
 name_fault bytes = first_below (name_fault_at bytes) (section_count bytes)
 

@@ -32,7 +32,8 @@ form_addressing ModRm w at = addressing_of w at
 form_addressing Memory w at = addressing_of w at
 form_addressing form w at = no_addressing at
 
--- what a form refuses: prefix 66 before a branch, a register where memory is wanted, and 0F 1E but in F3 0F 1E FB
+-- whether a form takes what stands there: a branch no prefix 66, one of memory alone no register, and 0F 1E nothing but
+-- F3 0F 1E FB
 abbrev pub form_accepts : Form → List ℕ → Head → Addressing → Bool
 form_accepts Unlisted w head a = false
 form_accepts Plain w head a = true

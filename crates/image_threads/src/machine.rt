@@ -207,6 +207,7 @@ fn step_numbered<S: Space>(space: &mut S, thread: &mut Thread) -> Outcome
     ensures stack { thread.new.stack ≡ thread.old.stack }
     ensures shapes { map shape (S.contents space.new).pieces ≡ map shape (S.contents space.old).pieces }
 {
+    // A step keeps the thread's number and stack, and the shapes of the pieces.
     steps_keep();
     step_thread(space, thread)
 }

@@ -56,6 +56,7 @@ impl Turns {
         ensures schedule { self.new ≡ after_turn self.old (next_turn self.old machine.now.threads) }
         ensures runs { IfSome result (λ number. IsSome (running_at machine.now.threads number)) }
     {
+        // The threads of a machine are numbered by their places.
         let _threads = machine.threads();
         match self.next_turn(machine) {
             Some(turn) => {

@@ -33,6 +33,7 @@ fn put_stacks(alloc: Global, pieces: &mut Vec<Piece>, stacks: &[Range]) -> Resul
     match stacks {
         [] => Ok(()),
         [stack, later @ ..] => {
+            // Pieces among which one is put that meets none are apart as before.
             pieces_stay_placed();
             put_stacks(alloc, pieces, later)?;
             put_piece(pieces, stack_piece(alloc, *stack)?)

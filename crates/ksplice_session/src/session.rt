@@ -39,6 +39,7 @@ impl Session {
     pub fn new(alloc: Global, image: Image) -> Result<Self, AllocError>
         ensures { IfOk result (λ session. session ≡ first_machine (contents_of image)) }
     {
+        // The regions and stacks of an image are apart, and so are they with the pieces of stacks put among them.
         image_keeps_rules(&image);
         pieces_stay_placed();
         let arena = image.arena;

@@ -53,6 +53,6 @@ are_same _ _ = false
 unfoldable pub same_in : List NormalSection → List NormalSection → List ℕ → Bool
 same_in pre post name = are_same (section_named pre name) (section_named post name)
 
--- the same of each section of a list
+-- of each section of a list, whether both objects have one of its name, and it is the same in both
 abbrev pub same_names : (pre post : List NormalSection) → List NormalSection → List Bool
 same_names pre post sections = map (λ section. same_in pre post section.name) sections

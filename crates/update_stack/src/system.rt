@@ -91,6 +91,7 @@ impl<S: Space> System<S> {
         ensures after { self.new ≡ after_event self.old (Step thread) }
         ensures runs { is_ok result ≡ is_some (running_at self.old.threads thread) }
     {
+        // A step keeps the retired ranges, and of the pieces all but their bytes.
         steps_keep();
         self.machine.step(thread)
     }
