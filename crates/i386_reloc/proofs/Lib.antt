@@ -1,5 +1,6 @@
 pub mod Blanks
 pub mod Faults
+pub mod FieldOrder
 pub mod Firsts
 pub mod FunctionSymbols
 pub mod Going

@@ -2,6 +2,7 @@
 -- fields that relocations change, and references (System V gABI, chapter 4, "Sections" and "Symbol Table").
 use Rattle.std.specs.Prelude.{◌≡◌, ℕ, zero, suc, ◌%◌, Bool, false, ◌&&◌, ◌||◌, ◌==◌, nat_eq, nat_lt, if◌then◌else◌, List, [], ◌∷◌, ◌++◌, find, Option, Some, None, is_none, IsSome, option_map}
 use Rattle.std.specs.Cmp.Lexicographic.{pointwise}
+use Rattle.std.specs.List.Sorted.{IsNonDecreasingBy}
 use Rattle.elf32_object.specs.declared.elf.TheConstants.{STT_FUNC}
 use Rattle.elf32_object.specs.Below.{any_below, least_below}
 use Rattle.elf32_object.specs.Fields.{section_count, section_header, is_loaded, section_name, symbol_count, symbol_entry, symbol_name}
@@ -81,3 +82,7 @@ name_of section = section.name
 -- a code section is a function
 pub record IsFunction (section : NormalSection) : Type 0 where
   pub named : section.class ≡ Code → IsSome section.function
+
+-- the references of a section stand by offset
+pub record HasFieldsInOrder (section : NormalSection) : Type 0 where
+  pub rises : IsNonDecreasingBy (λ r. r.offset) section.refs

@@ -2,7 +2,7 @@
 ghost use Rattle.std.specs.Prelude.{◌≡◌, ℕ, ◌≤◌, List, Some, All, length, map};
 ghost use Rattle.std.specs.List.{IsDistinct};
 ghost use Rattle.std.specs.Option.{option_copied};
-ghost use Rattle.i386_reloc.specs.Normal.{same_bytes, name_of, section_named, IsFunction};
+ghost use Rattle.i386_reloc.specs.Normal.{same_bytes, name_of, section_named, HasFieldsInOrder, IsFunction};
 ghost use Rattle.i386_reloc.specs.Places.{place_named, reference_at, place_of_reference};
 ghost use Rattle.i386_reloc.specs.inside.NamePlaces.{named};
 ghost use Rattle.i386_reloc.specs.inside.Targets.{targets_in};
@@ -25,7 +25,7 @@ impl<'a> Model for Normal<'a> {
     ghost use Rattle.std.specs.Prelude.{◌≡◌, ℕ, ◌≤◌, List, Some, All, length, map};
     ghost use Rattle.std.specs.List.{IsDistinct};
     ghost use Rattle.i386_reloc.specs.declared.types.NormalSection.{NormalSection};
-    ghost use Rattle.i386_reloc.specs.Normal.{same_bytes, name_of, section_named, IsFunction};
+    ghost use Rattle.i386_reloc.specs.Normal.{same_bytes, name_of, section_named, HasFieldsInOrder, IsFunction};
     ghost use Rattle.i386_reloc.specs.Places.{place_named};
     ghost use Rattle.i386_reloc.specs.inside.NamePlaces.{named};
     ghost use Rattle.i386_reloc.specs.inside.Targets.{targets_in};
@@ -38,6 +38,7 @@ impl<'a> Model for Normal<'a> {
     ghost invariant = { λ n. ((q : List ℕ) → named n.places q ≡ place_named n.sections q)
         × All (λ section. section_named n.sections section.name ≡ Some section) n.sections
         × All IsFunction n.sections
+        × All HasFieldsInOrder n.sections
         × IsDistinct same_bytes (map name_of n.sections)
         × HasTexts n.sections
         × (n.targets ≡ targets_in n.sections)
@@ -54,6 +55,7 @@ impl<'a> Normal<'a> {
         requires places { (q : List ℕ) → named places q ≡ place_named sections q }
         requires named { All (λ section. section_named sections section.name ≡ Some section) sections }
         requires functions { All IsFunction sections }
+        requires by_offset { All HasFieldsInOrder sections }
         requires distinct { IsDistinct same_bytes (map name_of sections) }
         requires texts { HasTexts sections }
         requires targets { targets ≡ targets_in sections }
@@ -75,12 +77,13 @@ impl<'a> Normal<'a> {
         self.sections.len()
     }
 
-    /// All sections in order. No two have one name, each code section is a function, and a reference to a text has that
-    /// text's bytes from its section.
+    /// All sections in order. No two have one name, each code section is a function, the references of a section stand by
+    /// offset, and a reference to a text has that text's bytes from its section.
     pub fn as_slice(&self) -> &[NormalSection<'a>]
         ensures sections { result.now ≡ self.now }
         ensures named { All (λ section. section_named self.now section.name ≡ Some section) self.now }
         ensures functions { All IsFunction self.now }
+        ensures by_offset { All HasFieldsInOrder self.now }
         ensures distinct { IsDistinct same_bytes (map name_of self.now) }
         ensures texts { HasTexts self.now }
         ensures few { length self.now ≤ 4096 }

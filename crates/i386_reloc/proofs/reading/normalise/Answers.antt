@@ -5,6 +5,8 @@ use Rattle.i386_reloc.specs.Normal.{loaded_sections}
 use Rattle.i386_reloc.specs.Refused.{function_fault, relocation_fault}
 use Rattle.elf32_object.specs.Fields.{section_count}
 use Rattle.i386_reloc.specs.inside.Targets.{places_below}
+use Rattle.i386_reloc.specs.References.{HasOrder}
+use Rattle.i386_reloc.proofs.FieldOrder.{all_in_order}
 use Rattle.i386_reloc.proofs.Going.{all_going}
 use Rattle.i386_reloc.proofs.Normals.{no_fault, relocation_refused, all_functions, distinct_names, all_named}
 use Rattle.i386_reloc.proofs.StandingTexts.{has_texts}
@@ -33,6 +35,12 @@ new-requires-2-clause-texts c =
     let here : c.in_ok-source.source.object.now ≡ c.args.object.now = grind (arith, common_steps) in
     rw (c.in_ok-sections.ensures.sections ∙ ap loaded_sections here)
     (has_texts c.args.object.now c.in_ok-places.ensures.finds (ap relocation_fault (sym here) ∙ c.in_ok-sections.ensures.finds))
+
+pub new-requires-2-clause-by_offset : goal.new-requires-2-clause-by_offset
+new-requires-2-clause-by_offset c =
+    let here : c.in_ok-source.source.object.now ≡ c.args.object.now = grind (arith, common_steps) in
+    let order : HasOrder c.args.object.now (section_count c.args.object.now) = rw (← here) c.in_ok-sections.ensures.order in
+    rw (c.in_ok-sections.ensures.sections ∙ ap loaded_sections here) (all_in_order c.args.object.now order)
 
 pub new-requires-2-clause-targets : goal.new-requires-2-clause-targets
 new-requires-2-clause-targets c =
