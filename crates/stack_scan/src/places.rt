@@ -46,9 +46,8 @@ pub(crate) fn first_on_stack<S: Space>(
     let mut passed = 0;
     while passed < count {
         let some = (count - passed).min(CHUNK_WORDS as u32);
-        let found = first_in_chunk(space, start + 4 * passed, some, targets);
-        if found.is_some() {
-            return found;
+        if let Some(found) = first_in_chunk(space, start + 4 * passed, some, targets) {
+            return Some(found);
         }
         passed += some;
     }
@@ -70,6 +69,8 @@ fn first_in_chunk<S: Space>(
     let mut words = [0; CHUNK_WORDS];
     let part = &mut words[..count as usize];
     read_words(space, start, part);
-    let index = first_among(part, targets)?;
-    Some((Place::Stack(start + 4 * index), part[index as usize]))
+    match first_among(part, targets) {
+        None => None,
+        Some(index) => Some((Place::Stack(start + 4 * index), part[index as usize])),
+    }
 }

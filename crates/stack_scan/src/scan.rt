@@ -1,6 +1,7 @@
 //! Where a thread stands.
 ghost use Rattle.std.specs.Prelude.{◌≡◌, ◌≤◌};
 ghost use Rattle.ia32_step.specs.Threads.{esp_of};
+ghost use Rattle.ia32_step.specs.declared.types.State.TheVariants.{Running};
 ghost use Rattle.stack_scan.specs.Standing.{HasStack, IsStack, stands, first_place, places};
 
 use crate::places::{first_on_stack, first_register};
