@@ -1,16 +1,14 @@
 -- Why a part of a stack can be read.
-use Rattle.std.proofs.Common.{◌≡◌, ℕ, zero, suc, ◌+◌, ◌-◌, ◌≤◌, ◌<◌, Bool, true, false, List, [], ◌∷◌, length, get_or, Option, Some, None, refl, ap, arith, ◌∙◌, ◌⊎◌, inl, inr}
-use Rattle.std.specs.Option.{option_map, option_or}
-use Rattle.std.specs.List.{find, Any}
+use Rattle.std.proofs.Common.{◌≡◌, ℕ, zero, suc, ◌+◌, ◌-◌, ◌≤◌, ◌<◌, true, false, List, [], ◌∷◌, length, get_or, Option, Some, None, refl, arith, ◌⊎◌, inl, inr}
+use Rattle.std.specs.Option.{option_or}
+use Rattle.std.specs.List.{Any}
 use Rattle.std.proofs.lemmas.Bool.Decides.{nat_tests}
-use Rattle.std.proofs.lemmas.List.{get_or_read}
 use Rattle.ks_base.specs.declared.places.Range.{Range}
 use Rattle.ks_base.specs.declared.refusals.Fault.{Fault}
-use Rattle.image_memory.specs.declared.types.Kind.TheVariants.{Writable}
 use Rattle.image_memory.specs.declared.types.Piece.{Piece}
 use Rattle.image_memory.specs.Ranges.{lies_in, Ascends}
 use Rattle.image_memory.specs.Contents.{piece_range, holding}
-use Rattle.image_memory.specs.Access.{kind_of, first_fault, read_fault, unreadable}
+use Rattle.image_memory.specs.Access.{first_fault, read_fault}
 use Rattle.stack_scan.specs.Standing.{IsStack, LiesInWritable}
 
 later_above : (floor : ℕ) (ps : List Piece) (i : ℕ) (d : Piece) → Ascends piece_range floor ps → i < length ps
@@ -43,7 +41,7 @@ readable_at pieces stack a up held low high =
     let lies = held.4 in
     let is : get_or pieces i piece ≡ piece = held.3 in
     let here : holding pieces a ≡ Some (get_or pieces i piece) =
-        held_by 0 pieces i a piece up held.2 (rw is (omega (arith, lies.low))) (rw is (omega (arith, lies.high))) in
+    held_by 0 pieces i a piece up held.2 (rw is (omega (arith, lies.low))) (rw is (omega (arith, lies.high))) in
     rw (here, is, lies.kind) refl
 
 none_bad : (fault_at : ℕ → Option Fault) (a n : ℕ) → ((k : ℕ) → k < n → fault_at (a + k) ≡ None) → first_fault fault_at a n ≡ None

@@ -1,6 +1,6 @@
 -- What follows for a word where ranges lie within bounds, and where they are in order.
-use Rattle.std.proofs.Common.{◌≡◌, ℕ, ◌≤◌, ◌<◌, Bool, true, false, List, length, get_or, arith, ◌⊎◌, inl, inr, nat_le, refl}
-use Rattle.std.specs.List.{list_any, AllWithin}
+use Rattle.std.proofs.Common.{◌≡◌, ℕ, ◌≤◌, ◌<◌, true, false, List, length, get_or, arith, ◌⊎◌, inl, inr, nat_le, refl}
+use Rattle.std.specs.List.{AllWithin}
 use Rattle.std.specs.List.Sorted.{IsNonDecreasingBy}
 use Rattle.std.proofs.lemmas.Bool.Decides.{nat_tests}
 use Rattle.std.proofs.lemmas.List.{get_or_default}

@@ -1,14 +1,13 @@
 -- Addresses of dwords, and the words there.
-use Rattle.std.proofs.Common.{◌≡◌, ℕ, zero, suc, ◌+◌, ◌-◌, ◌*◌, ◌≤◌, ◌<◌, Bool, true, false, cond, not, nat_lt, List, [], ◌∷◌, ◌++◌, length, get_or, map, Option, Some, None, refl, sym, ap, ◌∙◌, arith, ◌⊎◌, inl, inr}
+use Rattle.std.proofs.Common.{◌≡◌, ℕ, zero, suc, ◌+◌, ◌-◌, ◌*◌, ◌≤◌, ◌<◌, Bool, true, false, cond, nat_lt, List, [], ◌∷◌, ◌++◌, length, get_or, map, Option, Some, None, refl, sym, ap, ◌∙◌, arith}
 use Rattle.std.specs.Option.{option_or}
-use Rattle.std.specs.List.{find, position, position_or_len, slice_get}
-use Rattle.std.specs.Int.{w32, from_le_bytes}
+use Rattle.std.specs.List.{position, position_or_len, slice_get}
 use Rattle.std.proofs.lemmas.Bool.Decides.{nat_tests}
-use Rattle.std.proofs.lemmas.List.{same_lists, ext_get_or, length-map, get_or-map}
+use Rattle.std.proofs.lemmas.List.{ext_get_or, length-map, get_or-map}
 use Rattle.std.proofs.lemmas.List.Folds.{find_at, find-append}
 use Rattle.std.proofs.lemmas.List.Quantifiers.{position-Some}
 use Rattle.std.proofs.lemmas.List.Sums.{position_or_len_is}
-use Rattle.std.proofs.lemmas.Option.{slice_get-map, slice_get-get_or, slice_get_past}
+use Rattle.std.proofs.lemmas.Option.{slice_get-get_or, slice_get_past}
 use Rattle.ks_base.specs.declared.places.Range.{Range}
 use Rattle.ks_base.specs.declared.refusals.Place.{Place}
 use Rattle.ks_base.specs.declared.refusals.Place.TheVariants.{Stack}
@@ -41,7 +40,7 @@ addresses-append start (suc m) n =
     let e : (start + 4) + 4 * m ≡ start + 4 * suc m = omega arith in
     ap (addresses start) more
     ∙ ap (λ (xs : List ℕ). start ∷ xs)
-      (addresses-append (start + 4) m n ∙ ap (λ (a : ℕ). addresses (start + 4) m ++ addresses a n) e)
+    (addresses-append (start + 4) m n ∙ ap (λ (a : ℕ). addresses (start + 4) m ++ addresses a n) e)
 
 map-append : {X Y : Type 0} (f : X → Y) (xs ys : List X) → map f (xs ++ ys) ≡ map f xs ++ map f ys
 map-append f [] ys = refl
@@ -51,7 +50,7 @@ map-append f (x ∷ xs) ys = ap (λ zs. f x ∷ zs) (map-append f xs ys)
 pub found_on : (ranges : List Range) (pieces : List Piece) (start m n : ℕ)
     → first_place ranges (map (on_stack pieces) (addresses start (m + n)))
     ≡ option_or (first_place ranges (map (on_stack pieces) (addresses start m)))
-      (first_place ranges (map (on_stack pieces) (addresses (start + 4 * m) n)))
+    (first_place ranges (map (on_stack pieces) (addresses (start + 4 * m) n)))
 found_on ranges pieces start m n =
     ap (λ (xs : List ℕ). first_place ranges (map (on_stack pieces) xs)) (addresses-append start m n)
     ∙ (ap (first_place ranges) (map-append (on_stack pieces) (addresses start m) (addresses (start + 4 * m) n))
@@ -65,7 +64,7 @@ found_early ranges pieces start m n seen l is =
     let whole : m + (n - m) ≡ n = omega arith in
     let rest = first_place ranges (map (on_stack pieces) (addresses (start + 4 * m) (n - m))) in
     sym (ap (λ (k : ℕ). first_place ranges (map (on_stack pieces) (addresses start k))) (sym whole)
-      ∙ (found_on ranges pieces start m (n - m) ∙ ap (λ (x : Option (Place × ℕ)). option_or x rest) (sym is)))
+    ∙ (found_on ranges pieces start m (n - m) ∙ ap (λ (x : Option (Place × ℕ)). option_or x rest) (sym is)))
 
 pub found_late : (ranges : List Range) (pieces : List Piece) (start m n : ℕ) → m ≤ n
     → None ≡ first_place ranges (map (on_stack pieces) (addresses start m))
@@ -75,7 +74,7 @@ found_late ranges pieces start m n l is =
     let whole : m + (n - m) ≡ n = omega arith in
     let rest = first_place ranges (map (on_stack pieces) (addresses (start + 4 * m) (n - m))) in
     sym (ap (λ (k : ℕ). first_place ranges (map (on_stack pieces) (addresses start k))) (sym whole)
-      ∙ (found_on ranges pieces start m (n - m) ∙ ap (λ (x : Option (Place × ℕ)). option_or x rest) (sym is)))
+    ∙ (found_on ranges pieces start m (n - m) ∙ ap (λ (x : Option (Place × ℕ)). option_or x rest) (sym is)))
 
 -- the index that a walk over words answers
 pub position_some : (test : ℕ → Bool) (words : List ℕ) (i : ℕ) → i < length words
@@ -113,14 +112,16 @@ found_some ranges pieces start n k is =
     let first = position-Some (in_one ranges) words k 0 is in
     let low : k < n = rw long at first.0 in
     let inside : k < length (map (on_stack pieces) (addresses start n)) =
-        rw (length-map (addresses start n) (on_stack pieces), length-addresses start n) low in
+    rw (length-map (addresses start n) (on_stack pieces), length-addresses start n) low in
     let at = position_or_len_is (in_one ranges) words k 0 (omega (arith, first.0)) first.2 (λ _. first.1) in
-    let short : k < length (addresses start n) = rw (length-addresses start n) low in
-    (low, found_at ranges pieces (addresses start n)
-      ∙ (ap (slice_get (map (on_stack pieces) (addresses start n))) at
-      ∙ (slice_get-get_or (map (on_stack pieces) (addresses start n)) k (on_stack pieces 0) inside
-      ∙ ap Some (get_or-map (on_stack pieces) (addresses start n) k 0 (on_stack pieces 0) short
-        ∙ ap (on_stack pieces) (get_or-addresses start n k 0 low)))))
+    let short : k < length (addresses start n) = rw (length-addresses start n) low in (
+      low,
+      found_at ranges pieces (addresses start n)
+          ∙ (ap (slice_get (map (on_stack pieces) (addresses start n))) at
+          ∙ (slice_get-get_or (map (on_stack pieces) (addresses start n)) k (on_stack pieces 0) inside
+          ∙ ap Some (get_or-map (on_stack pieces) (addresses start n) k 0 (on_stack pieces 0) short
+          ∙ ap (on_stack pieces) (get_or-addresses start n k 0 low)))),
+    )
 
 none_at : (i n : ℕ) → cond (nat_lt i n) (Some i) None ≡ None → n ≤ i
 none_at i n h = grind arith
@@ -133,7 +134,7 @@ found_none ranges pieces start n is =
     let words = map (dword_at pieces) (addresses start n) in
     let past = none_at (position_or_len (in_one ranges) words) (length words) is in
     let same : length words ≡ length (map (on_stack pieces) (addresses start n)) =
-        length-map (addresses start n) (dword_at pieces) ∙ sym (length-map (addresses start n) (on_stack pieces)) in
+    length-map (addresses start n) (dword_at pieces) ∙ sym (length-map (addresses start n) (on_stack pieces)) in
     found_at ranges pieces (addresses start n)
     ∙ slice_get_past (map (on_stack pieces) (addresses start n)) (position_or_len (in_one ranges) words) (omega (arith, same))
 
@@ -158,11 +159,13 @@ pub spelled_is : (pieces : List Piece) (start n k : ℕ) → k < n → spelled (
 spelled_is pieces start n k l =
     let a = start + 4 * k in
     let four = four_bytes pieces a (a + 1) (a + 2) (a + 3) (omega arith) (omega arith) (omega arith) in
-    rw (get_or-bytes_at pieces start (4 * n) (4 * k) a (omega arith) (omega arith),
+    rw (
+      get_or-bytes_at pieces start (4 * n) (4 * k) a (omega arith) (omega arith),
       get_or-bytes_at pieces start (4 * n) (4 * k + 1) (a + 1) (omega arith) (omega arith),
       get_or-bytes_at pieces start (4 * n) (4 * k + 2) (a + 2) (omega arith) (omega arith),
       get_or-bytes_at pieces start (4 * n) (4 * k + 3) (a + 3) (omega arith) (omega arith),
-      four) refl
+      four,
+    ) refl
 
 -- the words that were spelled of memory are those that stand there
 pub words_are : (pieces : List Piece) (start n : ℕ) (bytes words : List ℕ) → bytes ≡ bytes_at pieces start (4 * n) → length words ≡ n
@@ -170,7 +173,7 @@ pub words_are : (pieces : List Piece) (start n : ℕ) (bytes words : List ℕ) �
     → words ≡ map (dword_at pieces) (addresses start n)
 words_are pieces start n bytes words from long each =
     let same : length words ≡ length (map (dword_at pieces) (addresses start n)) =
-        long ∙ sym (length-map (addresses start n) (dword_at pieces) ∙ length-addresses start n) in
+    long ∙ sym (length-map (addresses start n) (dword_at pieces) ∙ length-addresses start n) in
     ext_get_or 0 words (map (dword_at pieces) (addresses start n)) same (λ k l.
     let low : k < n = rw long at l in
     let short : k < length (addresses start n) = rw (length-addresses start n) low in

@@ -9,11 +9,17 @@ use image_memory::Space;
 use ks_base::Place;
 
 const EAX: u8 = 0;
+
 const ECX: u8 = 1;
+
 const EDX: u8 = 2;
+
 const EBX: u8 = 3;
+
 const EBP: u8 = 5;
+
 const ESI: u8 = 6;
+
 const EDI: u8 = 7;
 
 /// The registers that are looked at, in this order.

@@ -63,11 +63,7 @@ fn running_stands<S: Space>(
 }
 
 /// The first place of a thread that holds an address of the targets, and the address.
-fn first_place<S: Space>(
-    thread: &Thread,
-    space: &S,
-    targets: &Targets<'_>,
-) -> Option<(Place, u32)>
+fn first_place<S: Space>(thread: &Thread, space: &S, targets: &Targets<'_>) -> Option<(Place, u32)>
     requires stack { IsStack (S.contents space.now).pieces thread.now.stack }
     requires low { thread.now.stack.low ≤ esp_of thread.now }
     requires high { esp_of thread.now ≤ thread.now.stack.high }

@@ -10,6 +10,7 @@ use ks_base::Range;
 
 /// How many words are read at once.
 pub(crate) const CHUNK_WORDS: usize = 1024;
+
 const CHUNK_BYTES: usize = 4 * CHUNK_WORDS;
 
 /// The least index of a word that is an address of one of the ranges, `None` exactly where there is none. It takes no

@@ -1,5 +1,5 @@
 -- Words that bytes spell, and ranges in order.
-use Rattle.std.specs.Prelude.{◌≡◌, ℕ, ◌+◌, ◌*◌, ◌≤◌, ◌<◌, Bool, true, List, [], ◌∷◌, length, slice_index, get_or}
+use Rattle.std.specs.Prelude.{ℕ, ◌+◌, ◌*◌, ◌≤◌, ◌<◌, List, [], ◌∷◌, slice_index, get_or}
 use Rattle.std.specs.Int.{w32, from_le_bytes}
 use Rattle.ks_base.specs.declared.places.Range.{Range}
 

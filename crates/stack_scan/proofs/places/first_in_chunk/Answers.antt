@@ -1,7 +1,6 @@
 -- The least index among the words that were read is that of the first place.
-use Rattle.std.proofs.Common.{◌≡◌, ◌+◌, ◌*◌, map, get_or, rules, sym, ap, ◌∙◌, ℕ, List, Option, Some}
+use Rattle.std.proofs.Common.{◌≡◌, ◌+◌, ◌*◌, map, get_or, rules, sym, ap, ◌∙◌, ℕ, List, Some}
 use Rattle.std.specs.List.{position}
-use Rattle.ks_base.specs.declared.refusals.Place.{Place}
 use Rattle.ks_base.specs.declared.refusals.Place.TheVariants.{Stack}
 use Rattle.image_memory.specs.Access.{dword_at}
 use Rattle.stack_scan.specs.Standing.{in_one, addresses}
@@ -14,7 +13,7 @@ returns-in-None g c =
     let test = in_one c.args.targets.now in
     let read : c.read_words.new.words ≡ map (dword_at pieces) (addresses c.args.start c.args.count) = search rules in
     sym (found_none c.args.targets.now pieces c.args.start c.args.count
-      (ap (position test) (sym read) ∙ (sym c.first_among.ensures ∙ c.in-None.is)))
+    (ap (position test) (sym read) ∙ (sym c.first_among.ensures ∙ c.in-None.is)))
 
 pub returns-in-Some : goal.returns-in-Some
 returns-in-Some g c =

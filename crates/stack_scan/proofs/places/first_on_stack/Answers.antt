@@ -28,12 +28,13 @@ loop-passed-preserved g c =
     let some = c.min-some.result in
     let bound = c.loop-passed.invariant.0 in
     let start : c.args.start + 4 * passed + 4 * some ≡ c.args.start + 4 * (passed + some) = omega arith in
-    let rest : c.args.count - passed - some ≡ c.args.count - (passed + some) = omega arith in
-    (omega (arith, c.min-some.ensures),
+    let rest : c.args.count - passed - some ≡ c.args.count - (passed + some) = omega arith in (
+      omega (arith, c.min-some.ensures),
       ap (λ (a : ℕ). first_place targets (map (on_stack pieces) (addresses a (c.args.count - (passed + some))))) (sym start)
-      ∙ (ap (λ (n : ℕ). first_place targets (map (on_stack pieces) (addresses (c.args.start + 4 * passed + 4 * some) n))) (sym rest)
-      ∙ (found_late targets pieces (c.args.start + 4 * passed) some (c.args.count - passed) (omega (arith, c.min-some.ensures)) (sym c.in_default.is ∙ c.first_in_chunk.ensures)
-      ∙ c.loop-passed.invariant.1)))
+          ∙ (ap (λ (n : ℕ). first_place targets (map (on_stack pieces) (addresses (c.args.start + 4 * passed + 4 * some) n))) (sym rest)
+          ∙ (found_late targets pieces (c.args.start + 4 * passed) some (c.args.count - passed) (omega (arith, c.min-some.ensures)) (sym c.in_default.is ∙ c.first_in_chunk.ensures)
+          ∙ c.loop-passed.invariant.1)),
+    )
 
 pub returns : goal.returns
 returns g c =

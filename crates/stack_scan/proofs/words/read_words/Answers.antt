@@ -1,4 +1,4 @@
-use Rattle.std.proofs.Common.{rules, arith}
+use Rattle.std.proofs.Common.{rules}
 use Rattle.stack_scan.proofs.WordLaws.{words_are}
 use Rattle.stack_scan.proofs.words.read_words.Goals as goal
 

@@ -8,7 +8,7 @@ pub returns-then-word-self : goal.returns-then-word-self
 returns-then-word-self c =
     let t = c.self.inside in
     rw (sym c.self.view_is) (sym (outside t.low t.high c.args.word t.ranges.now c.self.invariant.0
-      (elim c.then-word-self.branch [
-        | then-word-self-via-then-word-self w ↦ inl (omega arith)
-        | then-word-self-via-else-word-self+then-word-self-2 w ↦ inr (omega arith)
-      ])))
+    (elim c.then-word-self.branch [
+      | then-word-self-via-then-word-self w ↦ inl (omega arith)
+      | then-word-self-via-else-word-self+then-word-self-2 w ↦ inr (omega arith)
+    ])))

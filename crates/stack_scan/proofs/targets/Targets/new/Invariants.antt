@@ -1,5 +1,4 @@
-use Rattle.std.proofs.Common.{◌≡◌, ◌≤◌, ◌<◌, ℕ, true, get_or, arith}
-use Rattle.ks_base.specs.declared.places.Range.{Range}
+use Rattle.std.proofs.Common.{◌≡◌, true}
 use Rattle.stack_scan.specs.inside.Words.{AreWithin, AreInOrder}
 use Rattle.stack_scan.proofs.targets.Targets.new.Given as goal
 
