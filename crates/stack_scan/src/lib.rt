@@ -3,10 +3,12 @@
 
 mod places;
 mod scan;
+mod stacks;
 mod targets;
 mod types;
 mod words;
 
 pub use crate::scan::stands;
+pub use crate::stacks::is_stack;
 pub use crate::types::StackOut;
 pub use crate::words::first_in;
