@@ -1,5 +1,5 @@
 //! Tests of instructions, steps, threads and sessions: `ia32_alu`, `ia32_decode`, `ia32_step`, `image_threads`,
-//! `update_stack`, `ksplice_session`.
+//! `stack_scan`, `update_stack`, `ksplice_session`.
 //! They stand apart so that those crates are proved once, and not once more for their tests.
 #![tactic(auto)]
 
@@ -13,6 +13,8 @@ mod flags;
 mod lines;
 #[cfg(test)]
 mod sessions;
+#[cfg(test)]
+mod stack_scan;
 #[cfg(test)]
 mod steps;
 #[cfg(test)]
