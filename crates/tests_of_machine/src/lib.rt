@@ -12,9 +12,9 @@ mod flags;
 #[cfg(test)]
 mod lines;
 #[cfg(test)]
-mod sessions;
+mod scanning;
 #[cfg(test)]
-mod stack_scan;
+mod sessions;
 #[cfg(test)]
 mod steps;
 #[cfg(test)]
