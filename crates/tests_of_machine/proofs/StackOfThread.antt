@@ -1,6 +1,5 @@
 -- Each thread of a program whose stacks are writable pieces has a stack that may be looked at.
-use Rattle.std.proofs.Common.{◌≡◌, ℕ, ◌<◌, ◌%◌, Bool, true, false, ◌&&◌, ◌==◌, List, length, get_or, refl, arith, rules}
-use Rattle.std.specs.List.{All, Any}
+use Rattle.std.proofs.Common.{◌≡◌, ℕ, Bool, true, false, ◌&&◌, ◌==◌, List, refl, arith, IsTrue, Contains}
 use Rattle.std.proofs.lemmas.Bool.Decides.{nat_tests}
 use Rattle.std.proofs.lemmas.List.Elements.{All-contains}
 use Rattle.std.proofs.lemmas.List.Folds.{Any-from_list_any}
@@ -29,14 +28,13 @@ lies stack piece h =
     let s = same_ends (is_writable piece.kind) piece.base stack.low (piece_range piece).high stack.high h in
     record { kind = writable_kind piece.kind s.0; low = omega arith; high = omega arith }
 
-pub stack_of_thread : (pieces : List Piece) (stacks : List Range) (threads : List Thread) (k : ℕ) (d : Thread) → WellPlaced stacks threads
-    → AreStacks pieces stacks → k < length threads → IsStack pieces (get_or threads k d).stack
-stack_of_thread pieces stacks threads k d placed held l =
-    let thread = get_or threads k d in
-    let listed = placed.listed k d l in
+pub stack_of_thread : (pieces : List Piece) (stacks : List Range) (threads : List Thread) (thread : Thread) → WellPlaced stacks threads
+    → AreStacks pieces stacks → Contains threads thread → IsStack pieces thread.stack
+stack_of_thread pieces stacks threads thread placed held there =
+    let listed = All-contains (λ (t : Thread). Contains stacks t.stack) threads thread placed.listed there in
     let bounds = All-contains IsStackRange stacks thread.stack placed.bounds listed in
-    let there = All-contains (λ range. is_stack pieces range ≡ true) stacks thread.stack held listed in
-    let found = Any-from_list_any (λ piece. is_writable piece.kind && are_same (piece_range piece) thread.stack) pieces there in
+    let writable = All-contains (λ (range : Range). IsTrue (is_stack pieces range)) stacks thread.stack held listed in
+    let found = Any-from_list_any (λ (piece : Piece). is_writable piece.kind && are_same (piece_range piece) thread.stack) pieces writable in
     record {
       low = let low = bounds.low in omega arith;
       high = let high = bounds.high in omega arith;
