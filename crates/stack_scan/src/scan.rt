@@ -15,9 +15,10 @@ use ks_base::{Place, Range, Standing};
 const ESP: usize = 4;
 
 /// Where a thread stands in one of some ranges of addresses: the first place that holds an address of one, and the
-/// address. The places are pc; EAX, ECX, EDX, EBX, EBP, ESI and EDI; and the dwords of the stack at multiples of 4, from
-/// ESP rounded down up to the stack's top. `None` comes where none of them holds one, and for a thread that doesn't run.
-/// [`StackOut`] comes exactly where a thread runs and ESP is below its stack's low bound or above its high one.
+/// address. The places are pc; EAX, ECX, EDX, EBX, EBP, ESI and EDI; and the dwords of the stack at multiples of 4,
+/// from ESP rounded down up to the stack's top. `None` comes where none of them holds one, and for a thread that
+/// doesn't run. [`StackOut`] comes exactly where a thread runs and ESP is below its stack's low bound or above its
+/// high one.
 ///
 /// It takes no memory. The order of the ranges doesn't change the answer; but hand them sorted: where they ascend
 /// without meeting each word of the stack is looked up by halving, and otherwise by a walk over all of them.

@@ -1,5 +1,4 @@
-use Rattle.std.proofs.Common.{arith, ◌*◌, ◌/◌, ◌-◌}
-use Rattle.ia32_step.specs.Threads.{esp_of}
+use Rattle.std.proofs.Common.{arith}
 use Rattle.stack_scan.proofs.StackLaws.{stack_readable}
 use Rattle.stack_scan.proofs.scan.first_place.Goals as goal
 
@@ -12,6 +11,4 @@ first_on_stack-requires-clause-readable g c =
     let high = c.requires.high in
     let valid = g.met.S.Space.valid space in
     let even = stack.low in
-    let start = esp_of thread / 4 * 4 in
-    stack_readable (g.S.Space.contents space).pieces thread.stack start (4 * ((thread.stack.high - start) / 4))
-    valid.placed.ascend stack (omega arith) (omega arith)
+    stack_readable (g.S.Space.contents space).pieces thread.stack _ _ valid.placed.ascend stack (omega arith) (omega arith)
