@@ -1,5 +1,5 @@
 //! Tests of instructions, steps, threads and sessions: `ia32_alu`, `ia32_decode`, `ia32_step`, `image_threads`,
-//! `update_stack`, `ksplice_session`.
+//! `stack_scan`, `update_stack`, `ksplice_session`.
 //! They stand apart so that those crates are proved once, and not once more for their tests.
 #![tactic(auto)]
 
@@ -11,6 +11,8 @@ mod decoding;
 mod flags;
 #[cfg(test)]
 mod lines;
+#[cfg(test)]
+mod scanning;
 #[cfg(test)]
 mod sessions;
 #[cfg(test)]

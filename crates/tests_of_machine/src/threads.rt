@@ -6,7 +6,8 @@ use ia32_step::{Flow, Outcome, Thread};
 use image_file::{Image, read_image};
 use image_memory::{FlatSpace, Kind, Piece, Pieces, Space, are_placed};
 use image_threads::{Machine, Turns, are_stacks};
-use ks_base::{Bytes, Line, Name, Refusal};
+use ks_base::{Bytes, Line, Name, Place, Range, Refusal, Standing};
+use stack_scan::{StackOut, stands};
 use std::alloc::{AllocError, Global};
 use std::process::Abort;
 use std::test::Fail;
@@ -165,6 +166,42 @@ fn runs_once(machine: &mut Machine<FlatSpace>, alloc: Global, number: u32) -> bo
     step_of(machine, number);
     step_of(machine, number);
     started == Some(number)
+}
+
+// Where a thread of the machine stands in a range.
+fn standing(
+    machine: &Machine<FlatSpace>,
+    number: usize,
+    range: Range,
+) -> Option<Result<Option<Standing>, StackOut>>
+    requires { AreStacks machine.now.contents.pieces machine.now.stacks }
+{
+    let thread = machine.threads().as_slice().get(number)?;
+    Some(stands(thread, machine.space(), &[range]))
+}
+
+fn stands_at(place: Place, value: u32) -> Option<Result<Option<Standing>, StackOut>> {
+    Some(Ok(Some(Standing {
+        thread: 0,
+        place,
+        value,
+    })))
+}
+
+// `main` stands in itself by its pc, and after its call by the address to return to.
+#[test]
+fn standing_of_a_caller(rt: HostRuntime) -> Result<(), Fail> {
+    let alloc = rt.alloc();
+    let mut machine = machine_of(&rt, alloc)?;
+    let main = Range {
+        low: 0x0010_0010,
+        high: 0x0010_0016,
+    };
+    assert!(rt; starts(&mut machine, alloc, b"main") == Some(0));
+    assert!(rt; standing(&machine, 0, main) == stands_at(Place::Pc, 0x0010_0010));
+    step_of(&mut machine, 0);
+    assert!(rt; standing(&machine, 0, main) == stands_at(Place::Stack(0x0040_0FE8), 0x0010_0015));
+    Ok(())
 }
 
 #[test]

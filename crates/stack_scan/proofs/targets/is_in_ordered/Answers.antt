@@ -1,0 +1,14 @@
+-- The first range that ends above the word tells.
+use Rattle.std.proofs.Common.{arith, sym}
+use Rattle.stack_scan.proofs.TargetLaws.{past_all, by_first}
+use Rattle.stack_scan.proofs.targets.is_in_ordered.Goals as goal
+
+pub returns-then-first-ranges : goal.returns-then-first-ranges
+returns-then-first-ranges c =
+    sym (past_all c.args.word c.args.ranges.now (λ k d l m. c.ended-first.ensures.below k d l (omega arith)))
+
+pub returns : goal.returns
+returns c =
+    let e = c.ended-first.ensures in
+    let within = e.bound in
+    sym (by_first c.args.word c.ended-first.result _ c.args.ranges.now c.requires (omega arith) e.below e.above)

@@ -1,0 +1,3 @@
+-- Public clauses cite `Standing` alone.
+pub mod Standing
+pub mod inside

@@ -1,0 +1,336 @@
+//! Where a thread stands in ranges of code, on a stack of 4,096 bytes and on one of 10,000.
+ghost use Rattle.std.specs.Prelude.{◌≡◌, IsTrue};
+ghost use Rattle.stack_scan.specs.Standing.{IsStack};
+
+use ia32_alu::Flags;
+use ia32_step::{State, Thread};
+use image_memory::{FlatSpace, Kind, Piece, Pieces, Space, are_placed};
+use ks_base::{Fault, ListOf, Place, Range, Standing};
+use stack_scan::{StackOut, first_in, is_stack, stands};
+use std::alloc::Global;
+use std::process::Abort;
+use std::test::Fail;
+
+const CODE: Range = Range {
+    low: 0x0010_0000,
+    high: 0x0010_0006,
+};
+
+const LOW: u32 = 0x0040_0000;
+
+const FLAGS: Flags = Flags {
+    cf: false,
+    pf: false,
+    zf: false,
+    sf: false,
+    of: false,
+};
+
+/// A thread that is looked at: the size of its stack, its state, pc and registers, and a dword that stands on the
+/// stack at an address.
+type Case = (u32, State, u32, [u32; 8], (u32, u32));
+
+/// What the look answers: the place and the value, or none; an error for a stack pointer that is out.
+type Answer = Result<Option<(Place, u32)>, ()>;
+
+const TOP: [u32; 8] = [0, 0, 0, 0, 0x0040_1000, 0, 0, 0];
+
+const INSIDE: u32 = 0x0010_0005;
+
+const AFTER: u32 = 0x0010_0006;
+
+const NOTHING: (u32, u32) = (LOW, 0);
+
+static CASES: [(Case, Answer); 18] = [
+    ((0x1000, State::Running, AFTER, TOP, NOTHING), Ok(None)),
+    (
+        (0x1000, State::Running, INSIDE, TOP, NOTHING),
+        Ok(Some((Place::Pc, INSIDE))),
+    ),
+    (
+        (
+            0x1000,
+            State::Running,
+            AFTER,
+            [0, INSIDE, 0, 0, 0x0040_1000, 0, 0, 0],
+            NOTHING,
+        ),
+        Ok(Some((Place::Register(1), INSIDE))),
+    ),
+    (
+        (
+            0x1000,
+            State::Running,
+            AFTER,
+            [
+                AFTER,
+                AFTER,
+                AFTER,
+                AFTER,
+                0x0040_1000,
+                AFTER,
+                AFTER,
+                0x0010_0000,
+            ],
+            NOTHING,
+        ),
+        Ok(Some((Place::Register(7), 0x0010_0000))),
+    ),
+    (
+        (
+            0x1000,
+            State::Running,
+            AFTER,
+            [0, 0, 0, 0, 0x0040_0FF1, 0, 0, 0],
+            (0x0040_0FF0, INSIDE),
+        ),
+        Ok(Some((Place::Stack(0x0040_0FF0), INSIDE))),
+    ),
+    (
+        (
+            0x1000,
+            State::Running,
+            AFTER,
+            [0, 0, 0, 0, 0x0040_0FF4, 0, 0, 0],
+            (0x0040_0FF0, INSIDE),
+        ),
+        Ok(None),
+    ),
+    (
+        (
+            0x1000,
+            State::Running,
+            AFTER,
+            [0, 0, 0, 0, 0x0040_0FFF, 0, 0, 0],
+            (0x0040_0FFC, INSIDE),
+        ),
+        Ok(Some((Place::Stack(0x0040_0FFC), INSIDE))),
+    ),
+    (
+        (
+            0x1000,
+            State::Running,
+            AFTER,
+            [0, 0, 0, 0, 0x0040_0000, 0, 0, 0],
+            (0x0040_0FFC, INSIDE),
+        ),
+        Ok(Some((Place::Stack(0x0040_0FFC), INSIDE))),
+    ),
+    (
+        (
+            0x1000,
+            State::Running,
+            AFTER,
+            [0, 0, 0, 0, 0x0040_0000, 0, 0, 0],
+            (0x0040_0FFC, AFTER),
+        ),
+        Ok(None),
+    ),
+    (
+        (
+            0x1000,
+            State::Running,
+            AFTER,
+            [0, 0, 0, 0, 0x0040_0000, 0, 0, 0],
+            (0x0040_0FFD, INSIDE),
+        ),
+        Ok(None),
+    ),
+    (
+        (0x1000, State::Running, AFTER, TOP, (0x0040_0FFC, INSIDE)),
+        Ok(None),
+    ),
+    (
+        (
+            0x1000,
+            State::Running,
+            AFTER,
+            [0, 0, 0, 0, 0x003F_FFFC, 0, 0, 0],
+            NOTHING,
+        ),
+        Err(()),
+    ),
+    (
+        (
+            0x1000,
+            State::Running,
+            AFTER,
+            [0, 0, 0, 0, 0x0040_1001, 0, 0, 0],
+            NOTHING,
+        ),
+        Err(()),
+    ),
+    (
+        (0x1000, State::Exited(1), INSIDE, [INSIDE; 8], NOTHING),
+        Ok(None),
+    ),
+    (
+        (0x1000, State::Stopped(Fault::Trap), INSIDE, [0; 8], NOTHING),
+        Ok(None),
+    ),
+    (
+        (
+            0x2710,
+            State::Running,
+            0,
+            [0, 0, 0, 0, LOW, 0, 0, 0],
+            (0x0040_270C, INSIDE),
+        ),
+        Ok(Some((Place::Stack(0x0040_270C), INSIDE))),
+    ),
+    (
+        (
+            0x2710,
+            State::Running,
+            0,
+            [0, 0, 0, 0, LOW, 0, 0, 0],
+            (0x0040_1000, INSIDE),
+        ),
+        Ok(Some((Place::Stack(0x0040_1000), INSIDE))),
+    ),
+    (
+        (
+            0x2710,
+            State::Running,
+            0,
+            [0, 0, 0, 0, 0x0040_2710, 0, 0, 0],
+            (0x0040_270C, INSIDE),
+        ),
+        Ok(None),
+    ),
+];
+
+// The range alone; and others with it, in order and not.
+static SORTED: [Range; 3] = [
+    Range {
+        low: 0x0008_0000,
+        high: 0x0008_0004,
+    },
+    CODE,
+    Range {
+        low: 0x0020_0000,
+        high: 0x0020_0001,
+    },
+];
+
+static MIXED: [Range; 4] = [
+    Range {
+        low: 0x0020_0000,
+        high: 0x0020_0001,
+    },
+    Range {
+        low: 0x0010_0003,
+        high: 0x0010_0006,
+    },
+    Range {
+        low: 0x0008_0000,
+        high: 0x0008_0004,
+    },
+    Range {
+        low: 0x0010_0000,
+        high: 0x0010_0004,
+    },
+];
+
+// A stack of zeros but for a dword.
+fn pieces_of(alloc: Global, size: u32, dword: (u32, u32)) -> Result<Pieces, Fail> {
+    let mut bytes = Vec::new(alloc);
+    bytes.resize(size as usize, 0)?;
+    let at = dword.0.wrapping_sub(LOW) as usize;
+    for (i, byte) in dword.1.to_le_bytes().iter().enumerate() {
+        if let Some(place) = bytes.get_mut(at.wrapping_add(i)) {
+            *place = *byte;
+        }
+    }
+    let mut pieces = ListOf::new(alloc);
+    pieces.push(Piece {
+        kind: Kind::Writable,
+        base: LOW,
+        bytes: ListOf::from_vec(bytes),
+    })?;
+    Ok(pieces)
+}
+
+fn wanted(answer: Answer, esp: u32) -> Result<Option<Standing>, StackOut> {
+    match answer {
+        Err(()) => Err(StackOut { thread: 3, esp }),
+        Ok(None) => Ok(None),
+        Ok(Some((place, value))) => Ok(Some(Standing {
+            thread: 3,
+            place,
+            value,
+        })),
+    }
+}
+
+// What the look at a thread of a case answers.
+fn seen(
+    rt: &impl Abort,
+    alloc: Global,
+    case: &Case,
+    ranges: &[Range],
+) -> Result<Result<Option<Standing>, StackOut>, Fail> {
+    let (size, state, pc, registers, dword) = *case;
+    let stack = Range {
+        low: LOW,
+        high: LOW.wrapping_add(size),
+    };
+    let pieces = pieces_of(alloc, size, dword)?;
+    assert!(rt; are_placed(&pieces));
+    assert!(rt; is_stack(&pieces, stack));
+    let space = FlatSpace::new(alloc, pieces)?;
+    let thread = Thread {
+        number: 3,
+        stack,
+        registers,
+        pc,
+        flags: FLAGS,
+        state,
+    };
+    Ok(stands(&thread, &space, ranges))
+}
+
+#[test]
+fn places(rt: HostRuntime) -> Result<(), Fail> {
+    let alloc = rt.alloc();
+    for (case, answer) in &CASES {
+        let wanted = wanted(*answer, case.3[4]);
+        assert!(rt; seen(&rt, alloc, case, &[CODE])? == wanted);
+        assert!(rt; seen(&rt, alloc, case, &SORTED)? == wanted);
+        assert!(rt; seen(&rt, alloc, case, &MIXED)? == wanted);
+    }
+    Ok(())
+}
+
+#[test]
+fn no_range(rt: HostRuntime) -> Result<(), Fail> {
+    let alloc = rt.alloc();
+    let case = (0x1000, State::Running, INSIDE, TOP, NOTHING);
+    assert!(rt; seen(&rt, alloc, &case, &[])? == Ok(None));
+    Ok(())
+}
+
+// Words, and the least index of one that is an address of the range.
+static WORDS: [(&[u32], Option<u32>); 7] = [
+    (&[], None),
+    (&[INSIDE], Some(0)),
+    (&[AFTER, 0x000F_FFFF], None),
+    (&[0, 0, 0, 0, 0, 0, 0x0010_0000], Some(6)),
+    (&[0, 0, 0, 0, 0, 0, 0, INSIDE], Some(7)),
+    (&[0, 0, 0, INSIDE, 0, 0, 0, 0, INSIDE], Some(3)),
+    (
+        &[0, 0, 0, 0, 0, 0, 0, 0, 0, 0, 0, 0, 0, 0, 0, 0, INSIDE],
+        Some(16),
+    ),
+];
+
+#[test]
+fn words(rt: HostRuntime) -> Result<(), Fail> {
+    for (words, index) in &WORDS {
+        assert!(rt; words.len() <= 17);
+        assert!(rt; first_in(words, &[CODE]) == *index);
+        assert!(rt; first_in(words, &MIXED) == *index);
+        assert!(rt; first_in(words, &[]) == None);
+    }
+    Ok(())
+}
