@@ -1,0 +1,4 @@
+pub mod Rounding
+pub mod Fitting
+pub mod Lowest
+pub mod Steps
