@@ -2,3 +2,5 @@ pub mod Rounding
 pub mod Fitting
 pub mod Lowest
 pub mod Steps
+pub mod Halving
+pub mod Found

@@ -1,2 +1,3 @@
--- How the first fitting gap is found, said by contracts inside this crate alone.
+-- How the first fitting gap and a section's place are found, said by contracts inside this crate alone.
 pub mod Rooms
+pub mod Lookups

@@ -1,9 +1,13 @@
 //! Values of what the references of new code go to, places for its sections, and their bytes at these places.
 #![tactic(auto)]
 
+mod linking;
+mod lookups;
 mod placing;
 mod rooms;
 pub mod types;
 
+pub use crate::linking::linked;
+pub use crate::lookups::in_order;
 pub use crate::placing::{ascend, place};
 pub use crate::types::{Placed, Placement, SectionSize};
