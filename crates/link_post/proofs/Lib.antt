@@ -4,3 +4,4 @@ pub mod Lowest
 pub mod Steps
 pub mod Halving
 pub mod Found
+pub mod Copies

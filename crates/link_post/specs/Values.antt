@@ -2,7 +2,7 @@
 -- addresses that the running program lists under the name.
 use Rattle.std.specs.Prelude.{ℕ, ◌+◌, ◌-◌, ◌%◌, ◌^◌, Bool, ◌&&◌, is_some, if◌then◌else◌, List, [], ◌∷◌, ◌++◌}
 use Rattle.std.specs.Prelude.{Option, Some, None, option_map, Result, Ok, Err}
-use Rattle.std.specs.List.{flat_map, slice_get}
+use Rattle.std.specs.List.{slice_get}
 use Rattle.ks_base.specs.declared.refusals.Refusal.{Refusal}
 use Rattle.ks_base.specs.declared.refusals.Refusal.TheVariants.{Unresolved, TwoNames}
 use Rattle.symbol_table.specs.declared.symbols.Symbol.{Symbol}
@@ -101,4 +101,6 @@ references_of post name = references_in (section_named post name)
 
 -- the values with those of all references of some sections of post, section by section
 unfoldable pub resolved : (pre post : List NormalSection) → List Symbol → List (List ℕ) → List (Unknown × Solved) → Result (List (Unknown × Solved)) Refusal
-resolved pre post symbols sections values = resolved_by pre post symbols (flat_map (references_of post) sections) values
+resolved pre post symbols [] values = Ok values
+resolved pre post symbols (section ∷ sections) values =
+    then_resolved (resolved pre post symbols sections) (resolved_by pre post symbols (references_of post section) values)

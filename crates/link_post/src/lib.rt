@@ -4,10 +4,12 @@
 mod linking;
 mod lookups;
 mod placing;
+mod resolving;
 mod rooms;
 pub mod types;
 
 pub use crate::linking::linked;
 pub use crate::lookups::in_order;
 pub use crate::placing::{ascend, place};
+pub use crate::resolving::resolve_post;
 pub use crate::types::{Placed, Placement, SectionSize};
