@@ -63,17 +63,17 @@ left_there s xs i r at is =
     let (within, here, before) = position-Some (fits s) xs i r at in
     (fits_first s xs i r within here before).1 ∙ ap (λ r. take i xs ++ left_of s r ++ drop (suc i) xs) (sym is)
 
-take_seam : (ps qs : List Range) (i : ℕ) → length ps ≡ i → take i (ps ++ qs) ≡ ps
+pub take_seam : {X : Type 0} (ps qs : List X) (i : ℕ) → length ps ≡ i → take i (ps ++ qs) ≡ ps
 take_seam ps qs i e = subst (λ n. take n (ps ++ qs) ≡ ps) e (take-append_seam ps qs)
 
-drop_seam : (ps qs : List Range) (i : ℕ) → length ps ≡ i → drop i (ps ++ qs) ≡ qs
+pub drop_seam : {X : Type 0} (ps qs : List X) (i : ℕ) → length ps ≡ i → drop i (ps ++ qs) ≡ qs
 drop_seam ps qs i e = subst (λ n. drop n (ps ++ qs) ≡ qs) e (drop-append_seam ps qs)
 
--- ranges put at a place of a list
-abbrev pub put : List Range → ℕ → List Range → List Range
+-- a list put at a place of another
+abbrev pub put : {X : Type 0} → List X → ℕ → List X → List X
 put xs i more = take i xs ++ more ++ drop i xs
 
-put_seam : (ps qs more : List Range) (i : ℕ) → length ps ≡ i → put (ps ++ qs) i more ≡ ps ++ (more ++ qs)
+pub put_seam : {X : Type 0} (ps qs more : List X) (i : ℕ) → length ps ≡ i → put (ps ++ qs) i more ≡ ps ++ (more ++ qs)
 put_seam ps qs more i e = rw (take_seam ps qs i e, drop_seam ps qs i e) (append_assoc ps more qs)
 
 pub replaced : (xs ys zs ws low high : List Range) (i : ℕ) → i < length xs → ys ≡ remove xs i → zs ≡ put ys i high → ws ≡ put zs i low

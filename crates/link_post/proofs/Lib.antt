@@ -5,3 +5,4 @@ pub mod Steps
 pub mod Halving
 pub mod Found
 pub mod Copies
+pub mod BlockLaws

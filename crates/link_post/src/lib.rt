@@ -1,6 +1,8 @@
 //! Values of what the references of new code go to, places for its sections, and their bytes at these places.
 #![tactic(auto)]
 
+mod blocks;
+mod gaps;
 mod linking;
 mod lookups;
 mod placing;

@@ -5,10 +5,12 @@ ghost use Rattle.image_memory.specs.Ranges.{Ascends};
 ghost use Rattle.link_post.specs.declared.types.SectionSize.{SectionSize as Section};
 ghost use Rattle.link_post.specs.Places.{placed};
 ghost use Rattle.link_post.specs.inside.Rooms.{own, preceded};
+ghost use Rattle.link_post.specs.inside.BlockLists.{ranges_of};
 
-use crate::rooms::take_room;
+use crate::blocks::Block;
+use crate::gaps::{blocks_of, take_from};
 use crate::types::{Placed, Placement, SectionSize};
-use ks_base::{Name, Range, Ranges, Refusal};
+use ks_base::{Name, Ranges, Refusal};
 use std::alloc::Global;
 
 /// Whether no range is empty, and they ascend without meeting.
@@ -38,7 +40,7 @@ pub fn place(
     requires { Ascends (λ range. range) 0 gaps.now }
     ensures { Gives (λ placement. placement) result (placed sizes.now gaps.now) }
 {
-    let mut free = Vec::from_slice(alloc, gaps.as_slice())?;
+    let mut free = blocks_of(alloc, gaps.as_slice())?;
     let mut placement = Placement::new(alloc);
     for section in sizes {
         place_section(alloc, &mut free, &mut placement, section)?;
@@ -50,16 +52,16 @@ pub fn place(
 #[tactic(auto, using(crate::proofs::Lowest::after_ascends, crate::proofs::Lowest::lowest_is_first, crate::proofs::Lowest::without_is_after))]
 fn place_section(
     alloc: Global,
-    free: &mut Vec<Range>,
+    free: &mut Vec<Block>,
     placement: &mut Placement,
     section: &SectionSize,
 ) -> Result<(), Refusal>
-    requires { Ascends own 0 free.old.items }
-    ensures ascend { OnOk result (Ascends own 0 free.new.items) }
-    ensures step { OnOk result ((rest : List Section) → preceded placement.old (placed (section.now ∷ rest) free.old.items) ≡ preceded placement.new (placed rest free.new.items)) }
-    ensures refused { IfErr result (λ refusal. refusal ≢ Refusal.Memory → (rest : List Section) → placed (section.now ∷ rest) free.old.items ≡ Err refusal) }
+    requires { Ascends own 0 (ranges_of free.old.items) }
+    ensures ascend { OnOk result (Ascends own 0 (ranges_of free.new.items)) }
+    ensures step { OnOk result ((rest : List Section) → preceded placement.old (placed (section.now ∷ rest) (ranges_of free.old.items)) ≡ preceded placement.new (placed rest (ranges_of free.new.items))) }
+    ensures refused { IfErr result (λ refusal. refusal ≢ Refusal.Memory → (rest : List Section) → placed (section.now ∷ rest) (ranges_of free.old.items) ≡ Err refusal) }
 {
-    match take_room(free, section)? {
+    match take_from(alloc, free, section)? {
         Some(base) => {
             let name = Name::from_slice(alloc, section.name.as_slice())?;
             placement.push(Placed {

@@ -1,6 +1,6 @@
 //! Room for a section among free ranges.
 ghost use Rattle.std.specs.Prelude.{◌≡◌, ◌++◌, ◌<◌, ◌≤◌, ◌^◌, ◌+◌, take, drop, true, Some, length, position, IfOk, OnOk};
-ghost use Rattle.link_post.specs.Places.{start_in, from_to, unless_empty};
+ghost use Rattle.link_post.specs.Places.{round_up, start_in, from_to, unless_empty};
 ghost use Rattle.link_post.specs.inside.Rooms.{fits, left_of, first_start, after_first};
 
 use crate::types::SectionSize;
@@ -8,20 +8,29 @@ use ks_base::Range;
 use std::alloc::AllocError;
 
 // No section begins at an address that isn't a multiple of this.
-const LEAST_BOUNDARY: u64 = 16;
+pub(crate) const LEAST_BOUNDARY: u32 = 16;
+
+// The lowest multiple of a unit at or above an address.
+#[tactic(auto, using(crate::proofs::Rounding::rounded))]
+pub(crate) fn round_up(address: u32, unit: u32) -> u64
+    requires { 0 < unit }
+    ensures value { result ≡ round_up address unit }
+    ensures bound { result < 2 ^ 34 }
+{
+    let unit = u64::from(unit);
+    (u64::from(address) + (unit - 1)) / unit * unit
+}
 
 // The lowest address of a range at which a section may begin, or one above the range.
-#[tactic(auto, using(crate::proofs::Rounding::rounded))]
 fn start_in(section: &SectionSize, range: &Range) -> u64
     ensures start { result ≡ start_in section.now range.now }
     ensures bound { result < 2 ^ 34 }
 {
-    let unit = u64::from(section.align).max(LEAST_BOUNDARY);
-    (u64::from(range.low) + (unit - 1)) / unit * unit
+    round_up(range.low, section.align.max(LEAST_BOUNDARY))
 }
 
 // Whether a section fits in a range.
-fn fits(section: &SectionSize, range: &Range) -> bool
+pub(crate) fn fits(section: &SectionSize, range: &Range) -> bool
     ensures { result ≡ fits section.now range.now }
 {
     start_in(section, range) + u64::from(section.size) <= u64::from(range.high)
