@@ -6,3 +6,4 @@ pub mod Halving
 pub mod Found
 pub mod Copies
 pub mod BlockLaws
+pub mod Apart

@@ -57,7 +57,7 @@ uncut_below taken g le full apart =
     let high : min g.high taken.low ≡ g.high = omega arith in
     rw (above, high, lt-ltb g.low g.high full) refl
 
-first_above : (s : SectionSize) (floor base : ℕ) (gs : List Range) → Ascends own floor gs → first_start s gs ≡ Some base → floor ≤ base
+pub first_above : (s : SectionSize) (floor base : ℕ) (gs : List Range) → Ascends own floor gs → first_start s gs ≡ Some base → floor ≤ base
 first_above s floor base [] up at = absurd cc
 first_above s floor base (g ∷ gs) up at =
     let from = up.0 in

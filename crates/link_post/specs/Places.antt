@@ -1,7 +1,7 @@
 -- Where new sections are placed: each at the lowest free address, so that they take none of another's.
-use Rattle.std.specs.Prelude.{◌≡◌, ℕ, ◌+◌, ◌-◌, ◌*◌, ◌/◌, ◌%◌, ◌≤◌, nat_lt, nat_le, min, max, if◌then◌else◌, List, [], ◌∷◌, ◌++◌, Option, Some, None}
+use Rattle.std.specs.Prelude.{◌≡◌, ◌⊎◌, ℕ, ◌+◌, ◌-◌, ◌*◌, ◌/◌, ◌%◌, ◌≤◌, nat_lt, nat_le, min, max, if◌then◌else◌, List, [], ◌∷◌, ◌++◌, Option, Some, None}
 use Rattle.std.specs.Prelude.{option_map, Result, Ok, Err}
-use Rattle.std.specs.List.{flat_map, find, reduce, AllZip, Contains}
+use Rattle.std.specs.List.{flat_map, find, reduce, AllZip}
 use Rattle.ks_base.specs.declared.places.Range.{Range}
 use Rattle.ks_base.specs.declared.refusals.Refusal.{Refusal}
 use Rattle.ks_base.specs.declared.refusals.Refusal.TheVariants.{NoRoom}
@@ -72,14 +72,16 @@ placed (section ∷ sections) free = placed_by section free (placed sections) (l
 abbrev pub base_in : List Placed → List ℕ → Option ℕ
 base_in placement name = option_map (λ one. one.base) (find (λ one. same_bytes one.section name) placement)
 
--- a section lies at a place: at a multiple of its boundary, with all its bytes in one of the free ranges
-pub record LiesIn (free : List Range) (section : SectionSize) (place : Placed) : Type 0 where
+-- all bytes of a range lie in one of some ranges
+abbrev pub LiesInOne : List Range → Range → Type 0
+LiesInOne [] range = ⊥
+LiesInOne (free ∷ rest) range = ((free.low ≤ range.low) × (range.high ≤ free.high)) ⊎ LiesInOne rest range
+
+-- a place of a section: at a multiple of its boundary, with all its bytes in one of the free ranges
+pub record IsPlace (free : List Range) (section : SectionSize) (place : Placed) : Type 0 where
   pub named : place.section ≡ section.name
   pub multiple : place.base % boundary section ≡ 0
-  pub range : Range
-  pub free_range : Contains free range
-  pub above : range.low ≤ place.base
-  pub below : place.base + section.size ≤ range.high
+  pub within : LiesInOne free (extent section place.base)
 
 -- the addresses that sections take at their places
 abbrev pub extents : List SectionSize → List Placed → List Range
@@ -91,3 +93,8 @@ extents (section ∷ sections) (place ∷ places) = extent section place.base �
 abbrev pub AreApart : List Range → Type 0
 AreApart [] = Unit {0}
 AreApart (range ∷ ranges) = MeetsNone (λ other. other) range ranges × AreApart ranges
+
+-- places of sections, one for each in their order, of which no two share an address
+pub record ArePlaces (free : List Range) (sections : List SectionSize) (places : List Placed) : Type 0 where
+  pub each : AllZip (IsPlace free) sections places
+  pub apart : AreApart (extents sections places)

@@ -3,6 +3,7 @@
 
 mod blocks;
 mod gaps;
+pub mod laws;
 mod linking;
 mod lookups;
 mod placing;
