@@ -1,7 +1,7 @@
 -- The places of sections lie in the gaps, and no two share an address.
-use Rattle.std.proofs.Common.{◌≡◌, ℕ, suc, zero, ◌+◌, ◌-◌, ◌*◌, ◌%◌, ◌<◌, ◌≤◌, Bool, true, false, cond, List, [], ◌∷◌, ◌++◌, Option, Some, None, Result, Ok, Err, refl, sym, ap, ◌∙◌, arith, ◌⊎◌, inl, inr, append_assoc}
-use Rattle.std.specs.Prelude.{nat_lt, max, min}
-use Rattle.std.specs.List.{list_any, AllZip}
+use Rattle.std.proofs.Common.{◌≡◌, ℕ, ◌+◌, ◌%◌, ◌<◌, ◌≤◌, true, false, List, [], ◌∷◌, ◌++◌, Option, Some, None, Result, Ok, Err, refl, sym, ap, ◌∙◌, arith, ◌⊎◌, inl, inr, append_assoc}
+use Rattle.std.specs.Prelude.{nat_lt}
+use Rattle.std.specs.List.{AllZip}
 use Rattle.std.proofs.lemmas.Bool.{cases_Bool}
 use Rattle.std.proofs.lemmas.Bool.Decides.{nat_tests}
 use Rattle.std.proofs.lemmas.Option.{same_Some}
@@ -10,7 +10,7 @@ use Rattle.ks_base.specs.declared.refusals.Refusal.{Refusal}
 use Rattle.image_memory.specs.Ranges.{Ascends, meets, MeetsNone}
 use Rattle.link_post.specs.declared.types.SectionSize.{SectionSize}
 use Rattle.link_post.specs.declared.types.Placed.{Placed}
-use Rattle.link_post.specs.Places.{from_to, unless_empty, boundary, round_up, start_in, extent, extents, placed, placed_at, placed_by, after_placed, LiesInOne, IsPlace, AreApart, ArePlaces}
+use Rattle.link_post.specs.Places.{from_to, unless_empty, boundary, start_in, extent, extents, placed, placed_at, placed_by, after_placed, LiesInOne, IsPlace, ArePlaces}
 use Rattle.link_post.specs.inside.Rooms.{own, fits, left_of, first_start, after_first}
 use Rattle.link_post.proofs.Rounding.{rounded_multiple}
 use Rattle.link_post.proofs.Fitting.{left_where_empty}
@@ -70,14 +70,14 @@ shrinks s (g ∷ gs) r more lies =
           elim (in_left s g gs r more (rw here at lies)) [
             | inl lower ↦ let b = lower.1 in inl (lower.0, omega arith)
             | inr rest ↦ elim rest [
-                | inl upper ↦ let b = upper.0 in inl (omega arith, upper.1)
-                | inr others ↦ inr others
-              ]
+              | inl upper ↦ let b = upper.0 in inl (omega arith, upper.1)
+              | inr others ↦ inr others
+            ]
           ]
       | inr later ↦ elim (rw later at lies) [
-          | inl own_range ↦ inl own_range
-          | inr others ↦ inr (shrinks s gs r more others)
-        ]
+        | inl own_range ↦ inl own_range
+        | inr others ↦ inr (shrinks s gs r more others)
+      ]
     ]
 
 lies_above : (floor : ℕ) (gs : List Range) (r : Range) → Ascends own floor gs → LiesInOne gs r → floor ≤ r.low
@@ -107,9 +107,9 @@ apart_some s floor base (g ∷ gs) r more up at lies =
           elim (in_left s g gs r more (rw here at lies)) [
             | inl lower ↦ let b = lower.1 in below_apart (extent s base) r (omega arith)
             | inr rest ↦ elim rest [
-                | inl upper ↦ let b = upper.0 in above_apart (extent s base) r (omega arith)
-                | inr others ↦ let b = lies_above g.high gs r up.2 others in above_apart (extent s base) r (omega arith)
-              ]
+              | inl upper ↦ let b = upper.0 in above_apart (extent s base) r (omega arith)
+              | inr others ↦ let b = lies_above g.high gs r up.2 others in above_apart (extent s base) r (omega arith)
+            ]
           ]
       | inr later ↦
           let rest : first_start s gs ≡ Some base = rw later at at in

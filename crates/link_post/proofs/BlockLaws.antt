@@ -1,7 +1,7 @@
 -- Where a section fits among blocks of ranges.
-use Rattle.std.proofs.Common.{◌≡◌, ℕ, suc, zero, ◌+◌, ◌-◌, ◌<◌, ◌≤◌, Bool, true, false, cond, ◌||◌, List, [], ◌∷◌, ◌++◌, map, length, get_or, take, drop, Option, Some, None, refl, sym, ap, ◌∙◌, arith, inl, inr, append_assoc}
-use Rattle.std.specs.Prelude.{max, nat_le}
-use Rattle.std.specs.List.{flat_map, fold, list_any, position, position_or_len, remove, insert}
+use Rattle.std.proofs.Common.{◌≡◌, ℕ, suc, zero, ◌+◌, ◌<◌, ◌≤◌, true, false, List, [], ◌∷◌, ◌++◌, map, length, get_or, take, drop, Some, None, refl, sym, ap, ◌∙◌, arith, inl, inr, append_assoc}
+use Rattle.std.specs.Prelude.{max}
+use Rattle.std.specs.List.{fold, position, position_or_len, remove, insert}
 use Rattle.std.proofs.lemmas.Bool.{cases_Bool}
 use Rattle.std.proofs.lemmas.Bool.Decides.{nat_tests}
 use Rattle.std.proofs.lemmas.Grind.{common_steps, flat_map-append}
@@ -13,7 +13,7 @@ use Rattle.link_post.specs.declared.types.SectionSize.{SectionSize}
 use Rattle.link_post.specs.declared.blocks.Block.{Block}
 use Rattle.link_post.specs.Places.{boundary, start_in}
 use Rattle.link_post.specs.inside.Rooms.{fits, left_of, first_start, after_first}
-use Rattle.link_post.specs.inside.Blocks.{room_in, most_room, has_fit}
+use Rattle.link_post.specs.inside.Blocks.{room_in, has_fit}
 use Rattle.link_post.specs.inside.BlockLists.{ranges_in, ranges_of, block_fits}
 use Rattle.link_post.proofs.Fitting.{take_seam, drop_seam}
 

@@ -1,5 +1,5 @@
 -- What a map of values finds.
-use Rattle.std.proofs.Common.{◌≡◌, ℕ, List, [], ◌∷◌, cond, Bool, Option, Some, None, refl, sym, ap, ◌∙◌}
+use Rattle.std.proofs.Common.{◌≡◌, List, [], ◌∷◌, cond, Some, refl, ap, ◌∙◌}
 use Rattle.std.specs.Map.{lookup}
 use Rattle.symbol_table.specs.declared.values.Unknown.{Unknown}
 use Rattle.symbol_table.specs.declared.values.Unknown.TheVariants.{Code, Data, Outside}

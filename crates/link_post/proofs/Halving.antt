@@ -1,7 +1,7 @@
 -- The section of a name among places of sections that stand in the order of an object, found by halving.
-use Rattle.std.proofs.Common.{◌≡◌, ℕ, suc, zero, ◌+◌, ◌≤◌, ◌<◌, Bool, true, false, cond, List, [], ◌∷◌, map, length, get_or, Option, Some, None, refl, sym, ap, ◌∙◌, arith, ◌⊎◌, inl, inr}
-use Rattle.std.specs.Prelude.{nat_lt, unwrap_or, option_map}
-use Rattle.std.specs.List.{find, slice_get}
+use Rattle.std.proofs.Common.{◌≡◌, ℕ, suc, zero, ◌≤◌, ◌<◌, Bool, true, false, List, [], ◌∷◌, map, length, get_or, Some, None, refl, sym, ap, ◌∙◌, arith, ◌⊎◌, inl, inr}
+use Rattle.std.specs.Prelude.{option_map}
+use Rattle.std.specs.List.{find}
 use Rattle.std.specs.List.Sorted.{IsPartitionedBy}
 use Rattle.std.specs.Cmp.Lexicographic.{bytes_decides}
 use Rattle.std.proofs.lemmas.Bool.{lt-ltb, ltb-true, cases_Bool}
@@ -103,13 +103,13 @@ module _ (post : List NormalSection) (name : List ℕ) (xs : List Placed) (i : �
       ap (option_map (λ (one : Placed). one.base)) (find_none name xs x (λ k less. elim (three k i) [
         | inl lower ↦ before k x lower
         | inr rest ↦ elim rest [
-            | inl same ↦ rw same (ap (has_name name) (sym is) ∙ other)
-            | inr higher ↦
-                let rise = later post 0 xs i k x up higher less in
-                let not_before = above i x (omega arith) within in
-                let at : place_in post name ≤ place_in post (get_or xs i x).section = grind (arith, nat_tests) in
-                other_above post (get_or xs k x).section name (omega arith)
-          ]
+          | inl same ↦ rw same (ap (has_name name) (sym is) ∙ other)
+          | inr higher ↦
+              let rise = later post 0 xs i k x up higher less in
+              let not_before = above i x (omega arith) within in
+              let at : place_in post name ≤ place_in post (get_or xs i x).section = grind (arith, nat_tests) in
+              other_above post (get_or xs k x).section name (omega arith)
+        ]
       ]))
     where
       three : (a b : ℕ) → (a < b) ⊎ ((a ≡ b) ⊎ (b < a))

@@ -7,3 +7,5 @@ pub mod Found
 pub mod Copies
 pub mod BlockLaws
 pub mod Apart
+pub mod Orders
+pub mod Telling

@@ -1,7 +1,7 @@
 -- Of ranges that ascend, the first in which a section fits has the lowest address for it, and nothing is taken of the others.
-use Rattle.std.proofs.Common.{◌≡◌, ℕ, suc, zero, ◌+◌, ◌-◌, ◌<◌, ◌≤◌, Bool, true, false, cond, List, [], ◌∷◌, ◌++◌, Option, Some, None, refl, sym, ap, ◌∙◌, arith, inl, inr, append_assoc}
-use Rattle.std.specs.Prelude.{min, max, nat_lt, nat_le}
-use Rattle.std.specs.List.{flat_map, fold, reduce}
+use Rattle.std.proofs.Common.{◌≡◌, ℕ, ◌+◌, ◌<◌, ◌≤◌, true, false, List, [], ◌∷◌, ◌++◌, Some, refl, sym, ap, arith, inl, inr, append_assoc}
+use Rattle.std.specs.Prelude.{min, max, nat_lt}
+use Rattle.std.specs.List.{flat_map, fold}
 use Rattle.std.proofs.lemmas.Bool.{lt-ltb, leb-true, cases_Bool}
 use Rattle.std.proofs.lemmas.Bool.Decides.{nat_tests}
 use Rattle.std.proofs.lemmas.Option.{same_Some}
@@ -9,7 +9,7 @@ use Rattle.ks_base.specs.declared.places.Range.{Range}
 use Rattle.image_memory.specs.Ranges.{Ascends}
 use Rattle.link_post.specs.declared.types.SectionSize.{SectionSize}
 use Rattle.link_post.specs.Places.{from_to, unless_empty, cut, without, boundary, start_in, fitting, lowest, extent}
-use Rattle.link_post.specs.inside.Rooms.{own, fits, left_of, first_start, after_first}
+use Rattle.link_post.specs.inside.Rooms.{own, fits, first_start, after_first}
 use Rattle.link_post.proofs.Rounding.{rounds_up}
 use Rattle.link_post.proofs.Fitting.{left_where_empty}
 

@@ -33,9 +33,13 @@ Rise floor (n ∷ ns) = (floor ≤ n) × Rise (suc n) ns
 abbrev pub section_of : Placed → List ℕ
 section_of placed = placed.section
 
--- places of sections in the order in which these stand in post, of none two
+-- names of sections in the order in which these stand in post, none twice
+abbrev pub AreNamesInOrder : List NormalSection → List (List ℕ) → Type 0
+AreNamesInOrder post names = Rise 0 (map (place_in post) names)
+
+-- and places of sections
 abbrev pub AreInOrder : List NormalSection → List Placed → Type 0
-AreInOrder post placement = Rise 0 (map (place_in post) (map section_of placement))
+AreInOrder post placement = AreNamesInOrder post (map section_of placement)
 
 -- what the running program, or an object that it was made from, gives for an unknown
 abbrev pub value_in : List (Unknown × Solved) → Unknown → Option ℕ

@@ -83,6 +83,10 @@ pub record IsPlace (free : List Range) (section : SectionSize) (place : Placed) 
   pub multiple : place.base % boundary section ≡ 0
   pub within : LiesInOne free (extent section place.base)
 
+-- a section's name
+abbrev pub name_of : SectionSize → List ℕ
+name_of section = section.name
+
 -- the addresses that sections take at their places
 abbrev pub extents : List SectionSize → List Placed → List Range
 extents [] places = []

@@ -1,8 +1,8 @@
 -- What the references of new code go to in the running program: the values that the old object gave, and for what it left open the
 -- addresses that the running program lists under the name.
-use Rattle.std.specs.Prelude.{ℕ, ◌+◌, ◌-◌, ◌%◌, ◌^◌, Bool, ◌&&◌, is_some, if◌then◌else◌, List, [], ◌∷◌, ◌++◌}
-use Rattle.std.specs.Prelude.{Option, Some, None, option_map, Result, Ok, Err}
-use Rattle.std.specs.List.{slice_get}
+use Rattle.std.specs.Prelude.{◌≡◌, ℕ, ◌+◌, ◌-◌, ◌%◌, ◌^◌, Bool, ◌&&◌, is_some, if◌then◌else◌, List, [], ◌∷◌, ◌++◌}
+use Rattle.std.specs.Prelude.{Option, Some, None, IsSome, Result, Ok, Err}
+use Rattle.std.specs.List.{slice_get, AllByRecursion}
 use Rattle.ks_base.specs.declared.refusals.Refusal.{Refusal}
 use Rattle.ks_base.specs.declared.refusals.Refusal.TheVariants.{Unresolved, TwoNames}
 use Rattle.symbol_table.specs.declared.symbols.Symbol.{Symbol}
@@ -104,3 +104,16 @@ unfoldable pub resolved : (pre post : List NormalSection) → List Symbol → Li
 resolved pre post symbols [] values = Ok values
 resolved pre post symbols (section ∷ sections) values =
     then_resolved (resolved pre post symbols sections) (resolved_by pre post symbols (references_of post section) values)
+
+-- the values tell what a reference needs
+abbrev pub Tell : List (Unknown × Solved) → Option Unknown → Type 0
+Tell values None = Unit {0}
+Tell values (Some which) = IsSome (solved_as values which)
+
+abbrev pub TellOf : (pre post : List NormalSection) → List (Unknown × Solved) → Ref → Type 0
+TellOf pre post values r = Tell values (needed_by pre post r.target)
+
+-- Values that were found keep what the earlier ones tell, and tell what each reference of some sections needs.
+pub record AreFound (pre post : List NormalSection) (sections : List (List ℕ)) (earlier found : List (Unknown × Solved)) : Type 0 where
+  pub kept : (which : Unknown) (solved : Solved) → solved_as earlier which ≡ Some solved → solved_as found which ≡ Some solved
+  pub told : AllByRecursion (λ name. AllByRecursion (TellOf pre post found) (references_of post name)) sections

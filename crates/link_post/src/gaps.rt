@@ -11,6 +11,7 @@ use std::alloc::{AllocError, Global};
 
 // How many ranges a new block has, and how many it may come to have.
 const WIDTH: usize = 256;
+
 const MOST: usize = 512;
 
 // Ranges in blocks.

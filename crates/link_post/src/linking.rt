@@ -121,7 +121,9 @@ impl<'a, 'b> Linking<'a, 'b> {
             }
             Target::Section(name) => self.section_address(alloc, r, name.as_slice()),
             Target::Text {
-                section, offset, ..
+                section,
+                offset,
+                ..
             } => match base_in(self.post, self.placement, section.as_slice()) {
                 Some(base) => Ok(Some(base.wrapping_add(*offset))),
                 None => Ok(None),

@@ -32,11 +32,7 @@ pub fn ascend(gaps: &Ranges) -> bool
 /// [`Refusal::NoRoom`] comes with the size of the first section that has no such address, and [`Refusal::Memory`] for
 /// want of memory alone.
 #[tactic(auto, unfolding(crate::specs::Places::placed))]
-pub fn place(
-    alloc: Global,
-    sizes: &[SectionSize],
-    gaps: &Ranges,
-) -> Result<Placement, Refusal>
+pub fn place(alloc: Global, sizes: &[SectionSize], gaps: &Ranges) -> Result<Placement, Refusal>
     requires { Ascends (λ range. range) 0 gaps.now }
     ensures { Gives (λ placement. placement) result (placed sizes.now gaps.now) }
 {

@@ -115,10 +115,7 @@ fn needed_by(
         )?))),
         Target::Section(name) => {
             if is_kept_data(pre, post, name.as_slice()) {
-                Ok(Some(Unknown::Data(Name::from_slice(
-                    alloc,
-                    name.as_slice(),
-                )?)))
+                Ok(Some(Unknown::Data(Name::from_slice(alloc, name.as_slice())?)))
             } else {
                 Ok(None)
             }
@@ -178,15 +175,9 @@ fn listed_as(
         }
         Unknown::Data(name) => match first_object(post, name.as_slice()) {
             Some(object) => address_by(alloc, table, object),
-            None => Err(Refusal::Unresolved(Name::from_slice(
-                alloc,
-                name.as_slice(),
-            )?)),
+            None => Err(Refusal::Unresolved(Name::from_slice(alloc, name.as_slice())?)),
         },
-        Unknown::Code(name) => Err(Refusal::Unresolved(Name::from_slice(
-            alloc,
-            name.as_slice(),
-        )?)),
+        Unknown::Code(name) => Err(Refusal::Unresolved(Name::from_slice(alloc, name.as_slice())?)),
     }
 }
 
@@ -199,11 +190,7 @@ fn first_object<'a, 'b>(post: &'a Normal<'b>, name: &[u8]) -> Option<&'a ObjectS
 }
 
 // Where the section begins that has a variable, by the variable's one address.
-fn address_by(
-    alloc: Global,
-    table: &SymbolTable,
-    object: &ObjectSymbol<'_>,
-) -> Result<u32, Refusal>
+fn address_by(alloc: Global, table: &SymbolTable, object: &ObjectSymbol<'_>) -> Result<u32, Refusal>
     ensures { Gives (λ address. address) result (less object.now.value (one_of object.now.name (data_addresses table.now.symbols object.now.name))) }
 {
     let name = Name::from_slice(alloc, object.name.as_slice())?;

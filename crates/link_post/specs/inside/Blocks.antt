@@ -1,6 +1,6 @@
 -- Free ranges in blocks, each with the greatest room that it has at each boundary.
 use Rattle.std.specs.Prelude.{ℕ, ◌-◌, Bool, max, List, [], ◌∷◌, map}
-use Rattle.std.specs.List.{flat_map, fold, list_any}
+use Rattle.std.specs.List.{fold, list_any}
 use Rattle.ks_base.specs.declared.places.Range.{Range}
 use Rattle.link_post.specs.declared.types.SectionSize.{SectionSize}
 use Rattle.link_post.specs.Places.{round_up}

@@ -1,5 +1,5 @@
 -- What the block has is what all blocks have first.
-use Rattle.std.proofs.Common.{◌∙◌, ap, sym}
+use Rattle.std.proofs.Common.{◌∙◌, ap}
 use Rattle.link_post.specs.inside.Rooms.{first_start, after_first}
 use Rattle.link_post.specs.inside.BlockLists.{ranges_of}
 use Rattle.link_post.proofs.BlockLaws.{block_start, block_left}

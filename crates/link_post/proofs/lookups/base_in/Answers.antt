@@ -1,7 +1,6 @@
 -- The places before the one that halving finds have other names, and those behind it too.
-use Rattle.std.proofs.Common.{◌≡◌, ◌<◌, ◌≤◌, true, false, length, sym, ap, ◌∙◌, arith}
+use Rattle.std.proofs.Common.{◌≡◌, true, false, sym, arith}
 use Rattle.i386_reloc.specs.Normal.{same_bytes}
-use Rattle.link_post.specs.inside.Lookups.{is_before}
 use Rattle.link_post.proofs.Halving.{base_at_end, base_there, base_nowhere}
 use Rattle.link_post.proofs.lookups.base_in.Goals as goal
 

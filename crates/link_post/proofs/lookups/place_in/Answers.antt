@@ -1,5 +1,4 @@
-use Rattle.std.proofs.Common.{◌≡◌, ◌≤◌, ◌<◌, Some, sym, ◌∙◌, arith, length}
-use Rattle.i386_reloc.specs.Places.{place_named}
+use Rattle.std.proofs.Common.{◌<◌, sym, arith, length}
 use Rattle.link_post.proofs.Halving.{place_within}
 use Rattle.link_post.proofs.lookups.place_in.Goals as goal
 

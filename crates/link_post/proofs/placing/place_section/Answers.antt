@@ -1,7 +1,5 @@
 -- The first range in which the section fits has the lowest address for it.
-use Rattle.std.proofs.Common.{◌≡◌, List, Some, None, sym, ◌∙◌}
-use Rattle.link_post.specs.declared.types.Placed.{Placed}
-use Rattle.link_post.specs.Places.{placed_at}
+use Rattle.std.proofs.Common.{◌≡◌, Some, sym, ◌∙◌}
 use Rattle.link_post.specs.inside.Rooms.{first_start}
 use Rattle.link_post.specs.inside.BlockLists.{ranges_of}
 use Rattle.link_post.proofs.Steps.{placed_next, placed_nowhere}

@@ -1,5 +1,5 @@
 -- The range is the first that fits, and what is left of it is put in its place, the upper part first.
-use Rattle.std.proofs.Common.{◌≡◌, suc, ◌+◌, ◌++◌, Some, sym, ◌∙◌, ap, take, drop}
+use Rattle.std.proofs.Common.{suc, ◌+◌, ◌++◌, Some, sym, ◌∙◌, ap, take, drop}
 use Rattle.std.proofs.lemmas.List.Quantifiers.{position-Some}
 use Rattle.link_post.specs.Places.{from_to, unless_empty}
 use Rattle.link_post.specs.inside.Rooms.{fits}
