@@ -134,24 +134,24 @@ fn new_sections_are_linked(rt: HostRuntime) -> Result<(), Fail> {
     Ok(())
 }
 
+// Whether an unknown is at an index of the values, and came to an address.
+fn is_at(values: &Values, index: usize, which: &Unknown, address: u32) -> bool {
+    values.get_index_of(which) == Some(index)
+        && values.get(which).copied() == Some(Solved::Address(address))
+}
+
 #[test]
 fn values_stand_in_the_order_of_the_references(rt: HostRuntime) -> Result<(), Fail> {
     let alloc = rt.alloc();
     let symbols = [(true, "spin", 0x0010_0020), (false, "x", 2)];
     let values = resolved(alloc, &symbols, true)?.ok().ok_or("refused")?;
-    let keys: [Unknown; 4] = [
-        Unknown::Code(Name::from_slice(alloc, b".text.f")?),
-        Unknown::Data(Name::from_slice(alloc, b".data.y")?),
-        Unknown::Data(Name::from_slice(alloc, b".data.x")?),
-        Unknown::Outside(Name::from_slice(alloc, b"spin")?),
-    ];
     assert!(rt; values.len() == 4);
-    assert!(rt; values.get_index_of(&keys[0]) == Some(0));
-    assert!(rt; values.get_index_of(&keys[1]) == Some(1));
-    assert!(rt; values.get_index_of(&keys[2]) == Some(2));
-    assert!(rt; values.get_index_of(&keys[3]) == Some(3));
-    assert!(rt; values.get(&keys[2]).copied() == Some(Solved::Address(0xffff_fffe)));
-    assert!(rt; values.get(&keys[3]).copied() == Some(Solved::Address(0x0010_0020)));
+    let known = Unknown::Data(Name::from_slice(alloc, b".data.y")?);
+    assert!(rt; is_at(&values, 1, &known, 0x0020_0100));
+    let first = Unknown::Data(Name::from_slice(alloc, b".data.x")?);
+    assert!(rt; is_at(&values, 2, &first, 0xffff_fffe));
+    let second = Unknown::Outside(Name::from_slice(alloc, b"spin")?);
+    assert!(rt; is_at(&values, 3, &second, 0x0010_0020));
     Ok(())
 }
 

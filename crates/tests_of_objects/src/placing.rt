@@ -166,13 +166,9 @@ fn one_gap_is_split_a_thousand_times(rt: HostRuntime) -> Result<(), Fail> {
     }
     sizes.push((33, 16))?;
     bases.push(0x0010_fa00)?;
-    let placement = places(
-        alloc,
-        sizes.as_slice(),
-        &[(0x0010_0000, 0x0011_0000)],
-    )?
-    .ok()
-    .ok_or("refused")?;
+    let placement = places(alloc, sizes.as_slice(), &[(0x0010_0000, 0x0011_0000)])?
+        .ok()
+        .ok_or("refused")?;
     assert!(rt; has_bases(&placement, bases.as_slice()));
     Ok(())
 }
