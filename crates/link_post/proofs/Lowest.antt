@@ -1,4 +1,5 @@
--- Of ranges that ascend, the first in which a section fits has the lowest address for it, and nothing is taken of the others.
+-- Of ranges that ascend, the first in which a section fits has the lowest address for it, and nothing is taken of
+-- the others.
 use Rattle.std.proofs.Common.{◌≡◌, ℕ, ◌+◌, ◌<◌, ◌≤◌, true, false, List, [], ◌∷◌, ◌++◌, Some, refl, sym, ap, arith, inl, inr, append_assoc}
 use Rattle.std.specs.Prelude.{min, max, nat_lt}
 use Rattle.std.specs.List.{flat_map, fold}

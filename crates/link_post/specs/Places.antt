@@ -20,7 +20,8 @@ unless_empty range = if nat_lt range.low range.high then range ∷ [] else []
 -- what is left of a range below and above another
 abbrev pub cut : Range → Range → List Range
 cut taken range =
-    unless_empty (from_to range.low (min range.high taken.low)) ++ unless_empty (from_to (max range.low taken.high) range.high)
+    unless_empty (from_to range.low (min range.high taken.low))
+    ++ unless_empty (from_to (max range.low taken.high) range.high)
 
 -- what is left of free ranges where another was taken; an empty one takes nothing
 abbrev pub without : List Range → Range → List Range
@@ -58,7 +59,8 @@ after_placed first (Err refusal) = Err refusal
 after_placed first (Ok rest) = Ok (first ∷ rest)
 
 -- a section at its place, and the rest in what is free then
-abbrev pub placed_by : SectionSize → List Range → (List Range → Result (List Placed) Refusal) → Option ℕ → Result (List Placed) Refusal
+abbrev pub placed_by : SectionSize → List Range → (List Range → Result (List Placed) Refusal) → Option ℕ
+    → Result (List Placed) Refusal
 placed_by section free rest None = Err (NoRoom section.size)
 placed_by section free rest (Some base) =
     after_placed (placed_at section base) (rest (without free (extent section base)))

@@ -86,7 +86,8 @@ fn put_ranges(
     mut ranges: Vec<Range>,
 ) -> Result<(), AllocError>
     requires { i ≤ length blocks.old.items }
-    ensures { OnOk result (ranges_of blocks.new.items ≡ ranges_of (take i blocks.old.items) ++ (ranges.items ++ ranges_of (drop i blocks.old.items))) }
+    ensures { OnOk result (ranges_of blocks.new.items
+        ≡ ranges_of (take i blocks.old.items) ++ (ranges.items ++ ranges_of (drop i blocks.old.items))) }
 {
     if ranges.len() > MOST {
         let upper = Block::new(alloc, ranges.split_off(WIDTH)?)?;

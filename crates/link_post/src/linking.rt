@@ -13,17 +13,19 @@ use ks_base::{Bytes, Name};
 use std::alloc::{AllocError, Global};
 use symbol_table::{Unknown, Values};
 
-/// The bytes of the section of a name at its place: its own, with `S + A` or `S + A - P` modulo 2 to the 32nd in the field of
-/// each reference, and zeros of a section that has no bytes in the file. There are none where `post` has no such section. `S` is
+/// The bytes of the section of a name at its place: its own, with `S + A` or `S + A - P` modulo 2 to the 32nd in the
+/// field of each reference, and zeros of a section that has no bytes in the file. There are none where `post` has no
+/// such section. `S` is
 ///
-/// - the home of a function of the running program that a reference enters, and the new base of any other function, also where a
-///   reference goes into it and not to its entry;
+/// - the home of a function of the running program that a reference enters, and the new base of any other function,
+///   also where a reference goes into it and not to its entry;
 /// - the new base of read-only data and texts, with a text's offset;
 /// - the value of data that the running program has, and the new base of new data;
 /// - the value of a name that the object doesn't define.
 ///
-/// A target that has neither counts as 0: [`resolve_post`](crate::resolve_post) and [`place`](crate::place) give each what it needs.
-/// It takes time in proportion to the bytes and references, and each name is found by halving or a map.
+/// A target that has neither counts as 0: [`resolve_post`](crate::resolve_post) and [`place`](crate::place) give
+/// each what it needs. It takes time in proportion to the bytes and references, and each name is found by halving or
+/// a map.
 #[tactic(auto, unfolding(crate::specs::Linked::linked))]
 pub fn linked(
     alloc: Global,
@@ -68,7 +70,10 @@ impl<'a, 'b> Linking<'a, 'b> {
         section: &NormalSection<'_>,
     ) -> Result<Vec<u8>, AllocError>
         requires { AreInOrder self.now.post.now self.now.placement.now }
-        ensures { IfOk result (λ bytes. bytes.items ≡ fold (filled self.now.post.now self.now.placement.now self.now.values.now.entries (unwrap_or (base_in_list self.now.placement.now section.now.name) 0)) section.now.bytes section.now.refs) }
+        ensures { IfOk result (λ bytes. bytes.items ≡ fold
+            (filled self.now.post.now self.now.placement.now self.now.values.now.entries
+            (unwrap_or (base_in_list self.now.placement.now section.now.name) 0))
+            section.now.bytes section.now.refs) }
     {
         let base = base_in(self.post, self.placement, section.name.as_slice()).unwrap_or(0);
         let mut bytes = Vec::from_slice(alloc, section.bytes.as_slice())?;
@@ -88,7 +93,8 @@ impl<'a, 'b> Linking<'a, 'b> {
         r: &Ref<'_>,
     ) -> Result<(), AllocError>
         requires { AreInOrder self.now.post.now self.now.placement.now }
-        ensures { OnOk result (bytes.new.items ≡ filled self.now.post.now self.now.placement.now self.now.values.now.entries base bytes.old.items r.now) }
+        ensures { OnOk result (bytes.new.items
+            ≡ filled self.now.post.now self.now.placement.now self.now.values.now.entries base bytes.old.items r.now) }
     {
         let s = self.address_of(alloc, r)?;
         let p = base.wrapping_add(r.offset);
@@ -104,7 +110,8 @@ impl<'a, 'b> Linking<'a, 'b> {
     #[tactic(auto, unfolding(crate::specs::Linked::address_of))]
     fn address_of(&self, alloc: Global, r: &Ref<'_>) -> Result<u32, AllocError>
         requires { AreInOrder self.now.post.now self.now.placement.now }
-        ensures { IfOk result (λ address. address ≡ address_of self.now.post.now self.now.placement.now self.now.values.now.entries r.now) }
+        ensures { IfOk result (λ address. address
+            ≡ address_of self.now.post.now self.now.placement.now self.now.values.now.entries r.now) }
     {
         Ok(self.target_address(alloc, r)?.unwrap_or(0))
     }
@@ -112,7 +119,8 @@ impl<'a, 'b> Linking<'a, 'b> {
     // The address of what a reference goes to.
     fn target_address(&self, alloc: Global, r: &Ref<'_>) -> Result<Option<u32>, AllocError>
         requires { AreInOrder self.now.post.now self.now.placement.now }
-        ensures { IfOk result (λ address. address ≡ target_address self.now.post.now self.now.placement.now self.now.values.now.entries r.now r.now.target) }
+        ensures { IfOk result (λ address. address
+            ≡ target_address self.now.post.now self.now.placement.now self.now.values.now.entries r.now r.now.target) }
     {
         match &r.target {
             Target::Outside(name) => {
@@ -140,7 +148,8 @@ impl<'a, 'b> Linking<'a, 'b> {
         name: &[u8],
     ) -> Result<Option<u32>, AllocError>
         requires { AreInOrder self.now.post.now self.now.placement.now }
-        ensures { IfOk result (λ address. address ≡ section_address self.now.post.now self.now.placement.now self.now.values.now.entries r.now name.now) }
+        ensures { IfOk result (λ address. address
+            ≡ section_address self.now.post.now self.now.placement.now self.now.values.now.entries r.now name.now) }
     {
         if is_code(self.post, name) {
             return self.function_address(alloc, r, name);
@@ -162,7 +171,8 @@ impl<'a, 'b> Linking<'a, 'b> {
         name: &[u8],
     ) -> Result<Option<u32>, AllocError>
         requires { AreInOrder self.now.post.now self.now.placement.now }
-        ensures { IfOk result (λ address. address ≡ function_address self.now.placement.now self.now.values.now.entries r.now name.now) }
+        ensures { IfOk result (λ address. address
+            ≡ function_address self.now.placement.now self.now.values.now.entries r.now name.now) }
     {
         if !r.is_interior() {
             let which = Unknown::Code(Name::from_slice(alloc, name)?);

@@ -43,7 +43,8 @@ pub fn in_order(post: &Normal<'_>, placement: &Placement) -> bool
 fn begun(post: &Normal<'_>, placement: &[Placed], place: usize) -> usize
     requires { AreInOrder post.now placement.now }
     ensures bound { result ≤ length placement.now }
-    ensures point { IsPartitionPoint (λ placed. is_before post.now place placed ≡ true) (λ placed. is_before post.now place placed ≡ false) placement.now result }
+    ensures point { IsPartitionPoint (λ placed. is_before post.now place placed ≡ true)
+        (λ placed. is_before post.now place placed ≡ false) placement.now result }
 {
     placement.partition_point(|placed| place_in(post, placed.section.as_slice()) < place)
 }

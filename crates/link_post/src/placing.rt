@@ -54,8 +54,11 @@ fn place_section(
 ) -> Result<(), Refusal>
     requires { Ascends own 0 (ranges_of free.old.items) }
     ensures ascend { OnOk result (Ascends own 0 (ranges_of free.new.items)) }
-    ensures step { OnOk result ((rest : List Section) → preceded placement.old (placed (section.now ∷ rest) (ranges_of free.old.items)) ≡ preceded placement.new (placed rest (ranges_of free.new.items))) }
-    ensures refused { IfErr result (λ refusal. refusal ≢ Refusal.Memory → (rest : List Section) → placed (section.now ∷ rest) (ranges_of free.old.items) ≡ Err refusal) }
+    ensures step { OnOk result ((rest : List Section)
+        → preceded placement.old (placed (section.now ∷ rest) (ranges_of free.old.items))
+        ≡ preceded placement.new (placed rest (ranges_of free.new.items))) }
+    ensures refused { IfErr result (λ refusal. refusal ≢ Refusal.Memory → (rest : List Section)
+        → placed (section.now ∷ rest) (ranges_of free.old.items) ≡ Err refusal) }
 {
     match take_from(alloc, free, section)? {
         Some(base) => {

@@ -13,14 +13,15 @@ use ks_base::{Name, Names, Refusal};
 use std::alloc::{AllocError, Global};
 use symbol_table::{Solved, SymbolTable, Unknown, Values};
 
-/// The values with those that the references of some sections of `post` need besides, in the order in which the references need them:
-/// of each name that the object doesn't define, and of each section of data that is in `pre` too. A value that is there stays.
-/// Otherwise the one address that the table lists is taken: for a name its global symbols, for a section the data symbols of its
-/// first variable in `post`, less the variable's offset.
+/// The values with those that the references of some sections of `post` need besides, in the order in which the
+/// references need them: of each name that the object doesn't define, and of each section of data that is in `pre`
+/// too. A value that is there stays. Otherwise the one address that the table lists is taken: for a name its global
+/// symbols, for a section the data symbols of its first variable in `post`, less the variable's offset.
 ///
-/// At the first reference, section by section and in each by offset, whose name has no address, [`Refusal::Unresolved`] comes with
-/// the name, or with the section's where it has no variable; where there are several, [`Refusal::TwoNames`] with the two lowest.
-/// [`Refusal::Memory`] comes for want of memory alone. The time is n log n in the references.
+/// At the first reference, section by section and in each by offset, whose name has no address,
+/// [`Refusal::Unresolved`] comes with the name, or with the section's where it has no variable; where there are
+/// several, [`Refusal::TwoNames`] with the two lowest. [`Refusal::Memory`] comes for want of memory alone. The time
+/// is n log n in the references.
 #[tactic(auto, unfolding(crate::specs::Values::resolved))]
 pub fn resolve_post(
     alloc: Global,
@@ -30,7 +31,8 @@ pub fn resolve_post(
     values: &Values,
     table: &SymbolTable,
 ) -> Result<Values, Refusal>
-    ensures { Gives (λ found. found.entries) result (resolved pre.now post.now table.now.symbols sections.now values.now.entries) }
+    ensures { Gives (λ found. found.entries) result
+        (resolved pre.now post.now table.now.symbols sections.now values.now.entries) }
 {
     let mut values = copied(values)?;
     for section in sections.as_slice() {
@@ -56,7 +58,8 @@ fn resolve_section(
     values: &mut Values,
     section: &[u8],
 ) -> Result<(), Refusal>
-    ensures { Gives (λ _. values.new.entries) result (resolved_by pre.now post.now table.now.symbols (references_of post.now section.now) values.old.entries) }
+    ensures { Gives (λ _. values.new.entries) result
+        (resolved_by pre.now post.now table.now.symbols (references_of post.now section.now) values.old.entries) }
 {
     match post.find(section) {
         Some(section) => resolve_all(alloc, pre, post, table, values, section.refs.as_slice()),
@@ -74,7 +77,8 @@ fn resolve_all(
     values: &mut Values,
     refs: &[Ref<'_>],
 ) -> Result<(), Refusal>
-    ensures { Gives (λ _. values.new.entries) result (resolved_by pre.now post.now table.now.symbols refs.now values.old.entries) }
+    ensures { Gives (λ _. values.new.entries) result
+        (resolved_by pre.now post.now table.now.symbols refs.now values.old.entries) }
 {
     for r in refs {
         resolve_target(alloc, pre, post, table, values, &r.target)?;
@@ -91,7 +95,8 @@ fn resolve_target(
     values: &mut Values,
     target: &Target<'_>,
 ) -> Result<(), Refusal>
-    ensures { Gives (λ _. values.new.entries) result (with_needed post.now table.now.symbols values.old.entries (needed_by pre.now post.now target.now)) }
+    ensures { Gives (λ _. values.new.entries) result
+        (with_needed post.now table.now.symbols values.old.entries (needed_by pre.now post.now target.now)) }
 {
     match needed_by(alloc, pre, post, target)? {
         Some(which) => resolve(alloc, post, table, values, which),
@@ -140,7 +145,8 @@ fn resolve(
     values: &mut Values,
     which: Unknown,
 ) -> Result<(), Refusal>
-    ensures { Gives (λ _. values.new.entries) result (with_value post.now table.now.symbols values.old.entries which) }
+    ensures { Gives (λ _. values.new.entries) result
+        (with_value post.now table.now.symbols values.old.entries which) }
 {
     if solved_as(values, &which).is_some() {
         return Ok(());
@@ -191,7 +197,8 @@ fn first_object<'a, 'b>(post: &'a Normal<'b>, name: &[u8]) -> Option<&'a ObjectS
 
 // Where the section begins that has a variable, by the variable's one address.
 fn address_by(alloc: Global, table: &SymbolTable, object: &ObjectSymbol<'_>) -> Result<u32, Refusal>
-    ensures { Gives (λ address. address) result (less object.now.value (one_of object.now.name (data_addresses table.now.symbols object.now.name))) }
+    ensures { Gives (λ address. address) result
+        (less object.now.value (one_of object.now.name (data_addresses table.now.symbols object.now.name))) }
 {
     let name = Name::from_slice(alloc, object.name.as_slice())?;
     let addresses = table.data_of(&name)?;

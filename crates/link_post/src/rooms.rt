@@ -46,7 +46,8 @@ fn first_fitting(free: &[Range], section: &SectionSize) -> Option<usize>
 // Puts a range at an index, where it isn't empty.
 fn put_at(free: &mut Vec<Range>, i: usize, low: u32, high: u32) -> Result<(), AllocError>
     requires { i ≤ length free.old.items }
-    ensures { OnOk result (free.new.items ≡ take i free.old.items ++ unless_empty (from_to low high) ++ drop i free.old.items) }
+    ensures { OnOk result (free.new.items
+        ≡ take i free.old.items ++ unless_empty (from_to low high) ++ drop i free.old.items) }
 {
     if low < high {
         free.insert(i, Range { low, high })?;

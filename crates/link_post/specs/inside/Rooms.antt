@@ -16,7 +16,8 @@ fits section range = nat_le (start_in section range + section.size) range.high
 abbrev pub left_of : SectionSize → Range → List Range
 left_of section range =
     if nat_lt 0 section.size
-    then unless_empty (from_to range.low (start_in section range)) ++ unless_empty (from_to (start_in section range + section.size) range.high)
+    then unless_empty (from_to range.low (start_in section range))
+    ++ unless_empty (from_to (start_in section range + section.size) range.high)
     else range ∷ []
 
 abbrev pub first_start : SectionSize → List Range → Option ℕ
