@@ -1,0 +1,5 @@
+-- How the first fitting gap and a section's place are found, said by contracts inside this crate alone.
+pub mod Rooms
+pub mod Lookups
+pub mod Blocks
+pub mod BlockLists

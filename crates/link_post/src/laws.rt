@@ -1,0 +1,36 @@
+//! What holds of all places and values.
+ghost use Rattle.std.specs.Prelude.{◌≡◌, ℕ, List, map, Ok};
+ghost use Rattle.ks_base.specs.declared.places.Range.{Range};
+ghost use Rattle.image_memory.specs.Ranges.{Ascends};
+ghost use Rattle.link_post.specs.declared.types.Placed.{Placed};
+ghost use Rattle.link_post.specs.declared.types.SectionSize.{SectionSize};
+ghost use Rattle.i386_reloc.specs.declared.types.NormalSection.{NormalSection};
+ghost use Rattle.symbol_table.specs.declared.symbols.Symbol.{Symbol};
+ghost use Rattle.symbol_table.specs.declared.values.Solved.{Solved};
+ghost use Rattle.symbol_table.specs.declared.values.Unknown.{Unknown};
+ghost use Rattle.link_post.specs.Places.{name_of, placed, ArePlaces};
+ghost use Rattle.link_post.specs.Values.{resolved, AreFound};
+ghost use Rattle.link_post.specs.Linked.{AreNamesInOrder, AreInOrder};
+
+/// The places that [`place`](crate::place) gives: each section lies at a multiple of 16 and of its alignment, with
+/// all its bytes in one of the gaps, and no two sections share an address.
+pub fn places_lie_apart()
+    ensures { (sizes : List SectionSize) (gaps : List Range) (places : List Placed) → Ascends (λ range. range) 0 gaps
+        → placed sizes gaps ≡ Ok places → ArePlaces gaps sizes places }
+{}
+
+/// Where the names of the sections stand in the order of an object, so do their places: what
+/// [`linked`](crate::linked) asks for.
+pub fn places_keep_the_order()
+    ensures { (post : List NormalSection) (sizes : List SectionSize) (gaps : List Range) (places : List Placed)
+        → Ascends (λ range. range) 0 gaps → placed sizes gaps ≡ Ok places → AreNamesInOrder post (map name_of sizes)
+        → AreInOrder post places }
+{}
+
+/// The values that [`resolve_post`](crate::resolve_post) gives: those that were there, unchanged, and one for each
+/// name that the object doesn't define and each kept section of data to which a reference of the sections goes.
+pub fn values_are_found()
+    ensures { (pre post : List NormalSection) (symbols : List Symbol) (sections : List (List ℕ))
+        (earlier found : List (Unknown × Solved)) → resolved pre post symbols sections earlier ≡ Ok found
+        → AreFound pre post sections earlier found }
+{}
