@@ -9,3 +9,4 @@ pub mod BlockLaws
 pub mod Apart
 pub mod Orders
 pub mod Telling
+pub mod Ready

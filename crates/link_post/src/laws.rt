@@ -1,16 +1,16 @@
 //! What holds of all places and values.
-ghost use Rattle.std.specs.Prelude.{◌≡◌, ℕ, List, map, Ok};
+ghost use Rattle.std.specs.Prelude.{◌≡◌, ℕ, List, map, IsSome, Ok};
 ghost use Rattle.ks_base.specs.declared.places.Range.{Range};
 ghost use Rattle.image_memory.specs.Ranges.{Ascends};
 ghost use Rattle.link_post.specs.declared.types.Placed.{Placed};
 ghost use Rattle.link_post.specs.declared.types.SectionSize.{SectionSize};
 ghost use Rattle.i386_reloc.specs.declared.types.NormalSection.{NormalSection};
+ghost use Rattle.i386_reloc.specs.declared.types.Ref.{Ref};
+ghost use Rattle.i386_reloc.specs.declared.types.Target.{Target};
 ghost use Rattle.symbol_table.specs.declared.symbols.Symbol.{Symbol};
-ghost use Rattle.symbol_table.specs.declared.values.Solved.{Solved};
-ghost use Rattle.symbol_table.specs.declared.values.Unknown.{Unknown};
 ghost use Rattle.link_post.specs.Places.{name_of, placed, ArePlaces};
-ghost use Rattle.link_post.specs.Values.{resolved, AreFound};
-ghost use Rattle.link_post.specs.Linked.{AreNamesInOrder, AreInOrder};
+ghost use Rattle.link_post.specs.Values.{ValueList, needed_by, resolved, Tell, AreFound};
+ghost use Rattle.link_post.specs.Linked.{AreNamesInOrder, AreInOrder, target_address};
 
 /// The places that [`place`](crate::place) gives: each section lies at a multiple of 16 and of its alignment, with
 /// all its bytes in one of the gaps, and no two sections share an address.
@@ -31,6 +31,14 @@ pub fn places_keep_the_order()
 /// name that the object doesn't define and each kept section of data to which a reference of the sections goes.
 pub fn values_are_found()
     ensures { (pre post : List NormalSection) (symbols : List Symbol) (sections : List (List ℕ))
-        (earlier found : List (Unknown × Solved)) → resolved pre post symbols sections earlier ≡ Ok found
+        (earlier found : ValueList) → resolved pre post symbols sections earlier ≡ Ok found
         → AreFound pre post sections earlier found }
+{}
+
+/// Where values tell what a reference needs, what it goes to has an address in [`linked`](crate::linked). A reference
+/// that needs no value goes to a function, to a section that is placed, or to a text in one.
+pub fn needed_targets_have_addresses()
+    ensures { (pre post : List NormalSection) (placement : List Placed) (values : ValueList) (r : Ref) (target : Target)
+        → IsSome (needed_by pre post target) → Tell values (needed_by pre post target)
+        → IsSome (target_address post placement values r target) }
 {}
