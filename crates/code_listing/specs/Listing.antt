@@ -1,37 +1,25 @@
 -- The instructions of one function of an image, line by line.
-use Rattle.std.specs.Prelude.{ℕ, zero, suc, ◌+◌, ◌-◌, List, [], ◌++◌, take, min, nat_lt, if◌then◌else◌}
+use Rattle.std.specs.Prelude.{ℕ, zero, suc, ◌-◌, List, [], ◌++◌, min, nat_lt, if◌then◌else◌}
 use Rattle.std.specs.Prelude.{Option, Some, None, Result, Ok, Err}
-use Rattle.std.specs.Option.{option_map}
 use Rattle.ks_base.specs.declared.refusals.Refusal.{Refusal}
 use Rattle.symbol_table.specs.Symbols.{function_named, next_address}
 use Rattle.image_memory.specs.declared.types.Piece.{Piece}
 use Rattle.image_memory.specs.Contents.{Contents, holding, piece_range}
-use Rattle.image_memory.specs.Fetch.{View, Unmapped, AtHome, Stray, Bytes, view_at}
-use Rattle.ia32_decode.specs.declared.types.Decoded.{Decoded}
-use Rattle.ia32_decode.specs.Decode.{decoded_from}
 use Rattle.image_file.specs.Reading as image
+use Rattle.run_pre_match.specs.Instructions.{Instruction, after}
+use Rattle.run_pre_match.specs.RunCode.{run_instruction_at}
 use Rattle.code_listing.specs.Lines.{instruction_line, end_line, undecoded_line}
 
-abbrev pub with_bytes : List ℕ → Decoded → Decoded × List ℕ
-with_bytes bytes d = (d, take d.length bytes)
-
--- the instruction at the front of what is met at an address, with its own bytes
-abbrev pub instruction_in : View → Option (Decoded × List ℕ)
-instruction_in Unmapped = None
-instruction_in AtHome = None
-instruction_in Stray = None
-instruction_in (Bytes bytes) = option_map (with_bytes bytes) (decoded_from bytes)
-
--- the lines from an address on, by the instruction there and the lines from behind it on
-abbrev pub lines_by : ℕ → Option (Decoded × List ℕ) → (ℕ → List ℕ) → List ℕ
+-- the lines from an address on, by the instruction that is met there and the lines from behind it on
+abbrev pub lines_by : ℕ → Option Instruction → (ℕ → List ℕ) → List ℕ
 lines_by address None rest = undecoded_line address
-lines_by address (Some (d, bytes)) rest = instruction_line address d bytes ++ rest (address + d.length)
+lines_by address (Some i) rest = instruction_line address i.decoded i.bytes ++ rest (after i)
 
 -- the lines of at most n instructions, from an address on, that begin below an end
 unfoldable pub lines_of : ℕ → Contents → ℕ → ℕ → List ℕ
 lines_of zero contents end address = end_line address
 lines_of (suc n) contents end address =
-    if nat_lt address end then lines_by address (instruction_in (view_at contents address)) (lines_of n contents end)
+    if nat_lt address end then lines_by address (run_instruction_at contents address) (lines_of n contents end)
     else end_line address
 
 -- the lines of all of them: each has at least one byte

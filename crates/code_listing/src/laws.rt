@@ -1,12 +1,11 @@
 //! What holds of every listing.
-ghost use Rattle.std.specs.Prelude.{◌≡◌, ◌≤◌, ◌<◌, ℕ, List, Some};
+ghost use Rattle.std.specs.Prelude.{◌≡◌, ◌≤◌, ◌<◌, ℕ};
 ghost use Rattle.image_memory.specs.Contents.{Contents};
-ghost use Rattle.image_memory.specs.Fetch.{View, view_at};
-ghost use Rattle.ia32_decode.specs.declared.types.Decoded.{Decoded};
+ghost use Rattle.run_pre_match.specs.RunCode.{run_instruction_at};
 ghost use Rattle.code_listing.specs.Lines.{end_line};
-ghost use Rattle.code_listing.specs.Listing.{instruction_in, lines_by, listing};
+ghost use Rattle.code_listing.specs.Listing.{lines_by, listing};
 
-use ia32_decode::instructions_have_bytes;
+use run_pre_match::run_code_goes_on;
 
 /// Below its end a listing is the line of the instruction at its address and then the listing from behind that
 /// instruction on, or the one line that says that no instruction stands there; at its end, or behind it, it is its last
@@ -14,11 +13,9 @@ use ia32_decode::instructions_have_bytes;
 /// short.
 pub fn lines_follow_one_another()
     ensures below { (contents : Contents) (end address : ℕ) → address < end → listing contents end address
-        ≡ lines_by address (instruction_in (view_at contents address)) (listing contents end) }
+        ≡ lines_by address (run_instruction_at contents address) (listing contents end) }
     ensures end { (contents : Contents) (end address : ℕ) → end ≤ address → listing contents end address
         ≡ end_line address }
-    ensures some_bytes { (view : View) (decoded : Decoded) (bytes : List ℕ) → instruction_in view ≡ Some (decoded, bytes)
-        → 0 < decoded.length }
 {
-    instructions_have_bytes();
+    run_code_goes_on();
 }

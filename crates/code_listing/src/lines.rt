@@ -5,6 +5,7 @@ ghost use Rattle.code_listing.specs.Lines.{spaced_byte, padding_word, instructio
 
 use ia32_decode::{Decoded, is_padding};
 use ks_base::Line;
+use run_pre_match::RunInstruction;
 use std::alloc::AllocError;
 
 fn put_bytes(page: &mut Line, bytes: &[u8]) -> Result<(), AllocError>
@@ -37,17 +38,16 @@ fn put_padding_word(page: &mut Line, decoded: &Decoded) -> Result<(), AllocError
 pub(crate) fn put_instruction(
     page: &mut Line,
     address: u32,
-    decoded: &Decoded,
-    bytes: &[u8],
+    instruction: &RunInstruction,
 ) -> Result<(), AllocError>
-    ensures line { OnOk result (page.new ≡ page.old ++ instruction_line address decoded.now bytes.now) }
+    ensures line { OnOk result (page.new ≡ page.old ++ instruction_line address instruction.now.decoded instruction.now.bytes) }
     ensures grows { OnOk result (length page.old < length page.new) }
 {
     page.put_hex(address)?;
     page.put_text(" ")?;
-    page.put_number(u64::from(decoded.length))?;
-    put_bytes(page, bytes)?;
-    put_padding_word(page, decoded)?;
+    page.put_number(u64::from(instruction.decoded().length))?;
+    put_bytes(page, instruction.bytes())?;
+    put_padding_word(page, instruction.decoded())?;
     page.put_text("\n")
 }
 

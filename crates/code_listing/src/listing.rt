@@ -66,8 +66,7 @@ pub fn list_code(alloc: Global, image: Image, name: &Name) -> Result<Listing, Re
 
 // Where the listing of the function at an address ends.
 fn end_above(image: &Image, address: u32) -> u32
-    ensures end { result ≡ end_above (contents_of image.now) address }
-    ensures low { result ≤ 0xFFFF_0000 }
+    ensures { result ≡ end_above (contents_of image.now) address }
 {
     let Some(region) = region_at(image, address) else {
         return 0;
@@ -98,8 +97,7 @@ fn has_byte(region: &Piece, address: u32) -> bool
 // The end of a region, or the address of the next symbol where that is lower.
 fn end_within(region: &Piece, next: Option<u32>) -> u32
     requires { (piece_range region.now).high ≤ 0xFFFF_0000 }
-    ensures end { result ≡ end_within (Some region.now) next }
-    ensures low { result ≤ 0xFFFF_0000 }
+    ensures { result ≡ end_within (Some region.now) next }
 {
     let high = region.base + region.bytes.len() as u32;
     match next {

@@ -1,4 +1,5 @@
-use Rattle.std.proofs.Common.{◌+◌, ◌≤◌, ◌<◌, ◌++◌, ap, sym, ◌∙◌, arith}
+use Rattle.std.proofs.Common.{◌≤◌, ◌<◌, ◌++◌, ap, sym, ◌∙◌, arith}
+use Rattle.run_pre_match.specs.RunCode.{run_instruction_at}
 use Rattle.code_listing.specs.inside.Extent.{Extent}
 use Rattle.code_listing.specs.Lines.{instruction_line}
 use Rattle.code_listing.specs.Listing.{lines_by, listing}
@@ -17,15 +18,17 @@ returns-in_default-clause-lines c =
     let code = c.args.self.now in
     let same = ap (λ (e : Extent). e.end) c.self.view_is in
     let below : c.args.address < code.end = omega (arith, c.if-self-address.false) in
-    let none = ap (λ o. lines_by c.args.address o (listing code.contents code.end)) (sym c.in_default.ensures) in
+    let met = c.in_default.ensures.at ∙ ap (λ (e : Extent). run_instruction_at e.contents c.args.address) c.self.view_is in
+    let none = ap (λ o. lines_by c.args.address o (listing code.contents code.end)) (sym met) in
     last_line _ _ _ _ c.in_ok-put_undecoded.ensures.line (c.lines_follow_one_another.ensures.below code.contents code.end c.args.address below ∙ none)
 
 pub returns-clause-lines : goal.returns-clause-lines
 returns-clause-lines c =
     let code = c.args.self.now in
+    let i = c.in-Some.instruction in
     let same = ap (λ (e : Extent). e.end) c.self.view_is in
     let below : c.args.address < code.end = omega (arith, c.if-self-address.false) in
-    let some = ap (λ o. lines_by c.args.address o (listing code.contents code.end)) (sym c.in-Some.ensures) in
-    let instruction = c.in-Some.instruction in
-    let next = ap (λ n. instruction_line c.args.address instruction.0 instruction.1 ++ listing code.contents code.end (c.args.address + n)) (sym c.length.ensures.length) in
-    first_line _ _ _ _ _ c.in_ok-put.ensures.line (c.lines_follow_one_another.ensures.below code.contents code.end c.args.address below ∙ some ∙ next)
+    let met = c.in-Some.ensures.at ∙ ap (λ (e : Extent). run_instruction_at e.contents c.args.address) c.self.view_is in
+    let some = ap (λ o. lines_by c.args.address o (listing code.contents code.end)) (sym met) in
+    let next = ap (λ n. instruction_line c.args.address i.decoded i.bytes ++ listing code.contents code.end n) (sym c.after.ensures) in
+    first_line _ _ _ _ _ c.in_ok-put_instruction.ensures.line (c.lines_follow_one_another.ensures.below code.contents code.end c.args.address below ∙ some ∙ next)

@@ -1,0 +1,9 @@
+-- What the code keeps: no public clause cites it.
+pub mod Candidates
+pub mod Kept
+pub mod Least
+pub mod Met
+pub mod Named
+pub mod Places
+pub mod PreLists
+pub mod Texts

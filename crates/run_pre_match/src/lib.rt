@@ -1,0 +1,30 @@
+//! Run-pre matching: whether the code of an object is what runs at an address of a program, and what that says of the
+//! addresses of functions, variables and outside names.
+#![tactic(auto)]
+
+mod candidate;
+mod code;
+mod comparing;
+mod constants;
+mod finding;
+mod goals;
+mod instructions;
+mod judging;
+mod landing;
+mod least;
+mod matching;
+mod named;
+mod nth;
+mod pair;
+mod places;
+mod pre_code;
+mod run_code;
+pub mod running;
+mod stating;
+mod texts;
+pub mod types;
+mod values;
+
+pub use code::{PreCode, PreObject, match_body};
+pub use running::{RunInstruction, instruction_at, run_code_goes_on};
+pub use types::{Claim, Claims, Interior, Interiors, MatchFault, Matched};

@@ -1,0 +1,68 @@
+//! What matching finds.
+use ks_base::{Difference, ListOf, Name, Spot};
+use std::alloc::AllocError;
+use symbol_table::Unknown;
+
+/// That something has a value, and the place of the field that says so.
+#[derive(PartialEq, Eq, Debug, Drop)]
+pub struct Claim {
+    /// What has the value.
+    pub unknown: Unknown,
+    /// The value: of a code section the home of its function, otherwise an address.
+    pub value: u32,
+    /// Where the field begins.
+    pub place: Spot,
+}
+
+/// Claims in the order of their places.
+pub type Claims = ListOf<Claim>;
+
+/// That an address is that of an offset in another code section, and the place of the field that says so.
+#[derive(PartialEq, Eq, Debug, Drop)]
+pub struct Interior {
+    /// The name of the other section.
+    pub section: Name,
+    /// The offset in it, in bytes.
+    pub offset: u32,
+    /// The address.
+    pub address: u32,
+    /// Where the field begins.
+    pub place: Spot,
+}
+
+/// Interiors in the order of their places.
+pub type Interiors = ListOf<Interior>;
+
+/// What is known where the code of a section is what runs at a base.
+#[derive(PartialEq, Eq, Debug, Drop)]
+pub struct Matched {
+    /// How many bytes the running body has, from its base to the end of its last instruction that isn't padding.
+    pub length: u32,
+    /// Its claims, the own home first.
+    pub claims: Claims,
+    /// Its references to the interiors of other code sections.
+    pub interiors: Interiors,
+}
+
+/// Why the code of a section doesn't match.
+#[derive(PartialEq, Eq, Debug, Drop)]
+pub enum MatchFault {
+    /// It differs from what runs; the first difference.
+    Differs(Difference),
+    /// The section's own code can't be matched at this offset: it doesn't decode there, a field stands where none may, or
+    /// a branch or reference leads to no instruction.
+    Undecoded(u32),
+    /// Memory was wanting.
+    Memory,
+}
+
+impl From<AllocError> for MatchFault {
+    ghost use Rattle.std.specs.Prelude.{◌≡◌};
+    ghost use Rattle.run_pre_match.specs.declared.types.MatchFault.TheVariants.{Memory};
+
+    ghost from_gives = { λ _ fault. fault ≡ Memory };
+
+    fn from(_error: AllocError) -> MatchFault {
+        MatchFault::Memory
+    }
+}
