@@ -2,10 +2,12 @@ mod Aims
 mod AllBelow
 mod BodyLaws
 mod Bounds
+mod Claims
 mod CodeLaws
 mod Covered
 mod Ends
 mod FirstReferences
+mod FirstValues
 mod Following
 mod KeptLaws
 mod KindsOf
@@ -13,6 +15,7 @@ mod LeastLaws
 mod Listed
 mod NamedLaws
 mod Numbered
+mod Opened
 mod OutcomeLaws
 mod PairLaws
 mod PlaceLaws
@@ -22,5 +25,6 @@ mod RunLaws
 mod SameNumber
 mod Splits
 mod Statements
+mod Stepwise
 mod Undecoded
 mod Verdicts

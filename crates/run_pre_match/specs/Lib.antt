@@ -10,4 +10,5 @@ pub mod Constants
 pub mod Found
 pub mod Differences
 pub mod Matched
+pub mod Match
 pub mod inside
