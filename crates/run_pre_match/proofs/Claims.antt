@@ -89,11 +89,11 @@ holding (f ∷ fs) a b =
     (holding_by f.own f.verdict (All-head (λ (f : Found). is_refused_here f ≡ false) f fs a) (All-head (λ (f : Found). is_unmet f ≡ false) f fs b))
     (holding fs (All-tail (λ (f : Found). is_refused_here f ≡ false) f fs a) (All-tail (λ (f : Found). is_unmet f ≡ false) f fs b))
 
-neither : {X : Type 0} (o p : Option X) → option_or o p ≡ None → (o ≡ None) × (p ≡ None)
+pub neither : {X : Type 0} (o p : Option X) → option_or o p ≡ None → (o ≡ None) × (p ≡ None)
 neither None p e = (refl, e)
 neither (Some x) p e = absurd cc
 
-unmapped_none : {X Y : Type 0} (f : X → Y) (o : Option X) → option_map f o ≡ None → o ≡ None
+pub unmapped_none : {X Y : Type 0} (f : X → Y) (o : Option X) → option_map f o ≡ None → o ≡ None
 unmapped_none f None e = refl
 unmapped_none f (Some x) e = absurd cc
 

@@ -1,3 +1,4 @@
+mod Agreeing
 mod Aims
 mod AllBelow
 mod BodyLaws
@@ -13,6 +14,7 @@ mod KeptLaws
 mod KindsOf
 mod LeastLaws
 mod Listed
+mod MetLaws
 mod NamedLaws
 mod Numbered
 mod Opened
@@ -27,4 +29,5 @@ mod Splits
 mod Statements
 mod Stepwise
 mod Undecoded
+mod Valuations
 mod Verdicts
