@@ -1,5 +1,6 @@
 -- What is found where everything holds: each value is the first one for its goal.
-use Rattle.std.proofs.Common.{◌≡◌, ◌==◌, inl, inr, ℕ, Bool, true, false, not, ◌&&◌, ◌||◌, cond, List, [], ◌∷◌, ◌++◌, Option, Some, None, All, refl, sym, ◌∙◌, ap}
+use Rattle.std.proofs.Common.{◌≡◌, ◌==◌, inl, inr, ℕ, Bool, true, false, not, ◌&&◌, ◌||◌, cond, List, [], ◌∷◌, ◌++◌}
+use Rattle.std.proofs.Common.{Option, Some, None, All, refl, sym, ◌∙◌, ap}
 use Rattle.std.specs.Option.{option_or}
 use Rattle.std.specs.Cmp.Lexicographic.{bytes_decides}
 use Rattle.std.proofs.lemmas.Bool.{cases_Bool, eqb-true, eq-eqb}
@@ -10,7 +11,8 @@ use Rattle.run_pre_match.specs.declared.goals.Given.{Given}
 use Rattle.run_pre_match.specs.declared.goals.Verdict.TheVariants.{Holds, Refused, Absent}
 use Rattle.run_pre_match.specs.Candidate.{Candidate}
 use Rattle.run_pre_match.specs.Goals.{same_goal}
-use Rattle.run_pre_match.specs.Found.{Found, first_value, is_other, contradicts, is_refused, is_absent, verdict_on, judged, own_home}
+use Rattle.run_pre_match.specs.Found.{Found, first_value, is_other, contradicts, is_refused, is_absent, verdict_on}
+use Rattle.run_pre_match.specs.Found.{judged, own_home}
 use Rattle.run_pre_match.specs.Match.{is_valued}
 use Rattle.run_pre_match.proofs.KeptLaws.{first_value-append}
 use Rattle.run_pre_match.proofs.Stepwise.{given_of, Keeping}
@@ -29,7 +31,8 @@ or_none : (b : Bool) → b ≡ (b || false)
 or_none true = refl
 or_none false = refl
 
-refused_by : (c : Candidate) (before : List Found) (goal : Goal) (value : ℕ) → is_refused c before goal value ≡ ((is_valued goal && contradicts before goal value) || is_refused c [] goal value)
+refused_by : (c : Candidate) (before : List Found) (goal : Goal) (value : ℕ) →
+    is_refused c before goal value ≡ ((is_valued goal && contradicts before goal value) || is_refused c [] goal value)
 refused_by c before (Text place offset text) value = refl
 refused_by c before (Inside place offset) value = refl
 refused_by c before (Outside name) value = refl
@@ -37,21 +40,26 @@ refused_by c before (Entry place) value = or_none (contradicts before (Entry pla
 refused_by c before (Variable place) value = or_none (contradicts before (Variable place) value)
 refused_by c before (Constant place) value = or_none (contradicts before (Constant place) value)
 
-by_holds : (a b d : Bool) → cond (a || b) Refused (cond d Absent Holds) ≡ Holds → (a ≡ false) × (cond b Refused (cond d Absent Holds) ≡ Holds)
+by_holds : (a b d : Bool) → cond (a || b) Refused (cond d Absent Holds) ≡ Holds →
+    (a ≡ false) × (cond b Refused (cond d Absent Holds) ≡ Holds)
 by_holds true b d e = absurd cc
 by_holds false b d e = (refl, e)
 
 -- a value holds that contradicts no earlier one and holds by itself
-pub holds_alone : (c : Candidate) (before : List Found) (goal : Goal) (value : ℕ) → verdict_on c before goal value ≡ Holds →
+pub holds_alone : (c : Candidate) (before : List Found) (goal : Goal) (value : ℕ) →
+    verdict_on c before goal value ≡ Holds →
     ((is_valued goal && contradicts before goal value) ≡ false) × (verdict_on c [] goal value ≡ Holds)
 holds_alone c before goal value holds =
     by_holds (is_valued goal && contradicts before goal value) (is_refused c [] goal value) (is_absent c goal value)
-    (ap (λ b. cond b Refused (cond (is_absent c goal value) Absent Holds)) (sym (refused_by c before goal value)) ∙ holds)
+    (ap (λ b. cond b Refused (cond (is_absent c goal value) Absent Holds)) (sym (refused_by c before goal value))
+    ∙ holds)
 
-pub holds_from : (c : Candidate) (before : List Found) (goal : Goal) (value : ℕ) → (is_valued goal && contradicts before goal value) ≡ false → verdict_on c [] goal value ≡ Holds →
+pub holds_from : (c : Candidate) (before : List Found) (goal : Goal) (value : ℕ) →
+    (is_valued goal && contradicts before goal value) ≡ false → verdict_on c [] goal value ≡ Holds →
     verdict_on c before goal value ≡ Holds
 holds_from c before goal value apart alone =
-    ap (λ b. cond b Refused (cond (is_absent c goal value) Absent Holds)) (refused_by c before goal value ∙ ap (λ b. b || is_refused c [] goal value) apart) ∙ alone
+    ap (λ b. cond b Refused (cond (is_absent c goal value) Absent Holds))
+    (refused_by c before goal value ∙ ap (λ b. b || is_refused c [] goal value) apart) ∙ alone
 
 -- what is said of a value in a list of what is found
 pub record Stands (c : Candidate) (found : List Found) (g : Given) : Type 0 where
@@ -70,8 +78,10 @@ some_or None x p e = absurd cc
 some_or (Some y) x p e = e
 
 -- a first value stays the first one
-pub first_kept : (xs : List Found) (f : Found) (goal : Goal) (x : ℕ) → first_value xs goal ≡ Some x → first_value (xs ++ f ∷ []) goal ≡ Some x
-first_kept xs f goal x is = first_value-append xs f goal ∙ some_or (first_value xs goal) x (cond (same_goal f.goal goal) (Some f.value) None) is
+pub first_kept : (xs : List Found) (f : Found) (goal : Goal) (x : ℕ) → first_value xs goal ≡ Some x →
+    first_value (xs ++ f ∷ []) goal ≡ Some x
+first_kept xs f goal x is = first_value-append xs f goal
+    ∙ some_or (first_value xs goal) x (cond (same_goal f.goal goal) (Some f.value) None) is
 
 agreeing : (o : Option ℕ) (value : ℕ) → is_other value o ≡ false → option_or o (Some value) ≡ Some value
 agreeing None value e = refl
@@ -84,14 +94,22 @@ and_second : (a b : Bool) → (a && b) ≡ false → a ≡ true → b ≡ false
 and_second true b e is = e
 and_second false b e is = absurd cc
 
-first_now : (c : Candidate) (own : Bool) (before : List Found) (g : Given) → verdict_on c before g.goal g.value ≡ Holds → is_valued g.goal ≡ true → first_value (before ++ judged c own before g ∷ []) g.goal ≡ Some g.value
+first_now : (c : Candidate) (own : Bool) (before : List Found) (g : Given) →
+    verdict_on c before g.goal g.value ≡ Holds → is_valued g.goal ≡ true →
+    first_value (before ++ judged c own before g ∷ []) g.goal ≡ Some g.value
 first_now c own before g holds valued =
     first_value-append before (judged c own before g) g.goal
     ∙ ap (λ b. option_or (first_value before g.goal) (cond b (Some g.value) None)) (same_itself g.goal valued)
-    ∙ agreeing (first_value before g.goal) g.value (and_second (is_valued g.goal) (contradicts before g.goal g.value) (holds_alone c before g.goal g.value holds).0 valued)
+    ∙ agreeing (first_value before g.goal) g.value
+    (and_second (is_valued g.goal) (contradicts before g.goal g.value)
+    (holds_alone c before g.goal g.value holds).0 valued)
 
 stands_on : (c : Candidate) (xs : List Found) (f g : Found) → StandsIn c xs g → StandsIn c (xs ++ f ∷ []) g
-stands_on c xs f g stands = record { first = λ valued. first_kept xs f g.goal g.value (stands.first valued); alone = stands.alone }
+stands_on c xs f g stands = record {
+  first = λ valued. first_kept xs f g.goal g.value (stands.first valued);
+  alone =
+      stands.alone;
+}
 
 -- where all of it holds, all of it stands
 abbrev pub AllStand : Candidate → List Found → Type 0
@@ -121,4 +139,6 @@ stands_keeping c = record {
 -- the own home stands
 pub home_stands : (c : Candidate) → AllStand c (own_home c ∷ [])
 home_stands c all =
-    All-cons (StandsIn c (own_home c ∷ [])) (own_home c) [] (record { first = λ valued. rw (eq-eqb c.place c.place refl) refl; alone = refl }) (All-nil (StandsIn c (own_home c ∷ [])))
+    All-cons (StandsIn c (own_home c ∷ [])) (own_home c) []
+    (record { first = λ valued. rw (eq-eqb c.place c.place refl) refl; alone = refl })
+    (All-nil (StandsIn c (own_home c ∷ [])))

@@ -28,6 +28,7 @@ mod SameNumber
 mod Splits
 mod Statements
 mod Stepwise
+mod Told
 mod Undecoded
 mod Valuations
 mod Verdicts

@@ -3,7 +3,7 @@ ghost use Rattle.std.specs.Prelude.{◌≡◌, Some, Ok, map};
 ghost use Rattle.std.specs.List.{Contains, IsDistinct, slice_get};
 ghost use Rattle.i386_reloc.specs.Normal.{same_bytes, name_of};
 ghost use Rattle.run_pre_match.specs.Candidate.{Candidate};
-ghost use Rattle.run_pre_match.specs.Match.{Valuation, Match, Say};
+ghost use Rattle.run_pre_match.specs.Match.{Valuation, Match, Says};
 ghost use Rattle.run_pre_match.specs.Matched.{home_claim, outcome};
 ghost use Rattle.run_pre_match.specs.declared.goals.Goal.{Goal};
 ghost use Rattle.run_pre_match.specs.declared.types.Claim.{Claim};
@@ -17,11 +17,12 @@ pub fn claims_agree()
     ensures home { (c : Candidate) (m : Matched) → outcome c ≡ Ok m → slice_get m.claims 0 ≡ Some (home_claim c) }
 {}
 
-/// The code of a section is what runs exactly where it matches under some valuation, there is no second one, and the claims
-/// say what it gives.
+/// The code of a section is what runs exactly where it matches under some valuation. There is no second one, and what is
+/// said of the match is what it gives.
 pub fn matches_have_one_valuation()
-    ensures some { (c : Candidate) (m : Matched) → slice_get c.object c.place ≡ Some c.section → outcome c ≡ Ok m →
-        (v : Valuation) × Match c v × Say c v m.claims }
+    ensures some { (c : Candidate) (m : Matched) → outcome c ≡ Ok m → (v : Valuation) × Match c v }
     ensures comes { (c : Candidate) (v : Valuation) → Match c v → (m : Matched) × (outcome c ≡ Ok m) }
     ensures one { (c : Candidate) (v w : Valuation) → Match c v → Match c w → (goal : Goal) → v goal ≡ w goal }
+    ensures says { (c : Candidate) (v : Valuation) (m : Matched) → slice_get c.object c.place ≡ Some c.section →
+        Match c v → outcome c ≡ Ok m → Says c v m }
 {}

@@ -1,4 +1,5 @@
-use Rattle.run_pre_match.proofs.Valuations.{matched_under, comes, one_valuation}
+use Rattle.run_pre_match.proofs.Told.{matched_under, said_under}
+use Rattle.run_pre_match.proofs.Valuations.{comes, one_valuation}
 use Rattle.run_pre_match.proofs.laws.matches_have_one_valuation.Goals as goal
 
 pub returns-clause-some : goal.returns-clause-some
@@ -9,3 +10,6 @@ returns-clause-comes c = comes
 
 pub returns-clause-one : goal.returns-clause-one
 returns-clause-one c = one_valuation
+
+pub returns-clause-says : goal.returns-clause-says
+returns-clause-says c = said_under
