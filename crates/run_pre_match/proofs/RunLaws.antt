@@ -1,5 +1,5 @@
 -- What is met in a memory, and how the running code goes on.
-use Rattle.std.proofs.Common.{◌≡◌, ℕ, zero, suc, ◌-◌, ◌^◌, ◌<◌, ◌≤◌, Bool, true, false, cond, List, [], ◌∷◌, map, Option, Some, None, option_map, MatchOption, IfSome, Result, Ok, Err, nat_lt, nat_le, All, refl, sym, ap, subst, ◌∙◌, ◌⊎◌, inl, inr, arith}
+use Rattle.std.proofs.Common.{◌≡◌, ℕ, ◌-◌, ◌^◌, ◌<◌, ◌≤◌, Bool, true, false, cond, List, [], ◌∷◌, map, Option, Some, None, option_map, MatchOption, IfSome, Result, Ok, Err, nat_lt, nat_le, All, refl, sym, ap, subst, ◌∙◌, ◌⊎◌, inl, inr, arith}
 use Rattle.std.specs.List.{list_any}
 use Rattle.std.specs.Result.{result_ok}
 use Rattle.std.proofs.lemmas.Bool.{ltb-true, and_parts}
@@ -13,9 +13,10 @@ use Rattle.image_memory.specs.Contents.{Contents, IsValid, piece_range, fence_ra
 use Rattle.image_memory.specs.Fetch.{View, Unmapped, AtHome, Stray, Bytes, seen_in, view, view_at, code_in, code_from, window_of, jump_at, fetched, Tells, TellsView}
 use Rattle.ia32_decode.specs.declared.types.Decoded.{Decoded}
 use Rattle.ia32_decode.specs.Decode.{decoded_from}
-use Rattle.run_pre_match.specs.Instructions.{Instruction, after, listed_on, listed}
+use Rattle.run_pre_match.specs.Instructions.{Instruction, listed_on}
 use Rattle.run_pre_match.specs.RunCode.{run_instruction, run_instruction_in, run_instruction_at, run_code}
 use Rattle.run_pre_match.specs.inside.Met.{bytes_met}
+use Rattle.run_pre_match.proofs.Listed.{AreWithin, none_or_some, nothing_listed, rest_first}
 
 held_low : (p : Piece) (ps : List Piece) (pc : ℕ) (b : Bool) → lies_in pc (piece_range p) ≡ b → (piece_range p).high ≤ 0xFFFF_0000
     → (code_from ps pc ≡ None) ⊎ (pc < 0xFFFF_0000) → (code_from (p ∷ ps) pc ≡ None) ⊎ (pc < 0xFFFF_0000)
@@ -121,41 +122,26 @@ is_short short contents address i is =
     let s = spelled_at contents address i is in
     subst (λ (j : Instruction). j.decoded.length ≤ 15) s.same (short s.code s.decoded s.spells)
 
-same_rest : (o : Option Instruction) (f g : ℕ → List Instruction) → ((i : Instruction) → o ≡ Some i → f (after i) ≡ g (after i)) → listed_on o f ≡ listed_on o g
-same_rest None f g same = refl
-same_rest (Some i) f g same = ap (λ is. i ∷ is) (same i refl)
-
--- more instructions than there are bytes up to 2 ^ 32 change nothing
-enough : HaveBytes → AreShort → (contents : Contents) → IsValid contents → (n m address : ℕ) → address < 2 ^ 32 → 2 ^ 32 - address ≤ n → 2 ^ 32 - address ≤ m
-    → listed (run_instruction_at contents) n address ≡ listed (run_instruction_at contents) m address
-unfolding listed
-enough have short contents valid zero m address low few many = absurd (omega arith)
-enough have short contents valid (suc n) zero address low few many = absurd (omega arith)
-enough have short contents valid (suc n) (suc m) address low few many =
-    same_rest (run_instruction_at contents address) (listed (run_instruction_at contents) n) (listed (run_instruction_at contents) m) (λ i is.
-    let some = has_bytes have contents address i is in
-    let few_bytes = is_short short contents address i is in
-    let place = place_met contents address i is in
-    let below = instruction_low contents address i valid is in
-    enough have short contents valid n m (after i) (omega (arith, some, few_bytes, place, below)) (omega (arith, some, few_bytes, place, below)) (omega (arith, some, few_bytes, place, below)))
-
-one_more : (contents : Contents) (n address : ℕ) → listed (run_instruction_at contents) (suc n) address ≡ listed_on (run_instruction_at contents address) (listed (run_instruction_at contents) n)
-unfolding listed
-one_more contents n address = refl
+within : HaveBytes → AreShort → (contents : Contents) → IsValid contents → AreWithin (run_instruction_at contents) (2 ^ 32)
+within have short contents valid = record {
+  each = λ place i is.
+      let some = has_bytes have contents place i is in
+      let few = is_short short contents place i is in
+      let here = place_met contents place i is in
+      let low = instruction_low contents place i valid is in
+      (omega (arith, some, here), omega (arith, few, here, low));
+}
 
 pub goes_on : HaveBytes → AreShort → (contents : Contents) (address : ℕ) → IsValid contents → address < 2 ^ 32
     → run_code contents address ≡ listed_on (run_instruction_at contents address) (run_code contents)
 unfolding run_code
 goes_on have short contents address valid low =
-    let count : 2 ^ 32 - address ≡ suc (2 ^ 32 - suc address) = omega arith in
-    ap (λ n. listed (run_instruction_at contents) n address) count
-    ∙ one_more contents (2 ^ 32 - suc address) address
-    ∙ same_rest (run_instruction_at contents address) (listed (run_instruction_at contents) (2 ^ 32 - suc address)) (run_code contents) (λ i is.
-    let some = has_bytes have contents address i is in
-    let few_bytes = is_short short contents address i is in
-    let place = place_met contents address i is in
-    let below = instruction_low contents address i valid is in
-    enough have short contents valid (2 ^ 32 - suc address) (2 ^ 32 - after i) (after i) (omega (arith, some, few_bytes, place, below)) (omega (arith, some, few_bytes, place, below)) (omega (arith, some, few_bytes, place, below)))
+    elim (none_or_some (run_instruction_at contents address)) [
+      | inl none ↦ nothing_listed (run_instruction_at contents) (2 ^ 32 - address) address none ∙ sym (ap (λ o. listed_on o (run_code contents)) none)
+      | inr it ↦
+          rest_first (run_instruction_at contents) (2 ^ 32) (within have short contents valid) address it.0 it.1
+          ∙ sym (ap (λ o. listed_on o (run_code contents)) it.1)
+    ]
 
 pub low_where_met : (contents : Contents) (pc : ℕ) (o : Option Window) → IsValid contents
     → MatchOption o (bytes_met (view_at contents pc) ≡ None) (λ w. view_at contents pc ≡ Bytes (fetched w)) → IfSome o (λ _. pc < 0xFFFF_0000)

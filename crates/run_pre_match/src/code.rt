@@ -3,6 +3,7 @@ ghost use Rattle.std.specs.Prelude.{◌≡◌, ◌<◌, ℕ, Some, IfOk, IsTrue,
 ghost use Rattle.std.specs.List.{slice_get};
 ghost use Rattle.i386_reloc.specs.declared.types.NormalSection.{NormalSection};
 ghost use Rattle.i386_reloc.specs.Classes.{is_code_class};
+ghost use Rattle.i386_reloc.specs.Normal.{HasFieldsInOrder};
 ghost use Rattle.i386_reloc.specs.Places.{place_named};
 ghost use Rattle.i386_reloc.specs.Reaches.{is_in};
 ghost use Rattle.run_pre_match.specs.Matched.{candidate, listed_code, outcome, answer, Comes};
@@ -74,6 +75,15 @@ impl<'n, 'a> PreObject<'n, 'a> {
         })
     }
 
+    /// The section at a place.
+    fn section(&self, place: usize) -> &'n NormalSection<'a>
+        requires { place < length self.now }
+        ensures at { slice_get self.now place ≡ Some result.now }
+        ensures order { HasFieldsInOrder result.now }
+    {
+        &self.normal.as_slice()[place]
+    }
+
     /// The code of the section at a place. [`MatchFault::Undecoded`] comes exactly where it can't be matched, with the least offset
     /// at which it can't: where decoding breaks off, a field stands where none may, or a branch or a reference leads to no
     /// instruction. [`MatchFault::Memory`] comes for want of memory alone.
@@ -82,8 +92,7 @@ impl<'n, 'a> PreObject<'n, 'a> {
         ensures { (section : NormalSection) → slice_get self.now place ≡ Some section
             → Comes (listed_code (record { object = self.now; place = place; section = section })) result }
     {
-        let sections = self.normal.as_slice();
-        let section = &sections[place];
+        let section = self.section(place);
         let list = list_pre(alloc, section)?;
         if let Some(offset) = undecoded_offset(section, &list, self.named[place].as_slice()) {
             return Err(MatchFault::Undecoded(offset));
