@@ -288,7 +288,8 @@ pub matched_under : (c : Candidate) (m : Matched) → outcome c ≡ Ok m → (v 
 matched_under c m is = (Firsts c, matches c (no_difference c m is).0)
 
 -- what is said of a match is what its valuation gives
-pub said_under : (c : Candidate) (v : Valuation) (m : Matched) → slice_get c.object c.place ≡ Some c.section → Match c v →
+pub said_under : (c : Candidate) (v : Valuation) (m : Matched) → slice_get c.object c.place ≡ Some c.section →
+    Match c v →
     outcome c ≡ Ok m → Says c v m
 said_under c v m at match is =
     let (none, made) = no_difference c m is in

@@ -17,8 +17,8 @@ pub fn claims_agree()
     ensures home { (c : Candidate) (m : Matched) → outcome c ≡ Ok m → slice_get m.claims 0 ≡ Some (home_claim c) }
 {}
 
-/// The code of a section is what runs exactly where it matches under some valuation. There is no second one, and what is
-/// said of the match is what it gives.
+/// The code of a section is what runs exactly where it matches under some valuation. There is no second one, and what
+/// is said of the match is what it gives.
 pub fn matches_have_one_valuation()
     ensures some { (c : Candidate) (m : Matched) → outcome c ≡ Ok m → (v : Valuation) × Match c v }
     ensures comes { (c : Candidate) (v : Valuation) → Match c v → (m : Matched) × (outcome c ≡ Ok m) }
