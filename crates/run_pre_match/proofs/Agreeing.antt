@@ -1,5 +1,5 @@
 -- Pairs agree exactly where they don't differ but in what references say.
-use Rattle.std.proofs.Common.{◌≡◌, ℕ, Bool, true, false, not, ◌&&◌, List}
+use Rattle.std.proofs.Common.{◌≡◌, ℕ, Bool, true, false, not, List}
 use Rattle.std.proofs.Common.{Option, Some, None, refl, ap}
 use Rattle.std.specs.Cmp.Lexicographic.{bytes_decides}
 use Rattle.std.proofs.lemmas.Bool.{and_from, and_parts}
@@ -13,6 +13,7 @@ use Rattle.run_pre_match.specs.Differences.{prefix_bytes, opcode_bytes, blanked,
 use Rattle.run_pre_match.specs.Differences.{differs_in_landing}
 use Rattle.run_pre_match.specs.Match.{AgreeAs, Agree}
 use Rattle.run_pre_match.proofs.MetLaws.{IsWhole, stand_for_one, one_number}
+use Rattle.run_pre_match.proofs.MetLaws.{and_not_then, and_not_none}
 
 -- a pair differs in nothing but what references say
 pub record Alike (c : Candidate) (pair : Pair) (p r : Option Branch) : Type 0 where
@@ -23,16 +24,6 @@ pub record Alike (c : Candidate) (pair : Pair) (p r : Option Branch) : Type 0 wh
 not_not : (b : Bool) → not b ≡ false → b ≡ true
 not_not true e = refl
 not_not false e = absurd cc
-
-landing_by : (a b : Bool) → (a && not b) ≡ false → a ≡ true → b ≡ true
-landing_by true true e is = refl
-landing_by true false e is = absurd cc
-landing_by false b e is = absurd cc
-
-no_landing : (a b : Bool) → (a ≡ true → b ≡ true) → (a && not b) ≡ false
-no_landing true true e = refl
-no_landing true false e = absurd (let no : false ≡ true = e refl in cc)
-no_landing false b e = refl
 
 same_lists : (xs ys : List ℕ) → not (same_bytes xs ys) ≡ false → xs ≡ ys
 same_lists xs ys e = (bytes_decides xs ys).0 (not_not (same_bytes xs ys) e)
@@ -47,7 +38,7 @@ alike_agree c pair (Some a) (Some b) whole alike =
       kind,
       (bytes_decides (prefix_bytes pair.pre) (prefix_bytes pair.run)).0 prefix,
       λ none. stand_for_one c (target_of pair.pre) (target_of pair.run) whole
-          (landing_by (has_no_reference pair.pre)
+          (and_not_then (has_no_reference pair.pre)
           (same_number c (target_of pair.pre) (target_of pair.run)) alike.landing none),
     )
 alike_agree c pair None None whole alike = (
@@ -67,7 +58,7 @@ agree_alike c pair (Some a) (Some b) (kind, prefix, landing) = record {
   opcode = ap not (and_from (same_kind a.kind b.kind) (same_bytes (prefix_bytes pair.pre) (prefix_bytes pair.run)) kind
       ((bytes_decides (prefix_bytes pair.pre) (prefix_bytes pair.run)).1 prefix));
   operand = refl;
-  landing = no_landing (has_no_reference pair.pre) (same_number c (target_of pair.pre) (target_of pair.run))
+  landing = and_not_none (has_no_reference pair.pre) (same_number c (target_of pair.pre) (target_of pair.run))
       (λ none. one_number c (target_of pair.pre) (target_of pair.run) (landing none));
 }
 agree_alike c pair None None (opcode, operand) = record {

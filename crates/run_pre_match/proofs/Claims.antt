@@ -6,7 +6,7 @@ use Rattle.std.specs.Option.{option_or}
 use Rattle.std.specs.List.{Contains, IsDistinct, AllByRecursion, slice_get, cons_option, filter_map, flat_map, find}
 use Rattle.std.specs.List.{list_any}
 use Rattle.std.specs.Cmp.Lexicographic.{nat_list_eq_equiv}
-use Rattle.std.proofs.lemmas.Bool.{or_parts, eqb-true, eq-eqb}
+use Rattle.std.proofs.lemmas.Bool.{or_parts, eq-eqb}
 use Rattle.std.proofs.lemmas.List.Elements.{All-nil, All-cons, All-head, All-tail, All-weaker, All-append, All-map}
 use Rattle.std.proofs.lemmas.List.Elements.{All-contains}
 use Rattle.ks_base.specs.declared.refusals.Difference.{Difference}
@@ -45,8 +45,12 @@ use Rattle.run_pre_match.specs.Match.{is_valued}
 use Rattle.run_pre_match.proofs.AllBelow.{all_below_at, all_below_from}
 use Rattle.run_pre_match.proofs.Stepwise.{given_of, givens, kept_by_pairs}
 use Rattle.run_pre_match.proofs.FirstValues.{Holding, Stands, StandsIn, AllStand, Anything, stands_keeping, home_stands}
-use Rattle.run_pre_match.proofs.Opened.{Has, has_right, has_head, has_pairs, first_stays, unmapped, all_opened}
+use Rattle.run_pre_match.proofs.Opened.{Has, has_right, has_head, has_pairs, all_opened}
 use Rattle.run_pre_match.proofs.Opened.{home_opened}
+use Rattle.run_pre_match.proofs.GoalLaws.{equal_goals}
+use Rattle.run_pre_match.proofs.ListParts.{unmapped, all_flat}
+use Rattle.run_pre_match.proofs.MetLaws.{not_absent}
+use Rattle.run_pre_match.proofs.KeptLaws.{first_stays}
 
 by_difference : (o : Option Difference) (found m : Matched) → matched_unless o found ≡ Ok m → (o ≡ None) × (m ≡ found)
 by_difference None found m is = (refl, cc)
@@ -167,14 +171,6 @@ pub first_had : (found : List Found) (goal : Goal) (x : ℕ) → first_value fou
 first_had [] goal x is = absurd cc
 first_had (f ∷ fs) goal x is = had_at f fs goal x (same_goal f.goal goal) refl (first_had fs goal x) is
 
-pub constant_goal : (goal : Goal) (place : ℕ) → same_goal goal (Constant place) ≡ true → goal ≡ Constant place
-constant_goal (Constant other) place same = ap (λ (n : ℕ). Constant n) (eqb-true other place same)
-constant_goal (Entry other) place same = absurd cc
-constant_goal (Variable other) place same = absurd cc
-constant_goal (Inside other offset) place same = absurd cc
-constant_goal (Outside name) place same = absurd cc
-constant_goal (Text other offset text) place same = absurd cc
-
 -- a section lies where it stands
 byte_there : (refs : List Ref) (bytes : List ℕ) (i : ℕ) (o : Option ℕ) → is_byte_or_field refs bytes i o ≡ true →
     is_some o ≡ true
@@ -189,10 +185,6 @@ stands_lies c base section stands =
     (all_below_at (λ i. is_byte_or_field section.refs section.bytes i (constant_at c.contents.pieces (base + i)))
     (length section.bytes) i stands lt))
 
-not_absent : (b : Bool) → cond (not b) Absent Holds ≡ Holds → b ≡ true
-not_absent true e = refl
-not_absent false e = absurd cc
-
 -- a section that has a value stands there
 pub first_stands : (c : Candidate) (found : List Found) (place base : ℕ) → All (StandsIn c found) found →
     first_value found (Constant place) ≡ Some base → section_stands c base (slice_get c.object place) ≡ true
@@ -201,7 +193,7 @@ first_stands c found place base all is =
     let stands = stands_at c found g all has in
     let alone : verdict_on c [] (Constant place) base ≡ Holds =
     ap (verdict_on c [] (Constant place)) (sym value)
-    ∙ ap (λ goal. verdict_on c [] goal g.value) (sym (constant_goal g.goal place same)) ∙ stands.alone in
+    ∙ ap (λ goal. verdict_on c [] goal g.value) (sym (equal_goals g.goal (Constant place) same)) ∙ stands.alone in
     not_absent (section_stands c base (slice_get c.object place)) alone
 
 pub constants_had : (c : Candidate) (place base : ℕ) (section : NormalSection) →
@@ -252,13 +244,6 @@ placed_to object r (Some place) (target.Section name) = placed_at object r name 
 pub record IsHad (c : Candidate) (found : List Found) (s : Statement) : Type 0 where
   pub has : Has found s.given
   pub placed : IsPlaced c.object s.given.goal
-
-pub all_flat : {X Y : Type 0} (P : Y → Type 0) (f : X → List Y) (xs : List X) → All (λ x. All P (f x)) xs →
-    All P (flat_map f xs)
-all_flat P f [] all = All-nil P
-all_flat P f (x ∷ xs) all =
-    All-append P (f x) (flat_map f xs) (All-head (λ x. All P (f x)) x xs all)
-    (all_flat P f xs (All-tail (λ x. All P (f x)) x xs all))
 
 pub all_stated : (P : Statement → Type 0) (c : Candidate) (found : List Found) (place : ℕ)
     (sections : List NormalSection) →

@@ -2,7 +2,6 @@
 use Rattle.std.proofs.Common.{◌≡◌, ◌==◌, inl, inr, ℕ, Bool, true, false, not, ◌&&◌, ◌||◌, cond, List, [], ◌∷◌, ◌++◌}
 use Rattle.std.proofs.Common.{Option, Some, None, All, refl, sym, ◌∙◌, ap}
 use Rattle.std.specs.Option.{option_or}
-use Rattle.std.specs.Cmp.Lexicographic.{bytes_decides}
 use Rattle.std.proofs.lemmas.Bool.{cases_Bool, eqb-true, eq-eqb}
 use Rattle.std.proofs.lemmas.List.Elements.{All-push, All-weaker, All-head, All-tail, All-cons, All-nil}
 use Rattle.run_pre_match.specs.declared.goals.Goal.{Goal}
@@ -10,21 +9,12 @@ use Rattle.run_pre_match.specs.declared.goals.Goal.TheVariants.{Entry, Inside, V
 use Rattle.run_pre_match.specs.declared.goals.Given.{Given}
 use Rattle.run_pre_match.specs.declared.goals.Verdict.TheVariants.{Holds, Refused, Absent}
 use Rattle.run_pre_match.specs.Candidate.{Candidate}
-use Rattle.run_pre_match.specs.Goals.{same_goal}
 use Rattle.run_pre_match.specs.Found.{Found, first_value, is_other, contradicts, is_refused, is_absent, verdict_on}
 use Rattle.run_pre_match.specs.Found.{judged, own_home}
 use Rattle.run_pre_match.specs.Match.{is_valued}
-use Rattle.run_pre_match.proofs.KeptLaws.{first_value-append}
+use Rattle.run_pre_match.proofs.KeptLaws.{first_value-append, first_stays}
+use Rattle.run_pre_match.proofs.GoalLaws.{same_itself}
 use Rattle.run_pre_match.proofs.Stepwise.{given_of, Keeping}
-
--- a goal that has a value is the same as itself, and as no other
-pub same_itself : (goal : Goal) → is_valued goal ≡ true → same_goal goal goal ≡ true
-same_itself (Entry place) e = eq-eqb place place refl
-same_itself (Variable place) e = eq-eqb place place refl
-same_itself (Constant place) e = eq-eqb place place refl
-same_itself (Outside name) e = (bytes_decides name name).1 refl
-same_itself (Inside place offset) e = absurd cc
-same_itself (Text place offset text) e = absurd cc
 
 -- what is refused, by what was found before and by itself
 or_none : (b : Bool) → b ≡ (b || false)
@@ -73,16 +63,6 @@ StandsIn c found f = Stands c found (given_of f)
 abbrev pub Holding : Found → Type 0
 Holding f = f.verdict ≡ Holds
 
-some_or : (o : Option ℕ) (x : ℕ) (p : Option ℕ) → o ≡ Some x → option_or o p ≡ Some x
-some_or None x p e = absurd cc
-some_or (Some y) x p e = e
-
--- a first value stays the first one
-pub first_kept : (xs : List Found) (f : Found) (goal : Goal) (x : ℕ) → first_value xs goal ≡ Some x →
-    first_value (xs ++ f ∷ []) goal ≡ Some x
-first_kept xs f goal x is = first_value-append xs f goal
-    ∙ some_or (first_value xs goal) x (cond (same_goal f.goal goal) (Some f.value) None) is
-
 agreeing : (o : Option ℕ) (value : ℕ) → is_other value o ≡ false → option_or o (Some value) ≡ Some value
 agreeing None value e = refl
 agreeing (Some x) value e = elim (cases_Bool (x == value)) [
@@ -106,7 +86,7 @@ first_now c own before g holds valued =
 
 stands_on : (c : Candidate) (xs : List Found) (f g : Found) → StandsIn c xs g → StandsIn c (xs ++ f ∷ []) g
 stands_on c xs f g stands = record {
-  first = λ valued. first_kept xs f g.goal g.value (stands.first valued);
+  first = λ valued. first_stays xs (f ∷ []) g.goal g.value (stands.first valued);
   alone =
       stands.alone;
 }

@@ -16,6 +16,21 @@ map_or : (o p : Option Found) → option_map value_of (option_or o p)
 map_or None p = refl
 map_or (Some x) p = refl
 
+-- the first value of two lists
+pub first_of_two : (xs ys : List Found) (goal : Goal) →
+    first_value (xs ++ ys) goal ≡ option_or (first_value xs goal) (first_value ys goal)
+first_of_two xs ys goal = ap (option_map value_of) (find-append (is_for goal) xs ys)
+    ∙ map_or (find (is_for goal) xs) (find (is_for goal) ys)
+
+some_first : (o p : Option ℕ) (x : ℕ) → o ≡ Some x → option_or o p ≡ Some x
+some_first None p x e = absurd cc
+some_first (Some y) p x e = e
+
+-- the first value of a list is that of a longer one
+pub first_stays : (xs ys : List Found) (goal : Goal) (x : ℕ) → first_value xs goal ≡ Some x →
+    first_value (xs ++ ys) goal ≡ Some x
+first_stays xs ys goal x is = first_of_two xs ys goal ∙ some_first (first_value xs goal) (first_value ys goal) x is
+
 or_none : {X : Type 0} (o : Option X) → option_or o None ≡ o
 or_none None = refl
 or_none (Some x) = refl
@@ -26,12 +41,10 @@ one_found f false = refl
 
 -- the first value, where one more is found
 pub first_value-append : (before : List Found) (f : Found) (goal : Goal) →
-    first_value (before ++ f ∷ []) goal ≡ option_or (first_value before goal)
-    (cond (same_goal f.goal goal) (Some f.value) None)
+    first_value (before ++ f ∷ []) goal
+    ≡ option_or (first_value before goal) (cond (same_goal f.goal goal) (Some f.value) None)
 first_value-append before f goal =
-    ap (option_map value_of) (find-append (is_for goal) before (f ∷ []))
-    ∙ map_or (find (is_for goal) before) (find (is_for goal) (f ∷ []))
-    ∙ ap (option_or (first_value before goal)) (one_found f (same_goal f.goal goal))
+    first_of_two before (f ∷ []) goal ∙ ap (option_or (first_value before goal)) (one_found f (same_goal f.goal goal))
 
 -- of another goal
 pub kept_other : {K : Type 0} (kept : K → Option First) (goal : K → Goal) (with_value : K → ℕ → First)

@@ -10,9 +10,11 @@ mod Ends
 mod FirstReferences
 mod FirstValues
 mod Following
+mod GoalLaws
 mod KeptLaws
 mod KindsOf
 mod LeastLaws
+mod ListParts
 mod Listed
 mod MetLaws
 mod NamedLaws

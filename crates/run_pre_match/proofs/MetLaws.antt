@@ -87,7 +87,7 @@ not_refused : (b : Bool) → cond b Refused Holds ≡ Holds → b ≡ false
 not_refused true e = absurd cc
 not_refused false e = refl
 
-not_absent : (b : Bool) → cond (not b) Absent Holds ≡ Holds → b ≡ true
+pub not_absent : (b : Bool) → cond (not b) Absent Holds ≡ Holds → b ≡ true
 not_absent true e = refl
 not_absent false e = absurd cc
 
@@ -103,15 +103,15 @@ is_listed_there : (b : Bool) → b ≡ true → cond (not b) Refused Holds ≡ H
 is_listed_there true e = refl
 is_listed_there false e = absurd cc
 
-off_by : (a b : Bool) → (a && not b) ≡ false → a ≡ true → b ≡ true
-off_by true true e is = refl
-off_by true false e is = absurd cc
-off_by false b e is = absurd cc
+pub and_not_then : (a b : Bool) → (a && not b) ≡ false → a ≡ true → b ≡ true
+and_not_then true true e is = refl
+and_not_then true false e is = absurd cc
+and_not_then false b e is = absurd cc
 
-not_off : (a b : Bool) → (a ≡ true → b ≡ true) → (a && not b) ≡ false
-not_off true true e = refl
-not_off true false e = absurd (let no : false ≡ true = e refl in cc)
-not_off false b e = refl
+pub and_not_none : (a b : Bool) → (a ≡ true → b ≡ true) → (a && not b) ≡ false
+and_not_none true true e = refl
+and_not_none true false e = absurd (let no : false ≡ true = e refl in cc)
+and_not_none false b e = refl
 
 section_met : (c : Candidate) (base : ℕ) (o : Option NormalSection) → section_stands c base o ≡ true →
     IsSomeAnd o (λ section. IsTrue (stand_but_for_fields c.contents.pieces base section.refs section.bytes
@@ -134,7 +134,7 @@ met_by c whole (Outside name) value holds =
     (listed (is_listed c.symbols name value) holds)
 met_by c whole (Inside place offset) value holds = λ own.
     stand_for_one c offset (interior_address value offset) whole
-    (off_by (place == c.place) (same_number c offset (interior_address value offset))
+    (and_not_then (place == c.place) (same_number c offset (interior_address value offset))
     (not_refused (is_off c place offset (interior_address value offset)) holds) (eq-eqb place c.place own))
 met_by c whole (Text place offset text) value holds =
     not_absent (stand_at c.contents.pieces value text (length text)) holds
@@ -149,7 +149,7 @@ holds_by c (Outside name) value met =
     is_listed_there (is_listed c.symbols name value)
     (list_any-from_Contains nat_eq_equiv value (global_addresses c.symbols name) met)
 holds_by c (Inside place offset) value met =
-    rw (not_off (place == c.place) (same_number c offset (interior_address value offset))
+    rw (and_not_none (place == c.place) (same_number c offset (interior_address value offset))
     (λ own. one_number c offset (interior_address value offset) (met (eqb-true place c.place own)))) refl
 holds_by c (Text place offset text) value met = is_there (stand_at c.contents.pieces value text (length text)) met
 holds_by c (Constant place) value met = is_there (section_stands c value (slice_get c.object place))

@@ -2,15 +2,13 @@
 -- sections is
 -- enough for that, since along a chain each section is opened once.
 use Rattle.std.proofs.Common.{◌≡◌, ◌⊎◌, inl, inr, ℕ, zero, suc, ◌+◌, ◌<◌, ◌≤◌, Bool, true, false, cond, List, [], ◌∷◌}
-use Rattle.std.proofs.Common.{◌++◌, map, length, Option, Some, None, is_some, option_map, All, append_assoc, append-nil}
+use Rattle.std.proofs.Common.{◌++◌, map, length, Option, Some, None, is_some, All, append_assoc, append-nil}
 use Rattle.std.proofs.Common.{refl, sym, ◌∙◌, ap, subst, arith}
-use Rattle.std.specs.Option.{option_or}
-use Rattle.std.specs.List.{find, Contains, slice_get}
-use Rattle.std.proofs.lemmas.Bool.{eqb-true, eq-eqb}
+use Rattle.std.specs.List.{Contains, slice_get}
+use Rattle.std.proofs.lemmas.Bool.{eq-eqb}
 use Rattle.std.proofs.lemmas.Option.{slice_get_within}
 use Rattle.std.proofs.lemmas.List.{map-append}
-use Rattle.std.proofs.lemmas.List.Folds.{find-append}
-use Rattle.std.proofs.lemmas.List.Elements.{All-nil, All-cons, All-head, All-tail, All-weaker, Contains-append_left}
+use Rattle.std.proofs.lemmas.List.Elements.{All-nil, All-cons, All-weaker, Contains-append_left}
 use Rattle.std.proofs.lemmas.List.Elements.{Contains-append_right}
 use Rattle.i386_reloc.specs.declared.types.Ref.{Ref}
 use Rattle.i386_reloc.specs.declared.types.NormalSection.{NormalSection}
@@ -19,28 +17,12 @@ use Rattle.run_pre_match.specs.declared.goals.Goal.TheVariants.{Entry, Inside, V
 use Rattle.run_pre_match.specs.declared.goals.Given.{Given}
 use Rattle.run_pre_match.specs.Goals.{same_goal}
 use Rattle.run_pre_match.specs.Candidate.{Candidate, Pair}
-use Rattle.run_pre_match.specs.Found.{Found, is_for, value_of, first_value, section_lies, given_in_constant, opened_by}
+use Rattle.run_pre_match.specs.Found.{Found, first_value, section_lies, given_in_constant, opened_by}
 use Rattle.run_pre_match.specs.Found.{judged, found_by_all, found_by, found_in, own_home, found_from}
 use Rattle.run_pre_match.proofs.Stepwise.{given_of, givens}
-
-map_or : (o p : Option Found) → option_map value_of (option_or o p) ≡ option_or (option_map value_of o)
-    (option_map value_of p)
-map_or None p = refl
-map_or (Some x) p = refl
-
-first_of_two : (xs ys : List Found) (goal : Goal) →
-    first_value (xs ++ ys) goal ≡ option_or (first_value xs goal) (first_value ys goal)
-first_of_two xs ys goal = ap (option_map value_of) (find-append (is_for goal) xs ys)
-    ∙ map_or (find (is_for goal) xs) (find (is_for goal) ys)
-
-some_first : (o p : Option ℕ) (x : ℕ) → o ≡ Some x → option_or o p ≡ Some x
-some_first None p x e = absurd cc
-some_first (Some y) p x e = e
-
--- the first value of a list is that of a longer one
-pub first_stays : (xs ys : List Found) (goal : Goal) (x : ℕ) → first_value xs goal ≡ Some x →
-    first_value (xs ++ ys) goal ≡ Some x
-first_stays xs ys goal x is = first_of_two xs ys goal ∙ some_first (first_value xs goal) (first_value ys goal) x is
+use Rattle.run_pre_match.proofs.KeptLaws.{first_of_two, first_stays, first_value-append}
+use Rattle.run_pre_match.proofs.GoalLaws.{equal_goals}
+use Rattle.run_pre_match.proofs.ListParts.{unmapped}
 
 -- a list has what a field gives
 abbrev pub Has : List Found → Given → Type 0
@@ -191,36 +173,20 @@ has_all step each before (g ∷ gs) =
     (All-weaker (Has rest) (Has (step before g ++ rest)) (λ h. has_right (step before g) rest h) gs
     (has_all step each (before ++ step before g) gs))
 
-pub unmapped : {X Y : Type 0} (P : Y → Type 0) (f : X → Y) (xs : List X) → All P (map f xs) → All (λ x. P (f x)) xs
-unmapped P f [] all = All-nil (λ x. P (f x))
-unmapped P f (x ∷ xs) all = All-cons (λ x. P (f x)) x xs (All-head P (f x) (map f xs) all)
-    (unmapped P f xs (All-tail P (f x) (map f xs) all))
-
 -- the first value that one more gives is its own
+chosen : (b : Bool) (x base : ℕ) → cond b (Some x) None ≡ Some base → (b ≡ true) × (x ≡ base)
+chosen true x base e = (refl, cc)
+chosen false x base e = absurd cc
+
 last_first : (before : List Found) (f : Found) (place base : ℕ) → first_value before (Constant place) ≡ None →
     first_value (before ++ f ∷ []) (Constant place) ≡ Some base →
     (f.goal ≡ Constant place) × (f.value ≡ base)
 last_first before f place base none some =
-    by_goal f.goal (cond_some (same_goal f.goal (Constant place))
-    (sym (first_of_two before (f ∷ []) (Constant place) ∙ rw none (one_found (same_goal f.goal (Constant place))))
-    ∙ some))
-  where
-    one_found : (b : Bool) → option_map value_of (cond b (Some f) None) ≡ cond b (Some f.value) None
-    one_found true = refl
-    one_found false = refl
-
-    cond_some : (b : Bool) → cond b (Some f.value) None ≡ Some base → (b ≡ true) × (f.value ≡ base)
-    cond_some true e = (refl, cc)
-    cond_some false e = absurd cc
-
-    by_goal : (goal : Goal) → (same_goal goal (Constant place) ≡ true) × (f.value ≡ base) →
-        (goal ≡ Constant place) × (f.value ≡ base)
-    by_goal (Constant other) (same, is) = (ap (λ (n : ℕ). Constant n) (eqb-true other place same), is)
-    by_goal (Entry other) (same, is) = absurd cc
-    by_goal (Variable other) (same, is) = absurd cc
-    by_goal (Inside other offset) (same, is) = absurd cc
-    by_goal (Outside name) (same, is) = absurd cc
-    by_goal (Text other offset text) (same, is) = absurd cc
+    let last : first_value (before ++ f ∷ []) (Constant place)
+    ≡ cond (same_goal f.goal (Constant place)) (Some f.value) None =
+    first_value-append before f (Constant place) ∙ rw none refl in
+    let (same, is) = chosen (same_goal f.goal (Constant place)) f.value base (sym last ∙ some) in
+    (equal_goals f.goal (Constant place) same, is)
 
 -- a value that opens something is the first for a section
 new_section : (c : Candidate) (before : List Found) (own : Bool) (goal : Goal) (value : ℕ) →

@@ -1,11 +1,11 @@
 -- What is said of a match is what the first values give.
 use Rattle.std.proofs.Common.{◌≡◌, ◌==◌, ◌≢◌, inl, inr, ℕ, zero, suc, ◌+◌, ◌<◌, true, List, []}
-use Rattle.std.proofs.Common.{◌∷◌, ◌++◌, length, Option, Some, None, option_map, All, refl, sym, ◌∙◌, ap, subst}
+use Rattle.std.proofs.Common.{◌∷◌, length, Option, Some, None, option_map, All, refl, sym, ◌∙◌, ap, subst}
 use Rattle.std.proofs.Common.{arith, Ok}
 use mathlib.Core.Path.{fun_ext}
-use Rattle.std.specs.List.{Contains, slice_get, cons_option, filter_map, flat_map}
+use Rattle.std.specs.List.{Contains, slice_get, filter_map, flat_map}
 use Rattle.std.proofs.lemmas.Bool.{cases_Bool, eqb-true, eq-eqb}
-use Rattle.std.proofs.lemmas.List.Elements.{All-nil, All-cons, All-head, All-tail, All-weaker, All-append, All-map}
+use Rattle.std.proofs.lemmas.List.Elements.{All-nil, All-weaker, All-append, All-map}
 use Rattle.std.proofs.lemmas.List.Elements.{All-contains, All-contains_itself, Contains-append_left}
 use Rattle.std.proofs.lemmas.List.Elements.{Contains-append_right}
 use Rattle.i386_reloc.specs.declared.types.Ref.{Ref}
@@ -24,24 +24,9 @@ use Rattle.run_pre_match.specs.Matched.{stated_from, statements, name_at, unknow
 use Rattle.run_pre_match.specs.Matched.{interior_at, interior_of, matched_by, outcome}
 use Rattle.run_pre_match.specs.Match.{Valuation, is_valued, IsField, InCode, InConstant, IsMeant, Match, IsSaid}
 use Rattle.run_pre_match.specs.Match.{IsClaimed, IsNamed, Says}
-use Rattle.run_pre_match.proofs.Opened.{unmapped}
-use Rattle.run_pre_match.proofs.Claims.{no_difference, all_flat, all_stated, Claimed, claimed}
+use Rattle.run_pre_match.proofs.Claims.{no_difference, all_stated, Claimed, claimed}
 use Rattle.run_pre_match.proofs.Valuations.{matches, one_valuation}
-
--- what holds of each of some lists in a row holds of each list
-front : {X : Type 0} (P : X → Type 0) (xs ys : List X) → All P (xs ++ ys) → All P xs
-front P [] ys all = All-nil P
-front P (x ∷ xs) ys all = All-cons P x xs (All-head P x (xs ++ ys) all) (front P xs ys (All-tail P x (xs ++ ys) all))
-
-behind : {X : Type 0} (P : X → Type 0) (xs ys : List X) → All P (xs ++ ys) → All P ys
-behind P [] ys all = all
-behind P (x ∷ xs) ys all = behind P xs ys (All-tail P x (xs ++ ys) all)
-
-each_of : {X Y : Type 0} (P : Y → Type 0) (f : X → List Y) (xs : List X) → All P (flat_map f xs) →
-    All (λ x. All P (f x)) xs
-each_of P f [] all = All-nil (λ x. All P (f x))
-each_of P f (x ∷ xs) all = All-cons (λ x. All P (f x)) x xs (front P (f x) (flat_map f xs) all)
-    (each_of P f xs (behind P (f x) (flat_map f xs) all))
+use Rattle.run_pre_match.proofs.ListParts.{front, behind, each_of, unmapped, all_flat, SaysAll, all_said, contains_said}
 
 each_stated : (P : Statement → Type 0) (c : Candidate) (found : List Found) (place : ℕ)
     (sections : List NormalSection) → All P (stated_from c found place sections) →
@@ -61,40 +46,6 @@ each_stated P c found place (s ∷ sections) all (suc k) section at =
     (each_stated P c found (suc place) sections
     (behind P (stated_at c s (first_value found (Constant place))) (stated_from c found (suc place) sections) all) k
     section at)
-
--- what is said by all that say something
-abbrev SaysAll : {X Y : Type 0} → (Y → Type 0) → (X → Option Y) → X → Type 0
-SaysAll {X} {Y} P f x = (y : Y) → f x ≡ Some y → P y
-
-said_at : {X Y : Type 0} (P : Y → Type 0) (f : X → Option Y) (x : X) (xs : List X) (o : Option Y) → f x ≡ o →
-    (All P (filter_map f xs) → All (SaysAll P f) xs) →
-    All P (cons_option o (filter_map f xs)) → All (SaysAll P f) (x ∷ xs)
-said_at P f x xs None is rest all = All-cons (SaysAll P f) x xs (λ y e. absurd (cc (is, e))) (rest all)
-said_at P f x xs (Some z) is rest all =
-    All-cons (SaysAll P f) x xs (λ y e. subst P (let same : z ≡ y = cc (is, e) in same)
-    (All-head P z (filter_map f xs) all)) (rest (All-tail P z (filter_map f xs) all))
-
-each_said : {X Y : Type 0} (P : Y → Type 0) (f : X → Option Y) (xs : List X) → All P (filter_map f xs) →
-    All (SaysAll P f) xs
-each_said P f [] all = All-nil (SaysAll P f)
-each_said P f (x ∷ xs) all = said_at P f x xs (f x) refl (each_said P f xs) all
-
-saying : {Y : Type 0} (P : Y → Type 0) (ys : List Y) (o : Option Y) → ((y : Y) → o ≡ Some y → P y) → All P ys →
-    All P (cons_option o ys)
-saying P ys None here all = all
-saying P ys (Some y) here all = All-cons P y ys (here y refl) all
-
-all_said : {X Y : Type 0} (P : Y → Type 0) (f : X → Option Y) (xs : List X) → All (SaysAll P f) xs →
-    All P (filter_map f xs)
-all_said P f [] all = All-nil P
-all_said P f (x ∷ xs) all = saying P (filter_map f xs) (f x) (All-head (SaysAll P f) x xs all)
-    (all_said P f xs (All-tail (SaysAll P f) x xs all))
-
-contains_said : {X Y : Type 0} (f : X → Option Y) (xs : List X) (x : X) (y : Y) → Contains xs x → f x ≡ Some y →
-    Contains (filter_map f xs) y
-contains_said f xs x y has is =
-    All-contains (SaysAll (Contains (filter_map f xs)) f) xs x
-    (each_said (Contains (filter_map f xs)) f xs (All-contains_itself (filter_map f xs))) has y is
 
 -- all that is said is what fields give that count
 abbrev Firsts : Candidate → Valuation

@@ -3,8 +3,7 @@ use Rattle.std.proofs.Common.{◌≡◌, ◌⊎◌, inl, inr, ℕ, zero, suc, �
 use Rattle.std.proofs.Common.{cond, List, [], ◌∷◌, ◌++◌, map, length, Option, Some, None, is_some, option_map, IsTrue}
 use Rattle.std.proofs.Common.{All, refl, sym, ◌∙◌, ap, subst, arith, Ok}
 use Rattle.std.specs.List.{Contains, slice_get, list_any}
-use Rattle.std.proofs.lemmas.Bool.{eqb-true, eq-eqb}
-use Rattle.std.specs.Cmp.Lexicographic.{bytes_decides}
+use Rattle.std.proofs.lemmas.Bool.{eq-eqb}
 use Rattle.std.proofs.lemmas.Option.{slice_get_past}
 use Rattle.std.proofs.lemmas.List.Folds.{list_any_none}
 use Rattle.std.proofs.lemmas.List.Elements.{All-nil, All-cons, All-head, All-tail, All-weaker, All-push}
@@ -21,7 +20,6 @@ use Rattle.run_pre_match.specs.Instructions.{end_of, Instruction, direct_branch,
 use Rattle.ia32_decode.specs.declared.types.Branch.{Branch}
 use Rattle.run_pre_match.specs.Constants.{lie_in_constants}
 use Rattle.run_pre_match.specs.RunCode.{run_code}
-use Rattle.run_pre_match.specs.Goals.{same_goal}
 use Rattle.run_pre_match.specs.Candidate.{Candidate, Pair, pre_list, run_list, pairs}
 use Rattle.run_pre_match.specs.Found.{Found, first_value, is_other, contradicts, opened_by, given_there}
 use Rattle.run_pre_match.specs.Found.{judged, given_in_pair, given_in_constant, found_in, own_home}
@@ -33,26 +31,13 @@ use Rattle.run_pre_match.specs.Matched.{statements, matched_by, matched_unless, 
 use Rattle.run_pre_match.specs.Match.{Valuation, is_valued, Agree, IsField, InCode, InConstant, IsMeant, Match}
 use Rattle.run_pre_match.proofs.Stepwise.{Keeping, given_of, givens, kept_by_pair, kept_by_pairs}
 use Rattle.run_pre_match.proofs.FirstValues.{Holding, StandsIn, holds_from}
-use Rattle.run_pre_match.proofs.Opened.{Has, has_pairs, unmapped}
+use Rattle.run_pre_match.proofs.Opened.{Has, has_pairs}
 use Rattle.run_pre_match.proofs.Claims.{by_no_kind, all_found_stand, stands_at}
 use Rattle.run_pre_match.proofs.Claims.{first_had, constants_had, home_first, neither, unmapped_none}
 use Rattle.run_pre_match.proofs.MetLaws.{IsWhole, met_by, holds_by}
 use Rattle.run_pre_match.proofs.Agreeing.{Alike, agrees, alike}
-
--- goals that are the same are equal
-pub equal_goals : (a b : Goal) → same_goal a b ≡ true → a ≡ b
-equal_goals (Entry i) (Entry j) same = ap (λ (n : ℕ). Entry n) (eqb-true i j same)
-equal_goals (Variable i) (Variable j) same = ap (λ (n : ℕ). Variable n) (eqb-true i j same)
-equal_goals (Constant i) (Constant j) same = ap (λ (n : ℕ). Constant n) (eqb-true i j same)
-equal_goals (Outside m) (Outside n) same = ap (λ (name : List ℕ). Outside name) ((bytes_decides m n).0 same)
-equal_goals a b same = absurd cc
-
-pub same_valued : (a b : Goal) → same_goal a b ≡ true → is_valued b ≡ true
-same_valued (Entry i) (Entry j) same = refl
-same_valued (Variable i) (Variable j) same = refl
-same_valued (Constant i) (Constant j) same = refl
-same_valued (Outside m) (Outside n) same = refl
-same_valued a b same = absurd cc
+use Rattle.run_pre_match.proofs.GoalLaws.{equal_goals, same_valued}
+use Rattle.run_pre_match.proofs.ListParts.{behind, unmapped}
 
 -- each field that counts gives its goal the one value
 abbrev pub GivesOne : Candidate → Valuation → Type 0
@@ -247,10 +232,6 @@ no_kind c here pair alike all =
       none_refused here all,
       none_unmet here all,
     ) refl
-
-behind : {X : Type 0} (P : X → Type 0) (xs ys : List X) → All P (xs ++ ys) → All P ys
-behind P [] ys all = all
-behind P (x ∷ xs) ys all = behind P xs ys (All-tail P x (xs ++ ys) all)
 
 no_break : (c : Candidate) → IsWhole c → break_of c ≡ None
 no_break c whole = rw (slice_get_past (kept_of (pre_list c)) (length (kept_of (run_list c))) (omega (arith, whole)))
