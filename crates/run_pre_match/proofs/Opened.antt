@@ -1,6 +1,5 @@
 -- Each read-only section for which a value is found is opened: what its fields give there is found too. The number of
--- sections is
--- enough for that, since along a chain each section is opened once.
+-- sections is enough for that, since along a chain each section is opened once.
 use Rattle.std.proofs.Common.{◌≡◌, ◌⊎◌, inl, inr, ℕ, zero, suc, ◌+◌, ◌<◌, ◌≤◌, Bool, true, false, cond, List, [], ◌∷◌}
 use Rattle.std.proofs.Common.{◌++◌, map, length, Option, Some, None, is_some, All, append_assoc, append-nil}
 use Rattle.std.proofs.Common.{refl, sym, ◌∙◌, ap, subst, arith}
