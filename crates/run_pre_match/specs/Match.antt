@@ -43,8 +43,9 @@ pub record StandForOne (c : Candidate) (offset address : ℕ) : Type 0 where
   pub by_address : stands_for (run_list c) address ≡ Some number
 
 -- Instructions agree but for what references say. Two direct branches have equal prefixes and one kind, and where they
--- have no reference their targets stand for the same number. Two others have bytes that are equal where zeros are put in
--- the fields of references, and equal prefixes and opcodes; where no reference stands on an opcode, equal bytes have them.
+-- have no reference their targets stand for the same number. Two others have equal prefixes and opcodes, and equal
+-- bytes where zeros are put in the fields of references. (Equal bytes have equal opcodes where no reference stands on
+-- one.)
 abbrev pub AgreeAs : Candidate → Pair → Option Branch → Option Branch → Type 0
 AgreeAs c pair (Some pre) (Some run) =
     IsTrue (same_kind pre.kind run.kind)
