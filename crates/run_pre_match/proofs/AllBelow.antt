@@ -1,5 +1,6 @@
 -- A test of each number below another.
-use Rattle.std.proofs.Common.{◌≡◌, ℕ, zero, suc, ◌+◌, ◌<◌, Bool, true, false, ◌&&◌, ◌⊎◌, inl, inr, refl, sym, subst, add-one, arith}
+use Rattle.std.proofs.Common.{◌≡◌, ℕ, zero, suc, ◌+◌, ◌<◌, Bool, true, false, ◌&&◌, ◌⊎◌, inl, inr, refl, sym, subst}
+use Rattle.std.proofs.Common.{add-one, arith}
 use Rattle.run_pre_match.specs.Constants.{all_below}
 
 last_or_before : (i n : ℕ) → i < suc n → (i < n) ⊎ (i ≡ n)
@@ -14,7 +15,11 @@ unfolding all_below
 all_below_at p zero i all lt = absurd (omega arith)
 all_below_at p (suc n) i all lt =
     let both = and_true (all_below p n) (p n) all in
-    elim (last_or_before i n lt) [ inl before ↦ all_below_at p n i both.0 before | inr last ↦ subst (λ (k : ℕ). p k ≡ true) (sym last) both.1 ]
+    elim (last_or_before i n lt) [
+      | inl before ↦ all_below_at p n i both.0 before
+      | inr last ↦
+          subst (λ (k : ℕ). p k ≡ true) (sym last) both.1
+    ]
 
 pub all_below_from : (p : ℕ → Bool) (n : ℕ) → ((i : ℕ) → i < n → p i ≡ true) → all_below p n ≡ true
 unfolding all_below

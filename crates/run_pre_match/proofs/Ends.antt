@@ -1,5 +1,7 @@
 -- What is known of texts.
-use Rattle.std.proofs.Common.{◌≡◌, ◌⊎◌, inl, inr, ℕ, suc, ◌+◌, ◌-◌, ◌<◌, ◌≤◌, Bool, true, false, List, take, drop, slice_index, Option, Some, None, Result, Ok, Err, OnOk, OnErr, unwrap_or, cond, is_eq, Ordering, Less, Equal, Greater, sym, ◌∙◌, ap, subst, refl, arith}
+use Rattle.std.proofs.Common.{◌≡◌, ◌⊎◌, inl, inr, ℕ, suc, ◌+◌, ◌-◌, ◌<◌, ◌≤◌, Bool, true, false, List, take, drop}
+use Rattle.std.proofs.Common.{slice_index, Option, Some, None, Result, Ok, Err, OnOk, OnErr, unwrap_or, cond, is_eq}
+use Rattle.std.proofs.Common.{Ordering, Less, Equal, Greater, sym, ◌∙◌, ap, subst, refl, arith}
 use Rattle.std.specs.Ordering.{nat_cmp, ordering_then}
 use Rattle.std.specs.Map.{lookup}
 use Rattle.std.specs.BTreeMap.{BTreeMap, get, is_at, Updates, IsUnchanged}
@@ -33,15 +35,24 @@ exact_ends x y e =
 
 -- no byte is known
 pub none_stand : (pieces : List Piece) (bytes : List ℕ) (end address : ℕ) → StandBefore pieces bytes end address 0
-none_stand pieces bytes end address = record { in_bytes = omega arith; in_memory = omega arith; each = λ i lt. absurd (omega arith) }
+none_stand pieces bytes end address =
+    record { in_bytes = omega arith; in_memory = omega arith; each = λ i lt. absurd (omega arith) }
 
-pub known_or_none : (object : List NormalSection) (pieces : List Piece) (known : BTreeMap End ℕ) (end : End) (o : Option ℕ) → o ≡ get end_cmp known end → AreKnown object pieces known → IsKnown object pieces end (unwrap_or o 0)
+pub known_or_none : (object : List NormalSection) (pieces : List Piece) (known : BTreeMap End ℕ) (end : End)
+    (o : Option ℕ) → o ≡ get end_cmp known end → AreKnown object pieces known →
+    IsKnown object pieces end (unwrap_or o 0)
 known_or_none object pieces known end None is all = none_stand pieces (bytes_at object end.place) end.end end.address
 known_or_none object pieces known end (Some count) is all = all.each end count (sym is)
 
-with_end : (object : List NormalSection) (pieces : List Piece) (old new : BTreeMap End ℕ) (end : End) (count : ℕ) → Updates end_cmp old new end (Some count) → AreKnown object pieces old → IsKnown object pieces end count → AreKnown object pieces new
+with_end : (object : List NormalSection) (pieces : List Piece) (old new : BTreeMap End ℕ) (end : End) (count : ℕ) →
+    Updates end_cmp old new end (Some count) → AreKnown object pieces old → IsKnown object pieces end count →
+    AreKnown object pieces new
 with_end object pieces old new end count updates all here =
-    let at : (q : End) (n : ℕ) (o : Ordering) → end_cmp end q ≡ o → get end_cmp new q ≡ cond (is_eq o) (Some count) (get end_cmp old q) → get end_cmp new q ≡ Some n → IsKnown object pieces q n = λ q n o. elim o as (λ o. end_cmp end q ≡ o → get end_cmp new q ≡ cond (is_eq o) (Some count) (get end_cmp old q) → get end_cmp new q ≡ Some n → IsKnown object pieces q n) [
+    let at : (q : End) (n : ℕ) (o : Ordering) → end_cmp end q ≡ o →
+    get end_cmp new q ≡ cond (is_eq o) (Some count) (get end_cmp old q) → get end_cmp new q ≡ Some n →
+    IsKnown object pieces q n = λ q n o. elim o as
+    (λ o. end_cmp end q ≡ o → get end_cmp new q ≡ cond (is_eq o) (Some count) (get end_cmp old q) →
+    get end_cmp new q ≡ Some n → IsKnown object pieces q n) [
       | Less ↦ λ _ is found. all.each q n (sym is ∙ found)
       | Equal ↦ λ same is found.
           subst (λ (k : ℕ). IsKnown object pieces q k) (same_Some count n (sym is ∙ found))
@@ -50,13 +61,18 @@ with_end object pieces old new end count updates all here =
     ] in
     record { each = λ q n found. at q n (end_cmp end q) refl (updates.0 q) found }
 
-pub after_insert : {X Y : Type 0} (object : List NormalSection) (pieces : List Piece) (old new : BTreeMap End ℕ) (end : End) (count : ℕ) (result : Result X Y) → OnOk result (Updates end_cmp old new end (Some count)) → OnErr result (IsUnchanged old new) → AreKnown object pieces old → IsKnown object pieces end count → AreKnown object pieces new
-after_insert object pieces old new end count (Ok x) ok err all here = with_end object pieces old new end count ok all here
+pub after_insert : {X Y : Type 0} (object : List NormalSection) (pieces : List Piece) (old new : BTreeMap End ℕ)
+    (end : End) (count : ℕ) (result : Result X Y) → OnOk result (Updates end_cmp old new end (Some count)) →
+    OnErr result (IsUnchanged old new) → AreKnown object pieces old → IsKnown object pieces end count →
+    AreKnown object pieces new
+after_insert object pieces old new end count (Ok x) ok err all here =
+    with_end object pieces old new end count ok all here
 after_insert object pieces old new end count (Err e) ok err all here =
     record { each = λ q n found. all.each q n (ap (λ entries. lookup (is_at (end_cmp q)) entries) (sym err) ∙ found) }
 
 -- fewer bytes than stand
-pub fewer_stand : (pieces : List Piece) (bytes : List ℕ) (end address count fewer : ℕ) → StandBefore pieces bytes end address count → fewer ≤ count → StandBefore pieces bytes end address fewer
+pub fewer_stand : (pieces : List Piece) (bytes : List ℕ) (end address count fewer : ℕ) →
+    StandBefore pieces bytes end address count → fewer ≤ count → StandBefore pieces bytes end address fewer
 fewer_stand pieces bytes end address count fewer stand le =
     record {
       in_bytes = omega (arith, stand.in_bytes);
@@ -65,14 +81,18 @@ fewer_stand pieces bytes end address count fewer stand le =
     }
 
 -- a byte of a text that stands at an offset
-text_byte : (bytes : List ℕ) (offset len i : ℕ) → i < len → slice_index (take len (drop offset bytes)) i ≡ slice_index bytes (offset + i)
+text_byte : (bytes : List ℕ) (offset len i : ℕ) → i < len →
+    slice_index (take len (drop offset bytes)) i ≡ slice_index bytes (offset + i)
 text_byte bytes offset len i lt = rw (get_or-take len (drop offset bytes) i 0 lt, get_or-drop offset bytes i 0) refl
 
 abbrev test_of : List Piece → List ℕ → ℕ → ℕ → ℕ → ℕ → Bool
-test_of pieces bytes offset len value i = is_byte (slice_index (take len (drop offset bytes)) i) (constant_at pieces (value + i))
+test_of pieces bytes offset len value i =
+    is_byte (slice_index (take len (drop offset bytes)) i) (constant_at pieces (value + i))
 
 -- it stands where as many bytes before its end do as it has
-pub whole_stands : (pieces : List Piece) (bytes : List ℕ) (offset len value : ℕ) → StandBefore pieces bytes (offset + len) (value + len) len → stand_at pieces value (take len (drop offset bytes)) len ≡ true
+pub whole_stands : (pieces : List Piece) (bytes : List ℕ) (offset len value : ℕ) →
+    StandBefore pieces bytes (offset + len) (value + len) len →
+    stand_at pieces value (take len (drop offset bytes)) len ≡ true
 whole_stands pieces bytes offset len value stand =
     all_below_from (test_of pieces bytes offset len value) len (λ i lt.
     let there = stand.each (len - suc i) (omega arith) in
@@ -81,7 +101,9 @@ whole_stands pieces bytes offset len value stand =
     rw (text_byte bytes offset len i lt, sym at, sym above) there)
 
 -- and it doesn't where one differs
-pub part_stands : (pieces : List Piece) (bytes : List ℕ) (offset len value count : ℕ) → StandFor pieces bytes (offset + len) (value + len) len count → count < len → stand_at pieces value (take len (drop offset bytes)) len ≡ false
+pub part_stands : (pieces : List Piece) (bytes : List ℕ) (offset len value count : ℕ) →
+    StandFor pieces bytes (offset + len) (value + len) len count → count < len →
+    stand_at pieces value (take len (drop offset bytes)) len ≡ false
 part_stands pieces bytes offset len value count for lt =
     let here : len - suc count < len = omega arith in
     let at : (offset + len) - suc count ≡ offset + (len - suc count) = omega arith in
@@ -96,9 +118,13 @@ unequal : (m n : ℕ) → m < n → m == n ≡ false
 unequal m n lt = grind arith
 
 -- whether all stand that were counted
-pub counted_stand : (pieces : List Piece) (bytes : List ℕ) (offset len value count : ℕ) → StandFor pieces bytes (offset + len) (value + len) len count → count == len ≡ stand_at pieces value (take len (drop offset bytes)) len
+pub counted_stand : (pieces : List Piece) (bytes : List ℕ) (offset len value count : ℕ) →
+    StandFor pieces bytes (offset + len) (value + len) len count →
+    count == len ≡ stand_at pieces value (take len (drop offset bytes)) len
 counted_stand pieces bytes offset len value count for =
     elim (below_or_all count len for.within) [
       | inl fewer ↦ rw (part_stands pieces bytes offset len value count for fewer) (unequal count len fewer)
-      | inr all ↦ rw (whole_stands pieces bytes offset len value (subst (λ (n : ℕ). StandBefore pieces bytes (offset + len) (value + len) n) all for.stand)) (eq-eqb count len all)
+      | inr all ↦ rw (whole_stands pieces bytes offset len value
+          (subst (λ (n : ℕ). StandBefore pieces bytes (offset + len) (value + len) n) all for.stand))
+          (eq-eqb count len all)
     ]

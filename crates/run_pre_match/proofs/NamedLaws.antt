@@ -1,5 +1,7 @@
 -- The table of offsets that references name, reference by reference.
-use Rattle.std.proofs.Common.{◌≡◌, ℕ, zero, suc, ◌+◌, ◌<◌, Bool, true, false, ◌&&◌, cond, List, [], ◌∷◌, ◌++◌, length, map, take, Option, Some, None, option_map, refl, sym, ap, subst, ◌∙◌, inl, inr, add-one, append-nil, append_assoc}
+use Rattle.std.proofs.Common.{◌≡◌, ℕ, zero, suc, ◌+◌, ◌<◌, Bool, true, false, ◌&&◌, cond, List, [], ◌∷◌, ◌++◌, length}
+use Rattle.std.proofs.Common.{map, take, Option, Some, None, option_map, refl, sym, ap, subst, ◌∙◌, inl, inr, add-one}
+use Rattle.std.proofs.Common.{append-nil, append_assoc}
 use Rattle.std.specs.List.{IsDistinct, AllByRecursion, filter, flat_map, slice_get}
 use Rattle.std.specs.Option.{ForSome}
 use Rattle.std.specs.Cmp.Lexicographic.{bytes_decides}
@@ -20,13 +22,17 @@ use Rattle.i386_reloc.specs.Reaches.{goes_to_target, goes_to, is_interior}
 use Rattle.run_pre_match.specs.Landing.{interior_offset, refs_in, is_code_or_constant, goes_inside}
 use Rattle.run_pre_match.specs.inside.Named.{naming, named_in, named_by, put_at}
 
-pub place_here : (sections : List NormalSection) (place k : ℕ) (r : Ref) → reference_at sections place k ≡ Some r → place_of_reference sections (reference_at sections place k) ≡ place_of_target sections r.target
+pub place_here : (sections : List NormalSection) (place k : ℕ) (r : Ref) → reference_at sections place k ≡ Some r →
+    place_of_reference sections (reference_at sections place k) ≡ place_of_target sections r.target
 place_here sections place k r at = ap (place_of_reference sections) at
 
-named_within : (sections : List NormalSection) (name : List ℕ) → ForSome (place_named sections name) (λ p. p < length sections)
-named_within sections name = λ p at. let it = section_at_place sections name p at in slice_get_within sections p it.0 it.1
+named_within : (sections : List NormalSection) (name : List ℕ) →
+    ForSome (place_named sections name) (λ p. p < length sections)
+named_within sections name = λ p at. let it =
+    section_at_place sections name p at in slice_get_within sections p it.0 it.1
 
-pub target_within : (sections : List NormalSection) (target : Target) → ForSome (place_of_target sections target) (λ p. p < length sections)
+pub target_within : (sections : List NormalSection) (target : Target) →
+    ForSome (place_of_target sections target) (λ p. p < length sections)
 target_within sections (Section name) = named_within sections name
 target_within sections (Text name offset text) = named_within sections name
 target_within sections (Outside name) = λ p at. absurd cc
@@ -42,16 +48,21 @@ with_one test f offset section = f section ++ cond (test section) (offset ∷ []
 abbrev has_name : List ℕ → NormalSection → Bool
 has_name name section = same_bytes name section.name
 
-none_named : (name : List ℕ) (f : NormalSection → List ℕ) (offset : ℕ) (sections : List NormalSection) → AllByRecursion (λ other. same_bytes name other ≡ false) (map name_of sections) → map (with_one (has_name name) f offset) sections ≡ map f sections
+none_named : (name : List ℕ) (f : NormalSection → List ℕ) (offset : ℕ) (sections : List NormalSection) →
+    AllByRecursion (λ other. same_bytes name other ≡ false) (map name_of sections) →
+    map (with_one (has_name name) f offset) sections ≡ map f sections
 none_named name f offset [] apart = refl
 none_named name f offset (s ∷ sections) apart =
     rw (apart.0, append-nil (f s), none_named name f offset sections apart.1) refl
 
-put_later : (xs : List ℕ) (table : List (List ℕ)) (place : Option ℕ) (offset : ℕ) → put_at (xs ∷ table) (option_map suc place) offset ≡ xs ∷ put_at table place offset
+put_later : (xs : List ℕ) (table : List (List ℕ)) (place : Option ℕ) (offset : ℕ) →
+    put_at (xs ∷ table) (option_map suc place) offset ≡ xs ∷ put_at table place offset
 put_later xs table None offset = refl
 put_later xs table (Some place) offset = refl
 
-put_named : (sections : List NormalSection) → IsDistinct same_bytes (map name_of sections) → (name : List ℕ) (f : NormalSection → List ℕ) (offset : ℕ) → map (with_one (has_name name) f offset) sections ≡ put_at (map f sections) (place_named sections name) offset
+put_named : (sections : List NormalSection) → IsDistinct same_bytes (map name_of sections) →
+    (name : List ℕ) (f : NormalSection → List ℕ) (offset : ℕ) →
+    map (with_one (has_name name) f offset) sections ≡ put_at (map f sections) (place_named sections name) offset
 unfolding IsDistinct
 put_named [] distinct name f offset = refl
 put_named (s ∷ sections) distinct name f offset =
@@ -59,7 +70,9 @@ put_named (s ∷ sections) distinct name f offset =
       | inl here ↦
           let e : s.name ≡ name = (bytes_decides s.name name).0 here in
           let own : same_bytes name s.name ≡ true = rw (← e) (nat_list_eq_equiv.refl s.name) in
-          let apart : AllByRecursion (λ other. same_bytes name other ≡ false) (map name_of sections) = subst (λ (n : List ℕ). AllByRecursion (λ other. same_bytes n other ≡ false) (map name_of sections)) e distinct.0 in
+          let apart : AllByRecursion (λ other. same_bytes name other ≡ false) (map name_of sections) =
+          subst (λ (n : List ℕ). AllByRecursion (λ other. same_bytes n other ≡ false) (map name_of sections)) e
+          distinct.0 in
           rw (here, own, none_named name f offset sections apart) refl
       | inr not ↦
           let other : same_bytes name s.name ≡ false = nat_list_eq_equiv.symm name s.name ∙ not in
@@ -68,10 +81,14 @@ put_named (s ∷ sections) distinct name f offset =
     ]
 
 -- of a target
-put_target : (sections : List NormalSection) → IsDistinct same_bytes (map name_of sections) → (target : Target) (f : NormalSection → List ℕ) (offset : ℕ) → map (with_one (λ s. goes_to_target s.name target) f offset) sections ≡ put_at (map f sections) (place_of_target sections target) offset
+put_target : (sections : List NormalSection) → IsDistinct same_bytes (map name_of sections) →
+    (target : Target) (f : NormalSection → List ℕ) (offset : ℕ) →
+    map (with_one (λ s. goes_to_target s.name target) f offset) sections
+    ≡ put_at (map f sections) (place_of_target sections target) offset
 put_target sections distinct (Section name) f offset = put_named sections distinct name f offset
 put_target sections distinct (Text name at text) f offset = put_named sections distinct name f offset
-put_target sections distinct (Outside name) f offset = map_same (with_one (λ s. false) f offset) f (λ s. append-nil (f s)) sections
+put_target sections distinct (Outside name) f offset =
+    map_same (with_one (λ s. false) f offset) f (λ s. append-nil (f s)) sections
 
 -- of one more reference
 named_last : (b : Bool) (r : Ref) → map interior_offset (cond b (r ∷ []) []) ≡ cond b (interior_offset r ∷ []) []
@@ -81,7 +98,8 @@ named_last false r = refl
 one_of : (p : Ref → Bool) (r : Ref) → filter p (r ∷ []) ≡ cond (p r) (r ∷ []) []
 one_of p r = refl
 
-named_push : (refs : List Ref) (r : Ref) (s : NormalSection) → named_in (refs ++ r ∷ []) s ≡ with_one (λ s. goes_inside s.name r) (named_in refs) (interior_offset r) s
+named_push : (refs : List Ref) (r : Ref) (s : NormalSection) →
+    named_in (refs ++ r ∷ []) s ≡ with_one (λ s. goes_inside s.name r) (named_in refs) (interior_offset r) s
 named_push refs r s =
     ap (map interior_offset) (filter-append (goes_inside s.name) refs (r ∷ []))
     ∙ map-append interior_offset (filter (goes_inside s.name) refs) (filter (goes_inside s.name) (r ∷ []))
@@ -95,24 +113,33 @@ and_when false false false e = refl
 and_when a true false e = absurd cc
 and_when a false true e = absurd cc
 
-pub named_more : (object : List NormalSection) (refs : List Ref) (r : Ref) → IsDistinct same_bytes (map name_of object) → named_by object (refs ++ r ∷ []) ≡ cond (is_interior r) (put_at (named_by object refs) (place_of_target object r.target) (interior_offset r)) (named_by object refs)
+pub named_more : (object : List NormalSection) (refs : List Ref) (r : Ref) →
+    IsDistinct same_bytes (map name_of object) →
+    named_by object (refs ++ r ∷ []) ≡ cond (is_interior r)
+    (put_at (named_by object refs) (place_of_target object r.target) (interior_offset r)) (named_by object refs)
 named_more object refs r distinct =
     elim (cases_Bool (is_interior r)) [
       | inl interior ↦
           rw interior
-          (map_same (named_in (refs ++ r ∷ [])) (with_one (λ s. goes_to_target s.name r.target) (named_in refs) (interior_offset r))
-          (λ s. named_push refs r s ∙ ap (λ b. named_in refs s ++ cond b (interior_offset r ∷ []) []) (and_when (goes_to s.name r) (is_interior r) true interior))
+          (map_same (named_in (refs ++ r ∷ []))
+          (with_one (λ s. goes_to_target s.name r.target) (named_in refs) (interior_offset r))
+          (λ s. named_push refs r s ∙ ap (λ b. named_in refs s ++ cond b (interior_offset r ∷ []) [])
+          (and_when (goes_to s.name r) (is_interior r) true interior))
           object
           ∙ put_target object distinct r.target (named_in refs) (interior_offset r))
       | inr entry ↦
           rw entry
           (map_same (named_in (refs ++ r ∷ [])) (named_in refs)
-          (λ s. named_push refs r s ∙ ap (λ b. named_in refs s ++ cond b (interior_offset r ∷ []) []) (and_when (goes_to s.name r) (is_interior r) false entry) ∙ append-nil (named_in refs s))
+          (λ s. named_push refs r s ∙ ap (λ b. named_in refs s ++ cond b (interior_offset r ∷ []) [])
+          (and_when (goes_to s.name r) (is_interior r) false entry) ∙ append-nil (named_in refs s))
           object)
     ]
 
-pub named_step : (object : List NormalSection) (seen refs : List Ref) (k : ℕ) (r : Ref) (before after : List (List ℕ)) → IsDistinct same_bytes (map name_of object) → take (k + 1) refs ≡ take k refs ++ r ∷ [] → before ≡ named_by object (seen ++ take k refs) →
-    after ≡ cond (is_interior r) (put_at before (place_of_target object r.target) (interior_offset r)) before → after ≡ named_by object (seen ++ take (k + 1) refs)
+pub named_step : (object : List NormalSection) (seen refs : List Ref) (k : ℕ) (r : Ref) (before after : List (List ℕ)) →
+    IsDistinct same_bytes (map name_of object) → take (k + 1) refs ≡ take k refs ++ r ∷ [] →
+    before ≡ named_by object (seen ++ take k refs) →
+    after ≡ cond (is_interior r) (put_at before (place_of_target object r.target) (interior_offset r)) before →
+    after ≡ named_by object (seen ++ take (k + 1) refs)
 named_step object seen refs k r before after distinct more was is =
     is
     ∙ ap (λ table. cond (is_interior r) (put_at table (place_of_target object r.target) (interior_offset r)) table) was
@@ -128,15 +155,22 @@ refs_when : (b : Bool) (section : NormalSection) → flat_map refs_in (cond b (s
 refs_when true section = append-nil section.refs
 refs_when false section = refl
 
-pub naming_more : (object : List NormalSection) (i : ℕ) (section : NormalSection) → slice_get object i ≡ Some section → naming (take (i + 1) object) ≡ naming (take i object) ++ cond (is_code_or_constant section) section.refs []
+pub naming_more : (object : List NormalSection) (i : ℕ) (section : NormalSection) → slice_get object i ≡ Some section →
+    naming (take (i + 1) object) ≡ naming (take i object) ++ cond (is_code_or_constant section) section.refs []
 naming_more object i section at =
     ap naming (ap (λ n. take n object) (add-one i) ∙ take_last object i section at)
     ∙ ap (flat_map refs_in) (filter-append is_code_or_constant (take i object) (section ∷ []))
     ∙ flat_map-append refs_in (filter is_code_or_constant (take i object)) (filter is_code_or_constant (section ∷ []))
     ∙ ap (λ refs. naming (take i object) ++ refs) (refs_when (is_code_or_constant section) section)
 
-pub section_taken : (object : List NormalSection) (i : ℕ) (section : NormalSection) (table : List (List ℕ)) → slice_get object i ≡ Some section → is_code_or_constant section ≡ true → table ≡ named_by object (naming (take i object) ++ section.refs) → table ≡ named_by object (naming (take (i + 1) object))
+pub section_taken : (object : List NormalSection) (i : ℕ) (section : NormalSection) (table : List (List ℕ)) →
+    slice_get object i ≡ Some section → is_code_or_constant section ≡ true →
+    table ≡ named_by object (naming (take i object) ++ section.refs) →
+    table ≡ named_by object (naming (take (i + 1) object))
 section_taken object i section table at counts is = rw (naming_more object i section at, counts) is
 
-pub section_left : (object : List NormalSection) (i : ℕ) (section : NormalSection) (table : List (List ℕ)) → slice_get object i ≡ Some section → is_code_or_constant section ≡ false → table ≡ named_by object (naming (take i object)) → table ≡ named_by object (naming (take (i + 1) object))
-section_left object i section table at counts is = rw (naming_more object i section at, counts, append-nil (naming (take i object))) is
+pub section_left : (object : List NormalSection) (i : ℕ) (section : NormalSection) (table : List (List ℕ)) →
+    slice_get object i ≡ Some section → is_code_or_constant section ≡ false →
+    table ≡ named_by object (naming (take i object)) → table ≡ named_by object (naming (take (i + 1) object))
+section_left object i section table at counts is =
+    rw (naming_more object i section at, counts, append-nil (naming (take i object))) is

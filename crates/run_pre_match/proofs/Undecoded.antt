@@ -4,13 +4,15 @@ use Rattle.i386_reloc.specs.declared.types.NormalSection.{NormalSection}
 use Rattle.run_pre_match.specs.declared.pre_code.PreList.{PreList}
 use Rattle.run_pre_match.specs.Instructions.{Instruction, end_of}
 use Rattle.run_pre_match.specs.PreCode.{pre_code}
-use Rattle.run_pre_match.specs.Landing.{broken_offsets, misplaced_offsets, astray_offsets, unmet_offsets, empty_offsets, offsets_named, undecoded_offset}
+use Rattle.run_pre_match.specs.Landing.{broken_offsets, misplaced_offsets, astray_offsets, unmet_offsets, empty_offsets}
+use Rattle.run_pre_match.specs.Landing.{offsets_named, undecoded_offset}
 use Rattle.run_pre_match.specs.inside.Least.{least, lesser}
 use Rattle.run_pre_match.specs.inside.Places.{places_of}
 use Rattle.run_pre_match.specs.inside.PreLists.{IsListOf}
 use Rattle.run_pre_match.proofs.LeastLaws.{least_append}
 
-five : (a b c d e : List ℕ) → least (a ++ b ++ c ++ d ++ e) ≡ lesser (lesser (lesser (lesser (least a) (least b)) (least c)) (least d)) (least e)
+five : (a b c d e : List ℕ) → least (a ++ b ++ c ++ d ++ e)
+    ≡ lesser (lesser (lesser (lesser (least a) (least b)) (least c)) (least d)) (least e)
 five a b c d e =
     least_append (a ++ b ++ c ++ d) e
     ∙ ap (λ m. lesser m (least e)) (least_append (a ++ b ++ c) d
@@ -20,17 +22,22 @@ five a b c d e =
 abbrev IsLeast : Option ℕ → List ℕ → Type 0
 IsLeast o xs = o ≡ least xs
 
-pub least_fault : (object : List NormalSection) (section : NormalSection) (list : PreList) (named : List ℕ) (broken astray unmet empty two three four five : Option ℕ) → IsListOf section list → named ≡ offsets_named object section.name →
+pub least_fault : (object : List NormalSection) (section : NormalSection) (list : PreList) (named : List ℕ)
+    (broken astray unmet empty two three four five : Option ℕ) → IsListOf section list →
+    named ≡ offsets_named object section.name →
     IsLeast broken (broken_offsets list.end section.size) →
     IsLeast astray (astray_offsets (pre_code section)) →
     ((code : List Instruction) → list.places ≡ places_of code → IsLeast unmet (unmet_offsets code named)) →
     ((code : List Instruction) → list.places ≡ places_of code → IsLeast empty (empty_offsets code section.size)) →
-    two ≡ lesser broken list.misplaced → three ≡ lesser two astray → four ≡ lesser three unmet → five ≡ lesser four empty →
+    two ≡ lesser broken list.misplaced → three ≡ lesser two astray → four ≡ lesser three unmet →
+    five ≡ lesser four empty →
     five ≡ undecoded_offset object section
 unfolding undecoded_offset
-least_fault object section list named broken astray unmet empty two three four last is named_is broken_is astray_is unmet_is empty_is a b c d =
+least_fault object section list named broken astray unmet empty two three four last is named_is broken_is astray_is
+    unmet_is empty_is a b c d =
     let code = pre_code section in
     let u = unmet_is code is.places in
     let e = empty_is code is.places in
     rw (d, c, b, a, broken_is, is.misplaced, astray_is, u, e, is.end, named_is)
-    (sym (five (broken_offsets (end_of 0 code) section.size) (misplaced_offsets code) (astray_offsets code) (unmet_offsets code (offsets_named object section.name)) (empty_offsets code section.size)))
+    (sym (five (broken_offsets (end_of 0 code) section.size) (misplaced_offsets code) (astray_offsets code)
+    (unmet_offsets code (offsets_named object section.name)) (empty_offsets code section.size)))

@@ -7,8 +7,9 @@ use Rattle.run_pre_match.specs.Instructions.{Instruction, kept_of, stands_for}
 use Rattle.run_pre_match.specs.PreCode.{pre_code}
 use Rattle.run_pre_match.specs.RunCode.{run_body}
 
--- What may be the function that a code section of an object is: the object, the section and its place among the object's sections,
--- the memory and the symbols of the running program, the address of the function's first version, and where its newest begins.
+-- What may be the function that a code section of an object is: the object, the section and its place among the
+-- object's sections, the memory and the symbols of the running program, the address of the function's first version,
+-- and where its newest begins.
 pub record Candidate : Type 0 where
   pub object : List NormalSection
   pub place : ℕ
@@ -45,13 +46,14 @@ abbrev pub is_number : ℕ → Option ℕ → Bool
 is_number k None = false
 is_number k (Some number) = number == k
 
--- whether an address stands for a number in a list of so many kept instructions; each number behind them counts as agreeing
+-- whether an address stands for a number in a list of so many kept instructions; each number behind them counts as
+-- agreeing
 abbrev pub has_number : ℕ → Option ℕ → Option ℕ → Bool
 has_number count there None = false
 has_number count there (Some k) = nat_le count k || is_number k there
 
--- Whether an address stands in the run body for the number of an offset. Where the run list breaks off, a number that is that of
--- the break or a later one counts as agreeing; in a whole body there is none such.
+-- Whether an address stands in the run body for the number of an offset. Where the run list breaks off, a number that
+-- is that of the break or a later one counts as agreeing; in a whole body there is none such.
 unfoldable pub same_number : Candidate → ℕ → ℕ → Bool
 same_number c offset address =
     has_number (length (kept_of (run_list c))) (stands_for (run_list c) address) (stands_for (pre_list c) offset)

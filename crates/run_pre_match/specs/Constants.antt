@@ -1,5 +1,6 @@
 -- Read-only memory: what lies there.
-use Rattle.std.specs.Prelude.{ℕ, zero, suc, ◌+◌, Bool, true, false, ◌&&◌, ◌||◌, ◌==◌, nat_le, nat_lt, List, Option, Some, None, is_some, slice_index}
+use Rattle.std.specs.Prelude.{ℕ, zero, suc, ◌+◌, Bool, true, false, ◌&&◌, ◌||◌, ◌==◌, nat_le, nat_lt, List, Option}
+use Rattle.std.specs.Prelude.{Some, None, is_some, slice_index}
 use Rattle.std.specs.List.{list_any}
 use Rattle.i386_reloc.specs.declared.types.Ref.{Ref}
 use Rattle.image_memory.specs.declared.types.Kind.{Kind}

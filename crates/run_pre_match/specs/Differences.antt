@@ -1,5 +1,6 @@
 -- The first difference of a code section of an object and the running code.
-use Rattle.std.specs.Prelude.{ℕ, Bool, true, false, not, ◌&&◌, ◌||◌, ◌==◌, List, [], ◌∷◌, ◌++◌, take, length, Option, Some, None}
+use Rattle.std.specs.Prelude.{ℕ, Bool, true, false, not, ◌&&◌, ◌||◌, ◌==◌, List, [], ◌∷◌, ◌++◌, take, length, Option}
+use Rattle.std.specs.Prelude.{Some, None}
 use Rattle.std.specs.Prelude.{suc, if◌then◌else◌}
 use Rattle.std.specs.Option.{option_map, option_or}
 use Rattle.std.specs.List.{find, list_any, slice_get}
@@ -31,7 +32,8 @@ opcode_bytes i = take i.decoded.fields.opcode_end i.bytes
 
 -- two direct branches of other prefixes or kinds, one direct branch alone, or other prefixes or opcode bytes
 abbrev pub differs_in_opcode : Option Branch → Option Branch → Pair → Bool
-differs_in_opcode (Some a) (Some b) pair = not (same_kind a.kind b.kind && same_bytes (prefix_bytes pair.pre) (prefix_bytes pair.run))
+differs_in_opcode (Some a) (Some b) pair =
+    not (same_kind a.kind b.kind && same_bytes (prefix_bytes pair.pre) (prefix_bytes pair.run))
 differs_in_opcode None None pair = not (same_bytes (opcode_bytes pair.pre) (opcode_bytes pair.run))
 differs_in_opcode (Some a) None pair = true
 differs_in_opcode None (Some b) pair = true
@@ -43,7 +45,8 @@ blanked refs place (byte ∷ bytes) = (if list_any (covers place) refs then 0 el
 
 -- neither is a direct branch, and their bytes outside the fields of references, or their lengths, aren't equal
 abbrev pub differs_in_operand : Option Branch → Option Branch → Pair → Bool
-differs_in_operand None None pair = not (same_bytes (blanked pair.pre.references pair.pre.place pair.run.bytes) pair.pre.bytes)
+differs_in_operand None None pair =
+    not (same_bytes (blanked pair.pre.references pair.pre.place pair.run.bytes) pair.pre.bytes)
 differs_in_operand (Some a) branch pair = false
 differs_in_operand None (Some b) pair = false
 
@@ -85,7 +88,8 @@ is_refused_target place f = is_refused_here f && is_in_section place f.goal
 abbrev pub is_unmet : Found → Bool
 is_unmet f = is_absent_verdict f.verdict || not f.own && is_refused_verdict f.verdict
 
--- Both are direct branches, with a reference into the own section, and the target isn't the home, or doesn't stand for the same number.
+-- Both are direct branches, with a reference into the own section, and the target isn't the home, or doesn't stand for
+-- the same number.
 abbrev pub differs_in_own_target : Option Branch → Option Branch → Candidate → List Found → Bool
 differs_in_own_target (Some a) (Some b) c here = list_any (is_refused_target c.place) here
 differs_in_own_target None branch c here = false
@@ -127,7 +131,8 @@ break_before c address i = record {
 
 abbrev pub break_of : Candidate → Option Difference
 break_of c =
-    option_map (break_before c (end_of c.base (run_list c))) (slice_get (kept_of (pre_list c)) (length (kept_of (run_list c))))
+    option_map (break_before c (end_of c.base (run_list c)))
+    (slice_get (kept_of (pre_list c)) (length (kept_of (run_list c))))
 
 -- the first difference of some pairs, after what was found before, and then that the run list breaks off
 unfoldable pub difference_from : Candidate → List Found → List Pair → Option Difference

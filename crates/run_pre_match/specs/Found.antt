@@ -1,6 +1,8 @@
--- The values that a running body gives to what an object's code refers to, in the order in which they are found: by the fields of its
--- instructions, and by those of each read-only section when a field first says where it lies. Each is found to hold or not.
-use Rattle.std.specs.Prelude.{ℕ, zero, suc, ◌+◌, ◌-◌, Bool, true, false, not, ◌&&◌, ◌||◌, ◌==◌, if◌then◌else◌, List, [], ◌∷◌, ◌++◌, map, length, Option, Some, None, is_some}
+-- The values that a running body gives to what an object's code refers to, in the order in which they are found: by the
+-- fields of its instructions, and by those of each read-only section when a field first says where it lies. Each is
+-- found to hold or not.
+use Rattle.std.specs.Prelude.{ℕ, zero, suc, ◌+◌, ◌-◌, Bool, true, false, not, ◌&&◌, ◌||◌, ◌==◌, if◌then◌else◌, List, []}
+use Rattle.std.specs.Prelude.{◌∷◌, ◌++◌, map, length, Option, Some, None, is_some}
 use Rattle.std.specs.Option.{option_map}
 use Rattle.std.specs.List.{find, list_any, slice_get}
 use Rattle.i386_reloc.specs.declared.types.Ref.{Ref}
@@ -20,7 +22,8 @@ use Rattle.run_pre_match.specs.Candidate.{Candidate, Pair, pairs, same_number}
 use Rattle.run_pre_match.specs.Goals.{same_goal, minus, interior_address, given_by}
 use Rattle.run_pre_match.specs.Constants.{lie_in_constants, stand_at, stand_but_for_fields}
 
--- A value that was found for a goal: by a field of the instruction itself or by one of a read-only section, and what is said of it.
+-- A value that was found for a goal: by a field of the instruction itself or by one of a read-only section, and what is
+-- said of it.
 pub record Found : Type 0 where
   pub goal : Goal
   pub value : ℕ
@@ -52,9 +55,9 @@ is_listed symbols name address = list_any (λ a. address == a) (global_addresses
 abbrev pub is_off : Candidate → ℕ → ℕ → ℕ → Bool
 is_off c place offset address = place == c.place && not (same_number c offset address)
 
--- A value is refused where it contradicts an earlier one; for an outside name besides where no global symbol has both; for an
--- interior of the own section where the address doesn't stand for the same number. For texts, and for the interiors of other
--- sections, nothing is asked here.
+-- A value is refused where it contradicts an earlier one; for an outside name besides where no global symbol has both;
+-- for an interior of the own section where the address doesn't stand for the same number. For texts, and for the
+-- interiors of other sections, nothing is asked here.
 abbrev pub is_refused : Candidate → List Found → Goal → ℕ → Bool
 is_refused c before (Text place offset text) value = false
 is_refused c before (Inside place offset) value = is_off c place offset (interior_address value offset)
@@ -97,7 +100,8 @@ given_in_constant c base r = given_by c.object r (dword_at c.contents.pieces (ba
 abbrev pub given_there : Candidate → ℕ → Option NormalSection → List Given
 given_there c base None = []
 given_there c base (Some section) =
-    if lie_in_constants c.contents.pieces base (length section.bytes) then map (given_in_constant c base) section.refs else []
+    if lie_in_constants c.contents.pieces base (length section.bytes) then map (given_in_constant c base) section.refs
+    else []
 
 -- what a value gives besides itself: the fields of a read-only section, where it is the first for that section
 abbrev pub opened_by : Candidate → List Found → Goal → ℕ → List Given
@@ -114,15 +118,16 @@ unfoldable pub found_by_all : (List Found → Given → List Found) → List Fou
 found_by_all found_by before [] = []
 found_by_all found_by before (g ∷ gs) = found_by before g ++ found_by_all found_by (before ++ found_by before g) gs
 
--- What is found by a field: its value, and then what that opens, each with what it opens itself. Along such a chain each section is
--- opened once, so that the number of sections bounds its length.
+-- What is found by a field: its value, and then what that opens, each with what it opens itself. Along such a chain
+-- each section is opened once, so that the number of sections bounds its length.
 unfoldable pub found_by : ℕ → Candidate → Bool → List Found → Given → List Found
 found_by zero c own before g = judged c own before g ∷ []
 found_by (suc n) c own before g =
     judged c own before g
     ∷ found_by_all (found_by n c false) (before ++ judged c own before g ∷ []) (opened_by c before g.goal g.value)
 
--- the S + A of a reference of an instruction: of a branch it is four less than its target, otherwise it stands in the field
+-- the S + A of a reference of an instruction: of a branch it is four less than its target, otherwise it stands in the
+-- field
 abbrev pub held_with : Option Branch → Pair → Ref → ℕ
 held_with None pair r = dword_in pair.run.bytes (r.offset - pair.pre.place)
 held_with (Some branch) pair r = minus (target_of pair.run) 4

@@ -1,5 +1,6 @@
 -- What references go to. A section is named by its place among the object's sections.
-use Rattle.std.specs.Prelude.{ℕ, ◌+◌, ◌-◌, ◌%◌, ◌^◌, Bool, false, ◌==◌, if◌then◌else◌, List, Option, Some, None, unwrap_or}
+use Rattle.std.specs.Prelude.{ℕ, ◌+◌, ◌-◌, ◌%◌, ◌^◌, Bool, false, ◌==◌, if◌then◌else◌, List, Option, Some, None}
+use Rattle.std.specs.Prelude.{unwrap_or}
 use Rattle.std.specs.List.{slice_get}
 use Rattle.i386_reloc.specs.declared.types.Class.{Class}
 use Rattle.i386_reloc.specs.declared.types.Target.{Target}
@@ -18,10 +19,12 @@ use Rattle.run_pre_match.specs.Landing.{interior_offset}
 abbrev pub goal_in_code : Ref → ℕ → Goal
 goal_in_code r place = if is_interior r then Inside place (interior_offset r) else Entry place
 
--- of a section of a class at a place: a function's entry or interior, read-only data, or data that the program may change
+-- of a section of a class at a place: a function's entry or interior, read-only data, or data that the program may
+-- change
 abbrev pub goal_in_section : Ref → ℕ → Class → Goal
 goal_in_section r place class =
-    if is_code_class class then goal_in_code r place else if is_read_only_class class then Constant place else Variable place
+    if is_code_class class then goal_in_code r place else if is_read_only_class class then Constant place
+    else Variable place
 
 -- a name that no section of the object has could only be an outside one
 abbrev pub goal_at_place : Ref → List ℕ → ℕ → Option NormalSection → Goal

@@ -1,5 +1,6 @@
 -- Lists of instructions, of an object's section or of the running program, and what a place among them stands for.
-use Rattle.std.specs.Prelude.{ℕ, zero, suc, ◌+◌, ◌%◌, ◌^◌, Bool, not, ◌==◌, nat_le, if◌then◌else◌, List, [], ◌∷◌, Option, Some, None}
+use Rattle.std.specs.Prelude.{ℕ, zero, suc, ◌+◌, ◌%◌, ◌^◌, Bool, not, ◌==◌, nat_le, if◌then◌else◌, List, [], ◌∷◌}
+use Rattle.std.specs.Prelude.{Option, Some, None}
 use Rattle.std.specs.Option.{option_map, unwrap_or}
 use Rattle.std.specs.List.{filter, list_any, position}
 use Rattle.i386_reloc.specs.declared.types.Ref.{Ref}
@@ -7,8 +8,9 @@ use Rattle.ia32_decode.specs.declared.types.Decoded.{Decoded}
 use Rattle.ia32_decode.specs.declared.types.Branch.{Branch}
 use Rattle.ia32_decode.specs.Branches.{branch_of}
 
--- An instruction in its list: its place, which is an offset in a section or an address; what its bytes spell; these bytes; the
--- references whose fields begin in it, none in the running program; and whether it is kept. The others are padding.
+-- An instruction in its list: its place, which is an offset in a section or an address; what its bytes spell; these
+-- bytes; the references whose fields begin in it, none in the running program; and whether it is kept. The others are
+-- padding.
 pub record Instruction : Type 0 where
   pub place : ℕ
   pub decoded : Decoded
@@ -56,7 +58,8 @@ through_kept (suc n) (i ∷ is) = i ∷ through_kept (if i.kept then n else suc 
 abbrev pub begins_at : ℕ → Instruction → Bool
 begins_at place i = i.place == place
 
--- What a place stands for: where an instruction begins there, kept or padding, the number of the first kept one at or after it.
+-- What a place stands for: where an instruction begins there, kept or padding, the number of the first kept one at or
+-- after it.
 unfoldable pub stands_for : List Instruction → ℕ → Option ℕ
 stands_for is place =
     if list_any (begins_at place) is then position (λ i. nat_le place i.place) (kept_of is) else None

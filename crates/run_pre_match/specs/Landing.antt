@@ -1,6 +1,7 @@
--- Where the code of a section of an object can't be matched: what doesn't decode, fields where none may stand, and places to
--- which branches or references go that stand for no kept instruction.
-use Rattle.std.specs.Prelude.{ℕ, ◌+◌, ◌%◌, ◌^◌, Bool, not, ◌&&◌, ◌||◌, ◌==◌, nat_lt, if◌then◌else◌, List, [], ◌∷◌, ◌++◌, map, length, min, Option, is_some}
+-- Where the code of a section of an object can't be matched: what doesn't decode, fields where none may stand, and
+-- places to which branches or references go that stand for no kept instruction.
+use Rattle.std.specs.Prelude.{ℕ, ◌+◌, ◌%◌, ◌^◌, Bool, not, ◌&&◌, ◌||◌, ◌==◌, nat_lt, if◌then◌else◌, List, [], ◌∷◌, ◌++◌}
+use Rattle.std.specs.Prelude.{map, length, min, Option, is_some}
 use Rattle.std.specs.List.{filter, flat_map, reduce}
 use Rattle.i386_reloc.specs.declared.types.Class.{Class}
 use Rattle.i386_reloc.specs.declared.types.Form.{Form}
@@ -9,7 +10,8 @@ use Rattle.i386_reloc.specs.declared.types.Ref.{Ref}
 use Rattle.i386_reloc.specs.declared.types.NormalSection.{NormalSection}
 use Rattle.i386_reloc.specs.Classes.{is_code_class}
 use Rattle.i386_reloc.specs.Reaches.{is_read_only_class, goes_to, is_interior}
-use Rattle.run_pre_match.specs.Instructions.{Instruction, place_of, end_of, kept_of, stands_for, direct_branch, target_of}
+use Rattle.run_pre_match.specs.Instructions.{Instruction, place_of, end_of, kept_of, stands_for, direct_branch}
+use Rattle.run_pre_match.specs.Instructions.{target_of}
 use Rattle.run_pre_match.specs.PreCode.{pre_code, may_all_stand}
 
 -- A landing offset is one at which an instruction begins, with a kept instruction at or after it.

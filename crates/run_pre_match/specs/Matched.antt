@@ -1,5 +1,7 @@
--- What comes of a candidate: the length of the run body with the claims and interiors that it makes, or the first difference.
-use Rattle.std.specs.Prelude.{◌≡◌, ◌≢◌, ℕ, suc, ◌-◌, ◌==◌, List, [], ◌∷◌, ◌++◌, map, if◌then◌else◌, Option, Some, None, Result, Ok, Err}
+-- What comes of a candidate: the length of the run body with the claims and interiors that it makes, or the first
+-- difference.
+use Rattle.std.specs.Prelude.{◌≡◌, ◌≢◌, ℕ, suc, ◌-◌, ◌==◌, List, [], ◌∷◌, ◌++◌, map, if◌then◌else◌, Option, Some, None}
+use Rattle.std.specs.Prelude.{Result, Ok, Err}
 use Rattle.std.specs.Option.{option_map}
 use Rattle.std.specs.List.{filter_map, flat_map, slice_get}
 use Rattle.ks_base.specs.declared.places.Spot.{Spot}
@@ -54,8 +56,8 @@ stated_from c found place [] = []
 stated_from c found place (section ∷ sections) =
     stated_at c section (first_value found (Constant place)) ++ stated_from c found (suc place) sections
 
--- By place: first the fields of the code section, then those of the read-only sections that it reaches, in section order; within a
--- section by offset.
+-- By place: first the fields of the code section, then those of the read-only sections that it reaches, in section
+-- order; within a section by offset.
 abbrev pub statements : Candidate → List Found → List Statement
 statements c found = flat_map (stated_by_pair c) (pairs c) ++ stated_from c found 0 c.object
 
@@ -90,7 +92,12 @@ home_claim c = record { unknown = unknown.Code c.section.name; value = c.home; p
 abbrev pub interior_at : Candidate → Statement → Goal → Option Interior
 interior_at c s (Inside place offset) =
     if place == c.place then None
-    else Some (record { section = name_at c place; offset = offset; address = interior_address s.given.value offset; place = s.spot })
+    else Some (record {
+      section = name_at c place;
+      offset = offset;
+      address = interior_address s.given.value offset;
+      place = s.spot;
+    })
 interior_at c s (Entry place) = None
 interior_at c s (Variable place) = None
 interior_at c s (Constant place) = None

@@ -1,5 +1,6 @@
 -- The instructions of a code section of an object, and the references that stand on their fields.
-use Rattle.std.specs.Prelude.{ℕ, ◌+◌, Bool, false, not, ◌&&◌, ◌||◌, ◌==◌, nat_le, nat_lt, List, take, drop, Option, Some, None, is_some, is_none}
+use Rattle.std.specs.Prelude.{ℕ, ◌+◌, Bool, false, not, ◌&&◌, ◌||◌, ◌==◌, nat_le, nat_lt, List, take, drop, Option}
+use Rattle.std.specs.Prelude.{Some, None, is_some, is_none}
 use Rattle.std.specs.Option.{option_map}
 use Rattle.std.specs.List.{filter, list_any, list_all}
 use Rattle.i386_reloc.specs.declared.types.Form.{Form}
@@ -39,8 +40,8 @@ references_in refs offset n = filter (begins_in offset n) refs
 abbrev pub code_bytes : NormalSection → List ℕ
 code_bytes section = take section.size section.bytes
 
--- Padding is left out, but not where a reference stands on a field of it: `lea sym(%esi),%esi` has a zero displacement in
--- an object.
+-- Padding is left out, but not where a reference stands on a field of it: `lea sym(%esi),%esi` has a zero displacement
+-- in an object.
 abbrev pub is_kept_with : ℕ → Decoded → List Ref → Bool
 is_kept_with offset d refs = not (is_padding_of d) || list_any (stands_on_field offset d) refs
 

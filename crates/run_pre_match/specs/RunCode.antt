@@ -14,8 +14,8 @@ abbrev pub run_instruction : ℕ → List ℕ → Decoded → Instruction
 run_instruction address window d =
     record { place = address; decoded = d; bytes = take d.length window; references = []; kept = not (is_padding_of d) }
 
--- the instruction that is met at an address: none where there is no code, at a spliced home, in a retired range, or where the
--- bytes spell none
+-- the instruction that is met at an address: none where there is no code, at a spliced home, in a retired range, or
+-- where the bytes spell none
 abbrev pub run_instruction_in : ℕ → View → Option Instruction
 run_instruction_in address Unmapped = None
 run_instruction_in address AtHome = None

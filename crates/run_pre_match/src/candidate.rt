@@ -44,17 +44,21 @@ impl<'m, 'a, S: Space> Model for Candidate<'m, 'a, S> {
 
     ghost Value = { Candidate };
 
-    ghost view = { λ c. parts c.normal.now c.place c.section.now (S.contents c.space.now) c.table.now.symbols c.home c.base };
+    ghost view = { λ c. parts c.normal.now c.place c.section.now
+        (S.contents c.space.now) c.table.now.symbols c.home c.base };
 
     ghost invariant = { λ c. (slice_get c.normal.now c.place ≡ Some c.section.now)
-        × (c.pre.now ≡ places_of (pre_list (parts c.normal.now c.place c.section.now (S.contents c.space.now) c.table.now.symbols c.home c.base)))
-        × (c.run.now.places ≡ places_of (run_list (parts c.normal.now c.place c.section.now (S.contents c.space.now) c.table.now.symbols c.home c.base)))
-        × (c.run.now.end ≡ end_of c.base (run_list (parts c.normal.now c.place c.section.now (S.contents c.space.now) c.table.now.symbols c.home c.base))) };
+        × (c.pre.now ≡ places_of (pre_list (parts c.normal.now c.place c.section.now
+        (S.contents c.space.now) c.table.now.symbols c.home c.base)))
+        × (c.run.now.places ≡ places_of (run_list (parts c.normal.now c.place c.section.now
+        (S.contents c.space.now) c.table.now.symbols c.home c.base)))
+        × (c.run.now.end ≡ end_of c.base (run_list (parts c.normal.now c.place c.section.now
+        (S.contents c.space.now) c.table.now.symbols c.home c.base))) };
 }
 
 impl<'m, 'a, S: Space> Candidate<'m, 'a, S> {
-    /// Whether an address stands in the running body for the number of an offset of the section. A number that the running body
-    /// doesn't reach counts as agreeing.
+    /// Whether an address stands in the running body for the number of an offset of the section. A number that the
+    /// running body doesn't reach counts as agreeing.
     #[tactic(auto, using(crate::proofs::SameNumber::with_number))]
     pub(crate) fn same_number(&self, offset: u32, address: u32) -> bool
         ensures { result ≡ same_number self.now offset address }

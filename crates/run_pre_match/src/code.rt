@@ -3,6 +3,7 @@ ghost use Rattle.std.specs.Prelude.{◌≡◌, ◌<◌, ℕ, Some, IfOk, IsTrue,
 ghost use Rattle.std.specs.List.{slice_get};
 ghost use Rattle.i386_reloc.specs.declared.types.NormalSection.{NormalSection};
 ghost use Rattle.i386_reloc.specs.Classes.{is_code_class};
+ghost use Rattle.i386_reloc.specs.Normal.{HasFieldsInOrder};
 ghost use Rattle.i386_reloc.specs.Places.{place_named};
 ghost use Rattle.i386_reloc.specs.Reaches.{is_in};
 ghost use Rattle.run_pre_match.specs.Matched.{candidate, listed_code, outcome, answer, Comes};
@@ -40,7 +41,8 @@ impl<'n, 'a> Model for PreObject<'n, 'a> {
     ghost invariant = { λ o. o.named.items ≡ all_offsets o.normal.now };
 }
 
-/// The code of a section of an object that can be matched: the places of its instructions, listed once for all candidates.
+/// The code of a section of an object that can be matched: the places of its instructions, listed once for all
+/// candidates.
 #[derive(Drop)]
 pub struct PreCode<'n, 'a> {
     normal: &'n Normal<'a>,
@@ -60,7 +62,8 @@ impl<'n, 'a> Model for PreCode<'n, 'a> {
 
     ghost view = { λ c. record { object = c.normal.now; place = c.place; section = c.section.now } };
 
-    ghost invariant = { λ c. (slice_get c.normal.now c.place ≡ Some c.section.now) × (c.places ≡ places_of (pre_code c.section.now)) };
+    ghost invariant = { λ c. (slice_get c.normal.now c.place ≡ Some c.section.now)
+        × (c.places ≡ places_of (pre_code c.section.now)) };
 }
 
 impl<'n, 'a> PreObject<'n, 'a> {
@@ -74,16 +77,24 @@ impl<'n, 'a> PreObject<'n, 'a> {
         })
     }
 
-    /// The code of the section at a place. [`MatchFault::Undecoded`] comes exactly where it can't be matched, with the least offset
-    /// at which it can't: where decoding breaks off, a field stands where none may, or a branch or a reference leads to no
-    /// instruction. [`MatchFault::Memory`] comes for want of memory alone.
+    /// The section at a place.
+    fn section(&self, place: usize) -> &'n NormalSection<'a>
+        requires { place < length self.now }
+        ensures at { slice_get self.now place ≡ Some result.now }
+        ensures order { HasFieldsInOrder result.now }
+    {
+        &self.normal.as_slice()[place]
+    }
+
+    /// The code of the section at a place. [`MatchFault::Undecoded`] comes exactly where it can't be matched, with the
+    /// least offset at which it can't: where decoding breaks off, a field stands where none may, or a branch or a
+    /// reference leads to no instruction. [`MatchFault::Memory`] comes for want of memory alone.
     pub fn code(&self, alloc: Global, place: usize) -> Result<PreCode<'n, 'a>, MatchFault>
         requires { place < length self.now }
         ensures { (section : NormalSection) → slice_get self.now place ≡ Some section
             → Comes (listed_code (record { object = self.now; place = place; section = section })) result }
     {
-        let sections = self.normal.as_slice();
-        let section = &sections[place];
+        let section = self.section(place);
         let list = list_pre(alloc, section)?;
         if let Some(offset) = undecoded_offset(section, &list, self.named[place].as_slice()) {
             return Err(MatchFault::Undecoded(offset));
@@ -98,8 +109,9 @@ impl<'n, 'a> PreObject<'n, 'a> {
 }
 
 impl<'n, 'a> PreCode<'n, 'a> {
-    /// Whether the code is what runs at a base, for a function whose home is given: its length, claims and interiors then, or
-    /// [`MatchFault::Differs`] with the first difference. [`MatchFault::Memory`] comes for want of memory alone.
+    /// Whether the code is what runs at a base, for a function whose home is given: its length, claims and interiors
+    /// then, or [`MatchFault::Differs`] with the first difference. [`MatchFault::Memory`] comes for want of memory
+    /// alone.
     pub fn matched<S: Space>(
         &self,
         alloc: Global,
@@ -129,8 +141,8 @@ impl<'n, 'a> PreCode<'n, 'a> {
 /// Whether the code section of a name is what runs at a base, for a function whose home is given.
 ///
 /// Its length in bytes, what it claims of functions, data and outside names, and where its references lead into other
-/// functions. [`MatchFault::Undecoded`] comes exactly where the section's own code can't be matched, with the least offset,
-/// [`MatchFault::Differs`] exactly where it can and differs from what runs, with the first difference, and
+/// functions. [`MatchFault::Undecoded`] comes exactly where the section's own code can't be matched, with the least
+/// offset, [`MatchFault::Differs`] exactly where it can and differs from what runs, with the first difference, and
 /// [`MatchFault::Memory`] for want of memory alone.
 pub fn match_body<S: Space>(
     alloc: Global,
@@ -142,8 +154,10 @@ pub fn match_body<S: Space>(
     base: u32,
 ) -> Result<Matched, MatchFault>
     requires { IsTrue (is_in is_code_class pre.now section.now) }
-    ensures { (place : ℕ) (own : NormalSection) → place_named pre.now section.now ≡ Some place → slice_get pre.now place ≡ Some own
-        → Comes (answer (candidate (record { object = pre.now; place = place; section = own }) (S.contents space.now) table.now.symbols home base)) result }
+    ensures { (place : ℕ) (own : NormalSection) → place_named pre.now section.now ≡ Some place →
+        slice_get pre.now place ≡ Some own
+        → Comes (answer (candidate (record { object = pre.now; place = place; section = own })
+        (S.contents space.now) table.now.symbols home base)) result }
 {
     let object = PreObject::new(alloc, pre)?;
     let place = place_of(pre, section);

@@ -66,7 +66,8 @@ pub(crate) fn lies_at<S: Space>(space: &S, section: &NormalSection<'_>, address:
     requires { HasFieldsInOrder section.now }
     ensures whole { result.whole ≡ lie_in_constants (S.contents space.now).pieces address (length section.now.bytes) }
     ensures equal { result.equal
-        ≡ stand_but_for_fields (S.contents space.now).pieces address section.now.refs section.now.bytes (length section.now.bytes) }
+        ≡ stand_but_for_fields (S.contents space.now).pieces address
+        section.now.refs section.now.bytes (length section.now.bytes) }
 {
     let bytes = section.bytes.as_slice();
     let refs = section.refs.as_slice();

@@ -31,7 +31,8 @@ impl Goal<'_> {
 }
 
 impl Marks {
-    /// Adds what is said of a value: whether the field is one of the instruction itself, and whether it leads into the own section.
+    /// Adds what is said of a value: whether the field is one of the instruction itself, and whether it leads into the
+    /// own section.
     fn add(&mut self, own: bool, is_inside: bool, verdict: Verdict)
         ensures { self.new ≡ joined self.old (marks_for own is_inside verdict) }
     {
@@ -110,7 +111,8 @@ impl<'m, 'a, S: Space> Candidate<'m, 'a, S> {
         }
     }
 
-    /// What the field of reference `k` of the section of read-only data at a place gives, where the section lies at a base.
+    /// What the field of reference `k` of the section of read-only data at a place gives, where the section lies at a
+    /// base.
     pub(crate) fn given_in_constant(
         &self,
         place: usize,

@@ -1,5 +1,6 @@
 //! Whether the values that fields give hold.
-ghost use Rattle.std.specs.Prelude.{◌≡◌, ◌==◌, ◌+◌, ◌≤◌, ℕ, List, Some, None, OnOk, IfOk, length, if◌then◌else◌, take, drop, false, not};
+ghost use Rattle.std.specs.Prelude.{◌≡◌, ◌==◌, ◌+◌, ◌≤◌, ℕ, List, Some, None, OnOk, IfOk, length, if◌then◌else◌, take};
+ghost use Rattle.std.specs.Prelude.{drop, false, not};
 ghost use Rattle.std.specs.List.{slice_get};
 ghost use Rattle.std.specs.Ordering.{nat_cmp};
 ghost use Rattle.std.specs.BTreeMap.{get};
@@ -63,7 +64,8 @@ fn put_place(
     place: usize,
     first: First,
 ) -> Result<(), AllocError>
-    ensures { OnOk result ((q : ℕ) → get nat_cmp firsts.new q ≡ (if place == q then Some first else get nat_cmp firsts.old q)) }
+    ensures { OnOk result ((q : ℕ) → get nat_cmp firsts.new q
+        ≡ (if place == q then Some first else get nat_cmp firsts.old q)) }
 {
     firsts.insert(place, first)?;
     Ok(())
@@ -75,7 +77,8 @@ fn put_name<'a>(
     name: &'a [u8],
     first: First,
 ) -> Result<(), AllocError>
-    ensures { OnOk result ((q : List ℕ) → first_of firsts.new q ≡ (if same_bytes name.now q then Some first else first_of firsts.old q)) }
+    ensures { OnOk result ((q : List ℕ) → first_of firsts.new q
+        ≡ (if same_bytes name.now q then Some first else first_of firsts.old q)) }
 {
     firsts.insert(name, first)?;
     Ok(())
@@ -132,8 +135,8 @@ impl<'m, 'a, S: Space> Candidate<'m, 'a, S> {
         }
     }
 
-    /// A value for the section of read-only data at a place. Where it is the first one and the section lies there, its fields are
-    /// to be followed.
+    /// A value for the section of read-only data at a place. Where it is the first one and the section lies there, its
+    /// fields are to be followed.
     pub(crate) fn judge_constant(
         &self,
         values: &mut Values<'a>,
@@ -183,7 +186,8 @@ impl<'m, 'a, S: Space> Candidate<'m, 'a, S> {
         Ok(closed(verdict(first, value, Verdict::Refused)))
     }
 
-    /// Whether a value is met for the interior of a code section: in the own one its address stands for the same number.
+    /// Whether a value is met for the interior of a code section: in the own one its address stands for the same
+    /// number.
     fn is_met(&self, place: usize, offset: u32, value: u32) -> bool
         ensures { result ≡ not (is_off self.now place offset (interior_address value offset)) }
     {
@@ -203,7 +207,8 @@ impl<'m, 'a, S: Space> Candidate<'m, 'a, S> {
         requires within { text.offset + text.len ≤ length (bytes_at self.now.object text.place) }
         requires known { AreKnown self.now.object self.now.contents.pieces values.old.texts }
         ensures judges { (before : List Found) → Keeps self.now before values.old
-            → Judges self.now before (given (Text text.place text.offset (take text.len (drop text.offset (bytes_at self.now.object text.place)))) value) result values.new }
+            → Judges self.now before (given (Text text.place text.offset
+            (take text.len (drop text.offset (bytes_at self.now.object text.place)))) value) result values.new }
         ensures known { AreKnown self.now.object self.now.contents.pieces values.new.texts }
     {
         let stands = text_stands(self.space, &mut values.texts, self.normal, text, value);

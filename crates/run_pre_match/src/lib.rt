@@ -11,6 +11,7 @@ mod goals;
 mod instructions;
 mod judging;
 mod landing;
+pub mod laws;
 mod least;
 mod matching;
 mod named;
@@ -26,5 +27,6 @@ pub mod types;
 mod values;
 
 pub use code::{PreCode, PreObject, match_body};
+pub use laws::{claims_agree, matches_have_one_valuation};
 pub use running::{RunInstruction, instruction_at, run_code_goes_on};
 pub use types::{Claim, Claims, Interior, Interiors, MatchFault, Matched};

@@ -50,8 +50,10 @@ impl<'m, 'a, S: Space> Candidate<'m, 'a, S> {
         pair: &Pair<'_, '_, 'a>,
     ) -> Result<(), AllocError>
         requires { pre_instruction_at self.now.section pair.now.pre.place ≡ Some pair.now.pre }
-        ensures claims { OnOk result (said.new.claims ≡ said.old.claims ++ filter_map (claim_of self.now) (stated_by_pair self.now pair.now)) }
-        ensures interiors { OnOk result (said.new.interiors ≡ said.old.interiors ++ filter_map (interior_of self.now) (stated_by_pair self.now pair.now)) }
+        ensures claims { OnOk result (said.new.claims ≡ said.old.claims
+            ++ filter_map (claim_of self.now) (stated_by_pair self.now pair.now)) }
+        ensures interiors { OnOk result (said.new.interiors ≡ said.old.interiors
+            ++ filter_map (interior_of self.now) (stated_by_pair self.now pair.now)) }
     {
         let section = self.own_section();
         let first = first_reference(section, pair.pre);

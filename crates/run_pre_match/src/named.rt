@@ -8,7 +8,8 @@ ghost use Rattle.i386_reloc.specs.Reaches.{is_interior};
 ghost use Rattle.run_pre_match.specs.Landing.{interior_offset, is_naming_class};
 ghost use Rattle.run_pre_match.specs.inside.Named.{naming, named_by, all_offsets, put_at};
 
-use i386_reloc::{Class, Form, Normal, NormalSection, Ref};
+use crate::candidate::interior_offset;
+use i386_reloc::{Class, Normal, NormalSection, Ref};
 use ks_base::ListOf;
 use std::alloc::{AllocError, Global};
 
@@ -120,14 +121,4 @@ fn target_place(normal: &Normal<'_>, i: usize, k: usize, r: &Ref<'_>) -> Option<
     ensures within { ForSome result (λ p. p < length normal.now) }
 {
     normal.target_place(i, k)
-}
-
-/// The offset in a code section that an interior reference names.
-fn interior_offset(r: &Ref<'_>) -> u32
-    ensures { result ≡ interior_offset r.now }
-{
-    match r.form {
-        Form::Absolute => r.addend,
-        Form::Relative => r.addend.wrapping_add(4),
-    }
 }

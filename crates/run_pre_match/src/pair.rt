@@ -72,8 +72,8 @@ fn dword_in(bytes: &[u8], at: u32) -> u32
     ])
 }
 
-/// Whether the field of one of some references covers a place.
-fn is_covered(refs: &[Ref<'_>], place: usize) -> bool
+/// Whether a place lies in the field of one of some references, which are few.
+fn is_in_field(refs: &[Ref<'_>], place: usize) -> bool
     ensures { result ≡ list_any (covers place) refs.now }
 {
     refs.iter().any(|r| r.offset as usize <= place && place < r.offset as usize + 4)
@@ -98,7 +98,7 @@ fn same_outside_fields(refs: &[Ref<'_>], place: usize, run: &[u8], pre: &[u8]) -
 fn blanked(refs: &[Ref<'_>], place: usize, byte: u8) -> u8
     ensures { result ≡ (if list_any (covers place) refs.now then 0 else byte) }
 {
-    if is_covered(refs, place) { 0 } else { byte }
+    if is_in_field(refs, place) { 0 } else { byte }
 }
 
 impl Pair<'_, '_, '_> {

@@ -1,5 +1,6 @@
 //! The places of the instructions of a list.
-ghost use Rattle.std.specs.Prelude.{◌≡◌, ◌++◌, ◌∷◌, [], ℕ, ◌<◌, ◌≤◌, true, false, nat_lt, nat_le, length, All, OnOk, IfSome};
+ghost use Rattle.std.specs.Prelude.{◌≡◌, ◌++◌, ◌∷◌, [], ℕ, ◌<◌, ◌≤◌, true, false, nat_lt, nat_le, length, All, OnOk};
+ghost use Rattle.std.specs.Prelude.{IfSome};
 ghost use Rattle.std.specs.List.{slice_get, list_any, position};
 ghost use Rattle.std.specs.List.Sorted.{IsStrictlyIncreasing, IsPartitionPoint};
 ghost use Rattle.run_pre_match.specs.inside.Places.{AreBelow, with_place, is_place, number_in};
@@ -73,8 +74,8 @@ impl Places {
         self.kept.get(number).copied()
     }
 
-    /// What a place stands for: where an instruction begins there, kept or padding, the number of the first kept one at or
-    /// after it.
+    /// What a place stands for: where an instruction begins there, kept or padding, the number of the first kept one at
+    /// or after it.
     #[tactic(auto, unfolding(crate::specs::inside::Places::number_in))]
     pub(crate) fn number_of(&self, place: u32) -> Option<u32>
         ensures { result ≡ number_in self.now place }

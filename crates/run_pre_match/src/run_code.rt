@@ -23,7 +23,8 @@ impl RunList {
         requires below { AreBelow self.old.end self.old.places }
         requires place { instruction.now.place ≡ self.old.end }
         requires some_bytes { 0 < instruction.now.decoded.length }
-        ensures places { OnOk result (self.new.places ≡ with_place self.old.places instruction.now.place instruction.now.kept) }
+        ensures places { OnOk result (self.new.places
+            ≡ with_place self.old.places instruction.now.place instruction.now.kept) }
         ensures end { OnOk result (self.new.end ≡ after instruction.now) }
         ensures below { OnOk result (AreBelow self.new.end self.new.places) }
     {

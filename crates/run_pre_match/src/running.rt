@@ -1,5 +1,6 @@
 //! The instructions of the running program.
-ghost use Rattle.std.specs.Prelude.{◌≡◌, ◌<◌, ◌≤◌, ◌^◌, ℕ, not, length, take, Some, None, option_map, IfSome, MatchOption};
+ghost use Rattle.std.specs.Prelude.{◌≡◌, ◌<◌, ◌≤◌, ◌^◌, ℕ, not, length, take, Some, None, option_map, IfSome};
+ghost use Rattle.std.specs.Prelude.{MatchOption};
 ghost use Rattle.ks_base.specs.declared.refusals.DifferenceKind.{DifferenceKind};
 ghost use Rattle.image_memory.specs.Contents.{Contents, IsValid};
 ghost use Rattle.image_memory.specs.Fetch.{Bytes, fetched, view_at};
@@ -30,7 +31,13 @@ impl Model for RunInstruction {
 
     ghost Value = { Instruction };
 
-    ghost view = { λ i. record { place = i.place; decoded = i.decoded; bytes = take i.decoded.length i.window.bytes; references = []; kept = not (is_padding_of i.decoded) } };
+    ghost view = { λ i. record {
+      place = i.place;
+      decoded = i.decoded;
+      bytes = take i.decoded.length i.window.bytes;
+      references = [];
+      kept = not (is_padding_of i.decoded);
+    } };
 
     ghost invariant = { λ i. (i.place < 0xFFFF_0000) × (i.decoded.length ≤ 15) };
 }
@@ -114,8 +121,8 @@ fn window_met<S: Space>(space: &S, address: u32) -> Option<Window>
     space.window(address).ok()
 }
 
-/// The instruction that is met at an address of a memory. `None` exactly where there is no code, at a spliced home, in a
-/// retired range, and where the bytes spell none.
+/// The instruction that is met at an address of a memory. `None` exactly where there is no code, at a spliced home, in
+/// a retired range, and where the bytes spell none.
 #[tactic(auto, unfolding(crate::specs::RunCode::run_instruction_at))]
 pub fn instruction_at<S: Space>(space: &S, address: u32) -> Option<RunInstruction>
     ensures at { result ≡ run_instruction_at (S.contents space.now) address }

@@ -1,5 +1,5 @@
-//! Texts in read-only memory. They are compared from their ends, so that of all texts that end at one place of an object and at
-//! one address each byte is compared once.
+//! Texts in read-only memory. They are compared from their ends, so that of all texts that end at one place of an
+//! object and at one address each byte is compared once.
 ghost use Rattle.std.specs.Prelude.{◌≡◌, ◌≤◌, ◌+◌, ◌-◌, suc, ℕ, List, length, take, drop};
 ghost use Rattle.i386_reloc.specs.declared.types.NormalSection.{NormalSection};
 ghost use Rattle.image_memory.specs.declared.types.Piece.{Piece};
@@ -27,8 +27,8 @@ pub(crate) struct TextPlace {
     pub(crate) len: usize,
 }
 
-/// How many bytes before an end stand in read-only memory before an address, at most `bound`. So many as are known to stand
-/// aren't compared again.
+/// How many bytes before an end stand in read-only memory before an address, at most `bound`. So many as are known to
+/// stand aren't compared again.
 fn agreement<S: Space>(
     space: &S,
     bytes: &[u8],
@@ -60,7 +60,8 @@ fn known_before(known: &BTreeMap<End, usize>, end: End) -> usize
     known.get(&end).copied().unwrap_or(0)
 }
 
-/// Keeps how many bytes before an end stand. Where there is no memory for it nothing is kept, and no more than time is lost.
+/// Keeps how many bytes before an end stand. Where there is no memory for it nothing is kept, and no more than time is
+/// lost.
 fn keep(known: &mut BTreeMap<End, usize>, end: End, count: usize)
     ensures { (object : List NormalSection) (pieces : List Piece) → AreKnown object pieces known.old
         → IsKnown object pieces end count → AreKnown object pieces known.new }
@@ -68,8 +69,8 @@ fn keep(known: &mut BTreeMap<End, usize>, end: End, count: usize)
     let _kept = known.insert(end, count);
 }
 
-/// Whether the text of so many bytes that stands at an offset in the section at a place of an object stands, as it does there, in
-/// read-only memory at an address.
+/// Whether the text of so many bytes that stands at an offset in the section at a place of an object stands, as it does
+/// there, in read-only memory at an address.
 pub(crate) fn text_stands<S: Space>(
     space: &S,
     known: &mut BTreeMap<End, usize>,
@@ -79,7 +80,8 @@ pub(crate) fn text_stands<S: Space>(
 ) -> bool
     requires within { text.offset + text.len ≤ length (bytes_at normal.now text.place) }
     requires known { AreKnown normal.now (S.contents space.now).pieces known.old }
-    ensures stands { result ≡ stand_at (S.contents space.now).pieces value (take text.len (drop text.offset (bytes_at normal.now text.place))) text.len }
+    ensures stands { result ≡ stand_at (S.contents space.now).pieces value
+        (take text.len (drop text.offset (bytes_at normal.now text.place))) text.len }
     ensures known { AreKnown normal.now (S.contents space.now).pieces known.new }
 {
     let bytes = bytes_at(normal, text.place);

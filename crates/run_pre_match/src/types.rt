@@ -49,8 +49,8 @@ pub struct Matched {
 pub enum MatchFault {
     /// It differs from what runs; the first difference.
     Differs(Difference),
-    /// The section's own code can't be matched at this offset: it doesn't decode there, a field stands where none may, or
-    /// a branch or reference leads to no instruction.
+    /// The section's own code can't be matched at this offset: it doesn't decode there, a field stands where none may,
+    /// or a branch or reference leads to no instruction.
     Undecoded(u32),
     /// Memory was wanting.
     Memory,

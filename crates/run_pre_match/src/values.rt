@@ -18,8 +18,8 @@ pub(crate) struct First {
     pub(crate) holds: bool,
 }
 
-/// The first values for each thing that has one: the entries of functions, data, read-only sections (each by its place among the
-/// object's sections), and outside names; and how far texts are known to stand.
+/// The first values for each thing that has one: the entries of functions, data, read-only sections (each by its place
+/// among the object's sections), and outside names; and how far texts are known to stand.
 #[derive(Drop)]
 pub(crate) struct Values<'a> {
     pub(crate) entries: BTreeMap<usize, First>,

@@ -1,5 +1,6 @@
 -- What the code keeps of the values that are found: for each goal the first, and whether it holds.
-use Rattle.std.specs.Prelude.{◌≡◌, ℕ, Bool, true, false, ◌||◌, ◌&&◌, not, ◌==◌, if◌then◌else◌, List, [], ◌∷◌, ◌++◌, map, Option, Some, None, option_map}
+use Rattle.std.specs.Prelude.{◌≡◌, ℕ, Bool, true, false, ◌||◌, ◌&&◌, not, ◌==◌, if◌then◌else◌, List, [], ◌∷◌, ◌++◌, map}
+use Rattle.std.specs.Prelude.{Option, Some, None, option_map}
 use Rattle.std.specs.List.{slice_get, list_any, filter_map, flat_map}
 use Rattle.std.specs.Ordering.{nat_cmp}
 use Rattle.std.specs.Cmp.Lexicographic.{slice_cmp}
@@ -18,7 +19,8 @@ use Rattle.run_pre_match.specs.Candidate.{Candidate, Pair, pairs}
 use Rattle.run_pre_match.specs.declared.goals.Given.{Given}
 use Rattle.run_pre_match.specs.declared.judging.Judged.{Judged}
 use Rattle.i386_reloc.specs.declared.types.NormalSection.{NormalSection}
-use Rattle.run_pre_match.specs.Found.{Found, first_value, is_listed, section_stands, verdict_on, opened_by, judged, given_in_constant, found_in, own_home, all_found}
+use Rattle.run_pre_match.specs.Found.{Found, first_value, is_listed, section_stands, verdict_on, opened_by, judged}
+use Rattle.run_pre_match.specs.Found.{given_in_constant, found_in, own_home, all_found}
 use Rattle.run_pre_match.specs.Matched.{claim_of, interior_of, stated_by_pair}
 use Rattle.run_pre_match.specs.declared.stating.Said.{Said}
 use Rattle.ks_base.specs.declared.refusals.Difference.{Difference}
@@ -36,9 +38,11 @@ standing c place value = record { value = value; holds = section_stands c value 
 abbrev pub listed : Candidate → List ℕ → ℕ → First
 listed c name value = record { value = value; holds = is_listed c.symbols name value }
 
--- For each thing of a kind that a first value is kept where one was found, with whether it holds, and nothing otherwise.
+-- For each thing of a kind that a first value is kept where one was found, with whether it holds, and nothing
+-- otherwise.
 abbrev pub IsKept : {K : Type 0} → (K → Option First) → (K → Goal) → (K → ℕ → First) → List Found → Type 0
-IsKept {K} kept goal with_value found = (key : K) → kept key ≡ option_map (with_value key) (first_value found (goal key))
+IsKept {K} kept goal with_value found =
+    (key : K) → kept key ≡ option_map (with_value key) (first_value found (goal key))
 
 abbrev pub taken_at : ℕ → ℕ → First
 taken_at place value = record { value = value; holds = true }
@@ -94,7 +98,8 @@ marks_for own is_inside Refused = record { target = own && is_inside; refused = 
 marks_for own is_inside Absent = record { target = false; refused = false; unmet = true }
 
 -- what was found by some fields after what was found before: it is kept, and its marks are added
-pub record Follows (c : Candidate) (before new : List Found) (old_marks new_marks : Marks) (kept : Values) : Type 0 where
+pub record Follows (c : Candidate) (before new : List Found) (old_marks new_marks : Marks)
+    (kept : Values) : Type 0 where
   pub keeps : Keeps c (before ++ new) kept
   pub marks : new_marks ≡ joined old_marks (marks_of c new)
 
@@ -104,10 +109,12 @@ no_marks = record { target = false; refused = false; unmet = false }
 -- the first kind of difference that marks mean, in a pair of direct branches or not
 abbrev pub kind_marked : Marks → Bool → Option DifferenceKind
 kind_marked marks branches =
-    if marks.target && branches then Some Target else if marks.refused then Some Value else if marks.unmet then Some Content else None
+    if marks.target && branches then Some Target else if marks.refused then Some Value else if marks.unmet
+    then Some Content else None
 
 -- The first kind in which a pair differs; where there is none, what its fields give is kept.
-pub record IsKind (c : Candidate) (before : List Found) (pair : Pair) (kind : Option DifferenceKind) (kept : Values) : Type 0 where
+pub record IsKind (c : Candidate) (before : List Found) (pair : Pair) (kind : Option DifferenceKind)
+    (kept : Values) : Type 0 where
   pub first : kind ≡ kind_of c (found_in c before pair) pair
   pub keeps : kind ≡ None → Keeps c (before ++ found_in c before pair) kept
 
@@ -115,5 +122,7 @@ pub record IsKind (c : Candidate) (before : List Found) (pair : Pair) (kind : Op
 pub record Compared (c : Candidate) (old new : Said) (difference : Option Difference) (kept : Values) : Type 0 where
   pub first : difference ≡ difference_from c (own_home c ∷ []) (pairs c)
   pub keeps : difference ≡ None → Keeps c (all_found c) kept
-  pub claims : difference ≡ None → new.claims ≡ old.claims ++ filter_map (claim_of c) (flat_map (stated_by_pair c) (pairs c))
-  pub interiors : difference ≡ None → new.interiors ≡ old.interiors ++ filter_map (interior_of c) (flat_map (stated_by_pair c) (pairs c))
+  pub claims : difference ≡ None → new.claims ≡ old.claims
+      ++ filter_map (claim_of c) (flat_map (stated_by_pair c) (pairs c))
+  pub interiors : difference ≡ None → new.interiors ≡ old.interiors
+      ++ filter_map (interior_of c) (flat_map (stated_by_pair c) (pairs c))

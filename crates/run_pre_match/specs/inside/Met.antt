@@ -16,7 +16,8 @@ bytes_met (Bytes bytes) = Some bytes
 
 -- places, and those of further instructions
 abbrev pub followed_by : Places → List Instruction → Places
-followed_by p is = record { kept = p.kept ++ map place_of (kept_of is); padding = p.padding ++ map place_of (filter is_left_out is) }
+followed_by p is =
+    record { kept = p.kept ++ map place_of (kept_of is); padding = p.padding ++ map place_of (filter is_left_out is) }
 
 -- what is left of the run body of n kept instructions from a place on, where so many are listed
 abbrev pub rest_of_body : Contents → ℕ → Places → ℕ → List Instruction

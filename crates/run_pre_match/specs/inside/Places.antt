@@ -1,5 +1,6 @@
 -- The places of a list of instructions, as the code keeps them: of the kept ones, and of the padding.
-use Rattle.std.specs.Prelude.{ℕ, ◌<◌, Bool, true, false, ◌||◌, ◌==◌, nat_le, if◌then◌else◌, List, [], ◌∷◌, ◌++◌, map, All, Option, None}
+use Rattle.std.specs.Prelude.{ℕ, ◌<◌, Bool, true, false, ◌||◌, ◌==◌, nat_le, if◌then◌else◌, List, [], ◌∷◌, ◌++◌, map}
+use Rattle.std.specs.Prelude.{All, Option, None}
 use Rattle.std.specs.List.{filter, list_any, position}
 use Rattle.run_pre_match.specs.Instructions.{Instruction, place_of, is_left_out, kept_of}
 
@@ -27,4 +28,5 @@ is_place place other = other == place
 -- what a place stands for among them
 unfoldable pub number_in : Places → ℕ → Option ℕ
 number_in p place =
-    if list_any (is_place place) p.kept || list_any (is_place place) p.padding then position (nat_le place) p.kept else None
+    if list_any (is_place place) p.kept || list_any (is_place place) p.padding then position (nat_le place) p.kept
+    else None

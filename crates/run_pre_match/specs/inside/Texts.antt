@@ -1,5 +1,6 @@
 -- What is known of the bytes before the ends of texts, of the object and in memory.
-use Rattle.std.specs.Prelude.{◌≡◌, ℕ, suc, ◌+◌, ◌-◌, ◌<◌, ◌≤◌, true, false, List, [], length, take, drop, Option, Some, None, slice_index}
+use Rattle.std.specs.Prelude.{◌≡◌, ℕ, suc, ◌+◌, ◌-◌, ◌<◌, ◌≤◌, true, false, List, [], length, take, drop, Option, Some}
+use Rattle.std.specs.Prelude.{None, slice_index}
 use Rattle.std.specs.List.{slice_get}
 use Rattle.std.specs.declared.cmp.Ordering.{Ordering}
 use Rattle.std.specs.Ordering.{ordering_then, nat_cmp}
@@ -15,13 +16,15 @@ use Rattle.run_pre_match.specs.Constants.{is_byte, constant_at}
 pub record StandBefore (pieces : List Piece) (bytes : List ℕ) (end address count : ℕ) : Type 0 where
   pub in_bytes : count ≤ end
   pub in_memory : count ≤ address
-  pub each : (i : ℕ) → i < count → is_byte (slice_index bytes (end - suc i)) (constant_at pieces (address - suc i)) ≡ true
+  pub each : (i : ℕ) → i < count → is_byte (slice_index bytes (end - suc i)) (constant_at pieces (address - suc i))
+      ≡ true
 
 -- the greatest such number up to a bound
 pub record StandFor (pieces : List Piece) (bytes : List ℕ) (end address bound count : ℕ) : Type 0 where
   pub stand : StandBefore pieces bytes end address count
   pub within : count ≤ bound
-  pub differs : count < bound → is_byte (slice_index bytes (end - suc count)) (constant_at pieces (address - suc count)) ≡ false
+  pub differs : count < bound → is_byte (slice_index bytes (end - suc count)) (constant_at pieces (address - suc count))
+      ≡ false
 
 -- the bytes of the section at a place
 abbrev pub bytes_of : Option NormalSection → List ℕ
@@ -42,7 +45,8 @@ IsKnown object pieces end count = StandBefore pieces (bytes_at object end.place)
 
 -- ends are ordered by their numbers
 abbrev pub end_cmp : End → End → Ordering
-end_cmp x y = ordering_then (nat_cmp x.place y.place) (ordering_then (nat_cmp x.end y.end) (nat_cmp x.address y.address))
+end_cmp x y =
+    ordering_then (nat_cmp x.place y.place) (ordering_then (nat_cmp x.end y.end) (nat_cmp x.address y.address))
 
 -- of all that is kept
 pub record AreKnown (object : List NormalSection) (pieces : List Piece) (known : BTreeMap End ℕ) : Type 0 where

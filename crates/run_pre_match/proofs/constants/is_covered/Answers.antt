@@ -10,4 +10,6 @@ returns-then-count-eq0 c =
 pub returns : goal.returns
 returns c =
     ap (λ (r : Ref). nat_lt c.args.place (r.offset + 4)) (sym c.index-refs-count.is)
-    ∙ last_covers c.args.place c.begun-count.result c.args.refs.now c.index-refs-count.result c.requires (omega arith) c.begun-count.ensures.bound c.index-refs-count.is c.begun-count.ensures.below c.begun-count.ensures.above
+    ∙ last_covers c.args.place c.begun-count.result c.args.refs.now c.index-refs-count.result c.requires
+    (omega arith) c.begun-count.ensures.bound c.index-refs-count.is c.begun-count.ensures.below
+    c.begun-count.ensures.above

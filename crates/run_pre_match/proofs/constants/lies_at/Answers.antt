@@ -13,19 +13,34 @@ pub returns-in_default-clause-whole : goal.returns-in_default-clause-whole
 returns-in_default-clause-whole g c =
     let pieces : List Piece = (g.S.Space.contents c.args.space.now).pieces in
     let none : constant_at pieces (c.args.address + c.loop-i.i) ≡ None = sym c.constant_at.ensures ∙ c.in_default.is in
-    sym (all_below_not (λ i. is_some (constant_at pieces (c.args.address + i))) (length c.args.section.now.bytes) c.loop-i.i (omega (arith, ap length c.as_slice-bytes.ensures)) (ap is_some none))
+    sym (all_below_not (λ i. is_some (constant_at pieces (c.args.address + i)))
+    (length c.args.section.now.bytes) c.loop-i.i (omega (arith, ap length c.as_slice-bytes.ensures))
+    (ap is_some none))
 
 pub returns-in_default-clause-equal : goal.returns-in_default-clause-equal
 returns-in_default-clause-equal g c =
     let pieces : List Piece = (g.S.Space.contents c.args.space.now).pieces in
     let none : constant_at pieces (c.args.address + c.loop-i.i) ≡ None = sym c.constant_at.ensures ∙ c.in_default.is in
-    sym (all_below_not (λ i. is_byte_or_field c.args.section.now.refs c.args.section.now.bytes i (constant_at pieces (c.args.address + i))) (length c.args.section.now.bytes) c.loop-i.i (omega (arith, ap length c.as_slice-bytes.ensures)) (ap (is_byte_or_field c.args.section.now.refs c.args.section.now.bytes c.loop-i.i) none))
+    sym (all_below_not (λ i. is_byte_or_field c.args.section.now.refs c.args.section.now.bytes i
+    (constant_at pieces (c.args.address + i))) (length c.args.section.now.bytes) c.loop-i.i
+    (omega (arith, ap length c.as_slice-bytes.ensures))
+    (ap (is_byte_or_field c.args.section.now.refs c.args.section.now.bytes c.loop-i.i) none))
 
 pub loop-i-preserved : goal.loop-i-preserved
 loop-i-preserved g c =
     let pieces : List Piece = (g.S.Space.contents c.args.space.now).pieces in
-    let there : constant_at pieces (c.args.address + c.loop-i.i) ≡ Some c.in-Some.byte = sym c.constant_at.ensures ∙ c.in-Some.is in
+    let there : constant_at pieces (c.args.address + c.loop-i.i) ≡ Some c.in-Some.byte =
+    sym c.constant_at.ensures ∙ c.in-Some.is in
     record {
-      whole = all_below_more (λ i. is_some (constant_at pieces (c.args.address + i))) c.loop-i.i ∙ rw (c.loop-i.invariant.whole, there) refl;
-      equal = rw (all_below_more (λ i. is_byte_or_field c.args.section.now.refs c.args.section.now.bytes i (constant_at pieces (c.args.address + i))) c.loop-i.i, there, c.loop-i.invariant.equal, c.is_byte_or_field-equal.ensures, c.as_slice-bytes.ensures, c.as_slice-refs.ensures) refl;
+      whole = all_below_more (λ i. is_some (constant_at pieces (c.args.address + i))) c.loop-i.i
+          ∙ rw (c.loop-i.invariant.whole, there) refl;
+      equal = rw (
+        all_below_more (λ i. is_byte_or_field c.args.section.now.refs c.args.section.now.bytes i
+            (constant_at pieces (c.args.address + i))) c.loop-i.i,
+        there,
+        c.loop-i.invariant.equal,
+        c.is_byte_or_field-equal.ensures,
+        c.as_slice-bytes.ensures,
+        c.as_slice-refs.ensures,
+      ) refl;
     }

@@ -12,4 +12,5 @@ pub returns-then-number-places : goal.returns-then-number-places
 returns-then-number-places c = position_found _ _ _ c.if-number-places.true c.count_before-number.ensures.point
 
 pub returns : goal.returns
-returns c = position_missing _ _ _ c.count_before-number.ensures.within c.if-number-places.false c.count_before-number.ensures.point
+returns c = position_missing _ _ _ c.count_before-number.ensures.within c.if-number-places.false
+    c.count_before-number.ensures.point

@@ -7,7 +7,8 @@ loop-instruction-init c = rw c.new.ensures.none (none_met c.args.section.now)
 
 pub loop-instruction-preserved : goal.loop-instruction-preserved
 loop-instruction-preserved c =
-    met_more c.args.section.now c.loop-instruction.list c.take.new.self c.in-Some.instruction (c.instructions_lie_within.ensures c.args.section.now) (sym c.in-Some.ensures.at) c.loop-instruction.invariant
+    met_more c.args.section.now c.loop-instruction.list c.take.new.self c.in-Some.instruction
+    (c.instructions_lie_within.ensures c.args.section.now) (sym c.in-Some.ensures.at) c.loop-instruction.invariant
     c.in_ok-take.ensures.places c.in_ok-take.ensures.end c.in_ok-take.ensures.misplaced c.in_ok-take.ensures.below
 
 pub returns : goal.returns

@@ -13,5 +13,6 @@ abbrev pub invariant-loop-k : goal.invariant-loop-k
 invariant-loop-k g l = record {
   known : AreKnown l.self.object l.self.contents.pieces l.values.texts;
   follows : (before : List Found) → Keeps l.self before l.fn.values
-      → Follows l.self before (found_after (l.depth - 1) l.self l.own before l.given (map (given_in_constant l.self l.given.value) (take l.k l.refs))) l.fn.marks l.marks l.values;
+      → Follows l.self before (found_after (l.depth - 1) l.self l.own before l.given
+      (map (given_in_constant l.self l.given.value) (take l.k l.refs))) l.fn.marks l.marks l.values;
 }

@@ -9,5 +9,6 @@ abbrev pub invariant-loop-j : goal.invariant-loop-j
 invariant-loop-j g l = record {
   known : AreKnown l.self.object l.self.contents.pieces l.values.texts;
   follows : (before : List Found) → Keeps l.self before l.fn.values
-      → Follows l.self before (found_by_all (found_by l.depth l.self true) before (map (given_in_pair l.self l.pair) (take l.j l.refs))) no_marks l.marks l.values;
+      → Follows l.self before (found_by_all (found_by l.depth l.self true) before
+      (map (given_in_pair l.self l.pair) (take l.j l.refs))) no_marks l.marks l.values;
 }

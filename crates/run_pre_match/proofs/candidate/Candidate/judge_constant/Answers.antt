@@ -6,9 +6,12 @@ use Rattle.run_pre_match.proofs.candidate.Candidate.judge_constant.Goals as goal
 pub returns-in-Some-clause-judges : goal.returns-in-Some-clause-judges
 returns-in-Some-clause-judges g c = λ before keeps.
     rw c.closed.ensures
-    (constant_known c.args.self.now before c.args.values.now c.args.place c.args.value c.in-Some.first.now c.verdict.result (sym c.in-Some.ensures.value) c.verdict.ensures keeps)
+    (constant_known c.args.self.now before c.args.values.now c.args.place c.args.value c.in-Some.first.now
+    c.verdict.result (sym c.in-Some.ensures.value) c.verdict.ensures keeps)
 
 pub returns-clause-judges : goal.returns-clause-judges
 returns-clause-judges g c = λ before keeps.
     rw c.opened.ensures
-    (constant_new c.args.self.now before c.args.values.now _ c.args.place c.args.value c.lies-lies.result (sym c.in_default.ensures.value) c.lies-lies.ensures.whole c.lies-lies.ensures.equal c.in_ok-put_place.ensures refl refl refl keeps)
+    (constant_new c.args.self.now before c.args.values.now _ c.args.place c.args.value c.lies-lies.result
+    (sym c.in_default.ensures.value) c.lies-lies.ensures.whole c.lies-lies.ensures.equal c.in_ok-put_place.ensures
+    refl refl refl keeps)

@@ -8,4 +8,6 @@ use Rattle.run_pre_match.proofs.candidate.Candidate.section.Goals as goal
 
 pub returns-clause-order : goal.returns-clause-order
 returns-clause-order g c =
-    ordered_found c.args.self.now.object c.args.place c.find.result (subst (λ (x : Candidate). All HasFieldsInOrder x.object) c.self.view_is c.as_slice-sections.ensures.by_offset) c.find.ensures
+    ordered_found c.args.self.now.object c.args.place c.find.result
+    (subst (λ (x : Candidate). All HasFieldsInOrder x.object) c.self.view_is c.as_slice-sections.ensures.by_offset)
+    c.find.ensures

@@ -8,6 +8,10 @@ use Rattle.run_pre_match.proofs.candidate.Candidate.state_constants.Given as goa
 
 abbrev pub invariant-loop-place : goal.invariant-loop-place
 invariant-loop-place g l = record {
-  claims : (found : List Found) → Keeps l.self found l.values → l.said.claims ≡ l.fn.said.claims ++ filter_map (claim_of l.self) (stated_from l.self found 0 (take l.place l.sections));
-  interiors : (found : List Found) → Keeps l.self found l.values → l.said.interiors ≡ l.fn.said.interiors ++ filter_map (interior_of l.self) (stated_from l.self found 0 (take l.place l.sections));
+  claims : (found : List Found) → Keeps l.self found l.values →
+      l.said.claims ≡ l.fn.said.claims ++ filter_map (claim_of l.self)
+      (stated_from l.self found 0 (take l.place l.sections));
+  interiors : (found : List Found) → Keeps l.self found l.values →
+      l.said.interiors ≡ l.fn.said.interiors
+      ++ filter_map (interior_of l.self) (stated_from l.self found 0 (take l.place l.sections));
 }

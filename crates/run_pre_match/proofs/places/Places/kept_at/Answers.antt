@@ -6,4 +6,5 @@ use Rattle.run_pre_match.proofs.places.Places.kept_at.Goals as goal
 
 pub returns-clause-low : goal.returns-clause-low
 returns-clause-low c =
-    number_below c.args.self.now.kept c.args.number c.nth_kept-place.result (subst (λ (x : Places). IsStrictlyIncreasing x.kept) c.self.view_is c.self.invariant.0) c.nth_kept-place.ensures
+    number_below c.args.self.now.kept c.args.number c.nth_kept-place.result
+    (subst (λ (x : Places). IsStrictlyIncreasing x.kept) c.self.view_is c.self.invariant.0) c.nth_kept-place.ensures

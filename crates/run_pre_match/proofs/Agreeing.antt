@@ -1,0 +1,74 @@
+-- Pairs agree exactly where they don't differ but in what references say.
+use Rattle.std.proofs.Common.{◌≡◌, ℕ, Bool, true, false, not, List}
+use Rattle.std.proofs.Common.{Option, Some, None, refl, ap}
+use Rattle.std.specs.Cmp.Lexicographic.{bytes_decides}
+use Rattle.std.proofs.lemmas.Bool.{and_from, and_parts}
+use Rattle.i386_reloc.specs.Normal.{same_bytes}
+use Rattle.ia32_decode.specs.declared.types.Branch.{Branch}
+use Rattle.ia32_decode.specs.Branches.{same_kind}
+use Rattle.run_pre_match.specs.Instructions.{direct_branch, target_of}
+use Rattle.run_pre_match.specs.Landing.{has_no_reference}
+use Rattle.run_pre_match.specs.Candidate.{Candidate, Pair, same_number}
+use Rattle.run_pre_match.specs.Differences.{prefix_bytes, opcode_bytes, blanked, differs_in_opcode, differs_in_operand}
+use Rattle.run_pre_match.specs.Differences.{differs_in_landing}
+use Rattle.run_pre_match.specs.Match.{AgreeAs, Agree}
+use Rattle.run_pre_match.proofs.MetLaws.{IsWhole, stand_for_one, one_number}
+use Rattle.run_pre_match.proofs.MetLaws.{and_not_then, and_not_none}
+
+-- a pair differs in nothing but what references say
+pub record Alike (c : Candidate) (pair : Pair) (p r : Option Branch) : Type 0 where
+  pub opcode : differs_in_opcode p r pair ≡ false
+  pub operand : differs_in_operand p r pair ≡ false
+  pub landing : differs_in_landing p r c pair ≡ false
+
+not_not : (b : Bool) → not b ≡ false → b ≡ true
+not_not true e = refl
+not_not false e = absurd cc
+
+same_lists : (xs ys : List ℕ) → not (same_bytes xs ys) ≡ false → xs ≡ ys
+same_lists xs ys e = (bytes_decides xs ys).0 (not_not (same_bytes xs ys) e)
+
+no_other : (xs ys : List ℕ) → xs ≡ ys → not (same_bytes xs ys) ≡ false
+no_other xs ys e = ap not ((bytes_decides xs ys).1 e)
+
+alike_agree : (c : Candidate) (pair : Pair) (p r : Option Branch) → IsWhole c → Alike c pair p r → AgreeAs c pair p r
+alike_agree c pair (Some a) (Some b) whole alike =
+    let (kind, prefix) = and_parts (same_kind a.kind b.kind)
+    (same_bytes (prefix_bytes pair.pre) (prefix_bytes pair.run)) (not_not _ alike.opcode) in (
+      kind,
+      (bytes_decides (prefix_bytes pair.pre) (prefix_bytes pair.run)).0 prefix,
+      λ none. stand_for_one c (target_of pair.pre) (target_of pair.run) whole
+          (and_not_then (has_no_reference pair.pre)
+          (same_number c (target_of pair.pre) (target_of pair.run)) alike.landing none),
+    )
+alike_agree c pair None None whole alike = (
+  same_lists (opcode_bytes pair.pre) (opcode_bytes pair.run) alike.opcode,
+  same_lists
+      (blanked pair.pre.references pair.pre.place pair.run.bytes) pair.pre.bytes alike.operand,
+)
+alike_agree c pair (Some a) None whole alike = absurd (let no : true ≡ false = alike.opcode in cc)
+alike_agree c pair None (Some b) whole alike = absurd (let no : true ≡ false = alike.opcode in cc)
+
+pub agrees : (c : Candidate) (pair : Pair) → IsWhole c →
+    Alike c pair (direct_branch pair.pre) (direct_branch pair.run) → Agree c pair
+agrees c pair whole alike = alike_agree c pair (direct_branch pair.pre) (direct_branch pair.run) whole alike
+
+agree_alike : (c : Candidate) (pair : Pair) (p r : Option Branch) → AgreeAs c pair p r → Alike c pair p r
+agree_alike c pair (Some a) (Some b) (kind, prefix, landing) = record {
+  opcode = ap not (and_from (same_kind a.kind b.kind) (same_bytes (prefix_bytes pair.pre) (prefix_bytes pair.run)) kind
+      ((bytes_decides (prefix_bytes pair.pre) (prefix_bytes pair.run)).1 prefix));
+  operand = refl;
+  landing = and_not_none (has_no_reference pair.pre) (same_number c (target_of pair.pre) (target_of pair.run))
+      (λ none. one_number c (target_of pair.pre) (target_of pair.run) (landing none));
+}
+agree_alike c pair None None (opcode, operand) = record {
+  opcode = no_other (opcode_bytes pair.pre) (opcode_bytes pair.run) opcode;
+  operand = no_other (blanked pair.pre.references pair.pre.place pair.run.bytes) pair.pre.bytes operand;
+  landing = refl;
+}
+agree_alike c pair (Some a) None never = absurd never
+agree_alike c pair None (Some b) never = absurd never
+
+pub alike : (c : Candidate) (pair : Pair) → Agree c pair →
+    Alike c pair (direct_branch pair.pre) (direct_branch pair.run)
+alike c pair agree = agree_alike c pair (direct_branch pair.pre) (direct_branch pair.run) agree
