@@ -163,7 +163,11 @@ const BRANCHES: [Row; 11] = [
         b"\xb9\x03\0\0\0\x49\x75\xfd\xc3",
         &[],
         &[],
-        &[(CODE, HOME, b"\xb9\x03\0\0\0\x49\x0f\x85\xfa\xff\xff\xff\xc3")],
+        &[(
+            CODE,
+            HOME,
+            b"\xb9\x03\0\0\0\x49\x0f\x85\xfa\xff\xff\xff\xc3",
+        )],
         "refused 15 mismatch .text.f index 2 pre 0x6 run 0x00100006 target\n",
     ),
     // a call of the function itself, and one byte further

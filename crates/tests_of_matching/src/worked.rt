@@ -123,8 +123,18 @@ fn bodies_of_plain_code(rt: HostRuntime) -> Result<(), Fail> {
             b"\xb8\x01\0\0\0\x0f\xff",
             "refused 15 mismatch .text.f index 1 pre 0x5 run 0x00100005 undecoded\n",
         ),
-        (&[BEHIND], HOME, b"\xc3", "refused 20 pre undecoded .text.h 0x0\n"),
-        (&[NONE], HOME, b"\xc3", "refused 20 pre undecoded .text.h 0x0\n"),
+        (
+            &[BEHIND],
+            HOME,
+            b"\xc3",
+            "refused 20 pre undecoded .text.h 0x0\n",
+        ),
+        (
+            &[NONE],
+            HOME,
+            b"\xc3",
+            "refused 20 pre undecoded .text.h 0x0\n",
+        ),
         (
             &[L, X],
             HOME,
