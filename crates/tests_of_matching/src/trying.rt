@@ -1,6 +1,7 @@
 //! What comes of a small object beside a small memory, as text.
-ghost use Rattle.std.specs.Prelude.{◌<◌, IfOk, IsTrue};
-ghost use Rattle.image_memory.specs.Contents.{ArePlaced};
+ghost use Rattle.std.specs.Prelude.{◌≡◌};
+ghost use Rattle.i386_reloc.specs.Classes.{is_code_class};
+ghost use Rattle.i386_reloc.specs.Reaches.{is_in};
 
 use elf32_object::read_object;
 use i386_reloc::{Normal, normalise};
@@ -176,22 +177,47 @@ pub(crate) fn put_answer(
     }
 }
 
-// What comes of an object's first section.
-fn answer(alloc: Global, sections: &[Section], running: &Running<'_>) -> Result<Line, Fail> {
-    let file = object(alloc, sections)?;
-    let normal = normal_of(alloc, file.as_slice())?;
+/// Whether there is a code section of a name.
+fn has_code(normal: &Normal<'_>, name: &Name) -> bool
+    ensures { result ≡ is_in is_code_class normal.now name.now }
+{
+    match normal.find(name.as_slice()) {
+        Some(section) => section.class.is_code(),
+        None => false,
+    }
+}
+
+/// What comes of the code section of a name, where there is one.
+fn matched(
+    alloc: Global,
+    normal: &Normal<'_>,
+    name: &Name,
+    space: &FlatSpace,
+    table: &SymbolTable,
+    places: (u32, u32),
+) -> Option<Result<Matched, MatchFault>> {
+    if !has_code(normal, name) {
+        return None;
+    }
+    let (home, base) = places;
+    Some(match_body(alloc, normal, name, space, table, home, base))
+}
+
+/// What comes of the section of a name of an object, as text.
+fn answer(
+    alloc: Global,
+    normal: &Normal<'_>,
+    section: &str,
+    running: &Running<'_>,
+) -> Result<Line, Fail> {
     let space = space_of(alloc, running)?;
     let table = table_of(alloc, running.symbols)?;
-    let section = sections.first().ok_or("no section")?;
-    let name = Name::from_slice(alloc, section.name.as_bytes())?;
-    let found = normal.find(name.as_slice()).ok_or("not found")?;
-    if !found.class.is_code() {
-        return Err(Fail::from("no code"));
-    }
-    let (home, base) = (running.home, running.base);
-    let answer = match_body(alloc, &normal, &name, &space, &table, home, base);
+    let name = Name::from_slice(alloc, section.as_bytes())?;
+    let places = (running.home, running.base);
     let mut line = Line::new(alloc);
-    put_answer(alloc, &mut line, section.name, &answer)?;
+    if let Some(answer) = matched(alloc, normal, &name, &space, &table, places) {
+        put_answer(alloc, &mut line, section, &answer)?;
+    }
     Ok(line)
 }
 
@@ -203,7 +229,13 @@ pub(crate) fn comes(
     running: &Running<'_>,
     text: &str,
 ) -> Result<(), Fail> {
-    let line = answer(alloc, sections, running)?;
+    let section = match sections.first() {
+        Some(section) => section.name,
+        None => "",
+    };
+    let file = object(alloc, sections)?;
+    let normal = normal_of(alloc, file.as_slice())?;
+    let line = answer(alloc, &normal, section, running)?;
     let same = line.bytes() == text.as_bytes();
     let got = std::str::from_utf8(line.bytes()).unwrap_or("");
     assert!(rt; same, "{got} in place of {text}");
