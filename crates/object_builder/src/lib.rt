@@ -1,5 +1,6 @@
 //! Makes objects for tests, of sections, functions and references: the file's header, the section headers, and then the
-//! contents, with relocations, symbols and names behind the given sections.
+//! contents, with relocations, symbols and names behind the given sections. What is referred to and is no section is a
+//! name that the object doesn't define.
 #![tactic(auto)]
 
 use std::alloc::{AllocError, Global};
@@ -23,8 +24,8 @@ pub enum Kind {
     Comment,
 }
 
-/// A section. In its bytes the addends stand in the fields. A reference is its offset, its type, and the section that
-/// it goes to.
+/// A section. In its bytes the addends stand in the fields. A reference is its offset, its type, and the section or the
+/// outside name that it goes to.
 #[derive(Clone, Copy)]
 pub struct Section {
     /// The section's name.
@@ -71,6 +72,10 @@ const LOCAL_FUNCTION: u32 = 0x02;
 
 const GLOBAL_FUNCTION: u32 = 0x12;
 
+const GLOBAL_WITHOUT_TYPE: u32 = 0x10;
+
+const UNDEFINED: usize = 0;
+
 /// The type of a section, its flags, and the size of its entries.
 fn form_of(kind: Kind) -> (u32, u32, u32) {
     match kind {
@@ -94,15 +99,41 @@ fn put(to: &mut Vec<u8>, words: &[u32]) -> Result<(), AllocError> {
     Ok(())
 }
 
-/// The index of the section of a name, where the sections begin with 1.
-fn index_of(sections: &[Section], name: &str) -> u32 {
-    let mut found = 0;
-    for (i, section) in sections.iter().enumerate() {
-        if section.name == name {
-            found = i;
+/// Adds the names among some references that no section has, each once.
+fn add_outside(
+    names: &mut Vec<&'static str>,
+    sections: &[Section],
+    references: &[(u32, u32, &'static str)],
+) -> Result<(), AllocError> {
+    for (_, _, target) in references {
+        let section = sections.iter().position(|section| section.name == *target);
+        let before = names.iter().position(|name| *name == *target);
+        if section.is_none() && before.is_none() {
+            names.push(*target)?;
         }
     }
-    word(found).wrapping_add(1)
+    Ok(())
+}
+
+/// The names that are referred to and that no section has.
+fn outside_names(alloc: Global, sections: &[Section]) -> Result<Vec<&'static str>, AllocError> {
+    let mut names = Vec::new(alloc);
+    for section in sections {
+        add_outside(&mut names, sections, section.references)?;
+    }
+    Ok(names)
+}
+
+/// The index of the symbol of a section or of an outside name. Those of sections begin with 1, those of outside names
+/// with `first`.
+fn index_of(sections: &[Section], outside: &[&'static str], first: u32, name: &str) -> u32 {
+    if let Some(i) = sections.iter().position(|section| section.name == name) {
+        return word(i).wrapping_add(1);
+    }
+    match outside.iter().position(|other| *other == name) {
+        Some(i) => word(i).wrapping_add(first),
+        None => 0,
+    }
 }
 
 /// The parts of an object in the making.
@@ -188,13 +219,19 @@ pub fn object(alloc: Global, sections: &[Section]) -> Result<Vec<u8>, AllocError
             draft.symbol(name, GLOBAL_FUNCTION, i.wrapping_add(1))?;
         }
     }
+    let first = word(draft.symbols.len() / 16);
+    let outside = outside_names(alloc, sections)?;
+    for outside in outside.iter() {
+        let name = draft.name(outside)?;
+        draft.symbol(name, GLOBAL_WITHOUT_TYPE, UNDEFINED)?;
+    }
     let last = word(count).wrapping_sub(1);
     let table = last.wrapping_sub(1);
     for (i, section) in sections.iter().enumerate() {
         if !section.references.is_empty() {
             let mut entries = Vec::new(alloc);
             for (offset, form, target) in section.references {
-                let symbol = index_of(sections, target);
+                let symbol = index_of(sections, outside.as_slice(), first, target);
                 put(&mut entries, &[*offset, symbol.wrapping_mul(0x100) | *form])?;
             }
             let name = draft.name(".rel")?;

@@ -1,0 +1,61 @@
+//! The code of a section listed once and compared at two places, and single instructions that run.
+
+use crate::trying::{CODE, HOME, Part, at_home, normal_of, put_answer, space_of, table_of};
+use ks_base::Line;
+use object_builder::{Kind, Section, object};
+use run_pre_match::{PreObject, instruction_at, run_code_goes_on};
+use std::test::Fail;
+
+/// `xor %eax,%eax; ret`
+const F: Section = Section {
+    name: ".text.f",
+    kind: Kind::Global("f"),
+    bytes: b"\x31\xc0\xc3",
+    references: &[],
+};
+
+/// The function at [`HOME`] with padding, and elsewhere something else.
+const TWICE: [Part<'static>; 2] = [
+    (CODE, HOME, b"\x31\xc0\x66\x90\xc3"),
+    (CODE, 0x0010_0010, b"\x31\xc0\xcc"),
+];
+
+#[test]
+fn one_code_at_two_places(rt: HostRuntime) -> Result<(), Fail> {
+    let alloc = rt.alloc();
+    let file = object(alloc, &[F])?;
+    let normal = normal_of(alloc, file.as_slice())?;
+    let space = space_of(alloc, &at_home(&TWICE))?;
+    let table = table_of(alloc, &[])?;
+    assert!(rt; normal.len() == 1);
+    let object = PreObject::new(alloc, &normal)?;
+    let code = object.code(alloc, 0).ok().ok_or("not matched")?;
+    let mut line = Line::new(alloc);
+    for home in [HOME, 0x0010_0010] {
+        let answer = code.matched(alloc, &space, &table, home, home);
+        put_answer(alloc, &mut line, ".text.f", &answer)?;
+    }
+    let wanted = "length 5\ncode .text.f 0x00100000 at .text.f+0x0\n\
+                  refused 15 mismatch .text.f index 1 pre 0x2 run 0x00100012 opcode\n";
+    assert!(rt; line.bytes() == wanted.as_bytes());
+    Ok(())
+}
+
+#[test]
+fn instructions_that_run(rt: HostRuntime) -> Result<(), Fail> {
+    run_code_goes_on();
+    let space = space_of(rt.alloc(), &at_home(&TWICE))?;
+    let rows: [(u32, &[u8], bool, u32); 3] = [
+        (HOME, b"\x31\xc0", true, HOME + 2),
+        (HOME + 2, b"\x66\x90", false, HOME + 4),
+        (HOME + 4, b"\xc3", true, HOME + 5),
+    ];
+    for (place, bytes, kept, after) in rows {
+        let found = instruction_at(&space, place).ok_or("none")?;
+        assert!(rt; found.place() == place && found.after() == after);
+        assert!(rt; found.bytes() == bytes && found.is_kept() == kept);
+        assert!(rt; found.decoded().length as usize == bytes.len());
+    }
+    assert!(rt; instruction_at(&space, HOME + 5).is_none());
+    Ok(())
+}
