@@ -50,7 +50,7 @@ differs_in_operand None None pair =
 differs_in_operand (Some a) branch pair = false
 differs_in_operand None (Some b) pair = false
 
--- Both are direct branches without a reference, and their targets stand for other numbers.
+-- Both are direct branches, the object's has no reference, and their targets stand for other numbers.
 abbrev pub differs_in_landing : Option Branch → Option Branch → Candidate → Pair → Bool
 differs_in_landing (Some a) (Some b) c pair =
     has_no_reference pair.pre && not (same_number c (target_of pair.pre) (target_of pair.run))

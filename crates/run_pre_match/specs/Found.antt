@@ -93,10 +93,11 @@ abbrev pub section_lies : Candidate → ℕ → Option NormalSection → Bool
 section_lies c base None = false
 section_lies c base (Some section) = lie_in_constants c.contents.pieces base (length section.bytes)
 
--- what the fields of a read-only section give that lies at a base, where all of it lies in read-only memory
+-- what a field of a read-only section gives that lies at a base
 abbrev pub given_in_constant : Candidate → ℕ → Ref → Given
 given_in_constant c base r = given_by c.object r (dword_at c.contents.pieces (base + r.offset))
 
+-- what all of them give, where the whole section lies in read-only memory
 abbrev pub given_there : Candidate → ℕ → Option NormalSection → List Given
 given_there c base None = []
 given_there c base (Some section) =

@@ -55,10 +55,10 @@ is_misplaced i = not (may_all_stand i)
 abbrev pub misplaced_offsets : List Instruction → List ℕ
 misplaced_offsets code = map place_of (filter is_misplaced code)
 
--- direct branches without a reference that don't go to a landing offset
 abbrev pub has_no_reference : Instruction → Bool
 has_no_reference i = length i.references == 0
 
+-- a direct branch without a reference that doesn't go to a landing offset
 abbrev pub goes_astray : List Instruction → Instruction → Bool
 goes_astray code i = is_some (direct_branch i) && has_no_reference i && not (is_landing code (target_of i))
 

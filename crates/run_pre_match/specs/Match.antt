@@ -1,5 +1,6 @@
--- What a match is, with no order in which anything is found: one value for each thing to which the code of a section
--- refers, itself or by read-only sections, under which all of it agrees with the running code.
+-- What a match is, with no order in which anything is found: the home for the section itself, and one value for each
+-- function, data section, read-only section and outside name to which its code refers, itself or by read-only sections,
+-- under which all of it agrees with the running code. It is said of sections that can be matched (Landing).
 use Rattle.std.specs.Prelude.{◌≡◌, ◌≢◌, ◌⊎◌, IsTrue, ℕ, Bool, true, false, List, length, Option, Some, None, IsSomeAnd}
 use Rattle.std.specs.List.{All, Contains, slice_get}
 use Rattle.i386_reloc.specs.declared.types.Ref.{Ref}
@@ -42,10 +43,10 @@ pub record StandForOne (c : Candidate) (offset address : ℕ) : Type 0 where
   pub by_offset : stands_for (pre_list c) offset ≡ Some number
   pub by_address : stands_for (run_list c) address ≡ Some number
 
--- Instructions agree but for what references say. Two direct branches have equal prefixes and one kind, and where they
--- have no reference their targets stand for the same number. Two others have equal prefixes and opcodes, and equal
--- bytes where zeros are put in the fields of references. (Equal bytes have equal opcodes where no reference stands on
--- one.)
+-- Instructions agree but for what references say. Two direct branches have equal prefixes and one kind, and where the
+-- object's has no reference their targets stand for the same number. Two others have equal prefixes and opcodes, and equal
+-- bytes where zeros are put in the fields of references. (Equal bytes have equal prefixes and opcodes where no reference
+-- stands on these.)
 abbrev pub AgreeAs : Candidate → Pair → Option Branch → Option Branch → Type 0
 AgreeAs c pair (Some pre) (Some run) =
     IsTrue (same_kind pre.kind run.kind)
@@ -61,7 +62,7 @@ abbrev pub Agree : Candidate → Pair → Type 0
 Agree c pair = AgreeAs c pair (direct_branch pair.pre) (direct_branch pair.run)
 
 -- The fields that count, with the values that they give: those of the code, and those of each read-only section to
--- which a field that counts goes, where the section lies at its value.
+-- which a field that counts goes, read at the section's value.
 pub data IsField (c : Candidate) (v : Valuation) : Given → Type 0 where
   InCode : (pair : Pair) (r : Ref) → Contains (pairs c) pair → Contains pair.pre.references r →
       IsField c v (given_in_pair c pair r)
@@ -70,8 +71,8 @@ pub data IsField (c : Candidate) (v : Valuation) : Given → Type 0 where
       slice_get c.object place ≡ Some section → Contains section.refs r → IsField c v (given_in_constant c base r)
 
 -- What a value asks besides: an outside name's is listed for a global symbol of that name, an address of the own
--- interior stands for the number of its offset, and a text, with its zero, or the bytes of a read-only section outside
--- its fields stand there in read-only memory.
+-- interior stands for the number of its offset, and a text, with its zero, stands at the value in read-only memory. A
+-- read-only section lies whole in read-only memory at the value, its bytes outside of its fields being those there.
 abbrev pub IsMet : Candidate → Goal → ℕ → Type 0
 IsMet c (Entry place) value = Unit {0}
 IsMet c (Variable place) value = Unit {0}
@@ -88,7 +89,7 @@ pub record IsMeant (c : Candidate) (v : Valuation) (goal : Goal) : Type 0 where
   pub counts : IsField c v field
   pub goes_there : field.goal ≡ goal
 
--- the code of a section is what runs, under a valuation
+-- the section's code and what runs agree under a valuation
 pub record Match (c : Candidate) (v : Valuation) : Type 0 where
   -- there are as many kept instructions, and they agree one by one
   pub whole : length (kept_of (run_list c)) ≡ length (kept_of (pre_list c))
@@ -122,8 +123,9 @@ pub record IsNamed (c : Candidate) (interior : Interior) (field : Given) : Type 
   pub section : interior.section ≡ name_at c place
   pub address : interior.address ≡ interior_address field.value interior.offset
 
--- What is said of a match: the values that its valuation gives but for those of read-only sections, no more and no
--- fewer, and the interiors of other code sections to which its fields go.
+-- What is said of a match: the values that its valuation gives but for those of read-only sections, none left out and no
+-- other, and the interiors of other code sections to which its fields go. How often, in which order and at which places
+-- they are told stands in Matched.
 pub record Says (c : Candidate) (v : Valuation) (m : Matched) : Type 0 where
   pub claims : All (IsSaid c v) m.claims
   pub all_claims : (goal : Goal) (about : Unknown) (value : ℕ) → unknown_of c goal ≡ Some about →

@@ -45,7 +45,7 @@ abbrev pub stated_in_constant : Candidate → NormalSection → ℕ → Ref → 
 stated_in_constant c section base r =
     record { spot = spot_at section.name r.offset; given = given_in_constant c base r }
 
--- what the fields of a read-only section say, where the code says that it lies at a base
+-- what the fields of a read-only section say, where a field says that it lies at a base
 abbrev pub stated_at : Candidate → NormalSection → Option ℕ → List Statement
 stated_at c section None = []
 stated_at c section (Some base) = map (stated_in_constant c section base) section.refs
@@ -141,7 +141,7 @@ pub record PreSection : Type 0 where
   pub place : ℕ
   pub section : NormalSection
 
--- beside the running code of a function that it may be
+-- a section beside the running code of a function that it may be
 abbrev pub candidate : PreSection → Contents → List Symbol → ℕ → ℕ → Candidate
 candidate pre contents symbols home base = record {
   object = pre.object;
@@ -153,7 +153,7 @@ candidate pre contents symbols home base = record {
   base = base;
 }
 
--- the code of a section, or the least offset at which it can't be matched
+-- the section, or the least offset at which its code can't be matched
 abbrev pub code_unless : Option ℕ → PreSection → Result PreSection MatchFault
 code_unless (Some offset) pre = Err (Undecoded offset)
 code_unless None pre = Ok pre
