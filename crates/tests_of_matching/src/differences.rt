@@ -5,7 +5,7 @@ use object_builder::{ABSOLUTE, Kind, RELATIVE, Section};
 use std::test::Fail;
 
 /// Two instructions that both are no direct branch, or that are two kinds of branch.
-const INSTRUCTIONS: [Row; 16] = [
+static INSTRUCTIONS: [Row; 16] = [
     // a near jump for a short one, of the same condition
     (
         b"\x74\x01\x90\xc3",
@@ -135,7 +135,7 @@ const INSTRUCTIONS: [Row; 16] = [
 ];
 
 /// Where two branches go.
-const BRANCHES: [Row; 11] = [
+static BRANCHES: [Row; 11] = [
     // `mov; dec; jne; ret`, and back into the middle of the `mov`, behind the end, and to the `mov`
     (
         b"\xb9\x03\0\0\0\x49\x75\xfd\xc3",
@@ -225,7 +225,7 @@ const BRANCHES: [Row; 11] = [
 ];
 
 /// What runs breaks off.
-const BREAKS: [Row; 9] = [
+static BREAKS: [Row; 9] = [
     // behind padding
     (
         b"\xb8\x01\0\0\0\xc3",
@@ -306,7 +306,7 @@ const F: Section = Section {
 };
 
 /// The same, with more behind it.
-const AS_F: [Part<'static>; 1] = [(CODE, HOME, b"\xb8\x01\0\0\0\xc3\x90\x90\x90\x90\x90\x90")];
+static AS_F: [Part<'static>; 1] = [(CODE, HOME, b"\xb8\x01\0\0\0\xc3\x90\x90\x90\x90\x90\x90")];
 
 #[test]
 fn instructions_that_differ(rt: HostRuntime) -> Result<(), Fail> {

@@ -58,7 +58,7 @@ const DATA_INTO_F: Section = Section {
 };
 
 /// Where the code itself can't be matched. What runs is not looked at.
-const UNDECODED: [Row; 17] = [
+static UNDECODED: [Row; 17] = [
     // padding alone
     (
         b"\x90\x66\x90",
@@ -189,7 +189,7 @@ const UNDECODED: [Row; 17] = [
 ];
 
 /// What could be taken for something else.
-const MISLEADING: [Row; 9] = [
+static MISLEADING: [Row; 9] = [
     // data that the program may change name any offset
     (
         b"\xb8\0\0\0\0\xc3",

@@ -15,7 +15,7 @@ const F: Section = Section {
 };
 
 /// The function at [`HOME`] with padding, and elsewhere something else.
-const TWICE: [Part<'static>; 2] = [
+static TWICE: [Part<'static>; 2] = [
     (CODE, HOME, b"\x31\xc0\x66\x90\xc3"),
     (CODE, 0x0010_0010, b"\x31\xc0\xcc"),
 ];

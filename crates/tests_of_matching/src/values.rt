@@ -49,7 +49,7 @@ const POINTER: Section = Section {
 };
 
 /// Values of data, outside names and functions.
-const VALUES: [Row; 20] = [
+static VALUES: [Row; 20] = [
     // one variable twice: at one address, with an addend, and at two
     (
         b"\xa1\0\0\0\0\xa1\0\0\0\0\xc3",
@@ -210,7 +210,7 @@ const VALUES: [Row; 20] = [
 ];
 
 /// A text that stands, or doesn't: `mov $text,%eax; ret`, where the text is `a`.
-const STANDING_TEXTS: [Row; 8] = [
+static STANDING_TEXTS: [Row; 8] = [
     (
         b"\xb8\x03\0\0\0\xc3",
         &[(1, ABSOLUTE, ".rodata.str")],
@@ -297,7 +297,7 @@ const STANDING_TEXTS: [Row; 8] = [
 ];
 
 /// Read-only data that stand, or don't. A `push %eax; mov $data,%eax; ret`.
-const STANDING_DATA: [Row; 9] = [
+static STANDING_DATA: [Row; 9] = [
     (
         b"\x50\xb8\0\0\0\0\xc3",
         &[(2, ABSOLUTE, ".rodata.c")],
@@ -395,7 +395,7 @@ const STANDING_DATA: [Row; 9] = [
 ];
 
 /// Several kinds in one instruction. In `movl $0,0` both zeros are fields, or the first alone.
-const SEVERAL_KINDS: [Row; 4] = [
+static SEVERAL_KINDS: [Row; 4] = [
     (
         b"\xb8\0\0\0\0\xc3",
         &[(1, ABSOLUTE, "other")],

@@ -75,13 +75,13 @@ const TABLE: Section = Section {
 };
 
 /// The call, and what it calls.
-const CALL_OF_EXT: [Part<'static>; 2] = [
+static CALL_OF_EXT: [Part<'static>; 2] = [
     (CODE, 0x0010_0010, b"\xe8\xeb\x01\0\0\xc3"),
     (CODE, 0x0010_0200, b"\xc3"),
 ];
 
 /// The same jump with padding before the second answer, and its table.
-const JUMP_BY_TABLE: [Part<'static>; 2] = [
+static JUMP_BY_TABLE: [Part<'static>; 2] = [
     (
         CODE,
         HOME,
@@ -90,75 +90,79 @@ const JUMP_BY_TABLE: [Part<'static>; 2] = [
     (CONSTANT, 0x0018_0000, b"\x0b\0\x10\0\x13\0\x10\0"),
 ];
 
+/// The sections of an object, where the first one runs, in what code, and what comes of it.
+type Body = (&'static [Section], u32, &'static [u8], &'static str);
+
+static PLAIN_BODIES: [Body; 10] = [
+    (
+        &[F],
+        HOME,
+        b"\xb8\x01\0\0\0\x90\xc3",
+        "length 7\ncode .text.f 0x00100000 at .text.f+0x0\n",
+    ),
+    (
+        &[F],
+        HOME,
+        b"\xb9\x01\0\0\0\xc3",
+        "refused 15 mismatch .text.f index 0 pre 0x0 run 0x00100000 opcode\n",
+    ),
+    (
+        &[F],
+        HOME,
+        b"\xb8\x02\0\0\0\xc3",
+        "refused 15 mismatch .text.f index 0 pre 0x0 run 0x00100000 operand\n",
+    ),
+    (
+        &[F],
+        HOME,
+        b"\xb8\x01\0\0\0",
+        "refused 15 mismatch .text.f index 1 pre 0x5 run 0x00100005 end\n",
+    ),
+    (
+        &[F],
+        HOME,
+        b"\xb8\x01\0\0\0\x0f\xff",
+        "refused 15 mismatch .text.f index 1 pre 0x5 run 0x00100005 undecoded\n",
+    ),
+    (
+        &[BEHIND],
+        HOME,
+        b"\xc3",
+        "refused 20 pre undecoded .text.h 0x0\n",
+    ),
+    (
+        &[NONE],
+        HOME,
+        b"\xc3",
+        "refused 20 pre undecoded .text.h 0x0\n",
+    ),
+    (
+        &[L, X],
+        HOME,
+        b"\x8d\xb6\0\0\x20\0\xc3",
+        "length 7\ncode .text.l 0x00100000 at .text.l+0x0\ndata .data.x 0x00200000 at .text.l+0x2\n",
+    ),
+    (
+        &[H],
+        0x0010_0020,
+        b"\xb9\x03\0\0\0\x8d\xb6\0\0\0\0\x49\x75\xf7\xc3",
+        "length 15\ncode .text.h 0x00100020 at .text.h+0x0\n",
+    ),
+    (
+        &[H],
+        0x0010_0020,
+        b"\xb9\x03\0\0\0\x49\x75\xfe\xc3",
+        "refused 15 mismatch .text.h index 2 pre 0x6 run 0x00100026 target\n",
+    ),
+];
+
 #[test]
 fn bodies_of_plain_code(rt: HostRuntime) -> Result<(), Fail> {
-    let rows: [(&[Section], u32, &[u8], &str); 10] = [
-        (
-            &[F],
-            HOME,
-            b"\xb8\x01\0\0\0\x90\xc3",
-            "length 7\ncode .text.f 0x00100000 at .text.f+0x0\n",
-        ),
-        (
-            &[F],
-            HOME,
-            b"\xb9\x01\0\0\0\xc3",
-            "refused 15 mismatch .text.f index 0 pre 0x0 run 0x00100000 opcode\n",
-        ),
-        (
-            &[F],
-            HOME,
-            b"\xb8\x02\0\0\0\xc3",
-            "refused 15 mismatch .text.f index 0 pre 0x0 run 0x00100000 operand\n",
-        ),
-        (
-            &[F],
-            HOME,
-            b"\xb8\x01\0\0\0",
-            "refused 15 mismatch .text.f index 1 pre 0x5 run 0x00100005 end\n",
-        ),
-        (
-            &[F],
-            HOME,
-            b"\xb8\x01\0\0\0\x0f\xff",
-            "refused 15 mismatch .text.f index 1 pre 0x5 run 0x00100005 undecoded\n",
-        ),
-        (
-            &[BEHIND],
-            HOME,
-            b"\xc3",
-            "refused 20 pre undecoded .text.h 0x0\n",
-        ),
-        (
-            &[NONE],
-            HOME,
-            b"\xc3",
-            "refused 20 pre undecoded .text.h 0x0\n",
-        ),
-        (
-            &[L, X],
-            HOME,
-            b"\x8d\xb6\0\0\x20\0\xc3",
-            "length 7\ncode .text.l 0x00100000 at .text.l+0x0\ndata .data.x 0x00200000 at .text.l+0x2\n",
-        ),
-        (
-            &[H],
-            0x0010_0020,
-            b"\xb9\x03\0\0\0\x8d\xb6\0\0\0\0\x49\x75\xf7\xc3",
-            "length 15\ncode .text.h 0x00100020 at .text.h+0x0\n",
-        ),
-        (
-            &[H],
-            0x0010_0020,
-            b"\xb9\x03\0\0\0\x49\x75\xfe\xc3",
-            "refused 15 mismatch .text.h index 2 pre 0x6 run 0x00100026 target\n",
-        ),
-    ];
-    for (sections, home, code, text) in rows {
-        let parts = [(CODE, home, code)];
+    for (sections, home, code, text) in &PLAIN_BODIES {
+        let parts = [(CODE, *home, *code)];
         let running = Running {
-            home,
-            base: home,
+            home: *home,
+            base: *home,
             ..at_home(&parts)
         };
         comes(&rt, rt.alloc(), sections, &running, text)?;
