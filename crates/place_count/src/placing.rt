@@ -24,7 +24,7 @@ fn gaps_of(alloc: Global, count: u32) -> Result<Ranges, AllocError> {
 fn sections_of(alloc: Global, count: u32) -> Result<Vec<SectionSize>, AllocError> {
     let mut sections = Vec::new(alloc);
     for k in 0..count {
-        let (size, align) = if k % 2 == 0 { (16, 16) } else { (17, 32) };
+        let (size, align) = if k % 2 == 0 { (16, 16) } else { (17, 4_096) };
         sections.push(SectionSize {
             name: Name::from_slice(alloc, b".text.f")?,
             size,
