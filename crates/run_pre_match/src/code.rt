@@ -5,6 +5,8 @@ ghost use Rattle.i386_reloc.specs.declared.types.NormalSection.{NormalSection};
 ghost use Rattle.i386_reloc.specs.Classes.{is_code_class};
 ghost use Rattle.i386_reloc.specs.Places.{place_named};
 ghost use Rattle.i386_reloc.specs.Reaches.{is_in};
+ghost use Rattle.run_pre_match.specs.Instructions.{kept_of, stands_for};
+ghost use Rattle.run_pre_match.specs.PreCode.{pre_code};
 ghost use Rattle.run_pre_match.specs.Matched.{candidate, listed_code, outcome, answer, Comes};
 
 use crate::candidate::Candidate;
@@ -123,6 +125,20 @@ impl<'n, 'a> PreCode<'n, 'a> {
             base,
         };
         candidate.outcome(alloc)
+    }
+
+    /// How many of its instructions are kept.
+    pub(crate) fn kept_count(&self) -> usize
+        ensures { result ≡ length (kept_of (pre_code self.now.section)) }
+    {
+        self.places.kept_count()
+    }
+
+    /// What an offset of the section stands for.
+    pub(crate) fn number_of(&self, offset: u32) -> Option<u32>
+        ensures { result ≡ stands_for (pre_code self.now.section) offset }
+    {
+        self.places.number_of(offset)
     }
 }
 

@@ -1,0 +1,8 @@
+//! The functions of a running program that the code sections of an object may be, each matched by itself.
+#![tactic(auto)]
+
+pub mod running;
+pub mod trials;
+
+pub use running::Running;
+pub use trials::{Trials, Tried, try_all};
