@@ -2,3 +2,4 @@
 -- in inside is the code's own.
 pub mod Candidates
 pub mod OwnFaults
+pub mod inside
