@@ -18,32 +18,40 @@ use Rattle.match_candidates.proofs.FirstLaws.{first_here, first_later, first_now
 abbrev pub section_at : List NormalSection → ℕ → NormalSection → PreSection
 section_at object place section = record { object = object; place = place; section = section }
 
-pub passes : (object : List NormalSection) (place : ℕ) (s : NormalSection) (rest : List NormalSection) → is_code_class s.class ≡ false
+pub passes : (object : List NormalSection) (place : ℕ) (s : NormalSection) (rest : List NormalSection)
+    → is_code_class s.class ≡ false
     → code_from object place (s ∷ rest) ≡ code_from object (suc place) rest
 unfolding code_from
 passes object place s rest other =
-    ap (λ b. if b then section_at object place s ∷ code_from object (suc place) rest else code_from object (suc place) rest) other
+    ap (λ b. if b then section_at object place s ∷ code_from object (suc place) rest else code_from object
+    (suc place) rest) other
 
-pub takes : (object : List NormalSection) (place : ℕ) (s : NormalSection) (rest : List NormalSection) → is_code_class s.class ≡ true
+pub takes : (object : List NormalSection) (place : ℕ) (s : NormalSection) (rest : List NormalSection)
+    → is_code_class s.class ≡ true
     → code_from object place (s ∷ rest) ≡ section_at object place s ∷ code_from object (suc place) rest
 unfolding code_from
 takes object place s rest is =
-    ap (λ b. if b then section_at object place s ∷ code_from object (suc place) rest else code_from object (suc place) rest) is
+    ap (λ b. if b then section_at object place s ∷ code_from object (suc place) rest else code_from object
+    (suc place) rest) is
 
-pub takes_after : (codes now : List PreSection) (object : List NormalSection) (place : ℕ) (s : NormalSection) (rest : List NormalSection) → is_code_class s.class ≡ true
-    → now ≡ codes ++ section_at object place s ∷ [] → codes ++ code_from object place (s ∷ rest) ≡ now ++ code_from object (suc place) rest
+pub takes_after : (codes now : List PreSection) (object : List NormalSection) (place : ℕ) (s : NormalSection)
+    (rest : List NormalSection) → is_code_class s.class ≡ true
+    → now ≡ codes ++ section_at object place s ∷ []
+    → codes ++ code_from object place (s ∷ rest) ≡ now ++ code_from object (suc place) rest
 takes_after codes now object place s rest is pushed =
     ap (λ l. codes ++ l) (takes object place s rest is)
     ∙ sym (append_assoc codes (section_at object place s ∷ []) (code_from object (suc place) rest))
     ∙ ap (λ l. l ++ code_from object (suc place) rest) (sym pushed)
 
-pub undecoded_later : (object : List NormalSection) (place : ℕ) (s : NormalSection) (rest : List NormalSection) → is_code_class s.class ≡ true → undecoded_in (section_at object place s) ≡ None
+pub undecoded_later : (object : List NormalSection) (place : ℕ) (s : NormalSection) (rest : List NormalSection)
+    → is_code_class s.class ≡ true → undecoded_in (section_at object place s) ≡ None
     → undecoded_from object place (s ∷ rest) ≡ undecoded_from object (suc place) rest
 undecoded_later object place s rest is none =
     ap (λ l. first_some undecoded_in l) (takes object place s rest is)
     ∙ first_later undecoded_in (section_at object place s) (code_from object (suc place) rest) none
 
-pub undecoded_here : (object : List NormalSection) (place : ℕ) (s : NormalSection) (rest : List NormalSection) (refusal : Refusal) → is_code_class s.class ≡ true → undecoded_in (section_at object place s) ≡ Some refusal
+pub undecoded_here : (object : List NormalSection) (place : ℕ) (s : NormalSection) (rest : List NormalSection)
+    (refusal : Refusal) → is_code_class s.class ≡ true → undecoded_in (section_at object place s) ≡ Some refusal
     → undecoded_from object place (s ∷ rest) ≡ Some refusal
 undecoded_here object place s rest refusal is here =
     ap (λ l. first_some undecoded_in l) (takes object place s rest is)
@@ -62,8 +70,10 @@ passed_none object items same = record {
   none = ap (λ l. undecoded_from object 0 l) (sym same);
 }
 
-pub passed_more : (object items : List NormalSection) (codes now : List PreSection) (place : ℕ) (s : NormalSection) → place < length items → s ≡ get_or items place s → Passed object items codes place
-    → ((rest : List NormalSection) → codes ++ code_from object place (s ∷ rest) ≡ now ++ code_from object (suc place) rest)
+pub passed_more : (object items : List NormalSection) (codes now : List PreSection) (place : ℕ) (s : NormalSection)
+    → place < length items → s ≡ get_or items place s → Passed object items codes place
+    → ((rest : List NormalSection)
+    → codes ++ code_from object place (s ∷ rest) ≡ now ++ code_from object (suc place) rest)
     → ((rest : List NormalSection) → undecoded_from object place (s ∷ rest) ≡ undecoded_from object (suc place) rest)
     → Passed object items now (place + 1)
 passed_more object items codes now place s lt is so_far step none =
@@ -71,14 +81,19 @@ passed_more object items codes now place s lt is so_far step none =
     let rest = drop (place + 1) items in
     record {
       same = so_far.same;
-      all = so_far.all ∙ ap (λ l. codes ++ code_from object place l) next ∙ step rest ∙ ap (λ n. now ++ code_from object n rest) (sym (add-one place));
-      none = so_far.none ∙ ap (λ l. undecoded_from object place l) next ∙ none rest ∙ ap (λ n. undecoded_from object n rest) (sym (add-one place));
+      all = so_far.all ∙ ap (λ l. codes ++ code_from object place l) next ∙ step rest
+          ∙ ap (λ n. now ++ code_from object n rest) (sym (add-one place));
+      none = so_far.none ∙ ap (λ l. undecoded_from object place l) next ∙ none rest
+          ∙ ap (λ n. undecoded_from object n rest) (sym (add-one place));
     }
 
-pub passed_to : (object items : List NormalSection) (codes : List PreSection) (place : ℕ) (s : NormalSection) (refusal : Refusal) → place < length items → s ≡ get_or items place s → Passed object items codes place
-    → ((rest : List NormalSection) → undecoded_from object place (s ∷ rest) ≡ Some refusal) → first_undecoded object ≡ Some refusal
+pub passed_to : (object items : List NormalSection) (codes : List PreSection) (place : ℕ) (s : NormalSection)
+    (refusal : Refusal) → place < length items → s ≡ get_or items place s → Passed object items codes place
+    → ((rest : List NormalSection) → undecoded_from object place (s ∷ rest) ≡ Some refusal)
+    → first_undecoded object ≡ Some refusal
 passed_to object items codes place s refusal lt is so_far here =
-    so_far.none ∙ ap (λ l. undecoded_from object place l) (drop_next items place s lt is) ∙ here (drop (place + 1) items)
+    so_far.none ∙ ap (λ l. undecoded_from object place l) (drop_next items place s lt is)
+    ∙ here (drop (place + 1) items)
 
 code_of_none : (object : List NormalSection) (place : ℕ) → code_from object place [] ≡ []
 unfolding code_from
@@ -87,15 +102,19 @@ code_of_none object place = refl
 left_none : (items : List NormalSection) (place : ℕ) → place ≡ length items → drop place items ≡ []
 left_none items place all = ap (λ n. drop n items) all ∙ drop-length items
 
-pub passed_all : (object items : List NormalSection) (codes : List PreSection) (place : ℕ) → place ≡ length items → Passed object items codes place → codes ≡ code_sections object
+pub passed_all : (object items : List NormalSection) (codes : List PreSection) (place : ℕ) → place ≡ length items
+    → Passed object items codes place → codes ≡ code_sections object
 passed_all object items codes place all so_far =
-    sym (so_far.all ∙ ap (λ l. codes ++ code_from object place l) (left_none items place all) ∙ ap (λ l. codes ++ l) (code_of_none object place) ∙ append-nil codes)
+    sym (so_far.all ∙ ap (λ l. codes ++ code_from object place l) (left_none items place all)
+    ∙ ap (λ l. codes ++ l) (code_of_none object place) ∙ append-nil codes)
 
-pub passed_without : (object items : List NormalSection) (codes : List PreSection) (place : ℕ) → place ≡ length items → Passed object items codes place → first_undecoded object ≡ None
+pub passed_without : (object items : List NormalSection) (codes : List PreSection) (place : ℕ)
+    → place ≡ length items → Passed object items codes place → first_undecoded object ≡ None
 passed_without object items codes place all so_far =
     so_far.none ∙ ap (λ l. undecoded_from object place l) (left_none items place all)
     ∙ ap (λ l. first_some undecoded_in l) (code_of_none object place) ∙ first_nowhere undecoded_in
 
-pub section_there : (object items pre : List NormalSection) (place : ℕ) (s : NormalSection) → place < length items → s ≡ get_or items place s → items ≡ object → pre ≡ object → slice_get pre place ≡ Some s
+pub section_there : (object items pre : List NormalSection) (place : ℕ) (s : NormalSection) → place < length items
+    → s ≡ get_or items place s → items ≡ object → pre ≡ object → slice_get pre place ≡ Some s
 section_there object items pre place s lt is same pre_is =
     ap (λ l. slice_get l place) (pre_is ∙ sym same) ∙ slice_get-get_or items place s lt ∙ ap Some (sym is)

@@ -16,32 +16,40 @@ use Rattle.match_candidates.specs.inside.Trying.{tried_at, all_tried, tried_of, 
 use Rattle.match_candidates.proofs.FirstLaws.{drop_next}
 
 any_same : (running : Running) (pre : PreSection) (number : ℕ) (homes : List ℕ)
-    → list_any has_matched (all_tried running pre number homes) ≡ list_any matches (map (candidate_at running pre) homes)
+    → list_any has_matched (all_tried running pre number homes) ≡ list_any matches (map
+    (candidate_at running pre) homes)
 any_same running pre number [] = refl
-any_same running pre number (h ∷ hs) = ap (λ b. matches (candidate_at running pre h) || b) (any_same running pre number hs)
+any_same running pre number (h ∷ hs) = ap (λ b. matches (candidate_at running pre h) || b)
+    (any_same running pre number hs)
 
 mismatch_same : (running : Running) (pre : PreSection) (number : ℕ) (homes : List ℕ)
     → mismatch_by pre (all_tried running pre number homes) ≡ mismatch_in pre (map (candidate_at running pre) homes)
 mismatch_same running pre number [] = refl
 mismatch_same running pre number (h ∷ hs) =
-    ap (λ b. if b then None else difference_in pre (outcome (candidate_at running pre h))) (any_same running pre number (h ∷ hs))
+    ap (λ b. if b then None else difference_in pre (outcome (candidate_at running pre h)))
+    (any_same running pre number (h ∷ hs))
 
-pub mismatch_kept : (running : Running) (pre : PreSection) (number : ℕ) (homes : List ℕ) (own : List Tried) → own ≡ all_tried running pre number homes → homes ≡ homes_of running pre
+pub mismatch_kept : (running : Running) (pre : PreSection) (number : ℕ) (homes : List ℕ) (own : List Tried)
+    → own ≡ all_tried running pre number homes → homes ≡ homes_of running pre
     → mismatch_in pre (candidates_of running pre) ≡ mismatch_by pre own
 mismatch_kept running pre number homes own kept all =
-    ap (λ hs. mismatch_in pre (map (candidate_at running pre) hs)) (sym all) ∙ sym (mismatch_same running pre number homes) ∙ ap (λ l. mismatch_by pre l) (sym kept)
+    ap (λ hs. mismatch_in pre (map (candidate_at running pre) hs)) (sym all)
+    ∙ sym (mismatch_same running pre number homes) ∙ ap (λ l. mismatch_by pre l) (sym kept)
 
 abbrev pub kept : ℕ → ℕ → ℕ → Result Matched MatchFault → Tried
 kept number home base found = record { section = number; home = home; base = base; outcome = found }
 
-pub tried_is : (running : Running) (pre : PreSection) (number home base : ℕ) (found : Result Matched MatchFault) → base ≡ newest running.bodies home → found ≡ outcome (candidate_at running pre home)
+pub tried_is : (running : Running) (pre : PreSection) (number home base : ℕ) (found : Result Matched MatchFault)
+    → base ≡ newest running.bodies home → found ≡ outcome (candidate_at running pre home)
     → kept number home base found ≡ tried_at running pre number home
 tried_is running pre number home base found newest_is outcome_is =
     ap (λ b. kept number home b found) newest_is ∙ ap (λ o. kept number home (newest running.bodies home) o) outcome_is
 
-pub tried_next : (running : Running) (codes : List PreSection) (tried now : List Tried) (number : ℕ) (pre : PreSection) → number < length codes → pre ≡ get_or codes number pre
+pub tried_next : (running : Running) (codes : List PreSection) (tried now : List Tried) (number : ℕ)
+    (pre : PreSection) → number < length codes → pre ≡ get_or codes number pre
     → now ≡ tried ++ tried_of running pre number
-    → tried_from running 0 codes ≡ tried ++ tried_from running number (drop number codes) → tried_from running 0 codes ≡ now ++ tried_from running (number + 1) (drop (number + 1) codes)
+    → tried_from running 0 codes ≡ tried ++ tried_from running number (drop number codes)
+    → tried_from running 0 codes ≡ now ++ tried_from running (number + 1) (drop (number + 1) codes)
 unfolding tried_from
 tried_next running codes tried now number pre lt is added so_far =
     let rest = drop (number + 1) codes in
@@ -52,38 +60,50 @@ tried_next running codes tried now number pre lt is added so_far =
     ∙ ap (λ n. now ++ tried_from running n rest) (sym (add-one number))
 
 pub tried_all : (running : Running) (codes : List PreSection) (tried : List Tried) (number : ℕ) → number ≡ length codes
-    → tried_from running 0 codes ≡ tried ++ tried_from running number (drop number codes) → tried ≡ tried_from running 0 codes
+    → tried_from running 0 codes ≡ tried ++ tried_from running number (drop number codes)
+    → tried ≡ tried_from running 0 codes
 unfolding tried_from
 tried_all running codes tried number all so_far =
-    sym (so_far ∙ ap (λ l. tried ++ tried_from running number l) (ap (λ n. drop n codes) all ∙ drop-length codes) ∙ append-nil tried)
+    sym (so_far ∙ ap (λ l. tried ++ tried_from running number l) (ap (λ n. drop n codes) all ∙ drop-length codes)
+    ∙ append-nil tried)
 
 -- Those of one section, before others.
-are_tried_before : (running : Running) (codes : List PreSection) (pre : PreSection) (number : ℕ) (homes : List ℕ) (cs : List Candidate) (ts : List Tried)
+are_tried_before : (running : Running) (codes : List PreSection) (pre : PreSection) (number : ℕ) (homes : List ℕ)
+    (cs : List Candidate) (ts : List Tried)
     → slice_get codes number ≡ Some pre → AllZip (IsTried codes) cs ts
     → AllZip (IsTried codes) (map (candidate_at running pre) homes ++ cs) (all_tried running pre number homes ++ ts)
 are_tried_before running codes pre number [] cs ts at others = others
-are_tried_before running codes pre number (h ∷ hs) cs ts at others =
-    (record { code = at; home = refl; base = refl; outcome = refl }, are_tried_before running codes pre number hs cs ts at others)
+are_tried_before running codes pre number (h ∷ hs) cs ts at others = (
+  record { code = at; home = refl; base = refl; outcome = refl },
+  are_tried_before running codes pre number hs cs
+      ts at others,
+)
 
-head_there : (codes : List PreSection) (number : ℕ) (pre : PreSection) (pres : List PreSection) → drop number codes ≡ pre ∷ pres → slice_get codes number ≡ Some pre
+head_there : (codes : List PreSection) (number : ℕ) (pre : PreSection) (pres : List PreSection)
+    → drop number codes ≡ pre ∷ pres → slice_get codes number ≡ Some pre
 head_there [] zero pre pres at = cc
 head_there [] (suc number) pre pres at = cc
 head_there (c ∷ cs) zero pre pres at = cc
 head_there (c ∷ cs) (suc number) pre pres at = head_there cs number pre pres at
 
-tail_there : (codes : List PreSection) (number : ℕ) (pre : PreSection) (pres : List PreSection) → drop number codes ≡ pre ∷ pres → drop (suc number) codes ≡ pres
+tail_there : (codes : List PreSection) (number : ℕ) (pre : PreSection) (pres : List PreSection)
+    → drop number codes ≡ pre ∷ pres → drop (suc number) codes ≡ pres
 tail_there [] zero pre pres at = cc
 tail_there [] (suc number) pre pres at = cc
 tail_there (c ∷ cs) zero pre pres at = cc
 tail_there (c ∷ cs) (suc number) pre pres at = tail_there cs number pre pres at
 
-are_tried_from : (running : Running) (codes : List PreSection) (number : ℕ) (pres : List PreSection) → drop number codes ≡ pres
+are_tried_from : (running : Running) (codes : List PreSection) (number : ℕ) (pres : List PreSection)
+    → drop number codes ≡ pres
     → AllZip (IsTried codes) (flat_map (candidates_of running) pres) (tried_from running number pres)
 unfolding tried_from
 are_tried_from running codes number [] at = tt
 are_tried_from running codes number (pre ∷ pres) at =
-    are_tried_before running codes pre number (homes_of running pre) (flat_map (candidates_of running) pres) (tried_from running (suc number) pres)
-    (head_there codes number pre pres at) (are_tried_from running codes (suc number) pres (tail_there codes number pre pres at))
+    are_tried_before running codes pre number (homes_of running pre) (flat_map (candidates_of running) pres)
+    (tried_from running (suc number) pres)
+    (head_there codes number pre pres at) (are_tried_from running codes (suc number) pres
+    (tail_there codes number pre pres at))
 
-pub are_tried : (running : Running) (codes : List PreSection) → AllZip (IsTried codes) (flat_map (candidates_of running) codes) (tried_from running 0 codes)
+pub are_tried : (running : Running) (codes : List PreSection)
+    → AllZip (IsTried codes) (flat_map (candidates_of running) codes) (tried_from running 0 codes)
 are_tried running codes = are_tried_from running codes 0 codes refl

@@ -1,4 +1,5 @@
--- What is wrong with one code section of an object by itself: its code can't be matched, it has no candidate, or no candidate matches.
+-- What is wrong with one code section of an object by itself: its code can't be matched, it has no candidate, or no
+-- candidate matches.
 use Rattle.std.specs.Prelude.{◌≡◌, if◌then◌else◌, List, [], ◌∷◌, Option, Some, None, Result, Ok, Err}
 use Rattle.std.specs.Option.{option_map, option_or}
 use Rattle.std.specs.List.{list_any, slice_get, AllZip}

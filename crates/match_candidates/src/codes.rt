@@ -24,7 +24,8 @@ fn code_at<'n, 'a>(
 ) -> Result<PreCode<'n, 'a>, Refusal>
     requires { slice_get object.now place ≡ Some section.now }
     ensures code { IfOk result (λ code. code ≡ record { object = object.now; place = place; section = section.now }) }
-    ensures ok { IfOk result (λ _. undecoded_in (record { object = object.now; place = place; section = section.now }) ≡ None) }
+    ensures ok { IfOk result
+        (λ _. undecoded_in (record { object = object.now; place = place; section = section.now }) ≡ None) }
     ensures refused { IfErr result (λ refusal. refusal ≢ Memory
         → undecoded_in (record { object = object.now; place = place; section = section.now }) ≡ Some refusal) }
 {

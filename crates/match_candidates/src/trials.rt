@@ -59,13 +59,13 @@ impl<'n, 'a> Trials<'n, 'a> {
     }
 }
 
-/// Matches each function that a code section of an object may be by itself: those at the addresses of function symbols of its
-/// function's name whose newest version is still there.
+/// Matches each function that a code section of an object may be by itself: those at the addresses of function symbols
+/// of its function's name whose newest version is still there.
 ///
-/// [`Refusal::PreUndecoded`] comes exactly where a code section can't be matched, with the first such section and the least offset;
-/// otherwise [`Refusal::NoCandidate`] where there is nothing that one may be, with the first one's name; otherwise
-/// [`Refusal::Mismatch`] where all that one may be differ from it, with the first such section and the difference of the lowest home.
-/// [`Refusal::Memory`] comes for want of memory alone.
+/// [`Refusal::PreUndecoded`] comes exactly where a code section can't be matched, with the first such section and the
+/// least offset; otherwise [`Refusal::NoCandidate`] where there is nothing that one may be, with the name of the first
+/// one's function; otherwise [`Refusal::Mismatch`] where all that one may be differ from it, with the first such
+/// section and the difference of the lowest home. [`Refusal::Memory`] comes for want of memory alone.
 pub fn try_all<'n, 'a, S: Space>(
     alloc: Global,
     object: &'n Normal<'a>,

@@ -116,7 +116,7 @@ fn try_section<S: Space>(
     Ok(())
 }
 
-/// Tries the homes of each of some sections. [`Refusal::Mismatch`] comes at the first one that differs from all of its homes.
+/// Tries the homes of each of some sections. [`Refusal::Mismatch`] comes at the first that differs from all of them.
 pub(crate) fn try_sections<S: Space>(
     alloc: Global,
     running: &Running<'_, S>,
@@ -130,7 +130,14 @@ pub(crate) fn try_sections<S: Space>(
 {
     let mut tried = Vec::new(alloc);
     for (number, code) in codes.iter().enumerate() {
-        try_section(alloc, running, code, number, homes[number].as_slice(), &mut tried)?;
+        try_section(
+            alloc,
+            running,
+            code,
+            number,
+            homes[number].as_slice(),
+            &mut tried,
+        )?;
     }
     Ok(tried)
 }

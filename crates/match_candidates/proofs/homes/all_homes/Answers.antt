@@ -9,17 +9,24 @@ pub returns-in_err-own-clause-refused : goal.returns-in_err-own-clause-refused
 returns-in_err-own-clause-refused g c =
     let p = err_from_is_err_and c.from_residual.result c.from_residual.ensures.1 in
     let lt : c.loop-code.code-index < length c.args.codes.now = omega arith in
-    rw (p.1, p.2) (λ other. some_there (λ pre. missing_in pre (candidates_of c.args.running.now pre)) c.args.codes.now c.loop-code.code-index c.code-item.result _ lt c.code-item.is (c.in_err-own.ensures.refused other) c.loop-code.invariant.none)
+    rw (p.1, p.2) (λ other. some_there (λ pre. missing_in pre
+    (candidates_of c.args.running.now pre)) c.args.codes.now c.loop-code.code-index c.code-item.result _ lt
+    c.code-item.is (c.in_err-own.ensures.refused other) c.loop-code.invariant.none)
 
 pub loop-code-preserved : goal.loop-code-preserved
 loop-code-preserved g c =
     let lt : c.loop-code.code-index < length c.args.codes.now = omega arith in
     record {
-      homes = map_next (homes_of c.args.running.now) c.args.codes.now c.loop-code.homes c.push.new.self c.loop-code.code-index c.code-item.result c.code-item.result c.in_ok-own.own lt c.code-item.is c.in_ok-own.ensures.homes c.loop-code.invariant.homes c.in_ok-push.ensures.ok;
-      none = none_more (λ pre. missing_in pre (candidates_of c.args.running.now pre)) c.args.codes.now c.loop-code.code-index c.code-item.result lt c.code-item.is c.in_ok-own.ensures.ok c.loop-code.invariant.none;
+      homes = map_next (homes_of c.args.running.now) c.args.codes.now c.loop-code.homes c.push.new.self
+          c.loop-code.code-index c.code-item.result c.code-item.result c.in_ok-own.own lt c.code-item.is
+          c.in_ok-own.ensures.homes c.loop-code.invariant.homes c.in_ok-push.ensures.ok;
+      none = none_more (λ pre. missing_in pre
+          (candidates_of c.args.running.now pre)) c.args.codes.now c.loop-code.code-index c.code-item.result lt
+          c.code-item.is c.in_ok-own.ensures.ok c.loop-code.invariant.none;
     }
 
 pub returns-clause-ok : goal.returns-clause-ok
 returns-clause-ok g c =
     let all : c.loop-code.code-index ≡ length c.args.codes.now = omega arith in
-    none_at_all (λ pre. missing_in pre (candidates_of c.args.running.now pre)) c.args.codes.now c.loop-code.code-index all c.loop-code.invariant.none
+    none_at_all (λ pre. missing_in pre
+    (candidates_of c.args.running.now pre)) c.args.codes.now c.loop-code.code-index all c.loop-code.invariant.none

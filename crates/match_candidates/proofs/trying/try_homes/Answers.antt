@@ -11,7 +11,8 @@ loop-home-preserved g c =
     let running = c.args.running.now in
     let lt : c.loop-home.home-index < length c.args.homes.now = omega arith in
     let home = get_or c.args.homes.now c.loop-home.home-index 0 in
-    map_next (tried_at running c.args.code.now c.args.number) c.args.homes.now c.loop-home.tried.items c.push.new.self.items c.loop-home.home-index 0 home
+    map_next (tried_at running c.args.code.now c.args.number) c.args.homes.now c.loop-home.tried.items
+    c.push.new.self.items c.loop-home.home-index 0 home
     (kept c.args.number home c.newest-base.result c.in_ok-outcome.outcome) lt refl
     (tried_is running c.args.code.now c.args.number home c.newest-base.result c.in_ok-outcome.outcome
     (c.newest-base.ensures ∙ ap (λ (r : Running). newest r.bodies home) c.running.view_is) c.in_ok-outcome.ensures)
