@@ -1,10 +1,8 @@
 -- The code sections of an object, section by section.
-use Rattle.std.proofs.Common.{◌≡◌, ℕ, suc, ◌+◌, ◌<◌, true, false, List, [], ◌∷◌, ◌++◌, length, get_or, drop, Some, None, refl, sym, ap, ◌∙◌, append_assoc, add-one}
+use Rattle.std.proofs.Common.{◌≡◌, ℕ, suc, ◌+◌, ◌<◌, Bool, true, false, List, [], ◌∷◌, ◌++◌, length, get_or, drop, Some, None, refl, sym, ap, ◌∙◌, append_assoc, add-one}
 use Rattle.std.specs.Prelude.{if◌then◌else◌}
-use Rattle.std.specs.List.{slice_get}
 use Rattle.std.proofs.Math.Seq.{drop-length}
 use Rattle.std.proofs.lemmas.List.{append-nil}
-use Rattle.std.proofs.lemmas.Option.{slice_get-get_or}
 use Rattle.ks_base.specs.declared.refusals.Refusal.{Refusal}
 use Rattle.i386_reloc.specs.declared.types.NormalSection.{NormalSection}
 use Rattle.i386_reloc.specs.Classes.{is_code_class}
@@ -18,21 +16,22 @@ use Rattle.match_candidates.proofs.FirstLaws.{first_here, first_later, first_now
 abbrev pub section_at : List NormalSection → ℕ → NormalSection → PreSection
 section_at object place section = record { object = object; place = place; section = section }
 
+-- the code sections from a place on, by whether the section there is one
+code_by : List NormalSection → ℕ → NormalSection → List NormalSection → Bool → List PreSection
+code_by object place s rest is_code =
+    if is_code then section_at object place s ∷ code_from object (suc place) rest
+    else code_from object (suc place) rest
+
 pub passes : (object : List NormalSection) (place : ℕ) (s : NormalSection) (rest : List NormalSection)
-    → is_code_class s.class ≡ false
-    → code_from object place (s ∷ rest) ≡ code_from object (suc place) rest
-unfolding code_from
-passes object place s rest other =
-    ap (λ b. if b then section_at object place s ∷ code_from object (suc place) rest else code_from object
-    (suc place) rest) other
+    → is_code_class s.class ≡ false → code_from object place (s ∷ rest) ≡ code_from object (suc place) rest
+unfolding code_from code_by
+passes object place s rest other = ap (code_by object place s rest) other
 
 pub takes : (object : List NormalSection) (place : ℕ) (s : NormalSection) (rest : List NormalSection)
     → is_code_class s.class ≡ true
     → code_from object place (s ∷ rest) ≡ section_at object place s ∷ code_from object (suc place) rest
-unfolding code_from
-takes object place s rest is =
-    ap (λ b. if b then section_at object place s ∷ code_from object (suc place) rest else code_from object
-    (suc place) rest) is
+unfolding code_from code_by
+takes object place s rest is = ap (code_by object place s rest) is
 
 pub takes_after : (codes now : List PreSection) (object : List NormalSection) (place : ℕ) (s : NormalSection)
     (rest : List NormalSection) → is_code_class s.class ≡ true
@@ -62,13 +61,6 @@ pub record Passed (object items : List NormalSection) (codes : List PreSection) 
   pub same : items ≡ object
   pub all : code_sections object ≡ codes ++ code_from object place (drop place items)
   pub none : first_undecoded object ≡ undecoded_from object place (drop place items)
-
-pub passed_none : (object items : List NormalSection) → items ≡ object → Passed object items [] 0
-passed_none object items same = record {
-  same = same;
-  all = ap (λ l. code_from object 0 l) (sym same);
-  none = ap (λ l. undecoded_from object 0 l) (sym same);
-}
 
 pub passed_more : (object items : List NormalSection) (codes now : List PreSection) (place : ℕ) (s : NormalSection)
     → place < length items → s ≡ get_or items place s → Passed object items codes place
@@ -113,8 +105,3 @@ pub passed_without : (object items : List NormalSection) (codes : List PreSectio
 passed_without object items codes place all so_far =
     so_far.none ∙ ap (λ l. undecoded_from object place l) (left_none items place all)
     ∙ ap (λ l. first_some undecoded_in l) (code_of_none object place) ∙ first_nowhere undecoded_in
-
-pub section_there : (object items pre : List NormalSection) (place : ℕ) (s : NormalSection) → place < length items
-    → s ≡ get_or items place s → items ≡ object → pre ≡ object → slice_get pre place ≡ Some s
-section_there object items pre place s lt is same pre_is =
-    ap (λ l. slice_get l place) (pre_is ∙ sym same) ∙ slice_get-get_or items place s lt ∙ ap Some (sym is)

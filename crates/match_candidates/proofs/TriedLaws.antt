@@ -16,11 +16,11 @@ use Rattle.match_candidates.specs.inside.Trying.{tried_at, all_tried, tried_of, 
 use Rattle.match_candidates.proofs.FirstLaws.{drop_next}
 
 any_same : (running : Running) (pre : PreSection) (number : ℕ) (homes : List ℕ)
-    → list_any has_matched (all_tried running pre number homes) ≡ list_any matches (map
-    (candidate_at running pre) homes)
+    → list_any has_matched (all_tried running pre number homes)
+    ≡ list_any matches (map (candidate_at running pre) homes)
 any_same running pre number [] = refl
-any_same running pre number (h ∷ hs) = ap (λ b. matches (candidate_at running pre h) || b)
-    (any_same running pre number hs)
+any_same running pre number (h ∷ hs) =
+    ap (λ b. matches (candidate_at running pre h) || b) (any_same running pre number hs)
 
 mismatch_same : (running : Running) (pre : PreSection) (number : ℕ) (homes : List ℕ)
     → mismatch_by pre (all_tried running pre number homes) ≡ mismatch_in pre (map (candidate_at running pre) homes)
@@ -73,11 +73,10 @@ are_tried_before : (running : Running) (codes : List PreSection) (pre : PreSecti
     → slice_get codes number ≡ Some pre → AllZip (IsTried codes) cs ts
     → AllZip (IsTried codes) (map (candidate_at running pre) homes ++ cs) (all_tried running pre number homes ++ ts)
 are_tried_before running codes pre number [] cs ts at others = others
-are_tried_before running codes pre number (h ∷ hs) cs ts at others = (
-  record { code = at; home = refl; base = refl; outcome = refl },
-  are_tried_before running codes pre number hs cs
-      ts at others,
-)
+are_tried_before running codes pre number (h ∷ hs) cs ts at others =
+    let first : IsTried codes (candidate_at running pre h) (tried_at running pre number h) =
+    record { code = at; home = refl; base = refl; outcome = refl } in
+    (first, are_tried_before running codes pre number hs cs ts at others)
 
 head_there : (codes : List PreSection) (number : ℕ) (pre : PreSection) (pres : List PreSection)
     → drop number codes ≡ pre ∷ pres → slice_get codes number ≡ Some pre
@@ -99,10 +98,9 @@ are_tried_from : (running : Running) (codes : List PreSection) (number : ℕ) (p
 unfolding tried_from
 are_tried_from running codes number [] at = tt
 are_tried_from running codes number (pre ∷ pres) at =
+    let others = are_tried_from running codes (suc number) pres (tail_there codes number pre pres at) in
     are_tried_before running codes pre number (homes_of running pre) (flat_map (candidates_of running) pres)
-    (tried_from running (suc number) pres)
-    (head_there codes number pre pres at) (are_tried_from running codes (suc number) pres
-    (tail_there codes number pre pres at))
+    (tried_from running (suc number) pres) (head_there codes number pre pres at) others
 
 pub are_tried : (running : Running) (codes : List PreSection)
     → AllZip (IsTried codes) (flat_map (candidates_of running) codes) (tried_from running 0 codes)
