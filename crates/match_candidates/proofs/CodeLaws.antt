@@ -62,30 +62,38 @@ pub record Passed (object items : List NormalSection) (codes : List PreSection) 
   pub all : code_sections object ≡ codes ++ code_from object place (drop place items)
   pub none : first_undecoded object ≡ undecoded_from object place (drop place items)
 
-pub passed_more : (object items : List NormalSection) (codes now : List PreSection) (place : ℕ) (s : NormalSection)
-    → place < length items → s ≡ get_or items place s → Passed object items codes place
-    → ((rest : List NormalSection)
-    → codes ++ code_from object place (s ∷ rest) ≡ now ++ code_from object (suc place) rest)
-    → ((rest : List NormalSection) → undecoded_from object place (s ∷ rest) ≡ undecoded_from object (suc place) rest)
+-- what a step from a section of these leaves, said of a list that is the object
+pub passed_more : (object pre items : List NormalSection) (codes now : List PreSection) (place : ℕ) (s : NormalSection)
+    → pre ≡ object → place < length items → s ≡ get_or items place s → Passed object items codes place
+    → ((rest : List NormalSection) → codes ++ code_from pre place (s ∷ rest) ≡ now ++ code_from pre (suc place) rest)
+    → ((rest : List NormalSection) → undecoded_from pre place (s ∷ rest) ≡ undecoded_from pre (suc place) rest)
     → Passed object items now (place + 1)
-passed_more object items codes now place s lt is so_far step none =
+passed_more object pre items codes now place s it lt is so_far step none =
     let next = drop_next items place s lt is in
     let rest = drop (place + 1) items in
+    let stepped : codes ++ code_from object place (s ∷ rest) ≡ now ++ code_from object (suc place) rest =
+    ap (λ o. codes ++ code_from o place (s ∷ rest)) (sym it) ∙ step rest
+    ∙ ap (λ o. now ++ code_from o (suc place) rest) it in
+    let left : undecoded_from object place (s ∷ rest) ≡ undecoded_from object (suc place) rest =
+    ap (λ o. undecoded_from o place (s ∷ rest)) (sym it) ∙ none rest
+    ∙ ap (λ o. undecoded_from o (suc place) rest) it in
     record {
       same = so_far.same;
-      all = so_far.all ∙ ap (λ l. codes ++ code_from object place l) next ∙ step rest
+      all = so_far.all ∙ ap (λ l. codes ++ code_from object place l) next ∙ stepped
           ∙ ap (λ n. now ++ code_from object n rest) (sym (add-one place));
-      none = so_far.none ∙ ap (λ l. undecoded_from object place l) next ∙ none rest
+      none = so_far.none ∙ ap (λ l. undecoded_from object place l) next ∙ left
           ∙ ap (λ n. undecoded_from object n rest) (sym (add-one place));
     }
 
-pub passed_to : (object items : List NormalSection) (codes : List PreSection) (place : ℕ) (s : NormalSection)
-    (refusal : Refusal) → place < length items → s ≡ get_or items place s → Passed object items codes place
-    → ((rest : List NormalSection) → undecoded_from object place (s ∷ rest) ≡ Some refusal)
+pub passed_to : (object pre items : List NormalSection) (codes : List PreSection) (place : ℕ) (s : NormalSection)
+    (refusal : Refusal) → pre ≡ object → place < length items → s ≡ get_or items place s
+    → Passed object items codes place
+    → ((rest : List NormalSection) → undecoded_from pre place (s ∷ rest) ≡ Some refusal)
     → first_undecoded object ≡ Some refusal
-passed_to object items codes place s refusal lt is so_far here =
+passed_to object pre items codes place s refusal it lt is so_far here =
+    let rest = drop (place + 1) items in
     so_far.none ∙ ap (λ l. undecoded_from object place l) (drop_next items place s lt is)
-    ∙ here (drop (place + 1) items)
+    ∙ ap (λ o. undecoded_from o place (s ∷ rest)) (sym it) ∙ here rest
 
 code_of_none : (object : List NormalSection) (place : ℕ) → code_from object place [] ≡ []
 unfolding code_from
