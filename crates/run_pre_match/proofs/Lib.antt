@@ -2,6 +2,7 @@ mod Agreeing
 mod Aims
 mod AllBelow
 mod BodyLaws
+mod BodyPlaces
 mod Bounds
 mod Claims
 mod CodeLaws

