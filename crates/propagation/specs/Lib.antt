@@ -4,3 +4,4 @@ pub mod Rounds
 pub mod Conflicts
 pub mod Choices
 pub mod RoundLaws
+pub mod inside

@@ -5,6 +5,7 @@
 pub mod choice;
 mod conflicts;
 mod propagating;
+mod tables;
 
 pub use choice::{Choice, Claim, Demand};
 pub use conflicts::first_conflict;

@@ -1,0 +1,2 @@
+-- The state of the code, said by contracts inside this crate alone.
+pub mod Engine

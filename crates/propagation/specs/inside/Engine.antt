@@ -1,0 +1,136 @@
+-- What propagation keeps: the marks of the choices that are left, the sections that wait, and tables of what choices say.
+use Rattle.std.specs.Prelude.{ℕ, Bool, true, false, not, ◌&&◌, ◌||◌, ◌==◌, List, [], ◌∷◌, ◌++◌, map, slice_set, replicate, Option, Some, None, if◌then◌else◌}
+use Rattle.std.specs.List.{slice_index_or, slice_get, filter, fold, list_any}
+use Rattle.propagation.specs.declared.choice.Claim.{Claim}
+use Rattle.propagation.specs.declared.choice.Demand.{Demand}
+use Rattle.propagation.specs.declared.choice.Choice.{Choice}
+use Rattle.propagation.specs.declared.tables.Entry.{Entry}
+
+-- ---- lists by number
+-- the list of a number
+abbrev pub list_at : {X : Type 0} → List (List X) → ℕ → List X
+list_at table key = slice_index_or table key []
+
+abbrev pub is_value : Option ℕ → ℕ → Bool
+is_value None wanted = false
+is_value (Some value) wanted = value == wanted
+
+-- whether a number is known to have a value
+abbrev pub is_known : List (Option ℕ) → ℕ → ℕ → Bool
+is_known known key wanted = is_value (slice_index_or known key None) wanted
+
+-- ---- marks
+-- Which choices are left, the sections that wait, and which sections these are.
+pub record Marking : Type 0 where
+  pub left : List Bool
+  pub queue : List ℕ
+  pub queued : List Bool
+
+abbrev pub is_left : List Bool → ℕ → Bool
+is_left left choice = slice_index_or left choice false
+
+-- a section made to wait, where it doesn't yet
+abbrev pub waiting : Marking → ℕ → Marking
+waiting m section =
+    if slice_index_or m.queued section false then m else record { left = m.left; queue = m.queue ++ section ∷ []; queued = slice_set m.queued section true }
+
+abbrev pub excluded_from : Marking → ℕ → Option Choice → Marking
+excluded_from m choice None = m
+excluded_from m choice (Some c) =
+    if is_left m.left choice then waiting (record { left = slice_set m.left choice false; queue = m.queue; queued = m.queued }) c.section else m
+
+-- a choice excluded, at a place, whose section is then to be looked at
+abbrev pub excluded : List Choice → Marking → ℕ → Marking
+excluded choices m choice = excluded_from m choice (slice_get choices choice)
+
+abbrev pub excluded_each : List Choice → Marking → List ℕ → Marking
+excluded_each choices m victims = fold (excluded choices) m victims
+
+-- ---- what is kept of choices
+pub record Engine : Type 0 where
+  pub marking : Marking
+  -- by unknown, the choices that claim a value of it
+  pub claims : List (List Entry)
+  -- by unknown, the value that a claim that was carried out gave it last
+  pub fixed : List (Option ℕ)
+  -- by section, its choices
+  pub members : List (List ℕ)
+  -- by section, the numbers of the demands that are made on it
+  pub numbers : List (List ℕ)
+  -- by the number of a demand, the choices that make it, each with the section on which it does
+  pub makers : List (List Entry)
+  -- by the number of a demand, the section of which it was asked last
+  pub asked : List (Option ℕ)
+
+-- the entries' choices that say another value
+abbrev pub saying_other : ℕ → List Entry → List ℕ
+saying_other value entries = map (λ e. e.choice) (filter (λ e. not (e.value == value)) entries)
+
+-- the entries' choices that say this value
+abbrev pub saying : ℕ → List Entry → List ℕ
+saying value entries = map (λ e. e.choice) (filter (λ e. e.value == value) entries)
+
+abbrev pub entries_left : List Bool → List Entry → List Entry
+entries_left left entries = filter (λ e. is_left left e.choice) entries
+
+-- a claim carried out: the choices that claim another value of its unknown are excluded
+unfoldable pub fixing : List Choice → Engine → Claim → Engine
+fixing choices e claim =
+    let m = excluded_each choices e.marking (saying_other claim.value (list_at e.claims claim.unknown)) in
+    record e {
+      marking = m;
+      claims = slice_set e.claims claim.unknown (entries_left m.left (list_at e.claims claim.unknown));
+      fixed = slice_set e.fixed claim.unknown (Some claim.value)
+    }
+
+-- the same, where it wasn't carried out last
+unfoldable pub claimed : List Choice → Engine → Claim → Engine
+claimed choices e claim =
+    if is_known e.fixed claim.unknown claim.value then e else fixing choices e claim
+
+abbrev pub meets : Choice → ℕ → Bool
+meets c number = list_any (λ other. other == number) c.met
+
+abbrev pub fails : ℕ → Option Choice → Bool
+fails number None = true
+fails number (Some c) = not (meets c number)
+
+-- a demand carried out: the choices of its section that don't meet it are excluded
+unfoldable pub asking : List Choice → Engine → Demand → Engine
+asking choices e demand =
+    let m =
+        excluded_each choices e.marking (filter (λ choice. fails demand.number (slice_get choices choice)) (list_at e.members demand.section)) in
+    record e {
+      marking = m;
+      members = slice_set e.members demand.section (filter (is_left m.left) (list_at e.members demand.section));
+      asked = slice_set e.asked demand.number (Some demand.section)
+    }
+
+-- the same, where it isn't made on the section of the choice that makes it, and wasn't carried out last
+unfoldable pub asked_by : ℕ → List Choice → Engine → Demand → Engine
+asked_by own choices e demand =
+    if demand.section == own || is_known e.asked demand.number demand.section then e else asking choices e demand
+
+-- the choices that make a demand on a section are excluded
+abbrev pub refusing : List Choice → ℕ → Engine → ℕ → Engine
+refusing choices section e number =
+    record e { marking = excluded_each choices e.marking (saying section (list_at e.makers number)) }
+
+-- the demands on a choice's section that it doesn't meet carried out
+unfoldable pub meeting : List Choice → Engine → Choice → Engine
+meeting choices e c =
+    let after = fold (refusing choices c.section) e (filter (λ number. not (meets c number)) (list_at e.numbers c.section)) in
+    record after { numbers = slice_set e.numbers c.section (filter (meets c) (list_at e.numbers c.section)) }
+
+-- a choice that must be chosen carried out: those that clash with it are excluded
+unfoldable pub carried_out : List Choice → Engine → Choice → Engine
+carried_out choices e c =
+    meeting choices (fold (asked_by c.section choices) (fold (claimed choices) e c.claims) c.demands) c
+
+abbrev pub carried_if : List Choice → Engine → Option Choice → Engine
+carried_if choices e None = e
+carried_if choices e (Some c) = if c.matches then carried_out choices e c else e
+
+-- the choice at a place carried out, where it can be chosen
+unfoldable pub carried_at : List Choice → Engine → ℕ → Engine
+carried_at choices e choice = carried_if choices e (slice_get choices choice)
