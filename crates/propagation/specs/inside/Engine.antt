@@ -1,6 +1,7 @@
 -- What propagation keeps: the marks of the choices that are left, the sections that wait, and tables of what choices say.
 use Rattle.std.specs.Prelude.{ℕ, Bool, true, false, not, ◌&&◌, ◌||◌, ◌==◌, List, [], ◌∷◌, ◌++◌, map, slice_set, replicate, Option, Some, None, if◌then◌else◌}
 use Rattle.std.specs.List.{slice_index_or, slice_get, filter, fold, list_any}
+use Rattle.std.specs.List.Sorted.{IsStrictlyIncreasing}
 use Rattle.propagation.specs.declared.choice.Claim.{Claim}
 use Rattle.propagation.specs.declared.choice.Demand.{Demand}
 use Rattle.propagation.specs.declared.choice.Choice.{Choice}
@@ -34,12 +35,16 @@ abbrev pub waiting : Marking → ℕ → Marking
 waiting m section =
     if slice_index_or m.queued section false then m else record { left = m.left; queue = m.queue ++ section ∷ []; queued = slice_set m.queued section true }
 
+-- a choice excluded, whose section is then to be looked at
+abbrev pub excluded_of : Marking → ℕ → ℕ → Marking
+excluded_of m choice section =
+    if is_left m.left choice then waiting (record { left = slice_set m.left choice false; queue = m.queue; queued = m.queued }) section else m
+
 abbrev pub excluded_from : Marking → ℕ → Option Choice → Marking
 excluded_from m choice None = m
-excluded_from m choice (Some c) =
-    if is_left m.left choice then waiting (record { left = slice_set m.left choice false; queue = m.queue; queued = m.queued }) c.section else m
+excluded_from m choice (Some c) = excluded_of m choice c.section
 
--- a choice excluded, at a place, whose section is then to be looked at
+-- the choice at a place excluded
 abbrev pub excluded : List Choice → Marking → ℕ → Marking
 excluded choices m choice = excluded_from m choice (slice_get choices choice)
 
@@ -91,6 +96,10 @@ claimed choices e claim =
 abbrev pub meets : Choice → ℕ → Bool
 meets c number = list_any (λ other. other == number) c.met
 
+-- the demands that a choice meets ascend
+abbrev pub Ascends : Choice → Type 0
+Ascends c = IsStrictlyIncreasing c.met
+
 abbrev pub fails : ℕ → Option Choice → Bool
 fails number None = true
 fails number (Some c) = not (meets c number)
@@ -120,7 +129,7 @@ refusing choices section e number =
 unfoldable pub meeting : List Choice → Engine → Choice → Engine
 meeting choices e c =
     let after = fold (refusing choices c.section) e (filter (λ number. not (meets c number)) (list_at e.numbers c.section)) in
-    record after { numbers = slice_set e.numbers c.section (filter (meets c) (list_at e.numbers c.section)) }
+    record after { numbers = slice_set after.numbers c.section (filter (meets c) (list_at e.numbers c.section)) }
 
 -- a choice that must be chosen carried out: those that clash with it are excluded
 unfoldable pub carried_out : List Choice → Engine → Choice → Engine
