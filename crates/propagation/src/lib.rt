@@ -4,6 +4,7 @@
 
 pub mod choice;
 mod conflicts;
+mod engine;
 mod marking;
 mod propagating;
 mod tables;

@@ -88,7 +88,11 @@ impl Marks {
     }
 
     // Excludes each of some choices.
-    pub(crate) fn exclude_each(&mut self, choices: &[Choice], victims: &[usize]) -> Result<(), AllocError>
+    pub(crate) fn exclude_each(
+        &mut self,
+        choices: &[Choice],
+        victims: &[usize],
+    ) -> Result<(), AllocError>
         ensures { OnOk result (self.new ≡ excluded_each choices.now self.old victims.now) }
     {
         for choice in victims {
@@ -98,17 +102,33 @@ impl Marks {
     }
 
     // The entries whose choices are left.
-    pub(crate) fn entries_left(&self, alloc: Global, entries: &[Entry]) -> Result<Vec<Entry>, AllocError>
+    pub(crate) fn entries_left(
+        &self,
+        alloc: Global,
+        entries: &[Entry],
+    ) -> Result<Vec<Entry>, AllocError>
         ensures { IfOk result (λ kept. kept.items ≡ entries_left self.now.left entries.now) }
     {
-        entries.iter().filter(|entry| self.is_left(entry.choice)).copied().collect(alloc)
+        entries
+            .iter()
+            .filter(|entry| self.is_left(entry.choice))
+            .copied()
+            .collect(alloc)
     }
 
     // Those of some choices that are left.
-    pub(crate) fn those_left(&self, alloc: Global, choices: &[usize]) -> Result<Vec<usize>, AllocError>
+    pub(crate) fn those_left(
+        &self,
+        alloc: Global,
+        choices: &[usize],
+    ) -> Result<Vec<usize>, AllocError>
         ensures { IfOk result (λ kept. kept.items ≡ filter (is_left self.now.left) choices.now) }
     {
-        choices.iter().filter(|choice| self.is_left(**choice)).copied().collect(alloc)
+        choices
+            .iter()
+            .filter(|choice| self.is_left(**choice))
+            .copied()
+            .collect(alloc)
     }
 
     // Which choices are left.

@@ -1,5 +1,5 @@
 -- What propagation keeps: the marks of the choices that are left, the sections that wait, and tables of what choices say.
-use Rattle.std.specs.Prelude.{ℕ, Bool, true, false, not, ◌&&◌, ◌||◌, ◌==◌, List, [], ◌∷◌, ◌++◌, map, slice_set, replicate, Option, Some, None, if◌then◌else◌}
+use Rattle.std.specs.Prelude.{ℕ, Bool, true, false, not, ◌||◌, ◌==◌, List, [], ◌∷◌, ◌++◌, map, slice_set, Option, Some, None, if◌then◌else◌}
 use Rattle.std.specs.List.{slice_index_or, slice_get, filter, fold, list_any}
 use Rattle.std.specs.List.Sorted.{IsStrictlyIncreasing}
 use Rattle.propagation.specs.declared.choice.Claim.{Claim}
@@ -85,7 +85,7 @@ fixing choices e claim =
     record e {
       marking = m;
       claims = slice_set e.claims claim.unknown (entries_left m.left (list_at e.claims claim.unknown));
-      fixed = slice_set e.fixed claim.unknown (Some claim.value)
+      fixed = slice_set e.fixed claim.unknown (Some claim.value);
     }
 
 -- the same, where it wasn't carried out last
@@ -108,11 +108,11 @@ fails number (Some c) = not (meets c number)
 unfoldable pub asking : List Choice → Engine → Demand → Engine
 asking choices e demand =
     let m =
-        excluded_each choices e.marking (filter (λ choice. fails demand.number (slice_get choices choice)) (list_at e.members demand.section)) in
+    excluded_each choices e.marking (filter (λ choice. fails demand.number (slice_get choices choice)) (list_at e.members demand.section)) in
     record e {
       marking = m;
       members = slice_set e.members demand.section (filter (is_left m.left) (list_at e.members demand.section));
-      asked = slice_set e.asked demand.number (Some demand.section)
+      asked = slice_set e.asked demand.number (Some demand.section);
     }
 
 -- the same, where it isn't made on the section of the choice that makes it, and wasn't carried out last
