@@ -3,6 +3,7 @@
 #![tactic(auto)]
 
 pub mod choice;
+mod building;
 mod conflicts;
 mod engine;
 mod marking;

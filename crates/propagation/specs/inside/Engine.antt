@@ -1,6 +1,6 @@
 -- What propagation keeps: the marks of the choices that are left, the sections that wait, and tables of what choices say.
-use Rattle.std.specs.Prelude.{ℕ, Bool, true, false, not, ◌||◌, ◌==◌, List, [], ◌∷◌, ◌++◌, map, slice_set, Option, Some, None, if◌then◌else◌}
-use Rattle.std.specs.List.{slice_index_or, slice_get, filter, fold, list_any}
+use Rattle.std.specs.Prelude.{◌≡◌, ◌<◌, ℕ, zero, suc, Bool, true, false, not, ◌&&◌, ◌||◌, ◌==◌, List, [], ◌∷◌, ◌++◌, map, slice_set, Option, Some, None, if◌then◌else◌}
+use Rattle.std.specs.List.{Contains, slice_index_or, slice_get, filter, fold, list_any}
 use Rattle.std.specs.List.Sorted.{IsStrictlyIncreasing}
 use Rattle.propagation.specs.declared.choice.Claim.{Claim}
 use Rattle.propagation.specs.declared.choice.Demand.{Demand}
@@ -143,3 +143,56 @@ carried_if choices e (Some c) = if c.matches then carried_out choices e c else e
 -- the choice at a place carried out, where it can be chosen
 unfoldable pub carried_at : List Choice → Engine → ℕ → Engine
 carried_at choices e choice = carried_if choices e (slice_get choices choice)
+
+-- ---- what the tables hold at first
+-- what a function gives of the numbers below one, in order
+abbrev pub said_below : {X : Type 0} → (ℕ → List X) → ℕ → List X
+said_below f zero = []
+said_below f (suc n) = said_below f n ++ f n
+
+-- the claims on an unknown
+abbrev pub claims_of : ℕ → ℕ → List Claim → List Entry
+claims_of unknown place claims =
+    map (λ claim. record { choice = place; value = claim.value }) (filter (λ claim. claim.unknown == unknown) claims)
+
+abbrev pub claims_from : ℕ → ℕ → Option Choice → List Entry
+claims_from unknown place None = []
+claims_from unknown place (Some c) = claims_of unknown place c.claims
+
+abbrev pub claims_at : List Choice → ℕ → ℕ → List Entry
+claims_at choices unknown place = claims_from unknown place (slice_get choices place)
+
+-- the demands with a number that are made on other sections than their own
+abbrev pub demands_of : ℕ → ℕ → ℕ → List Demand → List Entry
+demands_of number place own demands =
+    map (λ demand. record { choice = place; value = demand.section }) (filter (λ demand. demand.number == number && not (demand.section == own)) demands)
+
+abbrev pub demands_from : ℕ → ℕ → Option Choice → List Entry
+demands_from number place None = []
+demands_from number place (Some c) = demands_of number place c.section c.demands
+
+abbrev pub demands_at : List Choice → ℕ → ℕ → List Entry
+demands_at choices number place = demands_from number place (slice_get choices place)
+
+-- a place where two sections are the same
+abbrev pub place_if : ℕ → ℕ → ℕ → List ℕ
+place_if section own place = if section == own then place ∷ [] else []
+
+abbrev pub member_from : ℕ → ℕ → Option Choice → List ℕ
+member_from section place None = []
+member_from section place (Some c) = place_if section c.section place
+
+abbrev pub members_at : List Choice → ℕ → ℕ → List ℕ
+members_at choices section place = member_from section place (slice_get choices place)
+
+-- A table of numbers has those of the demands that the first choices make on other sections than their own.
+abbrev pub HasNumbers : List Choice → ℕ → List (List ℕ) → Type 0
+HasNumbers choices count table =
+    (place : ℕ) (c : Choice) (demand : Demand) → place < count → slice_get choices place ≡ Some c → Contains c.demands demand → (demand.section ≡ c.section → ⊥)
+    → Contains (list_at table demand.section) demand.number
+
+-- ---- how many of a section are left
+-- whether a choice is left and isn't at a place
+abbrev pub is_other : List Bool → ℕ → ℕ → Bool
+is_other left except choice = is_left left choice && not (choice == except)
+
