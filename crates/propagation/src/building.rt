@@ -2,7 +2,7 @@
 ghost use Rattle.std.specs.Prelude.{◌≡◌, ◌<◌, ◌++◌, ◌∷◌, [], ℕ, length, All, OnOk, IfOk};
 ghost use Rattle.std.specs.List.{Contains};
 ghost use Rattle.propagation.specs.declared.choice.Demand.{Demand};
-ghost use Rattle.propagation.specs.inside.Engine.{list_at, is_known, said_below, claims_of, claims_at, demands_of, demands_at, place_if, members_at, HasNumbers};
+ghost use Rattle.propagation.specs.inside.Engine.{list_at, is_known, said_below, claims_of, claims_at, demands_of, demands_at, place_if, members_at, AreListed, Grows, HasDemands, HasNumbers};
 
 use crate::choice::{Choice, Claim, Demand};
 use crate::tables::{Entry, Known, Table};
@@ -93,6 +93,59 @@ pub(crate) fn demands_by_number(alloc: Global, choices: &[Choice]) -> Result<Tab
     let mut table = Table::new(alloc);
     for (place, choice) in choices.iter().enumerate() {
         put_demands(alloc, &mut table, place, choice.section, choice.demands.as_slice())?;
+    }
+    Ok(table)
+}
+
+// Puts the number of a demand on another section than its own into a table by section, where it wasn't put last.
+fn put_number(
+    alloc: Global,
+    table: &mut Table<u32>,
+    listed: &mut Known,
+    own: u32,
+    demand: Demand,
+) -> Result<(), AllocError>
+    requires { AreListed listed.old table.old }
+    ensures listed { OnOk result (AreListed listed.new table.new) }
+    ensures grows { OnOk result (Grows table.old table.new) }
+    ensures put { OnOk result ((demand.section ≡ own → ⊥) → Contains (list_at table.new demand.section) demand.number) }
+{
+    if demand.section == own || listed.is(demand.number as usize, demand.section) {
+        return Ok(());
+    }
+    table.push(alloc, demand.section as usize, demand.number)?;
+    listed.set(demand.number as usize, demand.section);
+    Ok(())
+}
+
+// The same for each of some demands.
+fn put_numbers(
+    alloc: Global,
+    table: &mut Table<u32>,
+    listed: &mut Known,
+    own: u32,
+    demands: &[Demand],
+) -> Result<(), AllocError>
+    requires { AreListed listed.old table.old }
+    ensures listed { OnOk result (AreListed listed.new table.new) }
+    ensures grows { OnOk result (Grows table.old table.new) }
+    ensures put { OnOk result (HasDemands own demands.now table.new) }
+{
+    for demand in demands {
+        put_number(alloc, table, listed, own, *demand)?;
+    }
+    Ok(())
+}
+
+// By section, the numbers of the demands that choices of other sections make on it, each once where a number stands for demands on one
+// section alone. `listed` has room for so many numbers.
+pub(crate) fn numbers_by_section(alloc: Global, choices: &[Choice], room: usize) -> Result<Table<u32>, AllocError>
+    ensures { IfOk result (λ table. HasNumbers choices.now (length choices.now) table) }
+{
+    let mut table = Table::new(alloc);
+    let mut listed = Known::new(alloc, room)?;
+    for choice in choices {
+        put_numbers(alloc, &mut table, &mut listed, choice.section, choice.demands.as_slice())?;
     }
     Ok(table)
 }

@@ -1,5 +1,5 @@
 //! Lists and values by number.
-ghost use Rattle.std.specs.Prelude.{◌≡◌, ◌==◌, ◌<◌, ◌++◌, ◌∷◌, ℕ, [], length, slice_set, OnOk, Some, if◌then◌else◌};
+ghost use Rattle.std.specs.Prelude.{◌≡◌, ◌==◌, ◌<◌, ◌++◌, ◌∷◌, ℕ, [], length, slice_set, OnOk, IfOk, Some, None, replicate, if◌then◌else◌};
 ghost use Rattle.propagation.specs.inside.Engine.{list_at, is_value, is_known};
 
 use ks_base::ListOf;
@@ -102,6 +102,15 @@ fn is_wanted(value: Option<u32>, wanted: u32) -> bool
 }
 
 impl Known {
+    // Room for a value for each number below one, with no value.
+    pub(crate) fn new(alloc: Global, room: usize) -> Result<Self, AllocError>
+        ensures { IfOk result (λ known. known ≡ replicate room None) }
+    {
+        Ok(Known {
+            values: vec![in alloc; None; room]?,
+        })
+    }
+
     // Whether a number has this value.
     pub(crate) fn is(&self, key: usize, wanted: u32) -> bool
         ensures { result ≡ is_known self.now key wanted }

@@ -185,11 +185,23 @@ member_from section place (Some c) = place_if section c.section place
 abbrev pub members_at : List Choice → ℕ → ℕ → List ℕ
 members_at choices section place = member_from section place (slice_get choices place)
 
--- A table of numbers has those of the demands that the first choices make on other sections than their own.
+-- what is known of numbers stands in a table
+abbrev pub AreListed : List (Option ℕ) → List (List ℕ) → Type 0
+AreListed listed table = (number section : ℕ) → is_known listed number section ≡ true → Contains (list_at table section) number
+
+-- a table's lists grow
+abbrev pub Grows : List (List ℕ) → List (List ℕ) → Type 0
+Grows old new = (section number : ℕ) → Contains (list_at old section) number → Contains (list_at new section) number
+
+-- A table has the numbers of the demands that are made on other sections than a given one.
+abbrev pub HasDemands : ℕ → List Demand → List (List ℕ) → Type 0
+HasDemands own demands table =
+    (demand : Demand) → Contains demands demand → (demand.section ≡ own → ⊥) → Contains (list_at table demand.section) demand.number
+
+-- A table has the numbers of the demands that the first choices make on other sections than their own.
 abbrev pub HasNumbers : List Choice → ℕ → List (List ℕ) → Type 0
 HasNumbers choices count table =
-    (place : ℕ) (c : Choice) (demand : Demand) → place < count → slice_get choices place ≡ Some c → Contains c.demands demand → (demand.section ≡ c.section → ⊥)
-    → Contains (list_at table demand.section) demand.number
+    (place : ℕ) (c : Choice) → place < count → slice_get choices place ≡ Some c → HasDemands c.section c.demands table
 
 -- ---- how many of a section are left
 -- whether a choice is left and isn't at a place
