@@ -1,8 +1,9 @@
 //! Marks of the choices that are left.
-ghost use Rattle.std.specs.Prelude.{◌≡◌, ◌<◌, ◌≤◌, ◌-◌, ℕ, false, true, length, map, slice_set, filter, replicate, OnOk, IfOk};
-ghost use Rattle.std.specs.List.{slice_index_or, range_with_len, slice_index};
+ghost use Rattle.std.specs.Prelude.{◌≡◌, ◌<◌, ◌≤◌, ◌-◌, ◌++◌, ℕ, false, true, length, map, slice_set, filter, replicate, MatchOption, option_to_list, OnOk, IfOk};
+ghost use Rattle.std.specs.List.{slice_index_or, slice_index};
 ghost use Rattle.propagation.specs.Choices.{can_be_chosen};
-ghost use Rattle.propagation.specs.inside.Engine.{is_left, waiting, excluded_of, excluded, excluded_each, entries_left};
+ghost use Rattle.propagation.specs.inside.State.{IsEnd, IsNarrowed};
+ghost use Rattle.propagation.specs.inside.Engine.{is_left, is_other, waiting, excluded_of, excluded, excluded_each, entries_left};
 
 use crate::choice::Choice;
 use crate::tables::Entry;
@@ -46,7 +47,40 @@ fn put_mark(marks: &mut [bool], place: usize, mark: bool)
     }
 }
 
+// Which choices can be chosen at all.
+fn possible(alloc: Global, choices: &[Choice]) -> Result<Vec<bool>, AllocError>
+    ensures { IfOk result (λ marks. marks.items ≡ map can_be_chosen choices.now) }
+{
+    choices.iter().map(|choice| choice.matches).collect(alloc)
+}
+
+// The numbers below one, ascending.
+fn numbers_below(alloc: Global, end: usize) -> Result<Vec<usize>, AllocError>
+    ensures len { IfOk result (λ numbers. length numbers.items ≡ end) }
+    ensures each { IfOk result (λ numbers. (k : ℕ) → k < end → slice_index numbers.items k ≡ k) }
+{
+    let mut numbers = Vec::new(alloc);
+    for number in 0..end {
+        numbers.push(number)?;
+    }
+    Ok(numbers)
+}
+
 impl Marks {
+    // The marks of choices of which all that can be chosen are left. Each of so many sections waits.
+    pub(crate) fn new(alloc: Global, choices: &[Choice], sections: usize) -> Result<Self, AllocError>
+        ensures left { IfOk result (λ m. m.left ≡ map can_be_chosen choices.now) }
+        ensures len { IfOk result (λ m. length m.queue ≡ sections) }
+        ensures queue { IfOk result (λ m. (k : ℕ) → k < sections → slice_index m.queue k ≡ k) }
+        ensures queued { IfOk result (λ m. m.queued ≡ replicate sections true) }
+    {
+        Ok(Marks {
+            left: possible(alloc, choices)?,
+            queue: numbers_below(alloc, sections)?,
+            queued: vec![in alloc; true; sections]?,
+        })
+    }
+
     // Whether a choice is left.
     pub(crate) fn is_left(&self, choice: usize) -> bool
         ensures { result ≡ is_left self.now.left choice }
@@ -129,6 +163,63 @@ impl Marks {
             .filter(|choice| self.is_left(**choice))
             .copied()
             .collect(alloc)
+    }
+
+    // Whether a choice is left and isn't at a place.
+    fn is_other(&self, except: usize, choice: usize) -> bool
+        ensures { result ≡ is_other self.now.left except choice }
+    {
+        self.is_left(choice) && choice != except
+    }
+
+    // How long the front of a list is that ends with the last choice that is left, and not at a place, among the first ones.
+    fn end_of_left(&self, list: &[usize], end: usize, except: usize) -> usize
+        requires { end ≤ length list.now }
+        ensures { IsEnd self.now.left list.now end except result }
+    {
+        let mut last = end;
+        while last > 0 {
+            if self.is_other(except, list[last - 1]) {
+                return last;
+            }
+            last -= 1;
+        }
+        0
+    }
+
+    // How many choices are marked.
+    fn len(&self) -> usize
+        ensures { result ≡ length self.now.left }
+    {
+        self.left.len()
+    }
+
+    // A list without choices at its end that aren't left, and without those before its last one. What is dropped is dropped once, so
+    // this takes constant time beside it.
+    pub(crate) fn narrowed(&self, mut list: Vec<usize>) -> Vec<usize>
+        ensures { IsNarrowed self.now.left list.items result.items }
+    {
+        let last = self.end_of_left(list.as_slice(), list.len(), self.len());
+        if last == 0 {
+            list.truncate(0);
+            return list;
+        }
+        let only = list[last - 1];
+        let before = self.end_of_left(list.as_slice(), last - 1, only);
+        list[before] = only;
+        list.truncate(before + 1);
+        list
+    }
+
+    // Takes a section that waits.
+    pub(crate) fn pop(&mut self) -> Option<usize>
+        ensures left { self.new.left ≡ self.old.left }
+        ensures queue { self.old.queue ≡ self.new.queue ++ option_to_list result }
+        ensures queued { MatchOption result (self.new.queued ≡ self.old.queued) (λ section. self.new.queued ≡ slice_set self.old.queued section false) }
+    {
+        let section = self.queue.pop()?;
+        put_mark(self.queued.as_mut_slice(), section, false);
+        Some(section)
     }
 
     // Which choices are left.
