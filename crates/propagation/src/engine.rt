@@ -1,6 +1,7 @@
 //! Carrying out a choice that must be chosen: those that clash with it are excluded.
 ghost use Rattle.std.specs.Prelude.{◌≡◌, All, ℕ, not, length, filter, map, slice_set, fold, OnOk, IfOk};
 ghost use Rattle.std.specs.List.{slice_get, list_any};
+ghost use Rattle.propagation.specs.inside.State.{carried_of, IsSettled};
 ghost use Rattle.propagation.specs.inside.Engine.{Ascends, meets, fails, saying, saying_other, fixing, claimed, asking, asked_by, refusing, meeting, carried_out, carried_at, list_at};
 
 use crate::choice::{Choice, Claim, Demand};
@@ -279,5 +280,39 @@ impl Engine {
             Some(choice) if choice.matches => self.carry_out(alloc, choices, choice),
             _ => Ok(()),
         }
+    }
+
+    // The same for each of some places.
+    fn carry_out_each(&mut self, alloc: Global, choices: &[Choice], places: &[usize]) -> Result<(), AllocError>
+        requires { All Ascends choices.now }
+        ensures { OnOk result (self.new ≡ fold (carried_at choices.now) self.old places.now) }
+    {
+        for place in places {
+            self.carry_out_at(alloc, choices, *place)?;
+        }
+        Ok(())
+    }
+
+    // Carries out what must be chosen of a section: all of its choices where none is left, or the only one that is.
+    fn settle(&mut self, alloc: Global, choices: &[Choice], whole: &Table<usize>, section: usize) -> Result<(), AllocError>
+        requires { All Ascends choices.now }
+        ensures { OnOk result (IsSettled choices.now whole.now section self.old self.new) }
+    {
+        let list = self.marks.narrowed(self.members.take(alloc, section));
+        let places = places_of(alloc, whole.get(section), list.as_slice())?;
+        self.members.put(section, list);
+        self.carry_out_each(alloc, choices, places.as_slice())?;
+        Ok(())
+    }
+}
+
+// What is carried out of a section with these choices, by those that are left.
+fn places_of(alloc: Global, whole: &[usize], list: &[usize]) -> Result<Vec<usize>, AllocError>
+    ensures { IfOk result (λ places. places.items ≡ carried_of whole.now list.now) }
+{
+    match list {
+        [] => Vec::from_slice(alloc, whole),
+        [_] => Vec::from_slice(alloc, list),
+        _ => Ok(Vec::new(alloc)),
     }
 }

@@ -5,6 +5,7 @@ ghost use Rattle.propagation.specs.inside.Engine.{list_at, is_value, is_known};
 use ks_base::ListOf;
 use std::alloc::{AllocError, Global};
 use std::marker::Model;
+use std::mem;
 
 // A choice by its place, and what it says: the value of an unknown, or the section of which something is asked.
 #[derive(Clone, Copy)]
@@ -64,6 +65,18 @@ impl<T: Drop> Table<T> {
         match self.lists.as_slice().get(key) {
             Some(list) => list.as_slice(),
             None => &[],
+        }
+    }
+
+    // Takes a number's list out, which leaves an empty one.
+    pub(crate) fn take(&mut self, alloc: Global, key: usize) -> Vec<T>
+        ensures items { result.items ≡ list_at self.old key }
+        ensures after { self.new ≡ slice_set self.old key [] }
+    {
+        if key < self.lists.len() {
+            mem::replace(&mut self.lists[key], ListOf::new(alloc)).into_vec()
+        } else {
+            Vec::new(alloc)
         }
     }
 
