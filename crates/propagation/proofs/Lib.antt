@@ -1,3 +1,4 @@
 pub mod ListLaws
 pub mod BuildLaws
 pub mod NarrowLaws
+pub mod MarkLaws

@@ -1,5 +1,5 @@
 -- What holds of the state between two steps.
-use Rattle.std.specs.Prelude.{◌≡◌, ◌⊎◌, ◌<◌, ◌≤◌, ◌+◌, ◌-◌, ℕ, Bool, true, false, cond, List, [], ◌∷◌, length, Contains, Some, slice_get, slice_set, slice_index, slice_index_or, sum_by, fold}
+use Rattle.std.specs.Prelude.{◌≡◌, ◌⊎◌, ◌<◌, ◌≤◌, ◌+◌, ◌-◌, ℕ, Bool, true, false, cond, List, [], ◌∷◌, length, Contains, Option, Some, slice_get, slice_set, slice_index, slice_index_or, sum_by, fold}
 use Rattle.propagation.specs.declared.choice.Claim.{Claim}
 use Rattle.propagation.specs.declared.choice.Demand.{Demand}
 use Rattle.propagation.specs.declared.choice.Choice.{Choice}
@@ -18,23 +18,23 @@ IsLeft left place = is_left left place ≡ true
 -- ---- tables
 -- The claims of what is left stand in the table, and the table has none that isn't made. What is left claims of an unknown the value
 -- that it was given.
-pub record KeepsClaims (choices : List Choice) (left : List Bool) (engine : Engine) : Type 0 where
-  pub complete : (place : ℕ) (c : Choice) (claim : Claim) → At choices place c → IsLeft left place → Contains c.claims claim → Contains (list_at engine.claims claim.unknown) (record { choice = place; value = claim.value })
-  pub sound : (unknown : ℕ) (entry : Entry) → Contains (list_at engine.claims unknown) entry → (c : Choice) → At choices entry.choice c → Contains c.claims (record { unknown = unknown; value = entry.value })
-  pub fixed : (unknown value : ℕ) → is_known engine.fixed unknown value ≡ true → (place : ℕ) (c : Choice) (claim : Claim) → At choices place c → IsLeft left place → Contains c.claims claim → claim.unknown ≡ unknown → claim.value ≡ value
+pub record KeepsClaims (choices : List Choice) (left : List Bool) (table : List (List Entry)) (known : List (Option ℕ)) : Type 0 where
+  pub complete : (place : ℕ) (c : Choice) (claim : Claim) → At choices place c → IsLeft left place → Contains c.claims claim → Contains (list_at table claim.unknown) (record { choice = place; value = claim.value })
+  pub sound : (unknown : ℕ) (entry : Entry) → Contains (list_at table unknown) entry → (c : Choice) → At choices entry.choice c → Contains c.claims (record { unknown = unknown; value = entry.value })
+  pub fixed : (unknown value : ℕ) → is_known known unknown value ≡ true → (place : ℕ) (c : Choice) (claim : Claim) → At choices place c → IsLeft left place → Contains c.claims claim → claim.unknown ≡ unknown → claim.value ≡ value
 
 -- What is left stands in its section's list, which has choices of this section alone. What is left of a section meets a demand that it
 -- was asked.
-pub record KeepsMembers (choices : List Choice) (left : List Bool) (engine : Engine) : Type 0 where
-  pub complete : (place : ℕ) (c : Choice) → At choices place c → IsLeft left place → Contains (list_at engine.members c.section) place
-  pub sound : (section place : ℕ) → Contains (list_at engine.members section) place → (c : Choice) → At choices place c → c.section ≡ section
-  pub asked : (number section : ℕ) → is_known engine.asked number section ≡ true → (place : ℕ) (c : Choice) → At choices place c → IsLeft left place → c.section ≡ section → meets c number ≡ true
+pub record KeepsMembers (choices : List Choice) (left : List Bool) (table : List (List ℕ)) (known : List (Option ℕ)) : Type 0 where
+  pub complete : (place : ℕ) (c : Choice) → At choices place c → IsLeft left place → Contains (list_at table c.section) place
+  pub sound : (section place : ℕ) → Contains (list_at table section) place → (c : Choice) → At choices place c → c.section ≡ section
+  pub asked : (number section : ℕ) → is_known known number section ≡ true → (place : ℕ) (c : Choice) → At choices place c → IsLeft left place → c.section ≡ section → meets c number ≡ true
 
 -- The demands of what is left on other sections stand in both tables, and that of their makers has none that isn't made.
-pub record KeepsDemands (choices : List Choice) (left : List Bool) (engine : Engine) : Type 0 where
-  pub numbers : (place : ℕ) (c : Choice) (demand : Demand) → At choices place c → IsLeft left place → Contains c.demands demand → (demand.section ≡ c.section → ⊥) → Contains (list_at engine.numbers demand.section) demand.number
-  pub makers : (place : ℕ) (c : Choice) (demand : Demand) → At choices place c → IsLeft left place → Contains c.demands demand → (demand.section ≡ c.section → ⊥) → Contains (list_at engine.makers demand.number) (record { choice = place; value = demand.section })
-  pub sound : (number : ℕ) (entry : Entry) → Contains (list_at engine.makers number) entry → (c : Choice) → At choices entry.choice c → Contains c.demands (record { section = entry.value; number = number }) × (entry.value ≡ c.section → ⊥)
+pub record KeepsDemands (choices : List Choice) (left : List Bool) (listed : List (List ℕ)) (table : List (List Entry)) : Type 0 where
+  pub numbers : (place : ℕ) (c : Choice) (demand : Demand) → At choices place c → IsLeft left place → Contains c.demands demand → (demand.section ≡ c.section → ⊥) → Contains (list_at listed demand.section) demand.number
+  pub makers : (place : ℕ) (c : Choice) (demand : Demand) → At choices place c → IsLeft left place → Contains c.demands demand → (demand.section ≡ c.section → ⊥) → Contains (list_at table demand.number) (record { choice = place; value = demand.section })
+  pub sound : (number : ℕ) (entry : Entry) → Contains (list_at table number) entry → (c : Choice) → At choices entry.choice c → Contains c.demands (record { section = entry.value; number = number }) × (entry.value ≡ c.section → ⊥)
 
 -- ---- marks
 abbrev pub waits : Marking → ℕ → Bool
@@ -48,9 +48,9 @@ pub record KeepsMarks (choices : List Choice) (m : Marking) : Type 0 where
 
 pub record Keeps (choices : List Choice) (engine : Engine) : Type 0 where
   pub marks : KeepsMarks choices engine.marking
-  pub claims : KeepsClaims choices engine.marking.left engine
-  pub members : KeepsMembers choices engine.marking.left engine
-  pub demands : KeepsDemands choices engine.marking.left engine
+  pub claims : KeepsClaims choices engine.marking.left engine.claims engine.fixed
+  pub members : KeepsMembers choices engine.marking.left engine.members engine.asked
+  pub demands : KeepsDemands choices engine.marking.left engine.numbers engine.makers
 
 -- how many are left and wait: no more than so many steps are still to come
 abbrev pub weight : Marking → ℕ
