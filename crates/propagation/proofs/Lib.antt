@@ -4,3 +4,6 @@ pub mod NarrowLaws
 pub mod MarkLaws
 pub mod EngineLaws
 pub mod ClaimLaws
+pub mod DemandLaws
+pub mod MeetLaws
+pub mod CarryLaws
