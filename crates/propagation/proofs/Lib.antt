@@ -7,3 +7,4 @@ pub mod ClaimLaws
 pub mod DemandLaws
 pub mod MeetLaws
 pub mod CarryLaws
+pub mod RemainLaws

@@ -1,7 +1,8 @@
 -- Laws of lists, by what they contain, and of tables.
 use Rattle.std.proofs.Common.{◌≡◌, ◌⊎◌, ℕ, zero, suc, ◌==◌, ◌<◌, Bool, true, false, List, [], ◌∷◌, length, get_or, set, map, filter, Contains, Option, Some, None, refl, sym, ◌∙◌, ap, subst, inl, inr, arith, zero-lt-suc, suc-le-suc, le_of_suc-le-suc}
-use Rattle.std.specs.List.{list_any}
-use Rattle.std.proofs.lemmas.Bool.{cases_Bool, cases_eq, cases_lt, cond_both, cond-true, cond-false, false≢true, or_left, or_right, or_cases, eqb-true, eq-eqb}
+use Rattle.std.specs.List.{list_any, list_all, slice_get}
+use Rattle.std.proofs.lemmas.Option.{slice_get_within, slice_get-get_or, get_or_from_slice_get}
+use Rattle.std.proofs.lemmas.Bool.{cases_Bool, cases_eq, cases_lt, cond_both, cond-true, cond-false, false≢true, or_left, or_right, or_cases, and_parts, and_from, eqb-true, eq-eqb}
 use Rattle.std.proofs.lemmas.List.{get_or-set_same, get_or-set_other, set_past}
 use Rattle.std.proofs.lemmas.List.Elements.{Contains-append_left, Contains-append_right, Contains-append_cases}
 use Rattle.propagation.specs.inside.Engine.{is_known, is_value, said_below}
@@ -142,3 +143,24 @@ said_of f (suc n) x h =
       | inl early ↦ (let r = said_of f n x early in (r.0, omega (arith, r.1), r.2))
       | inr late ↦ (n, omega arith, late)
     ]
+
+-- ---- places, and tests of all
+pub contains_place : {X : Type 0} (xs : List X) (place : ℕ) (x : X) → slice_get xs place ≡ Some x → Contains xs x
+contains_place xs place x at = (place, slice_get_within xs place x at, get_or_from_slice_get xs place x x at)
+
+pub place_of : {X : Type 0} (xs : List X) (x : X) → Contains xs x → (place : ℕ) × (slice_get xs place ≡ Some x)
+place_of xs x h = (h.0, slice_get-get_or xs h.0 x h.1 ∙ ap Some h.2)
+
+pub list_all_has : {X : Type 0} (p : X → Bool) (xs : List X) (x : X) → list_all p xs ≡ true → Contains xs x → p x ≡ true
+list_all_has p [] x t h = absurd (Contains-none x h)
+list_all_has p (y ∷ ys) x t h =
+    let parts = and_parts (p y) (list_all p ys) t in
+    elim (Contains-cases y x ys h) [
+      | inl e ↦ ap p (sym e) ∙ parts.0
+      | inr later ↦ list_all_has p ys x parts.1 later
+    ]
+
+pub list_all_from : {X : Type 0} (p : X → Bool) (xs : List X) → ((x : X) → Contains xs x → p x ≡ true) → list_all p xs ≡ true
+list_all_from p [] each = refl
+list_all_from p (y ∷ ys) each =
+    and_from (p y) (list_all p ys) (each y (Contains-here y ys)) (list_all_from p ys (λ x h. each x (Contains-there y x ys h)))
