@@ -8,3 +8,6 @@ pub mod DemandLaws
 pub mod MeetLaws
 pub mod CarryLaws
 pub mod RemainLaws
+pub mod RunLaws
+pub mod SettleLaws
+pub mod StartLaws

@@ -1,0 +1,2 @@
+-- Laws of a section that is looked at.
+use Rattle.std.proofs.Common.{◌≡◌, ℕ}

@@ -1,0 +1,2 @@
+-- Laws of the state at first.
+use Rattle.std.proofs.Common.{◌≡◌, ℕ}
