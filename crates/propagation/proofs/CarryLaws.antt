@@ -1,8 +1,7 @@
 -- Laws of a choice carried out: what clashes with it is excluded.
-use Rattle.std.proofs.Common.{◌≡◌, ℕ, ◌==◌, Bool, true, false, not, ◌&&◌, ◌||◌, List, Contains, refl, sym, ◌∙◌, ap, subst, inl, inr, fold}
+use Rattle.std.proofs.Common.{◌≡◌, ℕ, ◌==◌, Bool, true, not, ◌&&◌, ◌||◌, List, sym, ◌∙◌, subst, inl, inr, fold}
 use Rattle.std.specs.List.{list_any}
-use Rattle.std.proofs.lemmas.Bool.{and_parts, and_from, or_cases, or_left, or_right, eqb-true, eqb-false, eq-eqb, ne_eqb, not-true, not_from_false}
-use Rattle.propagation.specs.declared.choice.Claim.{Claim}
+use Rattle.std.proofs.lemmas.Bool.{and_parts, and_from, or_cases, or_left, or_right, eqb-false, ne_eqb, not-true, not_from_false}
 use Rattle.propagation.specs.declared.choice.Demand.{Demand}
 use Rattle.propagation.specs.declared.choice.Choice.{Choice}
 use Rattle.propagation.specs.Choices.{Agree, contradict, claims_clash, demands_clash, is_unmet, clash}
@@ -77,8 +76,8 @@ module _ (choices : List Choice) (e : Engine) (c : Choice) (agree : Agree c.clai
               | inl claim ↦
                   clash_from other c (record {
                     elsewhere = λ same.
-                      (let P : Choice → Type 0 = λ x. claims_clash c x ≡ true in
-                      no_clash_in c agree (subst P (alone place other at left same) claim));
+                        (let P : Choice → Type 0 = λ x. claims_clash c x ≡ true in
+                        no_clash_in c agree (subst P (alone place other at left same) claim));
                     first = first;
                     second = chosen;
                     way = or_left (claims_clash other c || demands_clash other c) (demands_clash c other) (or_left (claims_clash other c) (demands_clash other c) (claims_swap c other claim));
@@ -90,7 +89,7 @@ module _ (choices : List Choice) (e : Engine) (c : Choice) (agree : Agree c.clai
                   let unmet = unmet_of other d parts.1 in
                   clash_from other c (record {
                     elsewhere = λ same.
-                      eqb-false d.section c.section (not-true (d.section == c.section) parts.0) (unmet.0 ∙ same);
+                        eqb-false d.section c.section (not-true (d.section == c.section) parts.0) (unmet.0 ∙ same);
                     first = first;
                     second = chosen;
                     way = or_right (claims_clash other c || demands_clash other c) (demands_clash c other) (list_any_from (is_unmet other) c.demands d some.1 parts.1);
@@ -126,8 +125,8 @@ module _ (choices : List Choice) (e : Engine) (c : Choice) (agree : Agree c.clai
             let unmet = unmet_of other d some.2 in
             or_left (against || refused) (is_failed_by c other)
             (or_right against refused
-              (list_any_from (λ demand. is_refused c.section demand other) c.demands d some.1
-                (and_from (not (d.section == c.section)) (is_unmet other d) (not_from_false (d.section == c.section) (ne_eqb d.section c.section (λ same. k.elsewhere (sym unmet.0 ∙ same)))) some.2))))
+            (list_any_from (λ demand. is_refused c.section demand other) c.demands d some.1
+            (and_from (not (d.section == c.section)) (is_unmet other d) (not_from_false (d.section == c.section) (ne_eqb d.section c.section (λ same. k.elsewhere (sym unmet.0 ∙ same)))) some.2))))
       ]
 
   pub carried_out_goes : Keeps choices e → Goes choices (λ other. clash other c) e (carried_out choices e c)

@@ -1,5 +1,5 @@
 -- Laws of claims carried out.
-use Rattle.std.proofs.Common.{◌≡◌, ℕ, ◌==◌, Bool, true, false, not, ◌&&◌, ◌||◌, List, [], ◌∷◌, get_or, set, map, filter, Contains, Option, Some, None, cond, refl, sym, ◌∙◌, ap, subst, inl, inr, fold, eqb}
+use Rattle.std.proofs.Common.{◌≡◌, ℕ, ◌==◌, Bool, true, false, not, List, [], ◌∷◌, set, filter, Contains, Option, Some, None, refl, sym, ◌∙◌, ap, subst, inl, inr, fold}
 use Rattle.std.specs.List.{list_any}
 use Rattle.std.proofs.lemmas.Bool.{cases_eq, cond_both, and_parts, and_from, eqb-true, eqb-false, eq-eqb, ne_eqb, not-true, not_from_false, both_ways, false_from_ne_true}
 use Rattle.propagation.specs.declared.choice.Claim.{Claim}
@@ -7,7 +7,7 @@ use Rattle.propagation.specs.declared.choice.Choice.{Choice}
 use Rattle.propagation.specs.declared.tables.Entry.{Entry}
 use Rattle.propagation.specs.Choices.{contradict}
 use Rattle.propagation.specs.inside.Engine.{Marking, Engine, list_at, is_value, is_known, is_left, excluded_each, saying_other, entries_left, fixing, claimed}
-use Rattle.propagation.specs.inside.State.{At, IsLeft, KeepsClaims, Keeps}
+use Rattle.propagation.specs.inside.State.{At, IsLeft, Keeps}
 use Rattle.propagation.proofs.ListLaws.{same_bools, Contains-filter, Contains_of_filter, Contains-map, Contains_of_map, list_any_from, list_any_has, has_from, has_of, set_cases}
 use Rattle.propagation.proofs.MarkLaws.{MarksGo, excluded_each_goes}
 use Rattle.propagation.proofs.EngineLaws.{Goes, goes_stay, goes_then, goes_from, marks_fewer, marks_passed, members_fewer, demands_fewer}
@@ -53,7 +53,7 @@ module _ (choices : List Choice) (e : Engine) (keeps : Keeps choices e) (claim :
       let found = keeps.claims.sound claim.unknown entry kept.0 c (subst P (sym mapped.2) at) in
       list_any_from (contradict claim) c.claims (record { unknown = claim.unknown; value = entry.value }) found
       (contradicts_from claim (record { unknown = claim.unknown; value = entry.value }) refl
-        (λ same. eqb-false entry.value claim.value (not-true (entry.value == claim.value) kept.1) (sym same)))
+      (λ same. eqb-false entry.value claim.value (not-true (entry.value == claim.value) kept.1) (sym same)))
 
   stands : (place : ℕ) (c : Choice) (other : Claim) → At choices place c → IsLeft e.marking.left place → Contains c.claims other → claim.unknown ≡ other.unknown → Contains list (record { choice = place; value = other.value })
   stands place c other at t h same =
@@ -84,7 +84,7 @@ module _ (choices : List Choice) (e : Engine) (keeps : Keeps choices e) (claim :
         | inl e' ↦ e'
         | inr ne ↦
             absurd (both_ways (is_against claim c) none
-              (list_any_from (contradict claim) c.claims other h (contradicts_from claim other (sym same) (λ x. ne (sym x)))))
+            (list_any_from (contradict claim) c.claims other h (contradicts_from claim other (sym same) (λ x. ne (sym x)))))
       ]
 
   abbrev table : List (List Entry)
@@ -141,13 +141,13 @@ module _ (choices : List Choice) (e : Engine) (keeps : Keeps choices e) (claim :
   claimed_goes =
       cond_both (is_known e.fixed claim.unknown claim.value) e (fixing choices e claim) (Goes choices (is_against claim) e)
       (λ is.
-        goes_stay choices (is_against claim) e keeps
-        (λ place c at t.
-          false_from_ne_true (is_against claim c)
-          (λ against.
-            (let some = list_any_has (contradict claim) c.claims against in
-            let parts = contradicts_of claim some.0 some.2 in
-            parts.1 (sym (keeps.claims.fixed claim.unknown claim.value is place c some.0 at t some.1 (sym parts.0)))))))
+      goes_stay choices (is_against claim) e keeps
+      (λ place c at t.
+      false_from_ne_true (is_against claim c)
+      (λ against.
+      (let some = list_any_has (contradict claim) c.claims against in
+      let parts = contradicts_of claim some.0 some.2 in
+      parts.1 (sym (keeps.claims.fixed claim.unknown claim.value is place c some.0 at t some.1 (sym parts.0)))))))
       (λ _. fixing_goes)
 
 -- each of some claims carried out

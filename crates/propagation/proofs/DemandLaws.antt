@@ -128,8 +128,8 @@ module _ (choices : List Choice) (e : Engine) (keeps : Keeps choices e) (demand 
         | inr is ↦
             false_from_ne_true (is_refused own demand c)
             (λ h.
-              (let parts = unmet_of c demand (and_parts (not (demand.section == own)) (test c) h).1 in
-              both_ways (meets c demand.number) parts.1 (keeps.members.asked demand.number demand.section is place c at left (sym parts.0))))
+            (let parts = unmet_of c demand (and_parts (not (demand.section == own)) (test c) h).1 in
+            both_ways (meets c demand.number) parts.1 (keeps.members.asked demand.number demand.section is place c at left (sym parts.0))))
       ]
 
   asked_by_goes : (own : ℕ) → Goes choices (is_refused own demand) e (asked_by own choices e demand)
@@ -138,8 +138,8 @@ module _ (choices : List Choice) (e : Engine) (keeps : Keeps choices e) (demand 
       cond_both (demand.section == own || is_known e.asked demand.number demand.section) e (asking choices e demand) (Goes choices (is_refused own demand) e)
       (λ t. goes_stay choices (is_refused own demand) e keeps (nothing_more own t))
       (λ f.
-        goes_like choices test (is_refused own demand) e (asking choices e demand) asking_goes
-        (λ place c at t. ap (λ b. not b && test c) (sym (or_parts (demand.section == own) (is_known e.asked demand.number demand.section) f).0)))
+      goes_like choices test (is_refused own demand) e (asking choices e demand) asking_goes
+      (λ place c at t. ap (λ b. not b && test c) (sym (or_parts (demand.section == own) (is_known e.asked demand.number demand.section) f).0)))
 
 -- each of some demands carried out
 pub demands_go : (choices : List Choice) (own : ℕ) (e : Engine) (demands : List Demand) → Keeps choices e → Goes choices (λ c. list_any (λ demand. is_refused own demand c) demands) e (fold (asked_by own choices) e demands)

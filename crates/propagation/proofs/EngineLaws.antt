@@ -4,7 +4,7 @@ use Rattle.std.proofs.lemmas.Bool.{cases_Bool, and_parts, not-true, both_ways}
 use Rattle.propagation.specs.declared.choice.Choice.{Choice}
 use Rattle.propagation.specs.declared.tables.Entry.{Entry}
 use Rattle.propagation.specs.inside.Engine.{Marking, Engine, is_left}
-use Rattle.propagation.specs.inside.State.{At, IsLeft, KeepsMarks, KeepsClaims, KeepsMembers, KeepsDemands, Keeps, waits, weight}
+use Rattle.propagation.specs.inside.State.{At, IsLeft, KeepsClaims, KeepsMembers, KeepsDemands, Keeps, waits, weight}
 use Rattle.propagation.proofs.MarkLaws.{MarksGo, and_same, and_or, and_like}
 
 pub record Goes (choices : List Choice) (test : Choice → Bool) (old new : Engine) : Type 0 where
@@ -39,13 +39,13 @@ pub goes_then : (choices : List Choice) (t u : Choice → Bool) (a b c : Engine)
 goes_then choices t u a b c first second = record {
   keeps = second.keeps;
   left = λ place x at.
-    second.left place x at ∙ ap (λ y. y && not (u x)) (first.left place x at) ∙ and_or (is_left a.marking.left place) (t x) (u x);
+      second.left place x at ∙ ap (λ y. y && not (u x)) (first.left place x at) ∙ and_or (is_left a.marking.left place) (t x) (u x);
   stays = λ section h. second.stays section (first.stays section h);
   put = λ place x at was now.
-    elim (cases_Bool (is_left b.marking.left place)) [
-      | inl still ↦ second.put place x at still now
-      | inr gone ↦ second.stays x.section (first.put place x at was gone)
-    ];
+      elim (cases_Bool (is_left b.marking.left place)) [
+        | inl still ↦ second.put place x at still now
+        | inr gone ↦ second.stays x.section (first.put place x at was gone)
+      ];
   weight = omega (arith, first.weight, second.weight);
 }
 
@@ -53,7 +53,7 @@ pub goes_like : (choices : List Choice) (t u : Choice → Bool) (a b : Engine) �
 goes_like choices t u a b goes like = record {
   keeps = goes.keeps;
   left = λ place c at.
-    goes.left place c at ∙ and_like (is_left a.marking.left place) (t c) (u c) (like place c at);
+      goes.left place c at ∙ and_like (is_left a.marking.left place) (t c) (u c) (like place c at);
   stays = goes.stays;
   put = goes.put;
   weight = goes.weight;
@@ -72,7 +72,7 @@ pub goes_from : (choices : List Choice) (t : ℕ → Bool) (test : Choice → Bo
 goes_from choices t test a b go same claims members demands = record {
   keeps = record { marks = go.keeps; claims = claims; members = members; demands = demands };
   left = λ place c at.
-    go.left place ∙ and_like (is_left a.marking.left place) (t place) (test c) (same place c at);
+      go.left place ∙ and_like (is_left a.marking.left place) (t place) (test c) (same place c at);
   stays = go.stays;
   put = go.put;
   weight = go.weight;

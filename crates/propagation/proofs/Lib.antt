@@ -11,3 +11,4 @@ pub mod RemainLaws
 pub mod RunLaws
 pub mod SettleLaws
 pub mod StartLaws
+pub mod EndLaws

@@ -118,9 +118,9 @@ set_cases {X} xs i j v d =
 pub known_of : (known : List (Option ℕ)) (key value : ℕ) → is_known known key value ≡ true → get_or known key None ≡ Some value
 known_of known key value t = value_of (get_or known key None) value t
   where
-  value_of : (o : Option ℕ) (value : ℕ) → is_value o value ≡ true → o ≡ Some value
-  value_of None value t = absurd (false≢true t)
-  value_of (Some x) value t = ap Some (eqb-true x value t)
+    value_of : (o : Option ℕ) (value : ℕ) → is_value o value ≡ true → o ≡ Some value
+    value_of None value t = absurd (false≢true t)
+    value_of (Some x) value t = ap Some (eqb-true x value t)
 
 pub known_from : (known : List (Option ℕ)) (key value : ℕ) → get_or known key None ≡ Some value → is_known known key value ≡ true
 known_from known key value e = ap (λ o. is_value o value) e ∙ eq-eqb value value refl

@@ -1,11 +1,10 @@
 -- Laws of marks: what an exclusion leaves.
-use Rattle.std.proofs.Common.{◌≡◌, ◌⊎◌, ℕ, zero, suc, ◌+◌, ◌<◌, ◌≤◌, Bool, true, false, not, ◌&&◌, ◌||◌, ◌==◌, cond, eqb, List, [], ◌∷◌, ◌++◌, length, get_or, set, sum_by, Contains, Option, Some, None, refl, sym, ◌∙◌, ap, subst, inl, inr, arith, slice_get}
+use Rattle.std.proofs.Common.{◌≡◌, ℕ, zero, suc, ◌+◌, ◌<◌, ◌≤◌, Bool, true, false, not, ◌&&◌, ◌||◌, ◌==◌, cond, List, [], ◌∷◌, ◌++◌, length, get_or, set, sum_by, Contains, Option, Some, None, refl, sym, ◌∙◌, ap, subst, inl, inr, arith, slice_get}
 use Rattle.std.specs.List.{list_any}
-use Rattle.std.proofs.lemmas.Bool.{cases_Bool, cases_eq, cases_lt, cond_both, false≢true, and_parts, eqb-true, eq-eqb, ne_eqb, false_from_ne_true, both_ways}
-use Rattle.std.proofs.lemmas.List.{length-set, length-append, get_or-set_same, get_or-set_other, get_or_past}
+use Rattle.std.proofs.lemmas.Bool.{cases_Bool, cases_eq, cases_lt, cond_both, false≢true, eq-eqb, ne_eqb, both_ways}
+use Rattle.std.proofs.lemmas.List.{length-set, length-append, get_or-set_same, get_or-set_other}
 use Rattle.std.proofs.lemmas.List.Elements.{Contains-append_left, Contains-push}
 use Rattle.std.proofs.lemmas.List.Sums.{sum_by-set}
-use Rattle.std.proofs.lemmas.Option.{slice_get_within, slice_get-get_or}
 use Rattle.propagation.specs.declared.choice.Choice.{Choice}
 use Rattle.propagation.specs.inside.Engine.{Marking, is_left, waiting, excluded_of, excluded_from, excluded, excluded_each}
 use Rattle.propagation.specs.inside.State.{At, IsLeft, KeepsMarks, waits, weight}
@@ -42,7 +41,7 @@ waited_anew m section = record { left = m.left; queue = m.queue ++ section ∷ [
 
 set_stays : (marks : List Bool) (i j : ℕ) → get_or marks j false ≡ true → get_or (set marks i true) j false ≡ true
 set_stays marks i j t =
-    elim (set_cases marks i j true false) [ | inl same ↦ same.1 | inr other ↦ other ∙ t ]
+    elim (set_cases marks i j true false) [ inl same ↦ same.1 | inr other ↦ other ∙ t ]
 
 waited_queue : (m : Marking) (section : ℕ) → ((s : ℕ) → waits m s ≡ true → Contains m.queue s) → (s : ℕ) → waits (waited_anew m section) s ≡ true → Contains (m.queue ++ section ∷ []) s
 waited_queue m section queue s t =
@@ -87,13 +86,13 @@ marks_then : (choices : List Choice) (t u : ℕ → Bool) (a b c : Marking) → 
 marks_then choices t u a b c first second = record {
   keeps = second.keeps;
   left = λ place.
-    second.left place ∙ ap (λ x. x && not (u place)) (first.left place) ∙ and_or (is_left a.left place) (t place) (u place);
+      second.left place ∙ ap (λ x. x && not (u place)) (first.left place) ∙ and_or (is_left a.left place) (t place) (u place);
   stays = λ section h. second.stays section (first.stays section h);
   put = λ place x at was now.
-    elim (cases_Bool (is_left b.left place)) [
-      | inl still ↦ second.put place x at still now
-      | inr gone ↦ second.stays x.section (first.put place x at was gone)
-    ];
+      elim (cases_Bool (is_left b.left place)) [
+        | inl still ↦ second.put place x at still now
+        | inr gone ↦ second.stays x.section (first.put place x at was gone)
+      ];
   weight = omega (arith, first.weight, second.weight);
 }
 
@@ -110,9 +109,9 @@ set_left left place other t =
           ∙ and_same (is_left left other) (place == other) (λ _. ne_eqb place other (λ e. ne (sym e)))
     ]
   where
-  and_no : (b : Bool) → (b && not true) ≡ false
-  and_no true = refl
-  and_no false = refl
+    and_no : (b : Bool) → (b && not true) ≡ false
+    and_no true = refl
+    and_no false = refl
 
 one_less : (left : List Bool) (place : ℕ) → IsLeft left place → sum_by (λ mark. cond mark 1 0) (set left place false) + 1 ≡ sum_by (λ mark. cond mark 1 0) left
 one_less left place t =
@@ -138,14 +137,14 @@ excluded_anew choices m place c keeps at t =
       left = left;
       stays = w.stays;
       put = λ other x h was now.
-        elim (cases_eq place other) [
-          | inl e ↦
-              (let same : At choices other c = ap (slice_get choices) (sym e) ∙ at in
-              let P : Choice → Type 0 = λ y. waits new y.section ≡ true in
-              subst P (same_choices choices other c x same h) w.here)
-          | inr ne ↦
-              absurd (false≢true (sym now ∙ left other ∙ ap (λ b. is_left m.left other && not b) (ne_eqb place other ne) ∙ ap (λ b. b && true) was))
-        ];
+          elim (cases_eq place other) [
+            | inl e ↦
+                (let same : At choices other c = ap (slice_get choices) (sym e) ∙ at in
+                let P : Choice → Type 0 = λ y. waits new y.section ≡ true in
+                subst P (same_choices choices other c x same h) w.here)
+            | inr ne ↦
+                absurd (false≢true (sym now ∙ left other ∙ ap (λ b. is_left m.left other && not b) (ne_eqb place other ne) ∙ ap (λ b. b && true) was))
+          ];
       weight = omega (arith, one_less m.left place t, w.longer, ap (λ (l : List Bool). sum_by (λ mark. cond mark 1 0) l) w.left);
     }
 
@@ -154,8 +153,8 @@ excluded_goes_of choices m place c keeps at =
     cond_both (is_left m.left place) (waiting (unmarked m place) c.section) m (MarksGo choices (λ other. place == other) m)
     (λ t. excluded_anew choices m place c keeps at t)
     (λ f.
-      marks_stay choices (λ other. place == other) m keeps
-      (λ other h. ne_eqb place other (λ e. both_ways (is_left m.left other) (ap (is_left m.left) (sym e) ∙ f) h)))
+    marks_stay choices (λ other. place == other) m keeps
+    (λ other h. ne_eqb place other (λ e. both_ways (is_left m.left other) (ap (is_left m.left) (sym e) ∙ f) h)))
 
 -- a place that no choice has isn't left
 past_isn't_left : (choices : List Choice) (m : Marking) (place : ℕ) → KeepsMarks choices m → slice_get choices place ≡ None → IsLeft m.left place → ⊥
@@ -168,16 +167,16 @@ past_isn't_left choices m place keeps none t =
           omega (arith, less, past, size))
     ]
   where
-  within : {X : Type 0} (xs : List X) (k : ℕ) → k < length xs → slice_get xs k ≡ None → ⊥
-  within [] k less e = omega arith
-  within (x ∷ xs) zero less e = cc
-  within (x ∷ xs) (suc k) less e = within xs k (omega arith) e
+    within : {X : Type 0} (xs : List X) (k : ℕ) → k < length xs → slice_get xs k ≡ None → ⊥
+    within [] k less e = omega arith
+    within (x ∷ xs) zero less e = cc
+    within (x ∷ xs) (suc k) less e = within xs k (omega arith) e
 
 excluded_goes_from : (choices : List Choice) (m : Marking) (place : ℕ) (o : Option Choice) → KeepsMarks choices m → slice_get choices place ≡ o → MarksGo choices (λ other. place == other) m (excluded_from m place o)
 excluded_goes_from choices m place None keeps at =
     marks_stay choices (λ other. place == other) m keeps
     (λ other h.
-      ne_eqb place other (λ e. past_isn't_left choices m other keeps (ap (slice_get choices) (sym e) ∙ at) h))
+    ne_eqb place other (λ e. past_isn't_left choices m other keeps (ap (slice_get choices) (sym e) ∙ at) h))
 excluded_goes_from choices m place (Some c) keeps at = excluded_goes_of choices m place c keeps at
 
 pub excluded_each_goes : (choices : List Choice) (m : Marking) (victims : List ℕ) → KeepsMarks choices m → MarksGo choices (λ place. list_any (λ victim. victim == place) victims) m (excluded_each choices m victims)

@@ -1,5 +1,5 @@
 -- Laws of the demands that a choice doesn't meet.
-use Rattle.std.proofs.Common.{◌≡◌, ℕ, ◌==◌, Bool, true, false, not, ◌&&◌, ◌||◌, List, [], ◌∷◌, set, map, filter, Contains, refl, sym, ◌∙◌, ap, subst, inl, inr, fold}
+use Rattle.std.proofs.Common.{◌≡◌, ℕ, ◌==◌, Bool, true, false, not, ◌&&◌, List, [], ◌∷◌, set, filter, Contains, refl, sym, ◌∙◌, ap, subst, inl, inr, fold}
 use Rattle.std.specs.List.{list_any}
 use Rattle.std.proofs.lemmas.Bool.{and_parts, and_from, eqb-true, eqb-false, eq-eqb, ne_eqb, not-true, not_from_false, both_ways, true_from_ne_false}
 use Rattle.propagation.specs.declared.choice.Demand.{Demand}
@@ -91,8 +91,8 @@ module _ (choices : List Choice) (section : ℕ) (e : Engine) (keeps : Keeps cho
       let fewer = marks_fewer choices is_victim e.marking after go in
       goes_from choices is_victim test e (refusing choices section e number) go
       (λ place c at t.
-        same_bools (is_victim place) (test c) (λ h. victim_of place c at (has_of victims place h))
-        (λ h. has_from victims place (victim_from place c at t h)))
+      same_bools (is_victim place) (test c) (λ h. victim_of place c at (has_of victims place h))
+      (λ h. has_from victims place (victim_from place c at t h)))
       (claims_fewer choices e.marking.left after.left e.claims e.fixed fewer keeps.claims)
       (members_fewer choices e.marking.left after.left e.members e.asked fewer keeps.members)
       (demands_fewer choices e.marking.left after.left e.numbers e.makers fewer keeps.demands)
@@ -153,7 +153,7 @@ module _ (choices : List Choice) (e : Engine) (keeps : Keeps choices e) (c : Cho
   refused_goes =
       goes_like choices (λ other. list_any (makes c.section other) unmet) (is_failed_by c) e refused (refusing_each_goes choices c.section e unmet keeps)
       (λ place other at t.
-        same_bools (list_any (makes c.section other) unmet) (is_failed_by c other) (there place other) (back place other at t))
+      same_bools (list_any (makes c.section other) unmet) (is_failed_by c other) (there place other) (back place other at t))
 
   abbrev kept : List (List ℕ)
   kept = set refused.numbers c.section (filter (meets c) listed)

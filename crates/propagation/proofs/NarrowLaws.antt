@@ -37,7 +37,7 @@ module _ (left : List Bool) (xs : List ℕ) where
   pub narrowed_none : IsEnd left xs (length xs) (length left) 0 → IsNarrowed left xs []
   narrowed_none end = record {
     kept = λ place h t.
-      absurd (past_isn't_left h.0 place t (at_place xs h.0 place h.1 h.2) (end.past h.0 (omega arith) h.1));
+        absurd (past_isn't_left h.0 place t (at_place xs h.0 place h.1 h.2) (end.past h.0 (omega arith) h.1));
     from = λ place h. absurd (Contains-none place h);
     last = λ less. absurd (omega arith);
     other = λ less. absurd (omega arith);
@@ -119,9 +119,9 @@ module _ (left : List Bool) (xs : List ℕ) (last before : ℕ) (ends : Ends lef
     kept = kept;
     from = from;
     last = λ less.
-      (let P : ℕ → Type 0 = IsLeft left in
-      subst P (sym at_end) (and_parts (is_left left only) _ (ends.first.found ends.some)).0);
+        (let P : ℕ → Type 0 = IsLeft left in
+        subst P (sym at_end) (and_parts (is_left left only) _ (ends.first.found ends.some)).0);
     other = λ less.
-      (let some : 0 < before = omega (arith, less, length_shorter) in
-      ap (λ n. is_other left n (slice_index shorter (length shorter - 2))) at_end ∙ ap (is_other left only) (before_end some) ∙ ends.second.found some);
+        (let some : 0 < before = omega (arith, less, length_shorter) in
+        ap (λ n. is_other left n (slice_index shorter (length shorter - 2))) at_end ∙ ap (is_other left only) (before_end some) ∙ ends.second.found some);
   }

@@ -1,18 +1,18 @@
 -- What is left of choices and what remains of them by the rounds.
-use Rattle.std.proofs.Common.{◌≡◌, ℕ, zero, suc, ◌<◌, ◌==◌, Bool, true, false, not, ◌&&◌, ◌||◌, List, [], ◌∷◌, length, map, get_or, filter, Contains, Some, slice_get, refl, sym, ◌∙◌, ap, subst, inl, inr, arith}
-use Rattle.std.specs.List.{list_any, list_all}
+use Rattle.std.proofs.Common.{◌≡◌, ℕ, zero, suc, ◌<◌, ◌==◌, Bool, true, false, not, ◌||◌, List, [], ◌∷◌, length, map, Contains, Some, slice_get, refl, sym, ◌∙◌, ap, subst, inl, inr, arith}
+use Rattle.std.specs.List.{list_any}
 use Rattle.std.proofs.lemmas.Bool.{cases_Bool, cases_order, and_parts, and_from, or_cases, or_left, or_right, eqb-true, eq-eqb, not-true, not_from_false, both_ways, false_from_ne_true}
 use Rattle.std.proofs.lemmas.List.{length-map, ext_get_or}
-use Rattle.std.proofs.lemmas.Option.{slice_get-map, slice_get-get_or, get_or_from_slice_get}
+use Rattle.std.proofs.lemmas.Option.{slice_get-map, get_or_from_slice_get}
 use Rattle.std.specs.Option.{option_map}
 use Rattle.propagation.specs.declared.choice.Choice.{Choice}
-use Rattle.propagation.specs.Rounds.{Rules, is_forced, forced_among, clashes_with_one, without_clashes, left_in, remaining, forced, is_among}
+use Rattle.propagation.specs.Rounds.{Rules, is_forced, forced_among, clashes_with_one, left_in, remaining, forced, is_among}
 use Rattle.propagation.specs.RoundLaws.{remaining_is_kept}
 use Rattle.propagation.specs.Choices.{ComesBefore, same_section, same_choice, can_be_chosen, clash, choice_rules}
 use Rattle.propagation.specs.inside.Engine.{is_left}
 use Rattle.propagation.specs.inside.State.{At, IsLeft, IsAlone, IsClosed}
 use Rattle.propagation.proofs.ListLaws.{same_bools, Contains-filter, Contains_of_filter, list_any_from, list_any_has, list_all_has, list_all_from, contains_place, place_of}
-use Rattle.propagation.proofs.CarryLaws.{Clash, clash_of}
+use Rattle.propagation.proofs.CarryLaws.{clash_of}
 
 -- what is left in a round is among the items, and matches
 pub left_in_all : {X : Type 0} (rules : Rules X) (round : ℕ) (all : List X) (x : X) → Contains (left_in rules round all) x → Contains all x × (rules.matches x ≡ true)
@@ -36,7 +36,7 @@ IsSound choices left =
 
 comes_later : (a b : Choice) → ComesBefore a b → a.section ≡ b.section → a.home ≡ b.home → ⊥
 comes_later a b before section home =
-    elim before [ | inl less ↦ omega (arith, less, section) | inr both ↦ omega (arith, both.1, home) ]
+    elim before [ inl less ↦ omega (arith, less, section) | inr both ↦ omega (arith, both.1, home) ]
 
 pub same_place : (choices : List Choice) → IsInOrder choices → (i j : ℕ) (a b : Choice) → At choices i a → At choices j b → a.section ≡ b.section → a.home ≡ b.home → i ≡ j
 same_place choices order i j a b one other section home =
@@ -77,23 +77,23 @@ module _ (choices : List Choice) (order : IsInOrder choices) (left : List Bool) 
         let ones : List Choice = forced_among choice_rules choices before in
         Contains-filter (λ y. not (clashes_with_one choice_rules ones y)) before c
         (not_from_false (list_any (clash c) ones)
-          (false_from_ne_true (list_any (clash c) ones)
-            (λ h.
-              (let some = list_any_has (clash c) ones h in
-              let x : Choice = some.0 in
-              let kept = Contains_of_filter (is_forced choice_rules before) choices x some.1 in
-              let k = place_of choices x kept.0 in
-              let alone : IsAlone choices left x = λ j y there still section. alone_of round x k.0 k.1 kept.1 j y there (left_stays round j y there still) section in
-              both_ways (clash c x) (closed k.0 x k.1 (clash_of c x some.2).second alone place c at t) some.2))))
+        (false_from_ne_true (list_any (clash c) ones)
+        (λ h.
+        (let some = list_any_has (clash c) ones h in
+        let x : Choice = some.0 in
+        let kept = Contains_of_filter (is_forced choice_rules before) choices x some.1 in
+        let k = place_of choices x kept.0 in
+        let alone : IsAlone choices left x = λ j y there still section. alone_of round x k.0 k.1 kept.1 j y there (left_stays round j y there still) section in
+        both_ways (clash c x) (closed k.0 x k.1 (clash_of c x some.2).second alone place c at t) some.2))))
         (left_stays round place c at t)
       where
-      alone_of : (round : ℕ) (x : Choice) (k : ℕ) → At choices k x → is_forced choice_rules (left_in choice_rules round choices) x ≡ true → (j : ℕ) (y : Choice) → At choices j y → Contains (left_in choice_rules round choices) y → y.section ≡ x.section → y ≡ x
-      alone_of round x k here is j y there h section =
-          elim (or_cases (not (same_section y x)) (same_choice y x) (list_all_has (λ z. not (same_section z x) || same_choice z x) (left_in choice_rules round choices) y is h)) [
-            | inl elsewhere ↦
-                absurd (both_ways (same_section y x) (not-true (same_section y x) elsewhere) (eq-eqb y.section x.section section))
-            | inr same ↦ same_at choices order j k y x there here same
-          ]
+        alone_of : (round : ℕ) (x : Choice) (k : ℕ) → At choices k x → is_forced choice_rules (left_in choice_rules round choices) x ≡ true → (j : ℕ) (y : Choice) → At choices j y → Contains (left_in choice_rules round choices) y → y.section ≡ x.section → y ≡ x
+        alone_of round x k here is j y there h section =
+            elim (or_cases (not (same_section y x)) (same_choice y x) (list_all_has (λ z. not (same_section z x) || same_choice z x) (left_in choice_rules round choices) y is h)) [
+              | inl elsewhere ↦
+                  absurd (both_ways (same_section y x) (not-true (same_section y x) elsewhere) (eq-eqb y.section x.section section))
+              | inr same ↦ same_at choices order j k y x there here same
+            ]
 
     left_remains : (place : ℕ) (c : Choice) → At choices place c → IsLeft left place → Contains (remaining choice_rules choices) c
     unfolding remaining
@@ -106,12 +106,12 @@ module _ (choices : List Choice) (order : IsInOrder choices) (left : List Bool) 
           same_bools (is_left left place) (list_any (same_choice c) rest)
           (λ t. list_any_from (same_choice c) rest c (left_remains place c at t) (same_itself c))
           (λ t.
-            (let some = list_any_has (same_choice c) rest t in
-            let other : Choice = some.0 in
-            let k = place_of choices other (remaining_all choice_rules choices other some.1).0 in
-            let e : c ≡ other = same_at choices order place k.0 c other at k.1 some.2 in
-            let P : Choice → Type 0 = Contains rest in
-            sound place c at (subst P (sym e) some.1)))
+          (let some = list_any_has (same_choice c) rest t in
+          let other : Choice = some.0 in
+          let k = place_of choices other (remaining_all choice_rules choices other some.1).0 in
+          let e : c ≡ other = same_at choices order place k.0 c other at k.1 some.2 in
+          let P : Choice → Type 0 = Contains rest in
+          sound place c at (subst P (sym e) some.1)))
 
       -- the marks, in the end
       pub marks_remaining : left ≡ map (is_among choice_rules (remaining choice_rules choices)) choices
@@ -119,9 +119,9 @@ module _ (choices : List Choice) (order : IsInOrder choices) (left : List Bool) 
           let among : Choice → Bool = is_among choice_rules (remaining choice_rules choices) in
           ext_get_or false left (map among choices) (size ∙ sym (length-map choices among))
           (λ place less.
-            (let here = at_within choices place (omega (arith, less, size)) in
-            mark_at place here.0 here.1
-            ∙ sym (get_or_from_slice_get (map among choices) place (among here.0) false (slice_get-map among choices place ∙ ap (option_map among) here.1))))
+          (let here = at_within choices place (omega (arith, less, size)) in
+          mark_at place here.0 here.1
+          ∙ sym (get_or_from_slice_get (map among choices) place (among here.0) false (slice_get-map among choices place ∙ ap (option_map among) here.1))))
 
   -- ---- what clashes with what is alone doesn't remain
   pub clashing_goes : IsSound choices left → (place : ℕ) (c : Choice) → At choices place c → IsAlone choices left c → (other : Choice) → clash other c ≡ true → Contains (remaining choice_rules choices) other → ⊥
@@ -136,12 +136,12 @@ module _ (choices : List Choice) (order : IsInOrder choices) (left : List Bool) 
       both_ways (list_any (clash other) ones) (not-true (list_any (clash other) ones) kept.1)
       (list_any_from (clash other) ones c (Contains-filter (is_forced choice_rules rest) choices c is (contains_place choices place c at)) t)
     where
-    is_it : (y : Choice) → Contains (remaining choice_rules choices) y → (not (same_section y c) || same_choice y c) ≡ true
-    is_it y k =
-        elim (cases_Bool (same_section y c)) [
-          | inl same ↦
-              (let j = place_of choices y (remaining_all choice_rules choices y k).0 in
-              let e : y ≡ c = alone j.0 y j.1 (sound j.0 y j.1 k) (eqb-true y.section c.section same) in
-              or_right (not (same_section y c)) (same_choice y c) (ap (λ z. same_choice z c) e ∙ same_itself c))
-          | inr apart ↦ or_left (not (same_section y c)) (same_choice y c) (not_from_false (same_section y c) apart)
-        ]
+      is_it : (y : Choice) → Contains (remaining choice_rules choices) y → (not (same_section y c) || same_choice y c) ≡ true
+      is_it y k =
+          elim (cases_Bool (same_section y c)) [
+            | inl same ↦
+                (let j = place_of choices y (remaining_all choice_rules choices y k).0 in
+                let e : y ≡ c = alone j.0 y j.1 (sound j.0 y j.1 k) (eqb-true y.section c.section same) in
+                or_right (not (same_section y c)) (same_choice y c) (ap (λ z. same_choice z c) e ∙ same_itself c))
+            | inr apart ↦ or_left (not (same_section y c)) (same_choice y c) (not_from_false (same_section y c) apart)
+          ]

@@ -1,5 +1,5 @@
 -- Laws of several choices carried out.
-use Rattle.std.proofs.Common.{◌≡◌, ℕ, ◌≤◌, Bool, true, false, not, ◌&&◌, List, [], ◌∷◌, Contains, Option, Some, None, slice_get, refl, sym, ◌∙◌, ap, subst, inl, inr, arith, fold}
+use Rattle.std.proofs.Common.{◌≡◌, ℕ, ◌≤◌, Bool, true, false, not, List, [], ◌∷◌, Contains, Option, Some, None, slice_get, refl, sym, ◌∙◌, ap, subst, inl, inr, arith, fold}
 use Rattle.std.proofs.lemmas.Bool.{cases_Bool, cond_both, and_from, not_from_false, both_ways, false_from_ne_true}
 use Rattle.propagation.specs.declared.choice.Choice.{Choice}
 use Rattle.propagation.specs.Choices.{IsChoice, clash, AreChoices}
@@ -9,7 +9,7 @@ use Rattle.propagation.proofs.ListLaws.{Contains-none, Contains-here, Contains-t
 use Rattle.propagation.proofs.MarkLaws.{same_choices}
 use Rattle.propagation.proofs.EngineLaws.{Goes, Fewer, goes_fewer, goes_passed}
 use Rattle.propagation.proofs.CarryLaws.{carried_out_goes}
-use Rattle.propagation.proofs.RemainLaws.{IsInOrder, IsSound, clashing_goes}
+use Rattle.propagation.proofs.RemainLaws.{IsSound, clashing_goes}
 
 -- a state goes on to another
 pub record Onward (choices : List Choice) (old new : Engine) : Type 0 where
@@ -36,10 +36,10 @@ onward_then choices a b c first second = record {
   fewer = λ place x at t. first.fewer place x at (second.fewer place x at t);
   stays = λ section h. second.stays section (first.stays section h);
   put = λ place x at was now.
-    elim (cases_Bool (is_left b.marking.left place)) [
-      | inl still ↦ second.put place x at still now
-      | inr gone ↦ second.stays x.section (first.put place x at was gone)
-    ];
+      elim (cases_Bool (is_left b.marking.left place)) [
+        | inl still ↦ second.put place x at still now
+        | inr gone ↦ second.stays x.section (first.put place x at was gone)
+      ];
   weight = omega (arith, first.weight, second.weight);
   sound = λ s. second.sound (first.sound s);
 }
@@ -81,12 +81,12 @@ module _ (choices : List Choice) (are : AreChoices choices) where
           put = goes.put;
           weight = goes.weight;
           sound = λ s k other there rest.
-            (let none = false_from_ne_true (clash other c) (λ t. clashing_goes choices are.order e.marking.left sound place c at alone other t rest) in
-            goes.left k other there ∙ and_from (is_left e.marking.left k) (not (clash other c)) (s k other there rest) (not_from_false (clash other c) none));
+              (let none = false_from_ne_true (clash other c) (λ t. clashing_goes choices are.order e.marking.left sound place c at alone other t rest) in
+              goes.left k other there ∙ and_from (is_left e.marking.left k) (not (clash other c)) (s k other there rest) (not_from_false (clash other c) none));
         };
         closed = λ x there matches.
-          (let P : Choice → Type 0 = IsClosed choices new.marking.left in
-          subst P (same_choices choices place c x at there) (λ k other here t. goes_passed choices (λ y. clash y c) e new goes k other here t));
+            (let P : Choice → Type 0 = IsClosed choices new.marking.left in
+            subst P (same_choices choices place c x at there) (λ k other here t. goes_passed choices (λ y. clash y c) e new goes k other here t));
       }
 
   carried_if_onward : (e : Engine) (place : ℕ) (o : Option Choice) → Keeps choices e → AreMatching choices e → IsSound choices e.marking.left → slice_get choices place ≡ o → ((c : Choice) → At choices place c → IsAlone choices e.marking.left c) → Carried place e (carried_if choices e o)
@@ -98,8 +98,8 @@ module _ (choices : List Choice) (are : AreChoices choices) where
       (λ never. record {
         onward = onward_same choices e keeps;
         closed = λ x there t.
-          (let P : Choice → Type 0 = λ y. y.matches ≡ true in
-          absurd (both_ways c.matches never (subst P (sym (same_choices choices place c x at there)) t)));
+            (let P : Choice → Type 0 = λ y. y.matches ≡ true in
+            absurd (both_ways c.matches never (subst P (sym (same_choices choices place c x at there)) t)));
       })
 
   carried_at_onward : (e : Engine) (place : ℕ) → Keeps choices e → AreMatching choices e → IsSound choices e.marking.left → ((c : Choice) → At choices place c → IsAlone choices e.marking.left c) → Carried place e (carried_at choices e place)
@@ -123,9 +123,9 @@ module _ (choices : List Choice) (are : AreChoices choices) where
       record {
         onward = onward_then choices e next last one.onward others.onward;
         closed = λ place h c at t.
-          elim (Contains-cases first place rest h) [
-            | inl same ↦
-                closed_fewer choices next.marking.left last.marking.left c others.onward.fewer (one.closed c (ap (slice_get choices) same ∙ at) t)
-            | inr later ↦ others.closed place later c at t
-          ];
+            elim (Contains-cases first place rest h) [
+              | inl same ↦
+                  closed_fewer choices next.marking.left last.marking.left c others.onward.fewer (one.closed c (ap (slice_get choices) same ∙ at) t)
+              | inr later ↦ others.closed place later c at t
+            ];
       }

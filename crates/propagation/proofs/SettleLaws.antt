@@ -1,18 +1,18 @@
 -- Laws of a section that is looked at.
-use Rattle.std.proofs.Common.{◌≡◌, ◌⊎◌, ℕ, zero, suc, ◌+◌, ◌-◌, ◌<◌, ◌≤◌, ◌==◌, Bool, true, false, not, ◌&&◌, cond, List, [], ◌∷◌, ◌++◌, length, get_or, set, sum_by, slice_index, Contains, Option, Some, None, slice_get, refl, sym, ◌∙◌, ap, subst, inl, inr, arith, fold}
+use Rattle.std.proofs.Common.{◌≡◌, ◌⊎◌, ℕ, ◌+◌, ◌-◌, ◌<◌, ◌==◌, Bool, true, false, not, cond, List, [], ◌∷◌, ◌++◌, length, get_or, set, sum_by, slice_index, Contains, Option, Some, None, slice_get, refl, sym, ◌∙◌, ap, subst, inl, inr, arith, fold}
 use Rattle.std.proofs.lemmas.Bool.{cases_Bool, cases_eq, cases_lt, cond-true, cond-false, and_parts, eqb-true, eqb-false, eq-eqb, not-true, both_ways}
 use Rattle.std.proofs.lemmas.List.{length-set, length-append, get_or-set_same, get_or-set_other, get_or_past, set_past}
 use Rattle.std.proofs.lemmas.List.Elements.{Contains-get_or, Contains-append_cases}
 use Rattle.std.proofs.lemmas.Option.{slice_get_within}
 use Rattle.propagation.specs.declared.choice.Choice.{Choice}
 use Rattle.propagation.specs.Choices.{AreChoices}
-use Rattle.propagation.specs.inside.Engine.{Marking, Engine, list_at, is_left, is_other, carried_at, said_below, members_at, member_from, place_if}
-use Rattle.propagation.specs.inside.State.{At, IsLeft, KeepsMarks, KeepsClaims, KeepsMembers, KeepsDemands, Keeps, IsAlone, IsClosed, IsNarrowed, IsSettled, IsWhole, State, carried_of, waits, weight}
+use Rattle.propagation.specs.inside.Engine.{Marking, Engine, list_at, is_left, carried_at, members_at, member_from, place_if}
+use Rattle.propagation.specs.inside.State.{At, IsLeft, KeepsMarks, KeepsClaims, KeepsMembers, KeepsDemands, Keeps, IsAlone, IsClosed, IsNarrowed, IsSettled, IsWhole, Popped, State, carried_of, waits, weight}
 use Rattle.propagation.proofs.ListLaws.{Contains-none, Contains-here, Contains-cases, set_cases, said_has, said_of}
 use Rattle.propagation.proofs.NarrowLaws.{left_within}
 use Rattle.propagation.proofs.MarkLaws.{same_choices}
 use Rattle.propagation.proofs.RemainLaws.{IsSound, same_place, at_within}
-use Rattle.propagation.proofs.RunLaws.{Onward, AreMatching, matching_fewer, closed_fewer, CarriedEach, carried_each}
+use Rattle.propagation.proofs.RunLaws.{AreMatching, matching_fewer, closed_fewer, CarriedEach, carried_each}
 
 -- ---- all choices of a section
 member_in : (section place : ℕ) (c : Choice) → c.section ≡ section → Contains (place_if section c.section place) place
@@ -36,18 +36,18 @@ member_of section i place (Some c) h =
             choice = c;
             is = refl;
             of = sym (eqb-true section c.section t);
-            same = elim (Contains-cases i place [] (subst P (cond-true (section == c.section) (i ∷ []) [] t) h)) [ | inl e ↦ e | inr none ↦ absurd (Contains-none place none) ];
+            same = elim (Contains-cases i place [] (subst P (cond-true (section == c.section) (i ∷ []) [] t) h)) [ inl e ↦ e | inr none ↦ absurd (Contains-none place none) ];
           }
       | inr f ↦ absurd (Contains-none place (subst P (cond-false (section == c.section) (i ∷ []) [] f) h))
     ]
 
-whole_has : (choices : List Choice) (whole : List (List ℕ)) → IsWhole choices whole → (section place : ℕ) (c : Choice) → At choices place c → c.section ≡ section → Contains (list_at whole section) place
+pub whole_has : (choices : List Choice) (whole : List (List ℕ)) → IsWhole choices whole → (section place : ℕ) (c : Choice) → At choices place c → c.section ≡ section → Contains (list_at whole section) place
 whole_has choices whole is section place c at e =
     let P : List ℕ → Type 0 = λ l. Contains l place in
     subst P (sym (is section))
     (said_has (members_at choices section) (length choices) place place (slice_get_within choices place c at) (subst P (sym (ap (member_from section place) at)) (member_in section place c e)))
 
-whole_of : (choices : List Choice) (whole : List (List ℕ)) → IsWhole choices whole → (section place : ℕ) → Contains (list_at whole section) place → (c : Choice) → At choices place c → c.section ≡ section
+pub whole_of : (choices : List Choice) (whole : List (List ℕ)) → IsWhole choices whole → (section place : ℕ) → Contains (list_at whole section) place → (c : Choice) → At choices place c → c.section ≡ section
 whole_of choices whole is section place h c at =
     let P : List ℕ → Type 0 = λ l. Contains l place in
     let some = said_of (members_at choices section) (length choices) place (subst P (is section) h) in
@@ -56,11 +56,6 @@ whole_of choices whole is section place h c at =
     ap (λ (x : Choice). x.section) (sym e) ∙ m.of
 
 -- ---- a section taken from those that wait
-pub record Popped (section : ℕ) (old new : Marking) : Type 0 where
-  pub left : new.left ≡ old.left
-  pub queue : old.queue ≡ new.queue ++ section ∷ []
-  pub queued : new.queued ≡ set old.queued section false
-
 cleared : (xs : List Bool) (i : ℕ) → get_or (set xs i false) i false ≡ false
 cleared xs i =
     elim (cases_lt i (length xs)) [
@@ -97,9 +92,9 @@ module _ (choices : List Choice) (section : ℕ) (old new : Marking) (popped : P
   popped_marks keeps = record {
     size = ap (λ (l : List Bool). length l) popped.left ∙ keeps.size;
     sections = λ place c at.
-      (let less = keeps.sections place c at in
-      let same = ap (λ (l : List Bool). length l) popped.queued ∙ length-set old.queued section false in
-      omega (arith, less, same));
+        (let less = keeps.sections place c at in
+        let same = ap (λ (l : List Bool). length l) popped.queued ∙ length-set old.queued section false in
+        omega (arith, less, same));
     queue = queue_has keeps.queue;
   }
 
@@ -170,7 +165,7 @@ module _ (choices : List Choice) (are : AreChoices choices) (whole : List (List 
 
   one_of : (x place : ℕ) → Contains (x ∷ []) place → x ≡ place
   one_of x place h =
-      elim (Contains-cases x place [] h) [ | inl same ↦ same | inr none ↦ absurd (Contains-none place none) ]
+      elim (Contains-cases x place [] h) [ inl same ↦ same | inr none ↦ absurd (Contains-none place none) ]
 
   carried_alone : (list : List ℕ) → IsNarrowed e.marking.left (list_at e.members section) list → (place : ℕ) → Contains (carried_of (list_at whole section) list) place → (c : Choice) → At choices place c → IsAlone choices e.marking.left c
   carried_alone [] narrowed place h c at p other there t same =
@@ -283,7 +278,7 @@ module _ (choices : List Choice) (are : AreChoices choices) (whole : List (List 
       keeps = each.onward.keeps;
       matching = matching_fewer choices taken new each.onward.fewer taken_matching;
       sound = each.onward.sound
-        (λ place c at h. (let P : List Bool → Type 0 = λ l. IsLeft l place in subst P (sym popped.left) (state.sound place c at h)));
+          (λ place c at h. (let P : List Bool → Type 0 = λ l. IsLeft l place in subst P (sym popped.left) (state.sound place c at h)));
       closed = closed_or_waits;
     };
     lighter = (let less = each.onward.weight in let one = popped_weight choices section old.marking m popped in omega (arith, less, one));

@@ -20,7 +20,12 @@ pub(crate) fn section_count(choices: &[Choice]) -> usize
 }
 
 // Puts the claims of the choice at a place into a table by unknown.
-fn put_claims(alloc: Global, table: &mut Table<Entry>, place: usize, claims: &[Claim]) -> Result<(), AllocError>
+fn put_claims(
+    alloc: Global,
+    table: &mut Table<Entry>,
+    place: usize,
+    claims: &[Claim],
+) -> Result<(), AllocError>
     ensures { OnOk result ((unknown : ℕ) → list_at table.new unknown ≡ list_at table.old unknown ++ claims_of unknown place claims.now) }
 {
     for claim in claims {
@@ -34,7 +39,10 @@ fn put_claims(alloc: Global, table: &mut Table<Entry>, place: usize, claims: &[C
 }
 
 // By unknown, the choices that claim a value of it.
-pub(crate) fn claims_by_unknown(alloc: Global, choices: &[Choice]) -> Result<Table<Entry>, AllocError>
+pub(crate) fn claims_by_unknown(
+    alloc: Global,
+    choices: &[Choice],
+) -> Result<Table<Entry>, AllocError>
     ensures { IfOk result (λ table. (unknown : ℕ) → list_at table unknown ≡ said_below (claims_at choices.now unknown) (length choices.now)) }
 {
     let mut table = Table::new(alloc);
@@ -45,14 +53,22 @@ pub(crate) fn claims_by_unknown(alloc: Global, choices: &[Choice]) -> Result<Tab
 }
 
 // Puts the place of a choice into a table by section.
-fn put_member(alloc: Global, table: &mut Table<usize>, own: u32, place: usize) -> Result<(), AllocError>
+fn put_member(
+    alloc: Global,
+    table: &mut Table<usize>,
+    own: u32,
+    place: usize,
+) -> Result<(), AllocError>
     ensures { OnOk result ((section : ℕ) → list_at table.new section ≡ list_at table.old section ++ place_if section own place) }
 {
     table.push(alloc, own as usize, place)
 }
 
 // By section, its choices.
-pub(crate) fn members_by_section(alloc: Global, choices: &[Choice]) -> Result<Table<usize>, AllocError>
+pub(crate) fn members_by_section(
+    alloc: Global,
+    choices: &[Choice],
+) -> Result<Table<usize>, AllocError>
     ensures { IfOk result (λ table. (section : ℕ) → list_at table section ≡ said_below (members_at choices.now section) (length choices.now)) }
 {
     let mut table = Table::new(alloc);
@@ -63,7 +79,13 @@ pub(crate) fn members_by_section(alloc: Global, choices: &[Choice]) -> Result<Ta
 }
 
 // Puts the demands that the choice at a place makes on other sections into a table by their numbers.
-fn put_demands(alloc: Global, table: &mut Table<Entry>, place: usize, own: u32, demands: &[Demand]) -> Result<(), AllocError>
+fn put_demands(
+    alloc: Global,
+    table: &mut Table<Entry>,
+    place: usize,
+    own: u32,
+    demands: &[Demand],
+) -> Result<(), AllocError>
     ensures { OnOk result ((number : ℕ) → list_at table.new number ≡ list_at table.old number ++ demands_of number place own demands.now) }
 {
     for demand in demands {
@@ -73,7 +95,13 @@ fn put_demands(alloc: Global, table: &mut Table<Entry>, place: usize, own: u32, 
 }
 
 // The same for one demand.
-fn put_demand(alloc: Global, table: &mut Table<Entry>, place: usize, own: u32, demand: Demand) -> Result<(), AllocError>
+fn put_demand(
+    alloc: Global,
+    table: &mut Table<Entry>,
+    place: usize,
+    own: u32,
+    demand: Demand,
+) -> Result<(), AllocError>
     ensures { OnOk result ((number : ℕ) → list_at table.new number ≡ list_at table.old number ++ demands_of number place own (demand ∷ [])) }
 {
     if demand.section == own {
@@ -87,12 +115,21 @@ fn put_demand(alloc: Global, table: &mut Table<Entry>, place: usize, own: u32, d
 }
 
 // By the number of a demand, the choices that make it on another section than their own.
-pub(crate) fn demands_by_number(alloc: Global, choices: &[Choice]) -> Result<Table<Entry>, AllocError>
+pub(crate) fn demands_by_number(
+    alloc: Global,
+    choices: &[Choice],
+) -> Result<Table<Entry>, AllocError>
     ensures { IfOk result (λ table. (number : ℕ) → list_at table number ≡ said_below (demands_at choices.now number) (length choices.now)) }
 {
     let mut table = Table::new(alloc);
     for (place, choice) in choices.iter().enumerate() {
-        put_demands(alloc, &mut table, place, choice.section, choice.demands.as_slice())?;
+        put_demands(
+            alloc,
+            &mut table,
+            place,
+            choice.section,
+            choice.demands.as_slice(),
+        )?;
     }
     Ok(table)
 }
@@ -139,13 +176,23 @@ fn put_numbers(
 
 // By section, the numbers of the demands that choices of other sections make on it, each once where a number stands for demands on one
 // section alone. `listed` has room for so many numbers.
-pub(crate) fn numbers_by_section(alloc: Global, choices: &[Choice], room: usize) -> Result<Table<u32>, AllocError>
+pub(crate) fn numbers_by_section(
+    alloc: Global,
+    choices: &[Choice],
+    room: usize,
+) -> Result<Table<u32>, AllocError>
     ensures { IfOk result (λ table. HasNumbers choices.now (length choices.now) table) }
 {
     let mut table = Table::new(alloc);
     let mut listed = Known::new(alloc, room)?;
     for choice in choices {
-        put_numbers(alloc, &mut table, &mut listed, choice.section, choice.demands.as_slice())?;
+        put_numbers(
+            alloc,
+            &mut table,
+            &mut listed,
+            choice.section,
+            choice.demands.as_slice(),
+        )?;
     }
     Ok(table)
 }

@@ -1,9 +1,13 @@
 //! Carrying out a choice that must be chosen: those that clash with it are excluded.
-ghost use Rattle.std.specs.Prelude.{◌≡◌, All, ℕ, not, length, filter, map, slice_set, fold, OnOk, IfOk};
+ghost use Rattle.std.specs.Prelude.{◌≡◌, ◌<◌, true, false, [], All, ℕ, not, length, filter, map, slice_set, fold, OnOk, IfOk};
 ghost use Rattle.std.specs.List.{slice_get, list_any};
-ghost use Rattle.propagation.specs.inside.State.{carried_of, IsSettled};
+ghost use Rattle.propagation.specs.Choices.{AreChoices};
+ghost use Rattle.propagation.specs.inside.State.{carried_of, IsSettled, IsWhole, State, weight};
 ghost use Rattle.propagation.specs.inside.Engine.{Ascends, meets, fails, saying, saying_other, fixing, claimed, asking, asked_by, refusing, meeting, carried_out, carried_at, list_at};
 
+use crate::building::{
+    claims_by_unknown, demands_by_number, members_by_section, numbers_by_section, section_count,
+};
 use crate::choice::{Choice, Claim, Demand};
 use crate::marking::Marks;
 use crate::tables::{Entry, Known, Table};
@@ -114,6 +118,24 @@ fn those_unmet(alloc: Global, choice: &Choice, numbers: &[u32]) -> Result<Vec<u3
 }
 
 impl Engine {
+    // The state of some choices of which all that can be chosen are left, and each section waits.
+    pub(crate) fn new(alloc: Global, choices: &[Choice]) -> Result<Self, AllocError>
+        requires { AreChoices choices.now }
+        ensures { IfOk result (λ engine. State choices.now engine) }
+    {
+        let claims = claims_by_unknown(alloc, choices)?;
+        let makers = demands_by_number(alloc, choices)?;
+        Ok(Engine {
+            marks: Marks::new(alloc, choices, section_count(choices))?,
+            fixed: Known::new(alloc, claims.len())?,
+            claims,
+            members: members_by_section(alloc, choices)?,
+            numbers: numbers_by_section(alloc, choices, makers.len())?,
+            asked: Known::new(alloc, makers.len())?,
+            makers,
+        })
+    }
+
     // Excludes the choices that claim another value of a claim's unknown.
     #[tactic(auto, unfolding(crate::specs::inside::Engine::fixing))]
     fn fix(&mut self, alloc: Global, choices: &[Choice], claim: Claim) -> Result<(), AllocError>
@@ -283,7 +305,12 @@ impl Engine {
     }
 
     // The same for each of some places.
-    fn carry_out_each(&mut self, alloc: Global, choices: &[Choice], places: &[usize]) -> Result<(), AllocError>
+    fn carry_out_each(
+        &mut self,
+        alloc: Global,
+        choices: &[Choice],
+        places: &[usize],
+    ) -> Result<(), AllocError>
         requires { All Ascends choices.now }
         ensures { OnOk result (self.new ≡ fold (carried_at choices.now) self.old places.now) }
     {
@@ -294,7 +321,13 @@ impl Engine {
     }
 
     // Carries out what must be chosen of a section: all of its choices where none is left, or the only one that is.
-    fn settle(&mut self, alloc: Global, choices: &[Choice], whole: &Table<usize>, section: usize) -> Result<(), AllocError>
+    fn settle(
+        &mut self,
+        alloc: Global,
+        choices: &[Choice],
+        whole: &Table<usize>,
+        section: usize,
+    ) -> Result<(), AllocError>
         requires { All Ascends choices.now }
         ensures { OnOk result (IsSettled choices.now whole.now section self.old self.new) }
     {
@@ -303,6 +336,36 @@ impl Engine {
         self.members.put(section, list);
         self.carry_out_each(alloc, choices, places.as_slice())?;
         Ok(())
+    }
+
+    // Looks at a section that waits. `whole` has each choice at its section. The answer is false exactly where none waits.
+    pub(crate) fn step(
+        &mut self,
+        alloc: Global,
+        choices: &[Choice],
+        whole: &Table<usize>,
+    ) -> Result<bool, AllocError>
+        requires choices { AreChoices choices.now }
+        requires whole { IsWhole choices.now whole.now }
+        requires state { State choices.now self.old }
+        ensures state { OnOk result (State choices.now self.new) }
+        ensures lighter { IfOk result (λ went. went ≡ true → weight self.new.marking < weight self.old.marking) }
+        ensures over { IfOk result (λ went. went ≡ false → self.new.marking.queue ≡ []) }
+    {
+        match self.marks.pop() {
+            Some(section) => {
+                self.settle(alloc, choices, whole, section)?;
+                Ok(true)
+            }
+            None => Ok(false),
+        }
+    }
+
+    // Which choices are left.
+    pub(crate) fn into_left(self) -> Vec<bool>
+        ensures { result.items ≡ self.marking.left }
+    {
+        self.marks.into_left()
     }
 }
 

@@ -2,8 +2,8 @@
 //! be chosen beside it.
 #![tactic(auto)]
 
-pub mod choice;
 mod building;
+pub mod choice;
 mod conflicts;
 mod engine;
 mod marking;

@@ -1,8 +1,8 @@
 //! Marks of the choices that are left.
-ghost use Rattle.std.specs.Prelude.{◌≡◌, ◌<◌, ◌≤◌, ◌-◌, ◌++◌, ℕ, false, true, length, map, slice_set, filter, replicate, MatchOption, option_to_list, OnOk, IfOk};
+ghost use Rattle.std.specs.Prelude.{◌≡◌, ◌<◌, ◌≤◌, ◌-◌, ◌++◌, ℕ, false, true, length, map, slice_set, filter, replicate, MatchOption, option_to_list, [], OnOk, IfOk, IfNone, IfSome};
 ghost use Rattle.std.specs.List.{slice_index_or, slice_index};
 ghost use Rattle.propagation.specs.Choices.{can_be_chosen};
-ghost use Rattle.propagation.specs.inside.State.{IsEnd, IsNarrowed};
+ghost use Rattle.propagation.specs.inside.State.{IsEnd, IsNarrowed, Popped};
 ghost use Rattle.propagation.specs.inside.Engine.{is_left, is_other, waiting, excluded_of, excluded, excluded_each, entries_left};
 
 use crate::choice::Choice;
@@ -68,7 +68,11 @@ fn numbers_below(alloc: Global, end: usize) -> Result<Vec<usize>, AllocError>
 
 impl Marks {
     // The marks of choices of which all that can be chosen are left. Each of so many sections waits.
-    pub(crate) fn new(alloc: Global, choices: &[Choice], sections: usize) -> Result<Self, AllocError>
+    pub(crate) fn new(
+        alloc: Global,
+        choices: &[Choice],
+        sections: usize,
+    ) -> Result<Self, AllocError>
         ensures left { IfOk result (λ m. m.left ≡ map can_be_chosen choices.now) }
         ensures len { IfOk result (λ m. length m.queue ≡ sections) }
         ensures queue { IfOk result (λ m. (k : ℕ) → k < sections → slice_index m.queue k ≡ k) }
@@ -213,9 +217,9 @@ impl Marks {
 
     // Takes a section that waits.
     pub(crate) fn pop(&mut self) -> Option<usize>
-        ensures left { self.new.left ≡ self.old.left }
-        ensures queue { self.old.queue ≡ self.new.queue ++ option_to_list result }
-        ensures queued { MatchOption result (self.new.queued ≡ self.old.queued) (λ section. self.new.queued ≡ slice_set self.old.queued section false) }
+        ensures empty { IfNone result (self.old.queue ≡ []) }
+        ensures same { IfNone result (self.new ≡ self.old) }
+        ensures popped { IfSome result (λ section. Popped section self.old self.new) }
     {
         let section = self.queue.pop()?;
         put_mark(self.queued.as_mut_slice(), section, false);

@@ -38,6 +38,13 @@ impl<T: Drop> Table<T> {
         }
     }
 
+    // The first number after those that were used.
+    pub(crate) fn len(&self) -> usize
+        ensures { result ≡ length self.now }
+    {
+        self.lists.len()
+    }
+
     // Makes room for a number.
     fn grow(&mut self, alloc: Global, key: usize) -> Result<(), AllocError>
         ensures room { OnOk result (key < length self.new) }

@@ -207,4 +207,3 @@ HasNumbers choices count table =
 -- whether a choice is left and isn't at a place
 abbrev pub is_other : List Bool → ℕ → ℕ → Bool
 is_other left except choice = is_left left choice && not (choice == except)
-

@@ -1,5 +1,5 @@
 -- What holds of the state between two steps.
-use Rattle.std.specs.Prelude.{◌≡◌, ◌⊎◌, ◌<◌, ◌≤◌, ◌+◌, ◌-◌, ℕ, Bool, true, false, cond, List, [], ◌∷◌, length, Contains, Option, Some, slice_get, slice_set, slice_index, slice_index_or, sum_by, fold}
+use Rattle.std.specs.Prelude.{◌≡◌, ◌⊎◌, ◌<◌, ◌≤◌, ◌+◌, ◌-◌, ℕ, Bool, true, false, cond, List, [], ◌∷◌, ◌++◌, length, Contains, Option, Some, slice_get, slice_set, slice_index, slice_index_or, sum_by, fold}
 use Rattle.propagation.specs.declared.choice.Claim.{Claim}
 use Rattle.propagation.specs.declared.choice.Demand.{Demand}
 use Rattle.propagation.specs.declared.choice.Choice.{Choice}
@@ -55,6 +55,12 @@ pub record Keeps (choices : List Choice) (engine : Engine) : Type 0 where
 -- how many are left and wait: no more than so many steps are still to come
 abbrev pub weight : Marking → ℕ
 weight m = sum_by (λ mark. cond mark 1 0) m.left + length m.queue
+
+-- a section is taken from those that wait
+pub record Popped (section : ℕ) (old new : Marking) : Type 0 where
+  pub left : new.left ≡ old.left
+  pub queue : old.queue ≡ new.queue ++ section ∷ []
+  pub queued : new.queued ≡ slice_set old.queued section false
 
 -- ---- sections
 -- what is left of a choice's section is this choice alone
