@@ -2,7 +2,7 @@
 use Rattle.std.proofs.Common.{◌≡◌, ℕ, ◌<◌, ◌==◌, Bool, true, false, not, ◌&&◌, List, length, get_or, map, filter, replicate, slice_index, Contains, All, Option, Some, None, slice_get, refl, sym, ◌∙◌, ap, subst, inl, inr, arith}
 use Rattle.std.specs.Option.{option_map}
 use Rattle.std.proofs.lemmas.Bool.{cases_lt, and_parts, and_from, eqb-true, eqb-false, eq-eqb, ne_eqb, not-true, not_from_false, false≢true}
-use Rattle.std.proofs.lemmas.List.{length-map, length-replicate, get_or-replicate, get_or_default, get_or_past}
+use Rattle.std.proofs.lemmas.List.{length-replicate, get_or-replicate, get_or_default, get_or_past}
 use Rattle.std.proofs.lemmas.Option.{slice_get-map, slice_get_within, get_or_from_slice_get}
 use Rattle.propagation.specs.declared.choice.Claim.{Claim}
 use Rattle.propagation.specs.declared.choice.Demand.{Demand}
@@ -10,7 +10,7 @@ use Rattle.propagation.specs.declared.choice.Choice.{Choice}
 use Rattle.propagation.specs.declared.tables.Entry.{Entry}
 use Rattle.propagation.specs.Choices.{can_be_chosen, choice_rules}
 use Rattle.propagation.specs.inside.Engine.{Engine, list_at, is_value, is_known, is_left, said_below, claims_at, claims_from, demands_at, demands_from, HasNumbers}
-use Rattle.propagation.specs.inside.State.{At, KeepsMarks, KeepsClaims, KeepsMembers, KeepsDemands, IsWhole, State}
+use Rattle.propagation.specs.inside.State.{At, KeepsMarks, KeepsClaims, KeepsMembers, KeepsDemands, Keeps, AllWait, IsWhole, State}
 use Rattle.propagation.proofs.ListLaws.{Contains-none, Contains-filter, Contains_of_filter, Contains-map, Contains_of_map, contains_place, said_has, said_of}
 use Rattle.propagation.proofs.NarrowLaws.{left_within}
 use Rattle.propagation.proofs.MarkLaws.{same_choices}
@@ -19,7 +19,7 @@ use Rattle.propagation.proofs.SettleLaws.{whole_has, whole_of}
 
 -- what the tables hold at first
 pub record Built (choices : List Choice) (sections fixed_room asked_room : ℕ) (e : Engine) : Type 0 where
-  pub left : e.marking.left ≡ map can_be_chosen choices
+  pub size : length e.marking.left ≡ length choices
   pub len : length e.marking.queue ≡ sections
   pub queue : (k : ℕ) → k < sections → slice_index e.marking.queue k ≡ k
   pub queued : e.marking.queued ≡ replicate sections true
@@ -96,11 +96,6 @@ demanded_of number i entry (Some c) h =
     }
 
 module _ (choices : List Choice) (sections fixed_room asked_room : ℕ) (e : Engine) (built : Built choices sections fixed_room asked_room e) where
-  left_at : (place : ℕ) (c : Choice) → At choices place c → is_left e.marking.left place ≡ c.matches
-  left_at place c at =
-      ap (λ (l : List Bool). get_or l place false) built.left
-      ∙ get_or_from_slice_get (map can_be_chosen choices) place c.matches false (slice_get-map can_be_chosen choices place ∙ ap (option_map can_be_chosen) at)
-
   below : (place : ℕ) (c : Choice) → At choices place c → c.section < sections
   below place c at =
       let h = contains_place choices place c at in
@@ -112,7 +107,7 @@ module _ (choices : List Choice) (sections fixed_room asked_room : ℕ) (e : Eng
 
   marks : KeepsMarks choices e.marking
   marks = record {
-    size = ap (λ (l : List Bool). length l) built.left ∙ length-map choices can_be_chosen;
+    size = built.size;
     sections = λ place c at. (let less = below place c at in omega (arith, less, wide));
     queue = λ section t.
         (let less = left_within e.marking.queued section t in
@@ -170,11 +165,19 @@ module _ (choices : List Choice) (sections fixed_room asked_room : ℕ) (e : Eng
         (subst Q same k.has, λ its. k.elsewhere (its ∙ ap (λ (x : Choice). x.section) (sym same))));
   }
 
-  pub built_state : State choices e
-  built_state = record {
-    keeps = record { marks = marks; claims = claims; members = members; demands = demands };
-    matching = λ place c at t. sym (left_at place c at) ∙ t;
-    sound = λ place c at h. left_at place c at ∙ (remaining_all choice_rules choices c h).1;
-    closed = λ place c at t alone.
-        inl (ap (λ (l : List Bool). get_or l c.section false) built.queued ∙ get_or-replicate sections c.section true false (below place c at));
-  }
+  pub built_keeps : Keeps choices e
+  built_keeps = record { marks = marks; claims = claims; members = members; demands = demands }
+
+  pub built_waits : AllWait choices e.marking
+  built_waits place c at =
+      ap (λ (l : List Bool). get_or l c.section false) built.queued ∙ get_or-replicate sections c.section true false (below place c at)
+
+pub start_state : (choices : List Choice) (e : Engine) → Keeps choices e → e.marking.left ≡ map can_be_chosen choices → AllWait choices e.marking → State choices e
+start_state choices e keeps left all =
+    let at_left : (place : ℕ) (c : Choice) → At choices place c → is_left e.marking.left place ≡ c.matches = λ place c at. ap (λ (l : List Bool). get_or l place false) left ∙ get_or_from_slice_get (map can_be_chosen choices) place c.matches false (slice_get-map can_be_chosen choices place ∙ ap (option_map can_be_chosen) at) in
+    record {
+      keeps = keeps;
+      matching = λ place c at t. sym (at_left place c at) ∙ t;
+      sound = λ place c at h. at_left place c at ∙ (remaining_all choice_rules choices c h).1;
+      closed = λ place c at t alone. inl (all place c at);
+    }

@@ -2,14 +2,14 @@
 ghost use Rattle.std.specs.Prelude.{◌≡◌, ◌<◌, true, false, [], All, ℕ, not, length, filter, map, slice_set, fold, OnOk, IfOk};
 ghost use Rattle.std.specs.List.{slice_get, list_any};
 ghost use Rattle.propagation.specs.Choices.{AreChoices};
-ghost use Rattle.propagation.specs.inside.State.{carried_of, IsSettled, IsWhole, State, weight};
+ghost use Rattle.propagation.specs.inside.State.{carried_of, AllWait, IsSettled, IsWhole, Keeps, State, weight};
 ghost use Rattle.propagation.specs.inside.Engine.{Ascends, meets, fails, saying, saying_other, fixing, claimed, asking, asked_by, refusing, meeting, carried_out, carried_at, list_at};
 
 use crate::building::{
     claims_by_unknown, demands_by_number, members_by_section, numbers_by_section, section_count,
 };
 use crate::choice::{Choice, Claim, Demand};
-use crate::marking::Marks;
+use crate::marking::{Marks, possible};
 use crate::tables::{Entry, Known, Table};
 use std::alloc::{AllocError, Global};
 use std::marker::Model;
@@ -118,15 +118,17 @@ fn those_unmet(alloc: Global, choice: &Choice, numbers: &[u32]) -> Result<Vec<u3
 }
 
 impl Engine {
-    // The state of some choices of which all that can be chosen are left, and each section waits.
-    pub(crate) fn new(alloc: Global, choices: &[Choice]) -> Result<Self, AllocError>
-        requires { AreChoices choices.now }
-        ensures { IfOk result (λ engine. State choices.now engine) }
+    // The state of choices of which some are left. Each section waits.
+    pub(crate) fn of(alloc: Global, choices: &[Choice], left: Vec<bool>) -> Result<Self, AllocError>
+        requires { length left.items ≡ length choices.now }
+        ensures keeps { IfOk result (λ engine. Keeps choices.now engine) }
+        ensures left { IfOk result (λ engine. engine.marking.left ≡ left.items) }
+        ensures waits { IfOk result (λ engine. AllWait choices.now engine.marking) }
     {
         let claims = claims_by_unknown(alloc, choices)?;
         let makers = demands_by_number(alloc, choices)?;
         Ok(Engine {
-            marks: Marks::new(alloc, choices, section_count(choices))?,
+            marks: Marks::new(alloc, left, section_count(choices))?,
             fixed: Known::new(alloc, claims.len())?,
             claims,
             members: members_by_section(alloc, choices)?,
@@ -134,6 +136,16 @@ impl Engine {
             asked: Known::new(alloc, makers.len())?,
             makers,
         })
+    }
+
+    // The state of choices of which all that can be chosen are left.
+    pub(crate) fn new(alloc: Global, choices: &[Choice]) -> Result<Self, AllocError>
+        requires { AreChoices choices.now }
+        ensures { IfOk result (λ engine. State choices.now engine) }
+    {
+        let left = possible(alloc, choices)?;
+        let engine = Engine::of(alloc, choices, left)?;
+        Ok(engine)
     }
 
     // Excludes the choices that claim another value of a claim's unknown.

@@ -48,7 +48,7 @@ fn put_mark(marks: &mut [bool], place: usize, mark: bool)
 }
 
 // Which choices can be chosen at all.
-fn possible(alloc: Global, choices: &[Choice]) -> Result<Vec<bool>, AllocError>
+pub(crate) fn possible(alloc: Global, choices: &[Choice]) -> Result<Vec<bool>, AllocError>
     ensures { IfOk result (λ marks. marks.items ≡ map can_be_chosen choices.now) }
 {
     choices.iter().map(|choice| choice.matches).collect(alloc)
@@ -67,19 +67,15 @@ fn numbers_below(alloc: Global, end: usize) -> Result<Vec<usize>, AllocError>
 }
 
 impl Marks {
-    // The marks of choices of which all that can be chosen are left. Each of so many sections waits.
-    pub(crate) fn new(
-        alloc: Global,
-        choices: &[Choice],
-        sections: usize,
-    ) -> Result<Self, AllocError>
-        ensures left { IfOk result (λ m. m.left ≡ map can_be_chosen choices.now) }
+    // Marks of which choices are left. Each of so many sections waits.
+    pub(crate) fn new(alloc: Global, left: Vec<bool>, sections: usize) -> Result<Self, AllocError>
+        ensures left { IfOk result (λ m. m.left ≡ left.items) }
         ensures len { IfOk result (λ m. length m.queue ≡ sections) }
         ensures queue { IfOk result (λ m. (k : ℕ) → k < sections → slice_index m.queue k ≡ k) }
         ensures queued { IfOk result (λ m. m.queued ≡ replicate sections true) }
     {
         Ok(Marks {
-            left: possible(alloc, choices)?,
+            left,
             queue: numbers_below(alloc, sections)?,
             queued: vec![in alloc; true; sections]?,
         })

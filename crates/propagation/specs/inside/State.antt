@@ -40,6 +40,10 @@ pub record KeepsDemands (choices : List Choice) (left : List Bool) (listed : Lis
 abbrev pub waits : Marking → ℕ → Bool
 waits m section = slice_index_or m.queued section false
 
+-- the section of each choice waits
+abbrev pub AllWait : List Choice → Marking → Type 0
+AllWait choices m = (place : ℕ) (c : Choice) → At choices place c → waits m c.section ≡ true
+
 -- There is a mark for each choice and for each section, and the sections that are marked wait.
 pub record KeepsMarks (choices : List Choice) (m : Marking) : Type 0 where
   pub size : length m.left ≡ length choices

@@ -1,31 +1,7 @@
-use Rattle.std.proofs.Common.{List, ap, ◌∙◌}
-use Rattle.propagation.specs.declared.tables.Entry.{Entry}
-use Rattle.propagation.specs.inside.Engine.{Engine, list_at}
-use Rattle.propagation.proofs.StartLaws.{Built, built_state}
+use Rattle.std.proofs.Common.{◌∙◌}
+use Rattle.propagation.proofs.StartLaws.{start_state}
 use Rattle.propagation.proofs.engine.Engine.new.Goals as goal
 
 pub returns : goal.returns
 returns c =
-    let engine : Engine = record {
-      marking = c.in_ok-new.field-0;
-      claims = c.claims.inside.lists.items;
-      fixed = c.in_ok-new-2.field-0;
-      members = c.in_ok-members_by_section.field-0;
-      numbers = c.in_ok-numbers_by_section.field-0;
-      makers = c.in_ok-makers.makers;
-      asked = c.in_ok-new-3.field-0;
-    } in
-    let built : Built c.args.choices.now c.section_count.result c.len.result c.len-3.result engine = record {
-      left = c.in_ok-new.ensures.left;
-      len = c.in_ok-new.ensures.len;
-      queue = c.in_ok-new.ensures.queue;
-      queued = c.in_ok-new.ensures.queued;
-      within = c.section_count.ensures;
-      claims = λ unknown. ap (λ (t : List (List Entry)). list_at t unknown) c.claims.view_is ∙ c.in_ok-claims.ensures unknown;
-      fixed = c.in_ok-new-2.ensures;
-      members = c.in_ok-members_by_section.ensures;
-      numbers = c.in_ok-numbers_by_section.ensures;
-      makers = c.in_ok-makers.ensures;
-      asked = c.in_ok-new-3.ensures;
-    } in
-    built_state c.args.choices.now c.section_count.result c.len.result c.len-3.result engine built
+    start_state c.args.choices.now c.in_ok-engine.engine c.in_ok-engine.ensures.keeps (c.in_ok-engine.ensures.left ∙ c.in_ok-left.ensures) c.in_ok-engine.ensures.waits
