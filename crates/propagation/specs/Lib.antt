@@ -3,3 +3,5 @@
 pub mod Rounds
 pub mod Conflicts
 pub mod Choices
+pub mod RoundLaws
+pub mod inside

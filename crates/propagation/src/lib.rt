@@ -2,9 +2,13 @@
 //! be chosen beside it.
 #![tactic(auto)]
 
+mod building;
 pub mod choice;
 mod conflicts;
+mod engine;
+mod marking;
 mod propagating;
+mod tables;
 
 pub use choice::{Choice, Claim, Demand};
 pub use conflicts::first_conflict;

@@ -3,7 +3,9 @@ ghost use Rattle.std.specs.Prelude.{◌≡◌, IfOk, map};
 ghost use Rattle.propagation.specs.Rounds.{remaining, is_among};
 ghost use Rattle.propagation.specs.Choices.{AreChoices, choice_rules};
 
+use crate::building::members_by_section;
 use crate::choice::Choice;
+use crate::engine::Engine;
 use std::alloc::{AllocError, Global};
 
 /// Which of some choices are left when those are excluded that can't be chosen at all, or clash with one that must be chosen,
@@ -12,5 +14,8 @@ pub fn propagate(alloc: Global, choices: &[Choice]) -> Result<Vec<bool>, AllocEr
     requires { AreChoices choices.now }
     ensures { IfOk result (λ left. left.items ≡ map (is_among choice_rules (remaining choice_rules choices.now)) choices.now) }
 {
-    Err(AllocError)
+    let whole = members_by_section(alloc, choices)?;
+    let mut engine = Engine::new(alloc, choices)?;
+    'waiting: while engine.step(alloc, choices, &whole)? {}
+    Ok(engine.into_left())
 }

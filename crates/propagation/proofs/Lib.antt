@@ -1,0 +1,14 @@
+pub mod ListLaws
+pub mod BuildLaws
+pub mod NarrowLaws
+pub mod MarkLaws
+pub mod EngineLaws
+pub mod ClaimLaws
+pub mod DemandLaws
+pub mod MeetLaws
+pub mod CarryLaws
+pub mod RemainLaws
+pub mod RunLaws
+pub mod SettleLaws
+pub mod StartLaws
+pub mod EndLaws
