@@ -34,7 +34,9 @@ fn stack_piece(alloc: Global, stack: Range) -> Result<Piece, AllocError> {
 fn all_pieces(alloc: Global, regions: Pieces, stacks: &[Range]) -> Result<Pieces, AllocError> {
     let mut pieces = regions.into_vec();
     for stack in stacks {
-        let at = pieces.as_slice().partition_point(|piece| piece.base < stack.low);
+        let at = pieces
+            .as_slice()
+            .partition_point(|piece| piece.base < stack.low);
         let piece = stack_piece(alloc, *stack)?;
         pieces.reserve(1)?;
         let _ = pieces.insert(at, piece);
