@@ -4,12 +4,10 @@
 
 mod building;
 pub mod choice;
-mod conflicts;
 mod engine;
 mod marking;
 mod propagating;
 mod tables;
 
 pub use choice::{Choice, Claim, Demand};
-pub use conflicts::first_conflict;
 pub use propagating::propagate;
