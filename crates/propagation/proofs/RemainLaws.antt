@@ -49,14 +49,14 @@ same_place choices order i j a b one other section home =
           ]
     ]
 
-same_at : (choices : List Choice) → IsInOrder choices → (i j : ℕ) (a b : Choice) → At choices i a → At choices j b → same_choice a b ≡ true → a ≡ b
+pub same_at : (choices : List Choice) → IsInOrder choices → (i j : ℕ) (a b : Choice) → At choices i a → At choices j b → same_choice a b ≡ true → a ≡ b
 same_at choices order i j a b one other t =
     let parts = and_parts (a.section == b.section) (a.home == b.home) t in
     let e = same_place choices order i j a b one other (eqb-true a.section b.section parts.0) (eqb-true a.home b.home parts.1) in
     let both : Some a ≡ Some b = sym one ∙ ap (slice_get choices) e ∙ other in
     cc
 
-same_itself : (a : Choice) → same_choice a a ≡ true
+pub same_itself : (a : Choice) → same_choice a a ≡ true
 same_itself a =
     and_from (a.section == a.section) (a.home == a.home) (eq-eqb a.section a.section refl) (eq-eqb a.home a.home refl)
 

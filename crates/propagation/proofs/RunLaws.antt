@@ -58,7 +58,7 @@ pub closed_fewer : (choices : List Choice) (old new : List Bool) (c : Choice) �
 closed_fewer choices old new c fewer closed place other at t = closed place other at (fewer place other at t)
 
 module _ (choices : List Choice) (are : AreChoices choices) where
-  is_choice : (place : ℕ) (c : Choice) → At choices place c → IsChoice c
+  pub is_choice : (place : ℕ) (c : Choice) → At choices place c → IsChoice c
   is_choice place c at =
       let h = contains_place choices place c at in
       let P : Choice → Type 0 = IsChoice in

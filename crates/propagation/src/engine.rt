@@ -317,7 +317,7 @@ impl Engine {
     }
 
     // The same for each of some places.
-    fn carry_out_each(
+    pub(crate) fn carry_out_each(
         &mut self,
         alloc: Global,
         choices: &[Choice],

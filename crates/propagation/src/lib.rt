@@ -8,6 +8,7 @@ mod conflicts;
 mod engine;
 mod marking;
 mod propagating;
+mod striking;
 mod tables;
 
 pub use choice::{Choice, Claim, Demand};

@@ -29,7 +29,7 @@ impl Model for Marks {
 }
 
 // The mark at a place, false past the end.
-fn mark_at(marks: &[bool], place: usize) -> bool
+pub(crate) fn mark_at(marks: &[bool], place: usize) -> bool
     ensures { result ≡ slice_index_or marks.now place false }
 {
     match marks.get(place) {
