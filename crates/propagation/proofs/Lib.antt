@@ -15,3 +15,4 @@ pub mod EndLaws
 pub mod StrikeLaws
 pub mod FirstLaws
 pub mod ConflictLaws
+pub mod MetLaws

@@ -40,7 +40,7 @@ fn is_met(choice: &Choice, number: u32) -> bool
     requires { Ascends choice.now }
     ensures { result ≡ meets choice.now number }
 {
-    choice.met.as_slice().iter().any(|other| *other == number)
+    choice.met.as_slice().binary_search(&number).is_ok()
 }
 
 // Whether the choice at a place doesn't meet a demand.
