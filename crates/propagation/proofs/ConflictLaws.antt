@@ -44,7 +44,8 @@ clash_swap a b t =
     })
 
 -- ---- what doesn't remain clashes with a forced one
-later_in : (choices : List Choice) (n k : ℕ) (z : Choice) → Contains (left_in choice_rules (n + k) choices) z → Contains (left_in choice_rules n choices) z
+later_in : (choices : List Choice) (n k : ℕ) (z : Choice) → Contains (left_in choice_rules (n + k) choices) z
+    → Contains (left_in choice_rules n choices) z
 unfolding left_in
 later_in choices n zero z h =
     let P : ℕ → Type 0 = λ m. Contains (left_in choice_rules m choices) z in
@@ -55,7 +56,8 @@ later_in choices n (suc k) z h =
     let step : Contains (left_in choice_rules (suc (n + k)) choices) z = subst P (let e : n + suc k ≡ suc (n + k) = omega arith in e) h in
     later_in choices n k z (Contains_of_filter (λ x. not (clashes_with_one choice_rules (forced_among choice_rules choices before) x)) before z step).0
 
-remaining_in : (choices : List Choice) (n : ℕ) (z : Choice) → n ≤ length choices → Contains (remaining choice_rules choices) z → Contains (left_in choice_rules n choices) z
+remaining_in : (choices : List Choice) (n : ℕ) (z : Choice) → n ≤ length choices
+    → Contains (remaining choice_rules choices) z → Contains (left_in choice_rules n choices) z
 unfolding remaining
 remaining_in choices n z le h =
     let P : ℕ → Type 0 = λ m. Contains (left_in choice_rules m choices) z in
@@ -66,7 +68,9 @@ record IsExcluded (choices : List Choice) (c : Choice) : Type 0 where
   must : Contains (forced choice_rules choices) other
   clashes : clash c other ≡ true
 
-forced_later : (choices : List Choice) (n : ℕ) (y : Choice) → n ≤ length choices → Contains (forced_among choice_rules choices (left_in choice_rules n choices)) y → Contains (forced choice_rules choices) y
+forced_later : (choices : List Choice) (n : ℕ) (y : Choice) → n ≤ length choices
+    → Contains (forced_among choice_rules choices (left_in choice_rules n choices)) y
+    → Contains (forced choice_rules choices) y
 unfolding forced
 forced_later choices n y le h =
     let test : Choice → Bool = λ z. not (same_section z y) || same_choice z y in
@@ -75,7 +79,8 @@ forced_later choices n y le h =
     (list_all_from test (remaining choice_rules choices) (λ z rest. list_all_has test (left_in choice_rules n choices) z kept.1 (remaining_in choices n z le rest)))
     kept.0
 
-left_or_excluded : (choices : List Choice) (n : ℕ) (c : Choice) → n ≤ length choices → Contains choices c → c.matches ≡ true → Contains (left_in choice_rules n choices) c ⊎ IsExcluded choices c
+left_or_excluded : (choices : List Choice) (n : ℕ) (c : Choice) → n ≤ length choices → Contains choices c
+    → c.matches ≡ true → Contains (left_in choice_rules n choices) c ⊎ IsExcluded choices c
 unfolding left_in
 left_or_excluded choices zero c le h t = inl (Contains-filter can_be_chosen choices c t h)
 left_or_excluded choices (suc n) c le h t =
@@ -93,7 +98,8 @@ left_or_excluded choices (suc n) c le h t =
       | inr out ↦ inr out
     ]
 
-excluded_one : (choices : List Choice) (c : Choice) → Contains choices c → c.matches ≡ true → (Contains (remaining choice_rules choices) c → ⊥) → IsExcluded choices c
+excluded_one : (choices : List Choice) (c : Choice) → Contains choices c → c.matches ≡ true
+    → (Contains (remaining choice_rules choices) c → ⊥) → IsExcluded choices c
 unfolding remaining
 excluded_one choices c h t gone =
     elim (left_or_excluded choices (length choices) c (omega arith) h t) [
@@ -102,7 +108,8 @@ excluded_one choices c h t gone =
     ]
 
 -- what remains clashes with nothing that is forced
-kept_apart : (choices : List Choice) (x y : Choice) → Contains (remaining choice_rules choices) x → Contains (forced choice_rules choices) y → clash x y ≡ true → ⊥
+kept_apart : (choices : List Choice) (x y : Choice) → Contains (remaining choice_rules choices) x
+    → Contains (forced choice_rules choices) y → clash x y ≡ true → ⊥
 kept_apart choices x y h must t =
     let ones : List Choice = forced choice_rules choices in
     let P : List Choice → Type 0 = λ l. Contains l x in
@@ -110,7 +117,8 @@ kept_apart choices x y h must t =
     both_ways (list_any (clash x) ones) (not-true (list_any (clash x) ones) kept.1) (list_any_from (clash x) ones y must t)
 
 -- ---- marks by a test of choices
-marks_at : (choices : List Choice) (test : Choice → Bool) (place : ℕ) (c : Choice) → At choices place c → is_left (map test choices) place ≡ test c
+marks_at : (choices : List Choice) (test : Choice → Bool) (place : ℕ) (c : Choice) → At choices place c
+    → is_left (map test choices) place ≡ test c
 marks_at choices test place c at =
     get_or_from_slice_get (map test choices) place (test c) false (slice_get-map test choices place ∙ ap (option_map test) at)
 
@@ -119,46 +127,57 @@ comes_in_order a b before =
     elim before [ inl less ↦ omega (arith, less) | inr both ↦ (let e = both.0 in omega (arith, e)) ]
 
 -- ---- what the searches require
-mark_in : (choices : List Choice) (alive : List Bool) (section j : ℕ) (c : Choice) → At choices j c → IsLeft (map (is_stuck_in alive section) choices) j → (is_stuck alive c ≡ true) × (c.section ≡ section)
+mark_in : (choices : List Choice) (alive : List Bool) (section j : ℕ) (c : Choice) → At choices j c
+    → IsLeft (map (is_stuck_in alive section) choices) j → (is_stuck alive c ≡ true) × (c.section ≡ section)
 mark_in choices alive section j c at t =
     let parts = and_parts (is_stuck alive c) (c.section == section) (sym (marks_at choices (is_stuck_in alive section) j c at) ∙ t) in
     (parts.0, eqb-true c.section section parts.1)
 
-mark_out : (choices : List Choice) (alive : List Bool) (section j : ℕ) (c : Choice) → At choices j c → IsLeft (map (is_stuck_out alive section) choices) j → (is_stuck alive c ≡ true) × (c.section ≡ section → ⊥)
+mark_out : (choices : List Choice) (alive : List Bool) (section j : ℕ) (c : Choice) → At choices j c
+    → IsLeft (map (is_stuck_out alive section) choices) j → (is_stuck alive c ≡ true) × (c.section ≡ section → ⊥)
 mark_out choices alive section j c at t =
     let parts = and_parts (is_stuck alive c) (not (c.section == section)) (sym (marks_at choices (is_stuck_out alive section) j c at) ∙ t) in
     (parts.0, eqb-false c.section section (not-true (c.section == section) parts.1))
 
-pub in_matching : (choices : List Choice) (alive : List Bool) (section : ℕ) → AreMarkedMatching choices (map (is_stuck_in alive section) choices)
+pub in_matching : (choices : List Choice) (alive : List Bool) (section : ℕ)
+    → AreMarkedMatching choices (map (is_stuck_in alive section) choices)
 in_matching choices alive section place c at t =
     (and_parts c.matches (not (is_left alive c.section)) (mark_in choices alive section place c at t).0).0
 
-pub out_matching : (choices : List Choice) (alive : List Bool) (section : ℕ) → AreMarkedMatching choices (map (is_stuck_out alive section) choices)
+pub out_matching : (choices : List Choice) (alive : List Bool) (section : ℕ)
+    → AreMarkedMatching choices (map (is_stuck_out alive section) choices)
 out_matching choices alive section place c at t =
     (and_parts c.matches (not (is_left alive c.section)) (mark_out choices alive section place c at t).0).0
 
-pub in_apart : (choices : List Choice) (whole : List (List ℕ)) (alive : List Bool) (one two : ℕ) → IsWhole choices whole → (one ≡ two → ⊥) → AreApart choices (map (is_stuck_in alive one) choices) (list_at whole two)
+pub in_apart : (choices : List Choice) (whole : List (List ℕ)) (alive : List Bool) (one two : ℕ) → IsWhole choices whole
+    → (one ≡ two → ⊥) → AreApart choices (map (is_stuck_in alive one) choices) (list_at whole two)
 in_apart choices whole alive one two is ne place c h at other x there t same =
     ne (sym (mark_in choices alive one other x there t).1 ∙ same ∙ whole_of choices whole is two place h c at)
 
-pub out_apart : (choices : List Choice) (whole : List (List ℕ)) (alive : List Bool) (one : ℕ) → IsWhole choices whole → AreApart choices (map (is_stuck_out alive one) choices) (list_at whole one)
+pub out_apart : (choices : List Choice) (whole : List (List ℕ)) (alive : List Bool) (one : ℕ) → IsWhole choices whole
+    → AreApart choices (map (is_stuck_out alive one) choices) (list_at whole one)
 out_apart choices whole alive one is place c h at other x there t same =
     (mark_out choices alive one other x there t).1 (same ∙ whole_of choices whole is one place h c at)
 
-pub single_apart : (choices : List Choice) (alive : List Bool) (one two : ℕ) (first : ℕ) → (one ≡ two → ⊥) → IsLeft (map (is_stuck_in alive one) choices) first → AreApart choices (map (is_stuck_in alive two) choices) (first ∷ [])
+pub single_apart : (choices : List Choice) (alive : List Bool) (one two : ℕ) (first : ℕ) → (one ≡ two → ⊥)
+    → IsLeft (map (is_stuck_in alive one) choices) first
+    → AreApart choices (map (is_stuck_in alive two) choices) (first ∷ [])
 single_apart choices alive one two first ne marked place c h at other x there t same =
     let e : first ≡ place = elim (Contains-cases first place [] h) [ inl e ↦ e | inr none ↦ absurd (Contains-none place none) ] in
     let P : ℕ → Type 0 = IsLeft (map (is_stuck_in alive one) choices) in
     let mine = mark_in choices alive one place c at (subst P e marked) in
     ne (sym mine.1 ∙ sym same ∙ (mark_in choices alive two other x there t).1)
 
-pub other_section : (choices : List Choice) (alive : List Bool) (one place : ℕ) (c : Choice) → At choices place c → IsLeft (map (is_stuck_out alive one) choices) place → one ≡ c.section → ⊥
+pub other_section : (choices : List Choice) (alive : List Bool) (one place : ℕ) (c : Choice) → At choices place c
+    → IsLeft (map (is_stuck_out alive one) choices) place → one ≡ c.section → ⊥
 other_section choices alive one place c at t e = (mark_out choices alive one place c at t).1 (sym e)
 
-pub first_marked : {choices : List Choice} {marks : List Bool} {by : List ℕ} {place : ℕ} → FirstStruck choices marks by (Some place) → IsLeft marks place
+pub first_marked : {choices : List Choice} {marks : List Bool} {by : List ℕ} {place : ℕ}
+    → FirstStruck choices marks by (Some place) → IsLeft marks place
 first_marked (First place marked struck before) = marked
 
-not_any : {choices : List Choice} {marks : List Bool} {by : List ℕ} → FirstStruck choices marks by None → (place : ℕ) (c : Choice) → At choices place c → IsLeft marks place → is_struck choices by c ≡ false
+not_any : {choices : List Choice} {marks : List Bool} {by : List ℕ} → FirstStruck choices marks by None
+    → (place : ℕ) (c : Choice) → At choices place c → IsLeft marks place → is_struck choices by c ≡ false
 not_any (NotAny none) = none
 
 record Struck (choices : List Choice) (marks : List Bool) (by : List ℕ) (place : ℕ) : Type 0 where
@@ -166,7 +185,8 @@ record Struck (choices : List Choice) (marks : List Bool) (by : List ℕ) (place
   struck : (c : Choice) → At choices place c → is_struck choices by c ≡ true
   before : (k : ℕ) (c : Choice) → k < place → At choices k c → IsLeft marks k → is_struck choices by c ≡ false
 
-struck_first : {choices : List Choice} {marks : List Bool} {by : List ℕ} {place : ℕ} → FirstStruck choices marks by (Some place) → Struck choices marks by place
+struck_first : {choices : List Choice} {marks : List Bool} {by : List ℕ} {place : ℕ}
+    → FirstStruck choices marks by (Some place) → Struck choices marks by place
 struck_first (First place marked struck before) = record { marked = marked; struck = struck; before = before }
 
 -- by which one a choice is struck
@@ -182,15 +202,18 @@ struck_by choices by c t =
     let some = list_any_has (λ place. clash_at c (slice_get choices place)) by t in
     of_option some.0 (slice_get choices some.0) refl some.1 some.2
   where
-    of_option : (place : ℕ) (o : Option Choice) → slice_get choices place ≡ o → Contains by place → clash_at c o ≡ true → StruckBy choices by c
+    of_option : (place : ℕ) (o : Option Choice) → slice_get choices place ≡ o → Contains by place → clash_at c o ≡ true
+        → StruckBy choices by c
     of_option place None at h t = let no : false ≡ true = t in absurd (both_ways false refl no)
     of_option place (Some other) at h t = record { place = place; other = other; at = at; by_it = h; clashes = t }
 
-strikes : (choices : List Choice) (by : List ℕ) (c : Choice) (place : ℕ) (other : Choice) → At choices place other → Contains by place → clash c other ≡ true → is_struck choices by c ≡ true
+strikes : (choices : List Choice) (by : List ℕ) (c : Choice) (place : ℕ) (other : Choice) → At choices place other
+    → Contains by place → clash c other ≡ true → is_struck choices by c ≡ true
 strikes choices by c place other at h t =
     list_any_from (λ p. clash_at c (slice_get choices p)) by place h (ap (clash_at c) at ∙ t)
 
-not_struck : (choices : List Choice) (by : List ℕ) (c : Choice) (place : ℕ) (other : Choice) → At choices place other → Contains by place → is_struck choices by c ≡ false → clash c other ≡ false
+not_struck : (choices : List Choice) (by : List ℕ) (c : Choice) (place : ℕ) (other : Choice) → At choices place other
+    → Contains by place → is_struck choices by c ≡ false → clash c other ≡ false
 not_struck choices by c place other at h f =
     false_from_ne_true (clash c other) (λ t. both_ways (is_struck choices by c) f (strikes choices by c place other at h t))
 
@@ -229,13 +252,15 @@ module _ (choices : List Choice) (are : AreChoices choices) (left : List Bool) (
       subst P (sym e) some.1
 
   -- ---- what is stuck
-  quiet : (place : ℕ) (c : Choice) → At choices place c → is_stuck alive c ≡ true → (j : ℕ) (y : Choice) → At choices j y → IsLeft left j → y.section ≡ c.section → ⊥
+  quiet : (place : ℕ) (c : Choice) → At choices place c → is_stuck alive c ≡ true → (j : ℕ) (y : Choice)
+      → At choices j y → IsLeft left j → y.section ≡ c.section → ⊥
   quiet place c at t j y there left_there same =
       let parts = and_parts c.matches (not (is_left alive c.section)) t in
       both_ways (is_left alive c.section) (not-true (is_left alive c.section) parts.1)
       (each c.section (below place c at) ∙ list_any_from (is_left left) (list_at whole c.section) j (whole_has choices whole is c.section j y there same) left_there)
 
-  stuck_of : (place : ℕ) (c : Choice) → At choices place c → c.matches ≡ true → ((j : ℕ) (y : Choice) → At choices j y → IsLeft left j → y.section ≡ c.section → ⊥) → is_stuck alive c ≡ true
+  stuck_of : (place : ℕ) (c : Choice) → At choices place c → c.matches ≡ true
+      → ((j : ℕ) (y : Choice) → At choices j y → IsLeft left j → y.section ≡ c.section → ⊥) → is_stuck alive c ≡ true
   stuck_of place c at t none =
       and_from c.matches (not (is_left alive c.section)) t
       (not_from_false (is_left alive c.section)
@@ -268,7 +293,8 @@ module _ (choices : List Choice) (are : AreChoices choices) (left : List Bool) (
   must_is = refl
 
   -- a forced choice that clashes with a forced one is stuck
-  stuck_by : (place : ℕ) (x y : Choice) → At choices place x → Contains must x → Contains must y → clash x y ≡ true → is_stuck alive x ≡ true
+  stuck_by : (place : ℕ) (x y : Choice) → At choices place x → Contains must x → Contains must y → clash x y ≡ true
+      → is_stuck alive x ≡ true
   stuck_by place x y at hx hy t =
       stuck_of place x at (clash_of x y t).first
       (λ j r there left_there same.
@@ -283,7 +309,9 @@ module _ (choices : List Choice) (are : AreChoices choices) (left : List Bool) (
             kept_apart choices x y (subst P e h) hy t)
       ]))
 
-  unless : (w z : Choice) → Contains must w → Contains must z → ((i : ℕ) → At choices i w → is_stuck alive w ≡ true → (j : ℕ) → At choices j z → is_stuck alive z ≡ true → clash w z ≡ false) → clash w z ≡ false
+  unless : (w z : Choice) → Contains must w → Contains must z
+      → ((i : ℕ) → At choices i w → is_stuck alive w ≡ true → (j : ℕ) → At choices j z → is_stuck alive z ≡ true → clash w z ≡ false)
+      → clash w z ≡ false
   unless w z hw hz none =
       false_from_ne_true (clash w z)
       (λ t.
@@ -298,7 +326,9 @@ module _ (choices : List Choice) (are : AreChoices choices) (left : List Bool) (
   of_group section x h =
       let kept = Contains_of_filter (is_of section) must x h in (kept.0, eqb-true x.section section kept.1)
 
-  apart_none : (s t : ℕ) → ((x y : Choice) → Contains must x → Contains must y → x.section ≡ s → y.section ≡ t → clash x y ≡ false) → first_of_two (clashing choice_rules) (groups s) (groups t) ≡ None
+  apart_none : (s t : ℕ)
+      → ((x y : Choice) → Contains must x → Contains must y → x.section ≡ s → y.section ≡ t → clash x y ≡ false)
+      → first_of_two (clashing choice_rules) (groups s) (groups t) ≡ None
   apart_none s t none =
       first_none (λ x. first_some (clashing choice_rules x) (groups t)) (groups s)
       (λ x hx.
@@ -337,11 +367,16 @@ module _ (choices : List Choice) (are : AreChoices choices) (left : List Bool) (
     clashes : clash x y ≡ true
     first : (j : ℕ) (c : Choice) → At choices j c → is_stuck alive c ≡ true → x.section ≤ c.section
     apart : x.section < y.section
-    between : (i j : ℕ) (w z : Choice) → At choices i w → At choices j z → is_stuck alive w ≡ true → is_stuck alive z ≡ true → w.section ≡ x.section → x.section < z.section → z.section < y.section → clash w z ≡ false
-    before : (i j : ℕ) (w z : Choice) → i < k1 → At choices i w → At choices j z → is_stuck alive w ≡ true → is_stuck alive z ≡ true → w.section ≡ x.section → z.section ≡ y.section → clash w z ≡ false
-    sooner : (j : ℕ) (z : Choice) → j < k2 → At choices j z → is_stuck alive z ≡ true → z.section ≡ y.section → clash x z ≡ false
+    between : (i j : ℕ) (w z : Choice) → At choices i w → At choices j z → is_stuck alive w ≡ true
+        → is_stuck alive z ≡ true → w.section ≡ x.section → x.section < z.section → z.section < y.section
+        → clash w z ≡ false
+    before : (i j : ℕ) (w z : Choice) → i < k1 → At choices i w → At choices j z → is_stuck alive w ≡ true
+        → is_stuck alive z ≡ true → w.section ≡ x.section → z.section ≡ y.section → clash w z ≡ false
+    sooner : (j : ℕ) (z : Choice) → j < k2 → At choices j z → is_stuck alive z ≡ true → z.section ≡ y.section
+        → clash x z ≡ false
 
-  test_of : (section place : ℕ) (c : Choice) → At choices place c → test_in section c ≡ true → Contains must c × (c.section ≡ section)
+  test_of : (section place : ℕ) (c : Choice) → At choices place c → test_in section c ≡ true
+      → Contains must c × (c.section ≡ section)
   test_of section place c at t =
       let parts = and_parts (is_forced choice_rules rest c) (is_of section c) t in
       let P : List Choice → Type 0 = λ l. Contains l c in
@@ -396,20 +431,24 @@ module _ (choices : List Choice) (are : AreChoices choices) (left : List Bool) (
         (λ i ati si j atj sj. f.between i j w z ati atj si sj ws (omega (arith, low, zs)) (omega (arith, less, zs)))))
 
   -- ---- marks
-  marked_in : (section j : ℕ) (c : Choice) → At choices j c → is_stuck alive c ≡ true → c.section ≡ section → IsLeft (map (is_stuck_in alive section) choices) j
+  marked_in : (section j : ℕ) (c : Choice) → At choices j c → is_stuck alive c ≡ true → c.section ≡ section
+      → IsLeft (map (is_stuck_in alive section) choices) j
   marked_in section j c at t e =
       marks_at choices (is_stuck_in alive section) j c at ∙ and_from (is_stuck alive c) (c.section == section) t (eq-eqb c.section section e)
 
-  of_in : (section j : ℕ) (c : Choice) → At choices j c → IsLeft (map (is_stuck_in alive section) choices) j → (is_stuck alive c ≡ true) × (c.section ≡ section)
+  of_in : (section j : ℕ) (c : Choice) → At choices j c → IsLeft (map (is_stuck_in alive section) choices) j
+      → (is_stuck alive c ≡ true) × (c.section ≡ section)
   of_in section j c at t =
       let parts = and_parts (is_stuck alive c) (c.section == section) (sym (marks_at choices (is_stuck_in alive section) j c at) ∙ t) in
       (parts.0, eqb-true c.section section parts.1)
 
-  marked_out : (section j : ℕ) (c : Choice) → At choices j c → is_stuck alive c ≡ true → (c.section ≡ section → ⊥) → IsLeft (map (is_stuck_out alive section) choices) j
+  marked_out : (section j : ℕ) (c : Choice) → At choices j c → is_stuck alive c ≡ true → (c.section ≡ section → ⊥)
+      → IsLeft (map (is_stuck_out alive section) choices) j
   marked_out section j c at t ne =
       marks_at choices (is_stuck_out alive section) j c at ∙ and_from (is_stuck alive c) (not (c.section == section)) t (not_from_false (c.section == section) (ne_eqb c.section section ne))
 
-  of_out : (section j : ℕ) (c : Choice) → At choices j c → IsLeft (map (is_stuck_out alive section) choices) j → (is_stuck alive c ≡ true) × (c.section ≡ section → ⊥)
+  of_out : (section j : ℕ) (c : Choice) → At choices j c → IsLeft (map (is_stuck_out alive section) choices) j
+      → (is_stuck alive c ≡ true) × (c.section ≡ section → ⊥)
   of_out section j c at t =
       let parts = and_parts (is_stuck alive c) (not (c.section == section)) (sym (marks_at choices (is_stuck_out alive section) j c at) ∙ t) in
       (parts.0, eqb-false c.section section (not-true (c.section == section) parts.1))
@@ -421,7 +460,8 @@ module _ (choices : List Choice) (are : AreChoices choices) (left : List Bool) (
       at_within choices place (omega (arith, less, long))
 
   -- of a section of which one is stuck, another that can be chosen is stuck
-  stuck_too : (c b : Choice) → is_stuck alive c ≡ true → b.matches ≡ true → b.section ≡ c.section → is_stuck alive b ≡ true
+  stuck_too : (c b : Choice) → is_stuck alive c ≡ true → b.matches ≡ true → b.section ≡ c.section
+      → is_stuck alive b ≡ true
   stuck_too c b t chosen same =
       and_from b.matches (not (is_left alive b.section)) chosen
       (ap (λ s. not (is_left alive s)) same ∙ (and_parts c.matches (not (is_left alive c.section)) t).1)
@@ -552,7 +592,8 @@ module _ (choices : List Choice) (are : AreChoices choices) (left : List Bool) (
           both_found =
               ap (λ o. pair_of o (slice_get choices k2)) x.1 ∙ ap (λ o. pair_of (Some x.0) o) y.1 ∙ sym (conflict_is k1 k2 x.0 y.0 found)
 
-      between_is : {found : Option (ℕ × ℕ)} → Between choices whole alive one two found → option_and_then (pair_at choices) found ≡ goes_on
+      between_is : {found : Option (ℕ × ℕ)} → Between choices whole alive one two found
+          → option_and_then (pair_at choices) found ≡ goes_on
       between_is (NoFirst none) = absurd (no_first none)
       between_is (NoSecond k1 first_one none) = absurd (no_second k1 first_one none)
       between_is (Both k1 k2 first_one first_two) = both_found k1 first_one k2 first_two
@@ -568,6 +609,7 @@ module _ (choices : List Choice) (are : AreChoices choices) (left : List Bool) (
         (not_any none j.0 out.other j.1 (marked_out one j.0 out.other j.1 t (clash_of out.other c0 back).elsewhere))
         (strikes choices (list_at whole one) out.other p0 c0 at0 (whole_has choices whole is one p0 c0 at0 refl) back)
 
-    pub around_is : {found : Option (ℕ × ℕ)} → Around choices whole alive one found → option_and_then (pair_at choices) found ≡ goes_on
+    pub around_is : {found : Option (ℕ × ℕ)} → Around choices whole alive one found
+        → option_and_then (pair_at choices) found ≡ goes_on
     around_is (NoOther none) = absurd (no_other none)
     around_is (Other place c pair first at between) = between_is place c first at between

@@ -6,16 +6,19 @@ use Rattle.std.proofs.lemmas.Bool.{cases_Bool, cases_eq, cond-true, cond-false}
 use Rattle.propagation.specs.Conflicts.{first_some, first_of_two, first_between}
 use Rattle.propagation.proofs.ListLaws.{Contains-here, Contains-there}
 
-pub first_none : {X Y : Type 0} (f : X → Option Y) (xs : List X) → ((x : X) → Contains xs x → f x ≡ None) → first_some f xs ≡ None
+pub first_none : {X Y : Type 0} (f : X → Option Y) (xs : List X) → ((x : X) → Contains xs x → f x ≡ None)
+    → first_some f xs ≡ None
 unfolding first_some
 first_none f [] each = refl
 first_none f (x ∷ xs) each =
     ap (λ o. option_or o (first_some f xs)) (each x (Contains-here x xs)) ∙ first_none f xs (λ y h. each y (Contains-there x y xs h))
 
-filter_cons : {X : Type 0} (p q : X → Bool) (x : X) (xs : List X) → filter q (filter p xs) ≡ filter (λ y. p y && q y) xs → filter q (filter p (x ∷ xs)) ≡ filter (λ y. p y && q y) (x ∷ xs)
+filter_cons : {X : Type 0} (p q : X → Bool) (x : X) (xs : List X) → filter q (filter p xs) ≡ filter (λ y. p y && q y) xs
+    → filter q (filter p (x ∷ xs)) ≡ filter (λ y. p y && q y) (x ∷ xs)
 filter_cons p q x xs rest = by_case (p x)
   where
-    by_case : (b : Bool) → filter q (cond b (x ∷ filter p xs) (filter p xs)) ≡ cond (b && q x) (x ∷ filter (λ y. p y && q y) xs) (filter (λ y. p y && q y) xs)
+    by_case : (b : Bool)
+        → filter q (cond b (x ∷ filter p xs) (filter p xs)) ≡ cond (b && q x) (x ∷ filter (λ y. p y && q y) xs) (filter (λ y. p y && q y) xs)
     by_case true = ap (λ l. cond (q x) (x ∷ l) l) rest
     by_case false = rest
 
@@ -24,7 +27,10 @@ filter_both p q [] = refl
 filter_both p q (x ∷ xs) = filter_cons p q x xs (filter_both p q xs)
 
 -- the first item that passes a test and gives something
-pub first_at : {X Y : Type 0} (f : X → Option Y) (p : X → Bool) (xs : List X) (k : ℕ) (x : X) (v : Y) → slice_get xs k ≡ Some x → p x ≡ true → f x ≡ Some v → ((j : ℕ) (z : X) → j < k → slice_get xs j ≡ Some z → p z ≡ true → f z ≡ None) → first_some f (filter p xs) ≡ Some v
+pub first_at : {X Y : Type 0} (f : X → Option Y) (p : X → Bool) (xs : List X) (k : ℕ) (x : X) (v : Y)
+    → slice_get xs k ≡ Some x → p x ≡ true → f x ≡ Some v
+    → ((j : ℕ) (z : X) → j < k → slice_get xs j ≡ Some z → p z ≡ true → f z ≡ None)
+    → first_some f (filter p xs) ≡ Some v
 unfolding first_some
 first_at f p [] k x v at t e before = let no : None ≡ Some x = at in cc
 first_at f p (y ∷ ys) zero x v at t e before =
@@ -43,14 +49,16 @@ first_at f p (y ∷ ys) (suc k) x v at t e before =
 
 -- ---- over a range of sections
 module _ {X Y : Type 0} (g : ℕ → X) (f : X → Option Y) where
-  pub range_none : (a n : ℕ) → ((t : ℕ) → a ≤ t → t < a + n → f (g t) ≡ None) → first_some f (map g (range_with_len a n)) ≡ None
+  pub range_none : (a n : ℕ) → ((t : ℕ) → a ≤ t → t < a + n → f (g t) ≡ None)
+      → first_some f (map g (range_with_len a n)) ≡ None
   unfolding first_some
   range_none a zero each = refl
   range_none a (suc n) each =
       ap (λ o. option_or o (first_some f (map g (range_with_len (a + 1) n)))) (each a (omega arith) (omega arith))
       ∙ range_none (a + 1) n (λ t le less. each t (omega (arith, le)) (omega (arith, less)))
 
-  pub range_at : (a n t : ℕ) (v : Y) → a ≤ t → t < a + n → f (g t) ≡ Some v → ((s : ℕ) → a ≤ s → s < t → f (g s) ≡ None) → first_some f (map g (range_with_len a n)) ≡ Some v
+  pub range_at : (a n t : ℕ) (v : Y) → a ≤ t → t < a + n → f (g t) ≡ Some v → ((s : ℕ) → a ≤ s → s < t → f (g s) ≡ None)
+      → first_some f (map g (range_with_len a n)) ≡ Some v
   unfolding first_some
   range_at a zero t v le less e before = absurd (omega (arith, le, less))
   range_at a (suc n) t v le less e before =
@@ -63,7 +71,8 @@ module _ {X Y : Type 0} (g : ℕ → X) (f : X → Option Y) where
       ]
 
 module _ {X Y : Type 0} (g : ℕ → List X) (f : X → X → Option Y) where
-  pub between_none : (a n : ℕ) → ((s t : ℕ) → a ≤ s → s < t → t < a + n → first_of_two f (g s) (g t) ≡ None) → first_between f (map g (range_with_len a n)) ≡ None
+  pub between_none : (a n : ℕ) → ((s t : ℕ) → a ≤ s → s < t → t < a + n → first_of_two f (g s) (g t) ≡ None)
+      → first_between f (map g (range_with_len a n)) ≡ None
   unfolding first_between
   between_none a zero each = refl
   between_none a (suc n) each =

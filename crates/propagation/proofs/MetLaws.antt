@@ -35,5 +35,6 @@ told xs x (Err i) h =
       | inr high ↦ (let more = h.2 found.0 high found.1 in omega (arith, more, here))
     ])))
 
-pub met_found : (xs : List ℕ) (x : ℕ) (r : Result ℕ ℕ) → IsStrictlyIncreasing xs → IsBinarySearchResult (λ y. nat_cmp y x) xs r → is_ok r ≡ list_any (λ other. other == x) xs
+pub met_found : (xs : List ℕ) (x : ℕ) (r : Result ℕ ℕ) → IsStrictlyIncreasing xs
+    → IsBinarySearchResult (λ y. nat_cmp y x) xs r → is_ok r ≡ list_any (λ other. other == x) xs
 met_found xs x r ascend h = told xs x r (searched xs x r h (ascending xs ascend))

@@ -13,7 +13,10 @@ use Rattle.propagation.proofs.CarryLaws.{clash_of, carried_out_goes}
 use Rattle.propagation.proofs.RunLaws.{is_choice}
 
 module _ (choices : List Choice) (are : AreChoices choices) where
-  struck_by_one : (e : Engine) (place : ℕ) (o : Option Choice) → slice_get choices place ≡ o → Keeps choices e → AreMarkedMatching choices e.marking.left → ((c : Choice) → At choices place c → (other : ℕ) (x : Choice) → At choices other x → IsLeft e.marking.left other → x.section ≡ c.section → ⊥) → Goes choices (λ c. clash_at c o) e (carried_if choices e o)
+  struck_by_one : (e : Engine) (place : ℕ) (o : Option Choice) → slice_get choices place ≡ o → Keeps choices e
+      → AreMarkedMatching choices e.marking.left
+      → ((c : Choice) → At choices place c → (other : ℕ) (x : Choice) → At choices other x → IsLeft e.marking.left other → x.section ≡ c.section → ⊥)
+      → Goes choices (λ c. clash_at c o) e (carried_if choices e o)
   struck_by_one e place None at keeps matching apart = goes_stay choices (λ _. false) e keeps (λ p c there t. refl)
   struck_by_one e place (Some c) at keeps matching apart =
       cond_both c.matches (carried_out choices e c) e (Goes choices (λ x. clash x c) e)
@@ -24,11 +27,14 @@ module _ (choices : List Choice) (are : AreChoices choices) where
       goes_stay choices (λ x. clash x c) e keeps
       (λ p x there t. false_from_ne_true (clash x c) (λ h. both_ways c.matches never (clash_of x c h).second)))
 
-  struck_at : (e : Engine) (place : ℕ) → Keeps choices e → AreMarkedMatching choices e.marking.left → ((c : Choice) → At choices place c → (other : ℕ) (x : Choice) → At choices other x → IsLeft e.marking.left other → x.section ≡ c.section → ⊥) → Goes choices (λ c. clash_at c (slice_get choices place)) e (carried_at choices e place)
+  struck_at : (e : Engine) (place : ℕ) → Keeps choices e → AreMarkedMatching choices e.marking.left
+      → ((c : Choice) → At choices place c → (other : ℕ) (x : Choice) → At choices other x → IsLeft e.marking.left other → x.section ≡ c.section → ⊥)
+      → Goes choices (λ c. clash_at c (slice_get choices place)) e (carried_at choices e place)
   unfolding carried_at
   struck_at e place keeps matching apart = struck_by_one e place (slice_get choices place) refl keeps matching apart
 
-  pub struck_each : (e : Engine) (by : List ℕ) → Keeps choices e → AreMarkedMatching choices e.marking.left → AreApart choices e.marking.left by → Goes choices (is_struck choices by) e (fold (carried_at choices) e by)
+  pub struck_each : (e : Engine) (by : List ℕ) → Keeps choices e → AreMarkedMatching choices e.marking.left
+      → AreApart choices e.marking.left by → Goes choices (is_struck choices by) e (fold (carried_at choices) e by)
   struck_each e [] keeps matching apart = goes_stay choices (λ _. false) e keeps (λ p c there t. refl)
   struck_each e (place ∷ rest) keeps matching apart =
       let test : Choice → Bool = λ c. clash_at c (slice_get choices place) in
@@ -40,7 +46,8 @@ module _ (choices : List Choice) (are : AreChoices choices) where
       (λ p c h at other x there t. apart p c (Contains-there place p rest h) at other x there (fewer other x there t)))
 
 -- what is lost first is struck first
-pub first_is : (choices : List Choice) (marks rest : List Bool) (by : List ℕ) (first : Option ℕ) → ((place : ℕ) (c : Choice) → At choices place c → is_left rest place ≡ (is_left marks place && not (is_struck choices by c)))
+pub first_is : (choices : List Choice) (marks rest : List Bool) (by : List ℕ) (first : Option ℕ)
+    → ((place : ℕ) (c : Choice) → At choices place c → is_left rest place ≡ (is_left marks place && not (is_struck choices by c)))
     → IfNone first ((place : ℕ) → is_left marks place ≡ true → is_left rest place ≡ true) → IfSome first (λ place. is_left marks place ≡ true) → IfSome first (λ place. is_left rest place ≡ false)
     → IfSome first (λ place. (k : ℕ) → k < place → is_left marks k ≡ true → is_left rest k ≡ true) → FirstStruck choices marks by first
 first_is choices marks rest by None goes none lost gone before =

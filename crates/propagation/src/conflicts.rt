@@ -17,9 +17,10 @@ use crate::striking::first_struck;
 use crate::tables::Table;
 use std::alloc::{AllocError, Global};
 
-/// The first two choices of different sections that must be chosen and clash, by their places, given which choices are left. The work
-/// grows with the number of choices, claims and demands: two choices of these can only clash where nothing is left of either's section,
-/// each choice of such a section that can be chosen clashes with another one, and three walks find the first two.
+/// The first two choices of different sections that must be chosen and clash, by their places, given which choices are
+/// left. The work grows with the number of choices, claims and demands, and with the greatest numbers of these: two
+/// choices that must be chosen only clash where nothing is left of either's section, each choice of such a section that
+/// can be chosen clashes with another one, and three walks find the first two.
 pub fn first_conflict(
     alloc: Global,
     choices: &[Choice],
@@ -29,7 +30,9 @@ pub fn first_conflict(
     requires order { AreChoices choices.now }
     requires within { All (λ choice. choice.section < sections) choices.now }
     requires left { left.now ≡ map (is_among choice_rules (remaining choice_rules choices.now)) choices.now }
-    ensures { IfOk result (λ places. option_and_then (pair_at choices.now) places ≡ conflict choice_rules (by_section sections (forced choice_rules choices.now))) }
+    ensures { IfOk result (λ places.
+        option_and_then (pair_at choices.now) places
+        ≡ conflict choice_rules (by_section sections (forced choice_rules choices.now))) }
 {
     let whole = members_by_section(alloc, choices)?;
     let alive = alive_sections(alloc, left, &whole, sections as usize)?;
@@ -63,7 +66,8 @@ fn alive_sections(
     sections: usize,
 ) -> Result<Vec<bool>, AllocError>
     ensures len { IfOk result (λ marks. length marks.items ≡ sections) }
-    ensures each { IfOk result (λ marks. (section : ℕ) → section < sections → is_left marks.items section ≡ list_any (is_left left.now) (list_at whole.now section)) }
+    ensures each { IfOk result (λ marks. (section : ℕ) → section < sections →
+        is_left marks.items section ≡ list_any (is_left left.now) (list_at whole.now section)) }
 {
     let mut alive = Vec::new(alloc);
     for section in 0..sections {
@@ -84,7 +88,8 @@ fn first_stuck(choices: &[Choice], alive: &[bool]) -> Option<usize>
     ensures none { IfNone result ((place : ℕ) (c : Choice) → At choices.now place c → is_stuck alive.now c ≡ false) }
     ensures within { IfSome result (λ place. place < length choices.now) }
     ensures stuck { IfSome result (λ place. (c : Choice) → At choices.now place c → is_stuck alive.now c ≡ true) }
-    ensures before { IfSome result (λ place. (k : ℕ) (c : Choice) → k < place → At choices.now k c → is_stuck alive.now c ≡ false) }
+    ensures before { IfSome result (λ place. (k : ℕ) (c : Choice) → k < place →
+        At choices.now k c → is_stuck alive.now c ≡ false) }
 {
     for (place, choice) in choices.iter().enumerate() {
         if stuck(alive, choice) {

@@ -1,5 +1,5 @@
-//! Choosing by propagation: one item is to be chosen for each of several sections, and what must be chosen excludes what can't
-//! be chosen beside it.
+//! Choosing by propagation: one item is to be chosen for each of several sections, and what must be chosen excludes
+//! what can't be chosen beside it.
 #![tactic(auto)]
 
 mod building;

@@ -11,8 +11,8 @@ use crate::engine::Engine;
 use crate::marking::mark_at;
 use std::alloc::{AllocError, Global};
 
-// Marks without those of choices that clash with one of those at some places. The work grows with the number of choices, claims and
-// demands, and not with the number of pairs.
+// Marks without those of choices that clash with one of those at some places. The work grows with the number of
+// choices, claims and demands, and not with the number of pairs.
 fn without_struck(
     alloc: Global,
     choices: &[Choice],
@@ -36,7 +36,8 @@ fn first_lost(marks: &[bool], rest: &[bool]) -> Option<usize>
     ensures none { IfNone result ((place : ℕ) → is_left marks.now place ≡ true → is_left rest.now place ≡ true) }
     ensures lost { IfSome result (λ place. is_left marks.now place ≡ true) }
     ensures gone { IfSome result (λ place. is_left rest.now place ≡ false) }
-    ensures before { IfSome result (λ place. (k : ℕ) → k < place → is_left marks.now k ≡ true → is_left rest.now k ≡ true) }
+    ensures before { IfSome result (λ place. (k : ℕ) → k < place →
+        is_left marks.now k ≡ true → is_left rest.now k ≡ true) }
 {
     for place in 0..marks.len() {
         if marks[place] && !mark_at(rest, place) {

@@ -25,7 +25,8 @@ AreMarkedMatching choices marks =
 
 -- none of the marked choices is struck, or the first one that is stands at a place
 pub data FirstStruck (choices : List Choice) (marks : List Bool) (by : List ℕ) : Option ℕ → Type 0 where
-  NotAny : ((place : ℕ) (c : Choice) → At choices place c → IsLeft marks place → is_struck choices by c ≡ false) → FirstStruck choices marks by None
+  NotAny : ((place : ℕ) (c : Choice) → At choices place c → IsLeft marks place → is_struck choices by c ≡ false)
+      → FirstStruck choices marks by None
   First : (place : ℕ) → IsLeft marks place → ((c : Choice) → At choices place c → is_struck choices by c ≡ true)
       → ((before : ℕ) (c : Choice) → before < place → At choices before c → IsLeft marks before → is_struck choices by c ≡ false) → FirstStruck choices marks by (Some place)
 
@@ -41,12 +42,19 @@ is_stuck_out alive section c = is_stuck alive c && not (c.section == section)
 
 -- the search in two sections
 pub data Between (choices : List Choice) (whole : List (List ℕ)) (alive : List Bool) (one two : ℕ) : Option (ℕ × ℕ) → Type 0 where
-  NoFirst : FirstStruck choices (map (is_stuck_in alive one) choices) (list_at whole two) None → Between choices whole alive one two None
-  NoSecond : (first : ℕ) → FirstStruck choices (map (is_stuck_in alive one) choices) (list_at whole two) (Some first) → FirstStruck choices (map (is_stuck_in alive two) choices) (first ∷ []) None → Between choices whole alive one two None
-  Both : (first second : ℕ) → FirstStruck choices (map (is_stuck_in alive one) choices) (list_at whole two) (Some first) → FirstStruck choices (map (is_stuck_in alive two) choices) (first ∷ []) (Some second)
+  NoFirst : FirstStruck choices (map (is_stuck_in alive one) choices) (list_at whole two) None
+      → Between choices whole alive one two None
+  NoSecond : (first : ℕ) → FirstStruck choices (map (is_stuck_in alive one) choices) (list_at whole two) (Some first)
+      → FirstStruck choices (map (is_stuck_in alive two) choices) (first ∷ []) None
+      → Between choices whole alive one two None
+  Both : (first second : ℕ) → FirstStruck choices (map (is_stuck_in alive one) choices) (list_at whole two) (Some first)
+      → FirstStruck choices (map (is_stuck_in alive two) choices) (first ∷ []) (Some second)
       → Between choices whole alive one two (Some (first, second))
 
 -- the search in a section and all others
 pub data Around (choices : List Choice) (whole : List (List ℕ)) (alive : List Bool) (one : ℕ) : Option (ℕ × ℕ) → Type 0 where
-  NoOther : FirstStruck choices (map (is_stuck_out alive one) choices) (list_at whole one) None → Around choices whole alive one None
-  Other : (place : ℕ) (c : Choice) (found : Option (ℕ × ℕ)) → FirstStruck choices (map (is_stuck_out alive one) choices) (list_at whole one) (Some place) → At choices place c → Between choices whole alive one c.section found → Around choices whole alive one found
+  NoOther : FirstStruck choices (map (is_stuck_out alive one) choices) (list_at whole one) None
+      → Around choices whole alive one None
+  Other : (place : ℕ) (c : Choice) (found : Option (ℕ × ℕ))
+      → FirstStruck choices (map (is_stuck_out alive one) choices) (list_at whole one) (Some place) → At choices place c
+      → Between choices whole alive one c.section found → Around choices whole alive one found
