@@ -1,13 +1,16 @@
-//! Choosing by propagation: one item is to be chosen for each of several sections, and what must be chosen excludes what can't
-//! be chosen beside it.
+//! Choosing by propagation: one item is to be chosen for each of several sections, and one that is forced excludes what
+//! can't be chosen beside it.
 #![tactic(auto)]
 
 mod building;
 pub mod choice;
+mod conflicts;
 mod engine;
 mod marking;
 mod propagating;
+mod striking;
 mod tables;
 
 pub use choice::{Choice, Claim, Demand};
+pub use conflicts::first_conflict;
 pub use propagating::propagate;
