@@ -1,6 +1,7 @@
 mod Aims
 mod AllBelow
 mod BodyLaws
+mod BodyPlaces
 mod Bounds
 mod CodeLaws
 mod Covered

@@ -1,10 +1,6 @@
 //! The running body of a candidate, asked for where an offset of its section stands.
-ghost use Rattle.std.specs.Prelude.{◌≡◌, ℕ, List, length, IfOk};
-ghost use Rattle.std.specs.Option.{option_copied};
-ghost use Rattle.symbol_table.specs.declared.symbols.Symbol.{Symbol};
-ghost use Rattle.run_pre_match.specs.Candidate.{Candidate, same_number};
-ghost use Rattle.run_pre_match.specs.Matched.{candidate};
-ghost use Rattle.run_pre_match.specs.Bodies.{IsBodyOf, address_of};
+ghost use Rattle.std.specs.Prelude.{◌≡◌, IfOk};
+ghost use Rattle.run_pre_match.specs.Bodies.{body_at, is_number_of, address_of};
 
 use crate::code::PreCode;
 use crate::run_code::{RunList, list_run};
@@ -44,8 +40,7 @@ impl<'n, 'a> PreCode<'n, 'a> {
         space: &'c S,
         base: u32,
     ) -> Result<Body<'c, 'n, 'a, S>, AllocError>
-        ensures { IfOk result (λ body. (symbols : List Symbol) (home : ℕ)
-            → IsBodyOf (candidate self.now (S.contents space.now) symbols home base) body) }
+        ensures { IfOk result (λ body. body ≡ body_at self.now (S.contents space.now) base) }
     {
         let run = list_run(alloc, space, base, self.kept_count())?;
         Ok(Body {
@@ -60,8 +55,9 @@ impl<'n, 'a> PreCode<'n, 'a> {
 impl<'c, 'n, 'a, S: Space> Body<'c, 'n, 'a, S> {
     /// Whether an address stands in the body for the instruction at an offset of the section. An instruction that the body
     /// doesn't reach counts as agreeing.
-    pub fn same_number(&self, offset: u32, address: u32) -> bool
-        ensures { (c : Candidate) → IsBodyOf c self.now → result ≡ same_number c offset address }
+    #[tactic(auto, using(crate::proofs::BodyPlaces::agrees_by))]
+    pub fn is_number_of(&self, offset: u32, address: u32) -> bool
+        ensures { result ≡ is_number_of self.now offset address }
     {
         let Some(number) = self.code.number_of(offset) else {
             return false;
@@ -73,8 +69,9 @@ impl<'c, 'n, 'a, S: Space> Body<'c, 'n, 'a, S> {
     }
 
     /// Where the instruction at an offset of the section stands in the body: its address, and 0 where there is none.
+    #[tactic(auto, using(crate::proofs::BodyPlaces::address_by))]
     pub fn address_of(&self, offset: u32) -> u32
-        ensures { (c : Candidate) → IsBodyOf c self.now → result ≡ address_of c offset }
+        ensures { result ≡ address_of self.now offset }
     {
         let number = self.code.number_of(offset).unwrap_or(0);
         self.run.places.kept_at(number as usize).unwrap_or(0)

@@ -135,6 +135,7 @@ impl<'n, 'a> PreCode<'n, 'a> {
     }
 
     /// What an offset of the section stands for.
+    #[tactic(auto, using(crate::proofs::BodyPlaces::number_by))]
     pub(crate) fn number_of(&self, offset: u32) -> Option<u32>
         ensures { result ≡ stands_for (pre_code self.now.section) offset }
     {

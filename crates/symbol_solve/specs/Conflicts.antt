@@ -9,7 +9,7 @@ use Rattle.symbol_table.specs.declared.values.Unknown.TheVariants.{Code, Data, O
 use Rattle.run_pre_match.specs.declared.types.Claim.{Claim}
 use Rattle.run_pre_match.specs.declared.types.Interior.{Interior}
 use Rattle.run_pre_match.specs.Candidate.{Candidate}
-use Rattle.run_pre_match.specs.Bodies.{address_of}
+use Rattle.run_pre_match.specs.Bodies.{body_of, address_of}
 use Rattle.run_pre_match.specs.Matched.{spot_at}
 use Rattle.propagation.specs.Rounds.{forced}
 use Rattle.propagation.specs.Conflicts.{first_some, conflict}
@@ -34,7 +34,7 @@ conflict_of_claims c d =
 -- an interior that isn't met in a candidate, with the address of the instruction that it would have to be
 abbrev pub interior_conflict : Candidate → Interior → Refusal
 interior_conflict d i =
-    Conflict (record { name = i.section; offset = Some i.offset }) i.address (address_of d i.offset) i.place (spot_at i.section i.offset)
+    Conflict (record { name = i.section; offset = Some i.offset }) i.address (address_of (body_of d) i.offset) i.place (spot_at i.section i.offset)
 
 abbrev pub conflict_of_interiors : Candidate → Candidate → Option Refusal
 conflict_of_interiors c d = option_map (interior_conflict d) (find (is_unmet d) (interiors_of c))

@@ -5,3 +5,4 @@ pub mod Clashes
 pub mod Conflicts
 pub mod Solve
 pub mod Solution
+pub mod inside

@@ -1,0 +1,93 @@
+-- Candidates as choices whose claims and demands are numbers: unknowns are numbered, and so are the interiors of sections that
+-- candidates refer to.
+use Rattle.std.specs.Prelude.{◌≡◌, ℕ, Bool, true, false, ◌&&◌, ◌==◌, is_some, IsTrue, if◌then◌else◌, List, [], length, map, All, Option, Some, None, Result, Ok, Err}
+use Rattle.std.specs.Option.{option_map, unwrap_or}
+use Rattle.std.specs.List.{filter, filter_map, position, range_with_len, slice_get}
+use Rattle.symbol_table.specs.declared.values.Unknown.{Unknown}
+use Rattle.symbol_table.specs.Unknowns.{same_unknown}
+use Rattle.i386_reloc.specs.declared.types.NormalSection.{NormalSection}
+use Rattle.i386_reloc.specs.Places.{place_named}
+use Rattle.run_pre_match.specs.declared.types.Claim.{Claim}
+use Rattle.run_pre_match.specs.declared.types.Interior.{Interior}
+use Rattle.run_pre_match.specs.declared.types.Matched.{Matched}
+use Rattle.run_pre_match.specs.declared.types.MatchFault.{MatchFault}
+use Rattle.run_pre_match.specs.Candidate.{Candidate, same_number}
+use Rattle.run_pre_match.specs.Matched.{outcome}
+use Rattle.propagation.specs.declared.choice.Choice.{Choice}
+use Rattle.propagation.specs.declared.choice.Claim as numbered
+use Rattle.propagation.specs.declared.choice.Demand.{Demand}
+use Rattle.match_candidates.specs.Candidates.{matches}
+use Rattle.symbol_solve.specs.Clashes.{claims_in, interiors_in, claims_of, interiors_of}
+use Rattle.symbol_solve.specs.declared.numbers.Point.{Point}
+
+-- all unknowns that are claimed, and all interiors that are referred to, each once
+pub record Numbers : Type 0 where
+  pub unknowns : List Unknown
+  pub points : List Point
+
+abbrev pub number_of : List Unknown → Unknown → ℕ
+number_of unknowns unknown = unwrap_or (position (same_unknown unknown) unknowns) 0
+
+abbrev pub same_point : Point → Point → Bool
+same_point a b = a.place == b.place && (a.offset == b.offset && a.address == b.address)
+
+abbrev pub point_number : List Point → Point → ℕ
+point_number points point = unwrap_or (position (same_point point) points) 0
+
+abbrev pub claim_of : Numbers → Claim → numbered.Claim
+claim_of numbers claim = record { unknown = number_of numbers.unknowns claim.unknown; value = claim.value }
+
+-- the interior of the section at a place
+abbrev pub point_at : Interior → ℕ → Point
+point_at i place = record { place = place; offset = i.offset; address = i.address }
+
+abbrev pub demand_at : Numbers → Point → Demand
+demand_at numbers point = record { section = point.place; number = point_number numbers.points point }
+
+abbrev pub point_of : List NormalSection → Interior → Option Point
+point_of object i = option_map (point_at i) (place_named object i.section)
+
+abbrev pub demand_of : List NormalSection → Numbers → Interior → Option Demand
+demand_of object numbers i = option_map (demand_at numbers) (point_of object i)
+
+-- whether a candidate is of the section of a point, and the point's address stands in its body for its offset
+abbrev pub meets_point : Candidate → Point → Bool
+meets_point c p = p.place == c.place && same_number c p.offset p.address
+
+abbrev pub meets : Candidate → Option Point → Bool
+meets c None = false
+meets c (Some p) = meets_point c p
+
+abbrev pub met_among : Numbers → Candidate → List ℕ
+met_among numbers c = filter (λ n. meets c (slice_get numbers.points n)) (range_with_len 0 (length numbers.points))
+
+-- the demands that a candidate meets, nothing where it doesn't match
+abbrev pub met_by : Numbers → Candidate → List ℕ
+met_by numbers c = if matches c then met_among numbers c else []
+
+-- a candidate as a choice
+unfoldable pub choice_of : List NormalSection → Numbers → Candidate → Choice
+choice_of object numbers c = record {
+  section = c.place;
+  home = c.home;
+  matches = matches c;
+  claims = map (claim_of numbers) (claims_of c);
+  demands = filter_map (demand_of object numbers) (interiors_of c);
+  met = met_by numbers c;
+}
+
+-- whether an unknown, or a point, has a number
+abbrev pub IsUnknownNumbered : Numbers → Claim → Type 0
+IsUnknownNumbered numbers claim = IsTrue (is_some (position (same_unknown claim.unknown) numbers.unknowns))
+
+abbrev pub has_point : List Point → Option Point → Bool
+has_point points None = true
+has_point points (Some p) = is_some (position (same_point p) points)
+
+abbrev pub IsInteriorNumbered : List NormalSection → Numbers → Interior → Type 0
+IsInteriorNumbered object numbers i = IsTrue (has_point numbers.points (point_of object i))
+
+-- all that is claimed and referred to has a number
+pub record IsNumbered (object : List NormalSection) (numbers : Numbers) (outcome : Result Matched MatchFault) : Type 0 where
+  pub claims : All (IsUnknownNumbered numbers) (claims_in outcome)
+  pub interiors : All (IsInteriorNumbered object numbers) (interiors_in outcome)

@@ -1,0 +1,9 @@
+//! Solving: which functions of a running program the code sections of an object are, and what that makes of the addresses that it
+//! refers to.
+#![tactic(auto)]
+
+mod numbers;
+mod propagated;
+mod solving;
+
+pub use solving::solve;
