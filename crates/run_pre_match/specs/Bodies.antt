@@ -1,4 +1,4 @@
--- A running body beside the code that it was matched with: which of its instructions an offset of the code is.
+-- A running body beside the code of a section: where the instruction at an offset of the code stands in it.
 use Rattle.std.specs.Prelude.{ℕ, Bool, List, length}
 use Rattle.std.specs.Option.{option_map, unwrap_or}
 use Rattle.std.specs.List.{slice_get}
@@ -27,10 +27,10 @@ abbrev pub is_number_of : Body → ℕ → ℕ → Bool
 is_number_of body offset address =
     has_number (length (kept_of body.run)) (stands_for body.run address) (stands_for body.pre offset)
 
--- the address of the kept instruction of a number
+-- the address of the kept instruction of a number, 0 where there is none such
 abbrev pub address_in : List Instruction → ℕ → ℕ
 address_in run k = unwrap_or (option_map place_of (slice_get (kept_of run) k)) 0
 
--- where an offset's instruction stands in a body
+-- where an offset's instruction stands in a body; an offset that stands for none counts as number 0
 abbrev pub address_of : Body → ℕ → ℕ
 address_of body offset = address_in body.run (unwrap_or (stands_for body.pre offset) 0)

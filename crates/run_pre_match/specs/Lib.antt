@@ -1,5 +1,6 @@
 -- Public clauses cite Landing (where a section's code can't be matched), Candidate, Goals, Found, Differences and Matched (what comes
--- of a candidate) and Bodies (which running instruction an offset is); they stand on Instructions, PreCode and RunCode (the two lists of instructions). What stands in inside is the code's own.
+-- of a candidate) and Bodies (where an offset stands in a running body); they stand on Instructions, PreCode and RunCode (the two lists
+-- of instructions). What stands in inside is the code's own.
 pub mod Instructions
 pub mod PreCode
 pub mod Landing

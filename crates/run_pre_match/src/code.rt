@@ -127,6 +127,13 @@ impl<'n, 'a> PreCode<'n, 'a> {
         candidate.outcome(alloc)
     }
 
+    /// The place of its section in the object, counted from 0.
+    pub fn place(&self) -> usize
+        ensures { result ≡ self.now.place }
+    {
+        self.place
+    }
+
     /// The section.
     pub fn section(&self) -> &'n NormalSection<'a>
         ensures { result.now ≡ self.now.section }

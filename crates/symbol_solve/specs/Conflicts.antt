@@ -1,4 +1,4 @@
--- What is reported where two candidates must be chosen and clash: the first clash, in the order of sections and homes, claims and interiors.
+-- What is reported where two forced candidates clash: the first clash, in the order of sections and homes, claims and interiors.
 use Rattle.std.specs.Prelude.{ℕ, List, map, length, Option, Some, None}
 use Rattle.std.specs.Option.{option_map, option_or, option_and_then}
 use Rattle.std.specs.List.{filter, find, range_with_len}
@@ -21,7 +21,7 @@ unknown_name (Code name) = name
 unknown_name (Data name) = name
 unknown_name (Outside name) = name
 
--- two claims that give one unknown two values
+-- what is reported of two claims that give one unknown two values
 abbrev pub claims_conflict : Claim → Claim → Refusal
 claims_conflict a b =
     Conflict (record { name = unknown_name a.unknown; offset = None }) a.value b.value a.place b.place
@@ -31,7 +31,7 @@ abbrev pub conflict_of_claims : Candidate → Candidate → Option Refusal
 conflict_of_claims c d =
     first_some (λ a. option_map (claims_conflict a) (find (contradict a) (claims_of d))) (claims_of c)
 
--- an interior that isn't met in a candidate, with the address of the instruction that it would have to be
+-- what is reported of an interior that isn't met in a candidate, with the address of the instruction to which it would have to go
 abbrev pub interior_conflict : Candidate → Interior → Refusal
 interior_conflict d i =
     Conflict (record { name = i.section; offset = Some i.offset }) i.address (address_of (body_of d) i.offset) i.place (spot_at i.section i.offset)
@@ -49,6 +49,6 @@ clash_between pair =
 abbrev pub by_place : ℕ → List Candidate → List (List Candidate)
 by_place count all = map (λ place. filter (is_of place) all) (range_with_len 0 count)
 
--- what is reported of the first two that must be chosen and clash, nothing where none do
+-- what is reported of the first two forced candidates that clash, nothing where none do
 unfoldable pub reported : ℕ → List Candidate → Option Refusal
 reported count all = option_and_then clash_between (conflict candidate_rules (by_place count (forced candidate_rules all)))

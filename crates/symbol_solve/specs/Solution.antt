@@ -7,7 +7,7 @@ use Rattle.run_pre_match.specs.Matched.{PreSection}
 use Rattle.match_candidates.specs.Candidates.{Running, candidates_of, code_sections, matches}
 use Rattle.symbol_solve.specs.Clashes.{clashes}
 
--- a candidate of a section matches
+-- one of a section's candidates, which matches
 pub record IsChoice (running : Running) (pre : PreSection) (c : Candidate) : Type 0 where
   pub among : Contains (candidates_of running pre) c
   pub matching : matches c ≡ true

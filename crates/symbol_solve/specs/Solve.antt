@@ -1,5 +1,6 @@
--- What is answered for an object in a running program: the values of all that it refers to, or why there are none.
-use Rattle.std.specs.Prelude.{ℕ, Bool, true, false, if◌then◌else◌, List, [], ◌∷◌, ◌++◌, length, Option, Some, None, Result, Ok, Err}
+-- What is answered for an object in a running program: the values of its code sections and of what they and the read-only data that they
+-- reach refer to, or why there are none.
+use Rattle.std.specs.Prelude.{ℕ, Bool, true, false, ◌==◌, if◌then◌else◌, List, [], ◌∷◌, ◌++◌, length, Option, Some, None, Result, Ok, Err}
 use Rattle.std.specs.Option.{option_or}
 use Rattle.std.specs.List.{flat_map, fold, list_any}
 use Rattle.ks_base.specs.declared.refusals.Refusal.{Refusal}
@@ -16,10 +17,9 @@ use Rattle.run_pre_match.specs.declared.types.Claim.{Claim}
 use Rattle.run_pre_match.specs.declared.types.Matched.{Matched}
 use Rattle.run_pre_match.specs.declared.types.MatchFault.{MatchFault}
 use Rattle.run_pre_match.specs.Candidate.{Candidate}
-use Rattle.run_pre_match.specs.Matched.{PreSection, outcome}
+use Rattle.run_pre_match.specs.Matched.{outcome}
 use Rattle.propagation.specs.Rounds.{remaining}
-use Rattle.propagation.specs.Conflicts.{first_some}
-use Rattle.match_candidates.specs.Candidates.{Running, code_sections, candidates, of_section}
+use Rattle.match_candidates.specs.Candidates.{Running, candidates}
 use Rattle.match_candidates.specs.OwnFaults.{own_fault}
 use Rattle.symbol_solve.specs.Clashes.{candidate_rules}
 use Rattle.symbol_solve.specs.Conflicts.{reported}
@@ -28,53 +28,55 @@ use Rattle.symbol_solve.specs.Conflicts.{reported}
 abbrev pub Value : Type 0
 Value = Unknown × Solved
 
--- the first code section of which two candidates are left, with the two lowest homes
-abbrev pub ambiguous_in : PreSection → List Candidate → Option Refusal
-ambiguous_in pre [] = None
-ambiguous_in pre (c ∷ []) = None
-ambiguous_in pre (c ∷ d ∷ rest) = Some (Ambiguous pre.section.name c.home d.home)
+-- two candidates of one section
+abbrev pub twins : Candidate → Candidate → Option Refusal
+twins c d = if c.place == d.place then Some (Ambiguous c.section.name c.home d.home) else None
 
-abbrev pub first_ambiguous : List Candidate → List NormalSection → Option Refusal
-first_ambiguous left object = first_some (λ pre. ambiguous_in pre (of_section left pre)) (code_sections object)
+-- Of candidates by section and home: the first section of which there are two, with its two lowest homes.
+unfoldable pub first_twins : List Candidate → Option Refusal
+first_twins [] = None
+first_twins (c ∷ []) = None
+first_twins (c ∷ d ∷ rest) = option_or (twins c d) (first_twins (d ∷ rest))
 
 -- the candidates that are left
 abbrev pub left_of : Running → List NormalSection → List Candidate
 left_of running object = remaining candidate_rules (candidates running object)
 
--- What stands in the way of a solution, the first that does: a section whose code can't be matched, one without a candidate, one of
--- which none matches, two that must be chosen and clash, one of which two candidates are left.
+-- What stands in the way of an answer, the first that does: what is wrong with one section by itself, two forced candidates that clash, a
+-- section of which two are left.
 unfoldable pub obstacle : Running → List NormalSection → Option Refusal
 obstacle running object =
     option_or (own_fault running object)
     (option_or (reported (length object) (candidates running object))
-    (first_ambiguous (left_of running object) object))
+    (first_twins (left_of running object)))
 
 -- the value of a candidate's own section
-abbrev pub body_of : Candidate → Matched → Value
-body_of c matched = (Code c.section.name , Body c.home c.base matched.length)
+abbrev pub body_value : Candidate → Matched → Value
+body_value c matched = (Code c.section.name , Body c.home c.base matched.length)
 
--- the values of the data sections and outside names that it claims
 abbrev pub is_code_unknown : Unknown → Bool
 is_code_unknown (Code name) = true
 is_code_unknown (Data name) = false
 is_code_unknown (Outside name) = false
 
+-- the value of a data section or an outside name that it claims
 abbrev pub address_value : Claim → List Value
 address_value claim =
     if is_code_unknown claim.unknown then [] else (claim.unknown , Address claim.value) ∷ []
 
 abbrev pub values_with : Candidate → Result Matched MatchFault → List Value
-values_with c (Ok matched) = body_of c matched ∷ flat_map address_value matched.claims
+values_with c (Ok matched) = body_value c matched ∷ flat_map address_value matched.claims
 values_with c (Err fault) = []
 
 abbrev pub values_of : Candidate → List Value
 values_of c = values_with c (outcome c)
 
-abbrev pub is_listed : List Value → Value → Bool
-is_listed values value = list_any (λ v. same_unknown v.0 value.0) values
+-- whether an unknown has a value among some
+abbrev pub has_value : List Value → Unknown → Bool
+has_value values unknown = list_any (λ value. same_unknown unknown value.0) values
 
 abbrev pub with_value : List Value → Value → List Value
-with_value values value = if is_listed values value then values else values ++ value ∷ []
+with_value values value = if has_value values value.0 then values else values ++ value ∷ []
 
 -- Code sections in order, each followed by the data sections and outside names of its claims that aren't listed yet, in place order.
 unfoldable pub values : List Candidate → List Value

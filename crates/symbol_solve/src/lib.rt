@@ -2,8 +2,13 @@
 //! refers to.
 #![tactic(auto)]
 
+mod copies;
+mod left;
 mod numbers;
 mod propagated;
+mod report;
 mod solving;
+mod twins;
+mod values;
 
 pub use solving::solve;

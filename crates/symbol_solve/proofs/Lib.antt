@@ -1,0 +1,3 @@
+mod Unknowns
+mod Bodies
+mod LeftLaws
