@@ -1,3 +1,4 @@
 mod Unknowns
 mod Bodies
-mod LeftLaws
+mod HeldLaws
+mod TwinLaws

@@ -35,7 +35,7 @@ fn take_one<'h, 'n, 'a>(
 }
 
 /// The candidates that have a mark.
-#[tactic(auto, using(crate::proofs::LeftLaws::all_held))]
+#[tactic(auto, using(crate::proofs::HeldLaws::all_held))]
 pub(crate) fn marked<'h, 'n, 'a>(
     alloc: Global,
     codes: &'h [PreCode<'n, 'a>],

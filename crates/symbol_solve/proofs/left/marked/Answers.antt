@@ -3,7 +3,7 @@ use Rattle.run_pre_match.specs.Candidate.{Candidate}
 use Rattle.match_candidates.specs.declared.trials.Tried.{Tried}
 use Rattle.symbol_solve.specs.declared.left.Held.{Held}
 use Rattle.symbol_solve.specs.inside.Left.{IsOf, IsOneOf, AreHeldUpTo}
-use Rattle.symbol_solve.proofs.LeftLaws.{none_held, one_more_held}
+use Rattle.symbol_solve.proofs.HeldLaws.{none_held, one_more_held}
 use Rattle.symbol_solve.proofs.left.marked.Goals as goal
 
 pub loop-i-init : goal.loop-i-init

@@ -5,7 +5,7 @@ use Rattle.run_pre_match.specs.Matched.{PreSection}
 use Rattle.match_candidates.specs.declared.trials.Tried.{Tried}
 use Rattle.symbol_solve.specs.declared.left.Held.{Held}
 use Rattle.symbol_solve.specs.inside.Left.{IsOf, IsOneOf}
-use Rattle.symbol_solve.proofs.LeftLaws.{taken, passed}
+use Rattle.symbol_solve.proofs.HeldLaws.{taken, passed}
 use Rattle.symbol_solve.proofs.left.take_one.Goals as goal
 
 pub returns-in_ok-push : goal.returns-in_ok-push

@@ -1,10 +1,13 @@
 -- Which candidates have a mark, one candidate after another.
-use Rattle.std.proofs.Common.{arith, ◌≡◌, ℕ, zero, suc, ◌<◌, Bool, true, false, cond, List, [], ◌∷◌, ◌++◌, take, length, get_or, refl, sym, ap, subst, le_of_lt, le_of_eq, ◌∙◌}
+use Rattle.std.proofs.Common.{arith, ◌≡◌, ℕ, zero, suc, ◌<◌, Bool, true, false, cond, List, [], ◌∷◌, ◌++◌, take, length, get_or, Option, Some, None, refl, sym, ap, subst, le_of_lt, le_of_eq, ◌∙◌}
 use Rattle.std.specs.List.{AllZip, slice_get}
 use Rattle.std.proofs.Math.Seq.{take-suc}
 use Rattle.std.proofs.lemmas.List.{append-nil, take_all, length-take-le}
+use Rattle.std.proofs.lemmas.Option.{same_Some}
 use Rattle.run_pre_match.specs.Candidate.{Candidate}
-use Rattle.symbol_solve.specs.inside.Left.{marked, AreHeldUpTo, Takes}
+use Rattle.run_pre_match.specs.Matched.{PreSection}
+use Rattle.match_candidates.specs.declared.trials.Tried.{Tried}
+use Rattle.symbol_solve.specs.inside.Left.{IsOf, IsOneOf, marked, AreHeldUpTo, Takes}
 
 tail_length : (a b : ℕ) → suc a ≡ suc b → a ≡ b
 tail_length a b e = omega arith
@@ -43,6 +46,21 @@ module _ {A B : Type 0} (R : A → B → Type 0) where
   zip_at (a ∷ xs) (b ∷ ys) zero d e within all = all.0
   zip_at (a ∷ xs) (b ∷ ys) (suc i) d e within all = zip_at xs ys i d e (omega arith) all.1
 
+  -- what stands beside one of the second list, and that nothing stands beside none
+  pub zip_get : (xs : List A) (ys : List B) (i : ℕ) (y : B) → AllZip R xs ys → slice_get ys i ≡ Some y → (x : A) × (slice_get xs i ≡ Some x) × R x y
+  zip_get [] [] i y all at = absurd cc
+  zip_get [] (b ∷ ys) i y all at = absurd all
+  zip_get (a ∷ xs) [] i y all at = absurd all
+  zip_get (a ∷ xs) (b ∷ ys) zero y all at = (a, refl, subst (R a) (same_Some b y at) all.0)
+  zip_get (a ∷ xs) (b ∷ ys) (suc i) y all at = zip_get xs ys i y all.1 at
+
+  pub zip_none : (xs : List A) (ys : List B) (i : ℕ) → AllZip R xs ys → slice_get ys i ≡ None → slice_get xs i ≡ None
+  zip_none [] [] i all at = refl
+  zip_none [] (b ∷ ys) i all at = absurd all
+  zip_none (a ∷ xs) [] i all at = absurd all
+  zip_none (a ∷ xs) (b ∷ ys) zero all at = absurd cc
+  zip_none (a ∷ xs) (b ∷ ys) (suc i) all at = zip_none xs ys i all.1 at
+
 module _ {H T : Type 0} (R : Candidate → H → Type 0) (Q : Candidate → T → Type 0) where
   -- one that has a mark goes last
   pub taken : (t : T) (old : List H) (h : H) → ((c : Candidate) → Q c t → R c h) → Takes R Q t true old (old ++ h ∷ [])
@@ -80,3 +98,22 @@ module _ {H T : Type 0} (R : Candidate → H → Type 0) (Q : Candidate → T �
       let whole : AllZip R (marked (take (length tried) marks) (take (length tried) cs)) held = before cs all in
       subst (λ xs. AllZip R (marked xs cs) held) (take_all (length tried) marks (le_of_eq same))
       (subst (λ xs. AllZip R (marked (take (length tried) marks) xs) held) (take_all (length tried) cs (le_of_eq many)) whole)
+
+module _ (codes : List PreSection) where
+  -- one of several code sections is of the one that is listed
+  pub one_here : (pre : PreSection) (c : Candidate) (t : Tried) → slice_get codes t.section ≡ Some pre → IsOneOf codes c t → IsOf pre c t
+  one_here pre c t at one = subst (λ (p : PreSection). IsOf p c t) (same_Some one.pre pre (sym one.code ∙ at)) one.held
+
+  pub one_at : (tried : List Tried) (place : ℕ) (t : Tried) (pre : PreSection) → slice_get tried place ≡ Some t → slice_get codes t.section ≡ Some pre
+      → (cs : List Candidate) → AllZip (IsOneOf codes) cs tried → (c : Candidate) × (slice_get cs place ≡ Some c) × IsOf pre c t
+  one_at tried place t pre at code cs all =
+      let (c, there, one) = zip_get (IsOneOf codes) cs tried place t all at in
+      (c, there, one_here pre c t code one)
+
+  -- and of none that isn't
+  pub none_at : (tried : List Tried) (place : ℕ) (t : Tried) → slice_get tried place ≡ Some t → slice_get codes t.section ≡ None
+      → (cs : List Candidate) → AllZip (IsOneOf codes) cs tried → slice_get cs place ≡ None
+  none_at tried place t at code cs all =
+      let (c, there, one) = zip_get (IsOneOf codes) cs tried place t all at in
+      let e : None ≡ Some one.pre = sym code ∙ one.code in
+      absurd cc
