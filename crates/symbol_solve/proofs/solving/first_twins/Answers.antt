@@ -1,4 +1,4 @@
-use Rattle.std.proofs.Common.{arith, ◌≡◌, ℕ, suc, ◌-◌, ◌<◌, Option, List, drop, length, sym, ap, ◌∙◌}
+use Rattle.std.proofs.Common.{arith, ◌≡◌, ℕ, suc, ◌+◌, ◌-◌, ◌<◌, ◌≤◌, Option, List, drop, length, sym, ap, ◌∙◌}
 use Rattle.std.specs.Option.{option_or}
 use Rattle.std.specs.List.{AllZip}
 use Rattle.ks_base.specs.declared.refusals.Refusal.{Refusal}
