@@ -1,8 +1,8 @@
 -- Candidates as choices whose claims and demands are numbers: unknowns are numbered, and so are the interiors of sections that
 -- candidates refer to.
-use Rattle.std.specs.Prelude.{◌≡◌, ℕ, Bool, true, false, ◌&&◌, ◌==◌, is_some, IsTrue, if◌then◌else◌, List, [], length, map, All, Option, Some, None, Result, Ok, Err}
+use Rattle.std.specs.Prelude.{ℕ, Bool, false, ◌&&◌, ◌==◌, if◌then◌else◌, List, [], length, map, All, Option, Some, None, Result, Ok, Err}
 use Rattle.std.specs.Option.{option_map, unwrap_or}
-use Rattle.std.specs.List.{filter, filter_map, position, range_with_len, slice_get}
+use Rattle.std.specs.List.{filter, filter_map, position, range_with_len, slice_get, Contains}
 use Rattle.symbol_table.specs.declared.values.Unknown.{Unknown}
 use Rattle.symbol_table.specs.Unknowns.{same_unknown}
 use Rattle.i386_reloc.specs.declared.types.NormalSection.{NormalSection}
@@ -76,18 +76,23 @@ choice_of object numbers c = record {
   met = met_by numbers c;
 }
 
--- whether an unknown, or a point, has a number
+-- that an unknown has a number, and that the point of an interior has one, where the object has its section
 abbrev pub IsUnknownNumbered : Numbers → Claim → Type 0
-IsUnknownNumbered numbers claim = IsTrue (is_some (position (same_unknown claim.unknown) numbers.unknowns))
+IsUnknownNumbered numbers claim = Contains numbers.unknowns claim.unknown
 
-abbrev pub has_point : List Point → Option Point → Bool
-has_point points None = true
-has_point points (Some p) = is_some (position (same_point p) points)
+abbrev pub HasPoint : List Point → Option Point → Type 0
+HasPoint points None = Unit {0}
+HasPoint points (Some p) = Contains points p
 
 abbrev pub IsInteriorNumbered : List NormalSection → Numbers → Interior → Type 0
-IsInteriorNumbered object numbers i = IsTrue (has_point numbers.points (point_of object i))
+IsInteriorNumbered object numbers i = HasPoint numbers.points (point_of object i)
 
 -- all that is claimed and referred to has a number
 pub record IsNumbered (object : List NormalSection) (numbers : Numbers) (outcome : Result Matched MatchFault) : Type 0 where
   pub claims : All (IsUnknownNumbered numbers) (claims_in outcome)
   pub interiors : All (IsInteriorNumbered object numbers) (interiors_in outcome)
+
+-- that what has a number keeps one
+pub record Grows (old new : Numbers) : Type 0 where
+  pub unknowns : (unknown : Unknown) → Contains old.unknowns unknown → Contains new.unknowns unknown
+  pub points : (point : Point) → Contains old.points point → Contains new.points point
