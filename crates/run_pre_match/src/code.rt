@@ -127,6 +127,13 @@ impl<'n, 'a> PreCode<'n, 'a> {
         candidate.outcome(alloc)
     }
 
+    /// The section.
+    pub fn section(&self) -> &'n NormalSection<'a>
+        ensures { result.now ≡ self.now.section }
+    {
+        self.section
+    }
+
     /// How many of its instructions are kept.
     pub(crate) fn kept_count(&self) -> usize
         ensures { result ≡ length (kept_of (pre_code self.now.section)) }
