@@ -127,6 +127,14 @@ impl<'n, 'a> PreCode<'n, 'a> {
         candidate.outcome(alloc)
     }
 
+    /// The section's place among the object's sections, counted from 0.
+    pub fn place(&self) -> usize
+        ensures place { result ≡ self.now.place }
+        ensures few { result < 4096 }
+    {
+        self.place
+    }
+
     /// The section.
     pub fn section(&self) -> &'n NormalSection<'a>
         ensures { result.now ≡ self.now.section }

@@ -51,7 +51,7 @@ obstacle running object =
 
 -- the value of a candidate's own section
 abbrev pub body_of : Candidate → Matched → Value
-body_of c matched = (Code c.section.name, Body c.home c.base matched.length)
+body_of c matched = (Code c.section.name , Body c.home c.base matched.length)
 
 -- the values of the data sections and outside names that it claims
 abbrev pub is_code_unknown : Unknown → Bool
@@ -61,7 +61,7 @@ is_code_unknown (Outside name) = false
 
 abbrev pub address_value : Claim → List Value
 address_value claim =
-    if is_code_unknown claim.unknown then [] else (claim.unknown, Address claim.value) ∷ []
+    if is_code_unknown claim.unknown then [] else (claim.unknown , Address claim.value) ∷ []
 
 abbrev pub values_with : Candidate → Result Matched MatchFault → List Value
 values_with c (Ok matched) = body_of c matched ∷ flat_map address_value matched.claims

@@ -5,7 +5,7 @@ use Rattle.run_pre_match.specs.Candidate.{Candidate}
 
 abbrev pub pair_with : Candidate → Option Candidate → Option (Candidate × Candidate)
 pair_with c None = None
-pair_with c (Some d) = Some (c, d)
+pair_with c (Some d) = Some (c , d)
 
 abbrev pub pair_of : Option Candidate → Option Candidate → Option (Candidate × Candidate)
 pair_of None d = None
