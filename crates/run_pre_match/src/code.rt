@@ -129,8 +129,7 @@ impl<'n, 'a> PreCode<'n, 'a> {
 
     /// The section's place among the object's sections, counted from 0.
     pub fn place(&self) -> usize
-        ensures place { result ≡ self.now.place }
-        ensures few { result < 4096 }
+        ensures { result ≡ self.now.place }
     {
         self.place
     }

@@ -1,1 +1,4 @@
 pub mod NumberLaws
+pub mod PointLaws
+pub mod CandidateLaws
+pub mod ChoiceLaws

@@ -1,5 +1,5 @@
 -- What has a number, and what keeps it.
-use Rattle.std.proofs.Common.{◌≡◌, ℕ, ◌+◌, ◌<◌, ◌≤◌, arith, Bool, true, false, ◌&&◌, eqb, List, [], ◌∷◌, length, take, get_or, Option, Some, None, Result, Ok, Err, Contains, refl, sym, ◌∙◌, ap, subst}
+use Rattle.std.proofs.Common.{◌≡◌, ℕ, ◌+◌, ◌<◌, ◌≤◌, arith, true, ◌&&◌, eqb, List, length, take, get_or, Option, Some, None, Result, Ok, Contains, refl, sym, ◌∙◌, ap, subst}
 use Rattle.std.specs.List.{All, each_same}
 use Rattle.std.specs.Cmp.Lexicographic.{bytes_decides}
 use Rattle.std.proofs.lemmas.Bool.{and_parts, eqb-true}
@@ -49,6 +49,9 @@ one_unknown (Outside a) (Outside b) h = ap Outside ((bytes_decides a b).0 h)
 
 pub equal_unknown : (a b : Unknown) → (unknowns.eq-value).it a b ≡ true → a ≡ b
 equal_unknown a b h = one_unknown a b (sym (equal_is_same a b) ∙ h)
+
+pub point_is_same : (a b : Point) → (points.eq-value).it a b ≡ same_point a b
+point_is_same a b = refl
 
 pub one_point : (a b : Point) → same_point a b ≡ true → a ≡ b
 one_point a b h =

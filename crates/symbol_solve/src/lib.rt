@@ -2,7 +2,9 @@
 //! refers to.
 #![tactic(auto)]
 
+mod choices;
 mod numbers;
+mod points;
 mod propagated;
 mod solving;
 

@@ -1,11 +1,12 @@
 //! Numbers of what candidates claim and refer to.
 ghost use Rattle.std.specs.Prelude.{◌≡◌, All, IfOk, OnOk};
 ghost use Rattle.symbol_solve.specs.Clashes.{claims_in, interiors_in};
-ghost use Rattle.symbol_solve.specs.inside.Numbers.{point_of, IsNumbered, IsUnknownNumbered, IsInteriorNumbered, Grows};
+ghost use Rattle.symbol_solve.specs.inside.Numbers.{claim_of, demand_of, point_of, IsNumbered, IsUnknownNumbered, IsInteriorNumbered, Grows};
 
 use i386_reloc::Normal;
 use indexmap::IndexSet;
 use match_candidates::Tried;
+use propagation::Demand;
 use run_pre_match::{Claim, Interior, MatchFault, Matched};
 use std::alloc::{AllocError, Global};
 use std::marker::Model;
@@ -35,6 +36,42 @@ impl Model for Numbers {
 }
 
 impl Numbers {
+    /// The points by number.
+    pub(crate) fn points(&self) -> &[Point]
+        ensures { result.now ≡ self.now.points }
+    {
+        self.points.as_slice()
+    }
+
+    /// A claim with the number of its unknown.
+    pub(crate) fn claim(&self, claim: &Claim) -> Result<propagation::Claim, AllocError>
+        ensures { IfOk result (λ numbered. numbered ≡ claim_of self.now claim.now) }
+    {
+        let number = self.unknowns.get_index_of(&claim.unknown).unwrap_or(0);
+        Ok(propagation::Claim {
+            unknown: word(number)?,
+            value: claim.value,
+        })
+    }
+
+    /// What an interior asks of the section that it is in, `None` where the object has no such section.
+    pub(crate) fn demand(
+        &self,
+        object: &Normal<'_>,
+        interior: &Interior,
+    ) -> Result<Option<Demand>, AllocError>
+        ensures { IfOk result (λ demand. demand ≡ demand_of object.now self.now interior.now) }
+    {
+        let Some(point) = point_of(object, interior) else {
+            return Ok(None);
+        };
+        let number = self.points.get_index_of(&point).unwrap_or(0);
+        Ok(Some(Demand {
+            section: point.place,
+            number: word(number)?,
+        }))
+    }
+
     /// Numbers the unknown of a claim.
     fn add_claim(&mut self, claim: &Claim) -> Result<(), AllocError>
         ensures grows { OnOk result (Grows self.old self.new) }
@@ -97,6 +134,16 @@ impl Numbers {
         }
         Ok(())
     }
+}
+
+/// A number as 32 bits. More than these have no memory.
+pub(crate) fn word(number: usize) -> Result<u32, AllocError>
+    ensures { IfOk result (λ word. word ≡ number) }
+{
+    if number > u32::MAX as usize {
+        return Err(AllocError);
+    }
+    Ok(number as u32)
 }
 
 /// Where an interior lies, by the place of its section, `None` exactly where the object has no section of its name.

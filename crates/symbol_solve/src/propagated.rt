@@ -7,14 +7,11 @@ ghost use Rattle.match_candidates.specs.Candidates.{code_sections, candidates};
 ghost use Rattle.match_candidates.specs.OwnFaults.{AreTried};
 ghost use Rattle.symbol_solve.specs.Clashes.{candidate_rules};
 ghost use Rattle.symbol_solve.specs.Conflicts.{by_place};
-ghost use Rattle.symbol_solve.specs.inside.Numbers.{choice_of};
 ghost use Rattle.symbol_solve.specs.inside.Left.{pair_at};
 
-use crate::numbers::Numbers;
 use i386_reloc::Normal;
 use image_memory::Space;
 use match_candidates::{Running, Trials};
-use propagation::Choice;
 use std::alloc::{AllocError, Global};
 
 /// A mark for each candidate, whether it is left, and the places of the first two that must be chosen and clash.
@@ -22,21 +19,6 @@ use std::alloc::{AllocError, Global};
 pub(crate) struct Propagated {
     pub(crate) left: Vec<bool>,
     pub(crate) conflict: Option<(usize, usize)>,
-}
-
-/// The candidates as choices.
-pub(crate) fn choices_of<S: Space>(
-    alloc: Global,
-    object: &Normal<'_>,
-    running: &Running<'_, S>,
-    trials: &Trials<'_, '_>,
-    numbers: &Numbers,
-) -> Result<Vec<Choice>, AllocError>
-    requires codes { trials.now.codes ≡ code_sections object.now }
-    requires tried { AreTried running.now object.now trials.now.tried }
-    ensures { IfOk result (λ choices. choices.items ≡ map (choice_of object.now numbers.now) (candidates running.now object.now)) }
-{
-    Err(AllocError)
 }
 
 /// Which candidates are left when those are excluded that don't match, or clash with one that must be chosen, and which of those
