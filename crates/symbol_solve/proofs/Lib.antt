@@ -2,3 +2,6 @@ pub mod NumberLaws
 pub mod PointLaws
 pub mod CandidateLaws
 pub mod ChoiceLaws
+pub mod MapLaws
+pub mod OrderLaws
+pub mod LeftLaws

@@ -9,9 +9,13 @@ ghost use Rattle.symbol_solve.specs.Clashes.{candidate_rules};
 ghost use Rattle.symbol_solve.specs.Conflicts.{by_place};
 ghost use Rattle.symbol_solve.specs.inside.Left.{pair_at};
 
+use crate::choices::choices_of;
+use crate::numbers::number_all;
 use i386_reloc::Normal;
 use image_memory::Space;
 use match_candidates::{Running, Trials};
+use propagation::{first_conflict, propagate};
+use run_pre_match::claims_agree;
 use std::alloc::{AllocError, Global};
 
 /// A mark for each candidate, whether it is left, and the places of the first two that must be chosen and clash.
@@ -36,5 +40,12 @@ pub(crate) fn propagate_candidates<S: Space>(
     ensures conflict { IfOk result (λ p. option_and_then (pair_at (candidates running.now object.now)) p.conflict
         ≡ conflict candidate_rules (by_place (length object.now) (forced candidate_rules (candidates running.now object.now)))) }
 {
-    Err(AllocError)
+    // Nothing is done here: the law says that the claims of a match agree.
+    claims_agree();
+    let sections = object.as_slice();
+    let numbers = number_all(alloc, object, trials.tried())?;
+    let choices = choices_of(alloc, object, running, trials, &numbers)?;
+    let left = propagate(alloc, &choices)?;
+    let conflict = first_conflict(alloc, &choices, &left, sections.len() as u32)?;
+    Ok(Propagated { left, conflict })
 }
