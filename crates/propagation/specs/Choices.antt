@@ -67,7 +67,7 @@ by_section count choices = map (λ section. filter (is_of section) choices) (ran
 
 abbrev pub pair_with : Choice → Option Choice → Option (Choice × Choice)
 pair_with a None = None
-pair_with a (Some b) = Some (a , b)
+pair_with a (Some b) = Some (a, b)
 
 abbrev pub pair_of : Option Choice → Option Choice → Option (Choice × Choice)
 pair_of None b = None

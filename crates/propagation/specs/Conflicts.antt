@@ -1,5 +1,5 @@
 -- The first two items that clash, by the order of their sections and then by their order within these.
-use Rattle.std.specs.Prelude.{Bool, if◌then◌else◌, List, [], ◌∷◌, Option, Some, None}
+use Rattle.std.specs.Prelude.{if◌then◌else◌, List, [], ◌∷◌, Option, Some, None}
 use Rattle.std.specs.Option.{option_or}
 use Rattle.propagation.specs.Rounds.{Rules}
 
@@ -18,7 +18,7 @@ first_between f [] = None
 first_between f (ones ∷ rest) = option_or (first_some (first_of_two f ones) rest) (first_between f rest)
 
 abbrev pub clashing : {X : Type 0} → Rules X → X → X → Option (X × X)
-clashing rules x y = if rules.clashes x y then Some (x , y) else None
+clashing rules x y = if rules.clashes x y then Some (x, y) else None
 
 -- the first two items of different lists that clash
 abbrev pub conflict : {X : Type 0} → Rules X → List (List X) → Option (X × X)

@@ -3,3 +3,4 @@
 pub mod Rounds
 pub mod Conflicts
 pub mod Choices
+pub mod RoundLaws

@@ -9,7 +9,12 @@ use crate::choice::Choice;
 use std::alloc::{AllocError, Global};
 
 /// The first two choices of different sections that must be chosen and clash, by their places, given which choices are left.
-pub fn first_conflict(alloc: Global, choices: &[Choice], left: &[bool], sections: u32) -> Result<Option<(usize, usize)>, AllocError>
+pub fn first_conflict(
+    alloc: Global,
+    choices: &[Choice],
+    left: &[bool],
+    sections: u32,
+) -> Result<Option<(usize, usize)>, AllocError>
     requires order { AreChoices choices.now }
     requires within { All (λ choice. choice.section < sections) choices.now }
     requires left { left.now ≡ map (is_among choice_rules (remaining choice_rules choices.now)) choices.now }

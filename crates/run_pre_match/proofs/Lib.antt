@@ -3,10 +3,12 @@ mod AllBelow
 mod BodyLaws
 mod BodyPlaces
 mod Bounds
+mod Claims
 mod CodeLaws
 mod Covered
 mod Ends
 mod FirstReferences
+mod FirstValues
 mod Following
 mod KeptLaws
 mod KindsOf
@@ -14,6 +16,7 @@ mod LeastLaws
 mod Listed
 mod NamedLaws
 mod Numbered
+mod Opened
 mod OutcomeLaws
 mod PairLaws
 mod PlaceLaws
@@ -23,5 +26,6 @@ mod RunLaws
 mod SameNumber
 mod Splits
 mod Statements
+mod Stepwise
 mod Undecoded
 mod Verdicts

@@ -12,4 +12,5 @@ pub mod Found
 pub mod Differences
 pub mod Matched
 pub mod Bodies
+pub mod Match
 pub mod inside

@@ -127,7 +127,7 @@ impl<'n, 'a> PreCode<'n, 'a> {
         candidate.outcome(alloc)
     }
 
-    /// The place of its section in the object, counted from 0.
+    /// The section's place among the object's sections, counted from 0.
     pub fn place(&self) -> usize
         ensures { result ≡ self.now.place }
     {

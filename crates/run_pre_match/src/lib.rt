@@ -12,6 +12,7 @@ mod goals;
 mod instructions;
 mod judging;
 mod landing;
+pub mod laws;
 mod least;
 mod matching;
 mod named;
@@ -28,5 +29,6 @@ mod values;
 
 pub use bodies::Body;
 pub use code::{PreCode, PreObject, match_body};
+pub use laws::claims_agree;
 pub use running::{RunInstruction, instruction_at, run_code_goes_on};
 pub use types::{Claim, Claims, Interior, Interiors, MatchFault, Matched};

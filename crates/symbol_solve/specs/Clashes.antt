@@ -1,5 +1,5 @@
 -- When two candidates can't both be chosen.
-use Rattle.std.specs.Prelude.{Bool, false, not, ◌&&◌, ◌||◌, ◌==◌, List, [], Result, Ok, Err}
+use Rattle.std.specs.Prelude.{Bool, not, ◌&&◌, ◌||◌, ◌==◌, List, [], Result, Ok, Err}
 use Rattle.std.specs.List.{list_any}
 use Rattle.i386_reloc.specs.Normal.{same_bytes}
 use Rattle.symbol_table.specs.Unknowns.{same_unknown}

@@ -1,5 +1,6 @@
--- What is reported where two forced candidates clash: the first clash, in the order of sections and homes, claims and interiors.
-use Rattle.std.specs.Prelude.{ℕ, List, map, length, Option, Some, None}
+-- What is reported where two candidates must be chosen and clash: the first clash, in the order of sections and homes,
+-- claims and interiors.
+use Rattle.std.specs.Prelude.{ℕ, List, map, Option, Some, None}
 use Rattle.std.specs.Option.{option_map, option_or, option_and_then}
 use Rattle.std.specs.List.{filter, find, range_with_len}
 use Rattle.ks_base.specs.declared.refusals.Refusal.{Refusal}

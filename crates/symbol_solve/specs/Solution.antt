@@ -1,5 +1,5 @@
 -- A solution, without any order in which it is found: a choice of a candidate for each code section of an object.
-use Rattle.std.specs.Prelude.{◌≡◌, false, true, List, [], ◌∷◌, All}
+use Rattle.std.specs.Prelude.{◌≡◌, false, true, List, All}
 use Rattle.std.specs.List.{Contains, AllZip}
 use Rattle.i386_reloc.specs.declared.types.NormalSection.{NormalSection}
 use Rattle.run_pre_match.specs.Candidate.{Candidate}

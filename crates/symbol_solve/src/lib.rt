@@ -2,9 +2,11 @@
 //! refers to.
 #![tactic(auto)]
 
+mod choices;
 mod copies;
 mod left;
 mod numbers;
+mod points;
 mod propagated;
 mod report;
 mod solving;

@@ -1,8 +1,8 @@
 -- Candidates as choices whose claims and demands are numbers: unknowns are numbered, and so are the interiors of sections that
 -- candidates refer to.
-use Rattle.std.specs.Prelude.{◌≡◌, ℕ, Bool, true, false, ◌&&◌, ◌==◌, is_some, IsTrue, if◌then◌else◌, List, [], length, map, All, Option, Some, None, Result, Ok, Err}
+use Rattle.std.specs.Prelude.{◌≡◌, ℕ, ◌<◌, Bool, false, ◌&&◌, ◌==◌, if◌then◌else◌, List, [], slice_index_or, length, map, All, Option, Some, None, Result}
 use Rattle.std.specs.Option.{option_map, unwrap_or}
-use Rattle.std.specs.List.{filter, filter_map, position, range_with_len, slice_get}
+use Rattle.std.specs.List.{filter, filter_map, position, range_with_len, slice_get, Contains}
 use Rattle.symbol_table.specs.declared.values.Unknown.{Unknown}
 use Rattle.symbol_table.specs.Unknowns.{same_unknown}
 use Rattle.i386_reloc.specs.declared.types.NormalSection.{NormalSection}
@@ -12,12 +12,13 @@ use Rattle.run_pre_match.specs.declared.types.Interior.{Interior}
 use Rattle.run_pre_match.specs.declared.types.Matched.{Matched}
 use Rattle.run_pre_match.specs.declared.types.MatchFault.{MatchFault}
 use Rattle.run_pre_match.specs.Candidate.{Candidate, same_number}
+use Rattle.run_pre_match.specs.Bodies.{Body, is_number_of}
 use Rattle.run_pre_match.specs.Matched.{outcome}
 use Rattle.propagation.specs.declared.choice.Choice.{Choice}
 use Rattle.propagation.specs.declared.choice.Claim as numbered
 use Rattle.propagation.specs.declared.choice.Demand.{Demand}
-use Rattle.match_candidates.specs.Candidates.{matches}
-use Rattle.symbol_solve.specs.Clashes.{claims_in, interiors_in, claims_of, interiors_of}
+use Rattle.match_candidates.specs.Candidates.{is_match}
+use Rattle.symbol_solve.specs.Clashes.{claims_in, interiors_in}
 use Rattle.symbol_solve.specs.declared.numbers.Point.{Point}
 
 -- all unknowns that are claimed, and all interiors that are referred to, each once
@@ -58,36 +59,67 @@ abbrev pub meets : Candidate → Option Point → Bool
 meets c None = false
 meets c (Some p) = meets_point c p
 
+-- the demands that a candidate meets
 abbrev pub met_among : Numbers → Candidate → List ℕ
 met_among numbers c = filter (λ n. meets c (slice_get numbers.points n)) (range_with_len 0 (length numbers.points))
 
--- the demands that a candidate meets, nothing where it doesn't match
-abbrev pub met_by : Numbers → Candidate → List ℕ
-met_by numbers c = if matches c then met_among numbers c else []
+-- whether a point is of the section at a place
+abbrev pub is_at : ℕ → Option Point → Bool
+is_at place None = false
+is_at place (Some p) = p.place == place
+
+-- the numbers of the points of the section at a place: of the first ones, and of all
+abbrev pub points_below : List Point → ℕ → ℕ → List ℕ
+points_below points bound place = filter (λ n. is_at place (slice_get points n)) (range_with_len 0 bound)
+
+abbrev pub points_at : List Point → ℕ → List ℕ
+points_at points place = points_below points (length points) place
+
+-- that a table has these lists by place
+abbrev pub AreListed : List Point → ℕ → List (List ℕ) → Type 0
+AreListed points bound table = (place : ℕ) (d : List ℕ) → place < length table → slice_index_or table place d ≡ points_below points bound place
+
+-- whether a point's address stands in a body for its offset
+abbrev pub stands : Body → Option Point → Bool
+stands body None = false
+stands body (Some p) = is_number_of body p.offset p.address
+
+-- those of some points of which this holds
+abbrev pub standing : List Point → Body → List ℕ → List ℕ
+standing points body own = filter (λ n. stands body (slice_get points n)) own
+
+-- the choice of a section, a home, what came of them, and the demands that are met
+abbrev pub choice_from : List NormalSection → Numbers → ℕ → ℕ → Result Matched MatchFault → List ℕ → Choice
+choice_from object numbers place home outcome met = record {
+  section = place;
+  home = home;
+  matches = is_match outcome;
+  claims = map (claim_of numbers) (claims_in outcome);
+  demands = filter_map (demand_of object numbers) (interiors_in outcome);
+  met = if is_match outcome then met else [];
+}
 
 -- a candidate as a choice
 unfoldable pub choice_of : List NormalSection → Numbers → Candidate → Choice
-choice_of object numbers c = record {
-  section = c.place;
-  home = c.home;
-  matches = matches c;
-  claims = map (claim_of numbers) (claims_of c);
-  demands = filter_map (demand_of object numbers) (interiors_of c);
-  met = met_by numbers c;
-}
+choice_of object numbers c = choice_from object numbers c.place c.home (outcome c) (met_among numbers c)
 
--- whether an unknown, or a point, has a number
+-- that an unknown has a number, and that the point of an interior has one, where the object has its section
 abbrev pub IsUnknownNumbered : Numbers → Claim → Type 0
-IsUnknownNumbered numbers claim = IsTrue (is_some (position (same_unknown claim.unknown) numbers.unknowns))
+IsUnknownNumbered numbers claim = Contains numbers.unknowns claim.unknown
 
-abbrev pub has_point : List Point → Option Point → Bool
-has_point points None = true
-has_point points (Some p) = is_some (position (same_point p) points)
+abbrev pub HasPoint : List Point → Option Point → Type 0
+HasPoint points None = Unit {0}
+HasPoint points (Some p) = Contains points p
 
 abbrev pub IsInteriorNumbered : List NormalSection → Numbers → Interior → Type 0
-IsInteriorNumbered object numbers i = IsTrue (has_point numbers.points (point_of object i))
+IsInteriorNumbered object numbers i = HasPoint numbers.points (point_of object i)
 
 -- all that is claimed and referred to has a number
 pub record IsNumbered (object : List NormalSection) (numbers : Numbers) (outcome : Result Matched MatchFault) : Type 0 where
   pub claims : All (IsUnknownNumbered numbers) (claims_in outcome)
   pub interiors : All (IsInteriorNumbered object numbers) (interiors_in outcome)
+
+-- that what has a number keeps one
+pub record Grows (old new : Numbers) : Type 0 where
+  pub unknowns : (unknown : Unknown) → Contains old.unknowns unknown → Contains new.unknowns unknown
+  pub points : (point : Point) → Contains old.points point → Contains new.points point
