@@ -45,7 +45,8 @@ is_stray (Bytes bytes) = false
 abbrev pub is_gone : Running → ℕ → Bool
 is_gone running home = is_stray (view_at running.contents (newest running.bodies home))
 
--- the distinct addresses of function symbols of the section's function name, ascending, where the newest version is still there
+-- the distinct addresses of function symbols of the section's function name, ascending, where the newest version is
+-- still there
 abbrev pub homes_of : Running → PreSection → List ℕ
 homes_of running pre =
     filter (λ home. not (is_gone running home)) (function_addresses running.symbols (function_name pre))

@@ -1,5 +1,6 @@
--- What is wrong with one code section of an object by itself: its code can't be matched, it has no candidate, or no candidate matches.
-use Rattle.std.specs.Prelude.{◌≡◌, Bool, true, false, if◌then◌else◌, List, [], ◌∷◌, Option, Some, None, Result, Ok, Err}
+-- What is wrong with one code section of an object by itself: its code can't be matched, it has no candidate, or no
+-- candidate matches.
+use Rattle.std.specs.Prelude.{◌≡◌, if◌then◌else◌, List, [], ◌∷◌, Option, Some, None, Result, Ok, Err}
 use Rattle.std.specs.Option.{option_map, option_or}
 use Rattle.std.specs.List.{list_any, slice_get, AllZip}
 use Rattle.ks_base.specs.declared.refusals.Refusal.{Refusal}

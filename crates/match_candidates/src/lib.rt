@@ -1,8 +1,11 @@
 //! The functions of a running program that the code sections of an object may be, each matched by itself.
 #![tactic(auto)]
 
+mod codes;
+mod homes;
 pub mod running;
 pub mod trials;
+mod trying;
 
 pub use running::Running;
 pub use trials::{Trials, Tried, try_all};

@@ -3,7 +3,8 @@ use image_memory::Space;
 use std::marker::Model;
 use symbol_table::{Bodies, SymbolTable};
 
-/// A running program as it is searched for functions: its memory, its symbols, and the newest base of each home that has one.
+/// A running program as it is searched for functions: its memory, its symbols, and the newest base of each home that
+/// has one.
 #[derive(Drop)]
 pub struct Running<'r, S: Space> {
     /// The newest bases.

@@ -4,7 +4,10 @@ ghost use Rattle.ks_base.specs.declared.refusals.Refusal.TheVariants.{Memory};
 ghost use Rattle.match_candidates.specs.Candidates.{code_sections};
 ghost use Rattle.match_candidates.specs.OwnFaults.{own_fault, AreTried};
 
+use crate::codes::{Codes, all_codes};
+use crate::homes::all_homes;
 use crate::running::Running;
+use crate::trying::try_sections;
 use i386_reloc::Normal;
 use image_memory::Space;
 use ks_base::Refusal;
@@ -28,7 +31,7 @@ pub struct Tried {
 /// The code sections of an object, and all that each may be, section by section and in each by home.
 #[derive(Drop)]
 pub struct Trials<'n, 'a> {
-    codes: Vec<PreCode<'n, 'a>>,
+    codes: Codes<'n, 'a>,
     tried: Vec<Tried>,
 }
 
@@ -37,7 +40,7 @@ impl<'n, 'a> Model for Trials<'n, 'a> {
 
     ghost Value = { Trials };
 
-    ghost view = { λ t. record { codes = t.codes.items; tried = t.tried.items } };
+    ghost view = { λ t. record { codes = t.codes; tried = t.tried.items } };
 }
 
 impl<'n, 'a> Trials<'n, 'a> {
@@ -56,13 +59,13 @@ impl<'n, 'a> Trials<'n, 'a> {
     }
 }
 
-/// Matches each function that a code section of an object may be by itself: those at the addresses of function symbols of its
-/// function's name whose newest version is still there.
+/// Matches each function that a code section of an object may be by itself: those at the addresses of function symbols
+/// of its function's name whose newest version is still there.
 ///
-/// [`Refusal::PreUndecoded`] comes exactly where a code section can't be matched, with the first such section and the least offset;
-/// otherwise [`Refusal::NoCandidate`] where there is nothing that one may be, with the first one's name; otherwise
-/// [`Refusal::Mismatch`] where all that one may be differ from it, with the first such section and the difference of the lowest home.
-/// [`Refusal::Memory`] comes for want of memory alone.
+/// [`Refusal::PreUndecoded`] comes exactly where a code section can't be matched, with the first such section and the
+/// least offset; otherwise [`Refusal::NoCandidate`] where there is nothing that one may be, with the name of the first
+/// one's function; otherwise [`Refusal::Mismatch`] where all that one may be differ from it, with the first such
+/// section and the difference of the lowest home. [`Refusal::Memory`] comes for want of memory alone.
 pub fn try_all<'n, 'a, S: Space>(
     alloc: Global,
     object: &'n Normal<'a>,
@@ -73,5 +76,8 @@ pub fn try_all<'n, 'a, S: Space>(
     ensures ok { IfOk result (λ _. own_fault running.now object.now ≡ None) }
     ensures refused { IfErr result (λ refusal. refusal ≢ Memory → own_fault running.now object.now ≡ Some refusal) }
 {
-    Err(Refusal::Memory)
+    let codes = all_codes(alloc, object)?;
+    let homes = all_homes(alloc, running, codes.as_slice())?;
+    let tried = try_sections(alloc, running, codes.as_slice(), homes.as_slice())?;
+    Ok(Trials { codes, tried })
 }

@@ -1,0 +1,5 @@
+pub mod FirstLaws
+pub mod CodeLaws
+pub mod HomeLaws
+pub mod TriedLaws
+pub mod OwnLaws
