@@ -9,3 +9,5 @@ pub mod ChoiceLaws
 pub mod MapLaws
 pub mod OrderLaws
 pub mod LeftLaws
+mod RemainLaws
+mod SolveLaws
