@@ -5,7 +5,8 @@ ghost use Rattle.run_pre_match.specs.Bodies.{body_at};
 ghost use Rattle.run_pre_match.specs.Candidate.{Candidate};
 ghost use Rattle.match_candidates.specs.Candidates.{code_sections, candidates};
 ghost use Rattle.match_candidates.specs.OwnFaults.{AreTried, IsTried};
-ghost use Rattle.symbol_solve.specs.inside.Numbers.{claim_of, demand_of, stands, standing, choice_from, choice_of, AreListed};
+ghost use Rattle.symbol_solve.specs.inside.Numbers.{claim_of, demand_of, stands, standing, choice_of};
+ghost use Rattle.symbol_solve.specs.inside.Numbers.{choice_from, AreListed};
 
 use crate::numbers::{Numbers, Point, word};
 use crate::points::{points_by_section, points_of};
@@ -86,8 +87,8 @@ fn standing<S: Space>(
     Ok(list)
 }
 
-/// Those of some points whose addresses stand for their offsets in the body at a base. Where there are no points, the body isn't
-/// listed.
+/// Those of some points whose addresses stand for their offsets in the body at a base. Where there are no points, the
+/// body isn't listed.
 fn met<S: Space>(
     alloc: Global,
     space: &S,
@@ -96,7 +97,8 @@ fn met<S: Space>(
     points: &[Point],
     own: &[u32],
 ) -> Result<ListOf<u32>, AllocError>
-    ensures { IfOk result (λ list. list ≡ standing points.now (body_at code.now (S.contents space.now) base) own.now) }
+    ensures { IfOk result (λ list. list ≡ standing points.now
+        (body_at code.now (S.contents space.now) base) own.now) }
 {
     if own.is_empty() {
         return Ok(ListOf::new(alloc));
@@ -115,7 +117,8 @@ fn choice_at<S: Space>(
     numbers: &Numbers,
     own: &[u32],
 ) -> Result<Choice, AllocError>
-    ensures { IfOk result (λ choice. choice ≡ choice_from object.now numbers.now code.now.place t.now.home t.now.outcome
+    ensures { IfOk result (λ choice. choice
+        ≡ choice_from object.now numbers.now code.now.place t.now.home t.now.outcome
         (standing numbers.now.points (body_at code.now running.now.contents t.now.base) own.now)) }
 {
     let section = word(code.place())?;
@@ -171,7 +174,8 @@ pub(crate) fn choices_of<S: Space>(
 ) -> Result<Vec<Choice>, AllocError>
     requires codes { trials.now.codes ≡ code_sections object.now }
     requires tried { AreTried running.now object.now trials.now.tried }
-    ensures { IfOk result (λ choices. choices.items ≡ map (choice_of object.now numbers.now) (candidates running.now object.now)) }
+    ensures { IfOk result (λ choices. choices.items
+        ≡ map (choice_of object.now numbers.now) (candidates running.now object.now)) }
 {
     let table = points_by_section(alloc, object.len(), numbers.points())?;
     let codes = trials.codes();

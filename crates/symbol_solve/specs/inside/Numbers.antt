@@ -1,5 +1,5 @@
--- Candidates as choices whose claims and demands are numbers: unknowns are numbered, and so are the interiors of sections that
--- candidates refer to.
+-- Candidates as choices whose claims and demands are numbers: unknowns are numbered, and so are the interiors of sections
+-- that candidates refer to.
 use Rattle.std.specs.Prelude.{◌≡◌, ℕ, ◌<◌, Bool, false, ◌&&◌, ◌==◌, if◌then◌else◌, List, [], slice_index_or, length, map, All, Option, Some, None, Result}
 use Rattle.std.specs.Option.{option_map, unwrap_or}
 use Rattle.std.specs.List.{filter, filter_map, position, range_with_len, slice_get, Contains}
@@ -77,7 +77,8 @@ points_at points place = points_below points (length points) place
 
 -- that a table has these lists by place
 abbrev pub AreListed : List Point → ℕ → List (List ℕ) → Type 0
-AreListed points bound table = (place : ℕ) (d : List ℕ) → place < length table → slice_index_or table place d ≡ points_below points bound place
+AreListed points bound table =
+    (place : ℕ) (d : List ℕ) → place < length table → slice_index_or table place d ≡ points_below points bound place
 
 -- whether a point's address stands in a body for its offset
 abbrev pub stands : Body → Option Point → Bool
