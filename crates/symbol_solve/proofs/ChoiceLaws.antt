@@ -1,7 +1,9 @@
 -- The choice of a candidate.
-use Rattle.std.proofs.Common.{◌≡◌, ℕ, ◌+◌, ◌<◌, Bool, true, false, ◌&&◌, cond, List, [], ◌∷◌, ◌++◌, length, map, take, get_or, Option, Some, None, refl, sym, ◌∙◌, ap, arith}
+use Rattle.std.proofs.Common.{◌≡◌, ℕ, ◌+◌, ◌<◌, Bool, true, false, ◌&&◌, cond, List, [], ◌∷◌, ◌++◌, length, map, take, get_or, Option, Some, None, Result, refl, sym, ◌∙◌, ap, arith}
 use Rattle.std.specs.List.{filter, slice_get}
 use Rattle.std.specs.Option.{unwrap_or}
+use Rattle.std.specs.Result.{IfOk}
+use Rattle.std.proofs.lemmas.Result.{IfOk-weaker}
 use Rattle.std.proofs.lemmas.List.{take_more, map-append}
 use Rattle.std.proofs.lemmas.Option.{slice_get_within, get_or_from_slice_get}
 use Rattle.std.proofs.lemmas.List.Elements.{filter_agree}
@@ -69,3 +71,8 @@ map_more f xs i x at =
 pub push_choice : (f : Candidate → Choice) (cs : List Candidate) (i : ℕ) (c : Candidate) (old new : List Choice) (choice : Choice) → slice_get cs i ≡ Some c → old ≡ map f (take i cs) → choice ≡ f c → new ≡ old ++ choice ∷ [] → new ≡ map f (take (i + 1) cs)
 push_choice f cs i c old new choice at before same pushed =
     pushed ∙ (λ j. before j ++ same j ∷ []) ∙ sym (map_more f cs i c at)
+
+-- what a call told, by a choice that is the same
+pub told_as : {E : Type 0} (r : Result Choice E) (x y : Choice) → x ≡ y → IfOk r (λ choice. choice ≡ x) → IfOk r (λ choice. choice ≡ y)
+told_as r x y same =
+    IfOk-weaker r (λ choice. choice ≡ x) (λ choice. choice ≡ y) (λ choice is. is ∙ same)

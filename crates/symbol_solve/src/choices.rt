@@ -1,5 +1,6 @@
 //! Candidates as choices.
-ghost use Rattle.std.specs.Prelude.{◌≡◌, ◌<◌, ◌++◌, Some, IfOk, OnOk, length, map, option_to_list};
+ghost use Rattle.std.specs.Prelude.{◌≡◌, ◌<◌, ◌++◌, [], Some, IfOk, OnOk, length, map, option_to_list};
+ghost use Rattle.std.specs.Option.{unwrap_or};
 ghost use Rattle.std.specs.List.{filter_map, slice_get};
 ghost use Rattle.run_pre_match.specs.Bodies.{body_at};
 ghost use Rattle.run_pre_match.specs.Candidate.{Candidate};
@@ -107,29 +108,51 @@ fn met<S: Space>(
     standing(alloc, &body, points, own)
 }
 
-/// The choice of a candidate, given the code of its section and the points there.
+/// What choices are made by: the object, the numbers, and the points of each of its sections.
+#[derive(Drop)]
+struct Naming<'m, 'a> {
+    object: &'m Normal<'a>,
+    numbers: &'m Numbers,
+    own: Vec<ListOf<u32>>,
+    ghost count: { length own.items ≡ length object.now },
+    ghost lists: { AreListed numbers.now.points (length numbers.now.points) own.items },
+}
+
+/// The choice of a candidate, given the code of its section.
 fn choice_at<S: Space>(
     alloc: Global,
-    object: &Normal<'_>,
+    naming: &Naming<'_, '_>,
     running: &Running<'_, S>,
     code: &PreCode<'_, '_>,
     t: &Tried,
-    numbers: &Numbers,
-    own: &[u32],
 ) -> Result<Choice, AllocError>
     ensures { IfOk result (λ choice. choice
-        ≡ choice_from object.now numbers.now code.now.place t.now.home t.now.outcome
-        (standing numbers.now.points (body_at code.now running.now.contents t.now.base) own.now)) }
+        ≡ choice_from naming.now.object.now naming.now.numbers.now code.now.place t.now.home t.now.outcome
+        (standing naming.now.numbers.now.points (body_at code.now running.now.contents t.now.base)
+        (unwrap_or (slice_get naming.now.own.items code.now.place) []))) }
 {
-    let section = word(code.place())?;
+    let place = code.place();
+    let section = word(place)?;
     match &t.outcome {
         Ok(matched) => Ok(Choice {
             section,
             home: t.home,
             matches: true,
-            claims: numbered_claims(alloc, numbers, matched.claims.as_slice())?,
-            demands: demands(alloc, object, numbers, matched.interiors.as_slice())?,
-            met: met(alloc, running.space, code, t.base, numbers.points(), own)?,
+            claims: numbered_claims(alloc, naming.numbers, matched.claims.as_slice())?,
+            demands: demands(
+                alloc,
+                naming.object,
+                naming.numbers,
+                matched.interiors.as_slice(),
+            )?,
+            met: met(
+                alloc,
+                running.space,
+                code,
+                t.base,
+                naming.numbers.points(),
+                points_of(&naming.own, place),
+            )?,
         }),
         Err(_) => Ok(Choice {
             section,
@@ -142,26 +165,20 @@ fn choice_at<S: Space>(
     }
 }
 
-/// The choice of a candidate of one of some sections, given the points of each section of the object.
+/// The choice of a candidate of one of some sections.
 fn choice_among<S: Space>(
     alloc: Global,
-    object: &Normal<'_>,
+    naming: &Naming<'_, '_>,
     running: &Running<'_, S>,
     codes: &[PreCode<'_, '_>],
     t: &Tried,
-    numbers: &Numbers,
-    table: &[ListOf<u32>],
 ) -> Result<Choice, AllocError>
-    requires section { t.now.section < length codes.now }
-    requires count { length table.now ≡ length object.now }
-    requires lists { AreListed numbers.now.points (length numbers.now.points) table.now }
+    requires { t.now.section < length codes.now }
     ensures { (c : Candidate) → IsTried codes.now c t.now → c.contents ≡ running.now.contents
-        → slice_get object.now c.place ≡ Some c.section
-        → IfOk result (λ choice. choice ≡ choice_of object.now numbers.now c) }
+        → slice_get naming.now.object.now c.place ≡ Some c.section
+        → IfOk result (λ choice. choice ≡ choice_of naming.now.object.now naming.now.numbers.now c) }
 {
-    let code = &codes[t.section];
-    let own = points_of(table, code.place());
-    choice_at(alloc, object, running, code, t, numbers, own)
+    choice_at(alloc, naming, running, &codes[t.section], t)
 }
 
 /// The candidates as choices.
@@ -177,11 +194,15 @@ pub(crate) fn choices_of<S: Space>(
     ensures { IfOk result (λ choices. choices.items
         ≡ map (choice_of object.now numbers.now) (candidates running.now object.now)) }
 {
-    let table = points_by_section(alloc, object.len(), numbers.points())?;
+    let naming = Naming {
+        object,
+        numbers,
+        own: points_by_section(alloc, object.len(), numbers.points())?,
+    };
     let codes = trials.codes();
     let mut choices = Vec::new(alloc);
     for t in trials.tried() {
-        choices.push(choice_among(alloc, object, running, codes, t, numbers, &table)?)?;
+        choices.push(choice_among(alloc, &naming, running, codes, t)?)?;
     }
     Ok(choices)
 }

@@ -26,7 +26,7 @@ pub(crate) struct Propagated {
 }
 
 /// Which candidates are left when those are excluded that don't match, or clash with one that must be chosen, and which
-/// of those that must be chosen are the first to clash.
+/// of those that must be chosen are the first two to clash.
 pub(crate) fn propagate_candidates<S: Space>(
     alloc: Global,
     object: &Normal<'_>,

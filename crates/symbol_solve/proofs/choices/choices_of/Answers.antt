@@ -7,8 +7,8 @@ use Rattle.symbol_solve.proofs.CandidateLaws.{tried_here, tried_section, all_tri
 use Rattle.symbol_solve.proofs.ChoiceLaws.{push_choice}
 use Rattle.symbol_solve.proofs.choices.choices_of.Goals as goal
 
-pub choice_among-requires-clause-section : goal.choice_among-requires-clause-section
-choice_among-requires-clause-section g c =
+pub choice_among-requires : goal.choice_among-requires
+choice_among-requires g c =
     let codes = c.codes-codes.result.now in
     let found = tried_here c.args.running.now c.args.object.now codes c.args.trials.now.tried c.tried-t-items.result.now c.loop-t.t-index c.t-item.result
     c.requires.tried c.tried-t-items.ensures (c.codes-codes.ensures ∙ c.requires.codes) c.loop-t-test.true c.t-item.is in
