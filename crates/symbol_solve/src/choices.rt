@@ -131,6 +131,7 @@ fn choice_at<S: Space>(
         (standing naming.now.numbers.now.points (body_at code.now running.now.contents t.now.base)
         (unwrap_or (slice_get naming.now.own.items code.now.place) []))) }
 {
+    let numbers = naming.numbers;
     let place = code.place();
     let section = word(place)?;
     match &t.outcome {
@@ -138,19 +139,14 @@ fn choice_at<S: Space>(
             section,
             home: t.home,
             matches: true,
-            claims: numbered_claims(alloc, naming.numbers, matched.claims.as_slice())?,
-            demands: demands(
-                alloc,
-                naming.object,
-                naming.numbers,
-                matched.interiors.as_slice(),
-            )?,
+            claims: numbered_claims(alloc, numbers, matched.claims.as_slice())?,
+            demands: demands(alloc, naming.object, numbers, matched.interiors.as_slice())?,
             met: met(
                 alloc,
                 running.space,
                 code,
                 t.base,
-                naming.numbers.points(),
+                numbers.points(),
                 points_of(&naming.own, place),
             )?,
         }),
