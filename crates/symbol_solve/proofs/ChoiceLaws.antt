@@ -1,7 +1,9 @@
 -- The choice of a candidate.
-use Rattle.std.proofs.Common.{◌≡◌, ℕ, ◌+◌, ◌<◌, Bool, true, false, ◌&&◌, cond, List, [], ◌∷◌, ◌++◌, length, map, take, get_or, Option, Some, None, refl, sym, ◌∙◌, ap, arith}
+use Rattle.std.proofs.Common.{◌≡◌, ℕ, ◌+◌, ◌<◌, Bool, true, false, ◌&&◌, cond, List, [], ◌∷◌, ◌++◌, length, map, take, get_or, Option, Some, None, Result, refl, sym, ◌∙◌, ap, arith}
 use Rattle.std.specs.List.{filter, slice_get}
 use Rattle.std.specs.Option.{unwrap_or}
+use Rattle.std.specs.Result.{IfOk}
+use Rattle.std.proofs.lemmas.Result.{IfOk-weaker}
 use Rattle.std.proofs.lemmas.List.{take_more, map-append}
 use Rattle.std.proofs.lemmas.Option.{slice_get_within, get_or_from_slice_get}
 use Rattle.std.proofs.lemmas.List.Elements.{filter_agree}
@@ -11,6 +13,7 @@ use Rattle.run_pre_match.specs.Bodies.{body_at, body_of}
 use Rattle.run_pre_match.specs.Candidate.{Candidate, same_number}
 use Rattle.run_pre_match.specs.Matched.{PreSection, outcome}
 use Rattle.match_candidates.specs.declared.trials.Tried.{Tried}
+use Rattle.propagation.specs.declared.choice.Choice.{Choice}
 use Rattle.match_candidates.specs.OwnFaults.{IsTried}
 use Rattle.symbol_solve.specs.declared.numbers.Point.{Point}
 use Rattle.symbol_solve.specs.inside.Numbers.{Numbers, is_at, points_at, stands, standing, meets, met_among, choice_from, choice_of, AreListed}
@@ -60,7 +63,16 @@ choice_of_tried object numbers table codes c code place t contents own section c
     choice_is object numbers c code t contents own (own_here numbers.points table place code.place own own_is place_is lists within) same tried.home tried.base tried.outcome there
 
 -- one more
-pub map_more : {X Y : Type 0} (f : X → Y) (xs : List X) (i : ℕ) (x : X) → slice_get xs i ≡ Some x → map f (take (i + 1) xs) ≡ map f (take i xs) ++ f x ∷ []
+map_more : {X Y : Type 0} (f : X → Y) (xs : List X) (i : ℕ) (x : X) → slice_get xs i ≡ Some x → map f (take (i + 1) xs) ≡ map f (take i xs) ++ f x ∷ []
 map_more f xs i x at =
     let here = get_or_from_slice_get xs i x x at in
     ap (map f) (take_more xs i x (slice_get_within xs i x at) ∙ ap (λ y. take i xs ++ y ∷ []) here) ∙ map-append f (take i xs) (x ∷ [])
+
+pub push_choice : (f : Candidate → Choice) (cs : List Candidate) (i : ℕ) (c : Candidate) (old new : List Choice) (choice : Choice) → slice_get cs i ≡ Some c → old ≡ map f (take i cs) → choice ≡ f c → new ≡ old ++ choice ∷ [] → new ≡ map f (take (i + 1) cs)
+push_choice f cs i c old new choice at before same pushed =
+    pushed ∙ (λ j. before j ++ same j ∷ []) ∙ sym (map_more f cs i c at)
+
+-- what a call told, by a choice that is the same
+pub told_as : {E : Type 0} (r : Result Choice E) (x y : Choice) → x ≡ y → IfOk r (λ choice. choice ≡ x) → IfOk r (λ choice. choice ≡ y)
+told_as r x y same =
+    IfOk-weaker r (λ choice. choice ≡ x) (λ choice. choice ≡ y) (λ choice is. is ∙ same)

@@ -15,7 +15,7 @@ use Rattle.propagation.specs.Rounds.{Rules, remaining, forced, is_among}
 use Rattle.propagation.specs.Conflicts.{first_some, first_of_two, first_between, clashing, conflict}
 use Rattle.propagation.specs.RoundLaws.{both, remaining_maps, remaining_each, forced_maps, forced_each, conflict_maps}
 use Rattle.propagation.specs.Choices as chosen
-use Rattle.propagation.specs.Choices.{choice_rules, by_section}
+use Rattle.propagation.specs.Choices.{AreChoices, choice_rules, by_section}
 use Rattle.match_candidates.specs.declared.trials.Tried.{Tried}
 use Rattle.match_candidates.specs.OwnFaults.{AreTried, IsTried}
 use Rattle.match_candidates.specs.Candidates.{Running, candidate_at, code_sections, candidates, is_of}
@@ -25,6 +25,7 @@ use Rattle.symbol_solve.specs.inside.Numbers.{Numbers, choice_of, IsNumbered}
 use Rattle.symbol_solve.specs.inside.Left as left
 use Rattle.symbol_solve.specs.inside.Left.{pair_at}
 use Rattle.symbol_solve.proofs.CandidateLaws.{placed, candidates_here}
+use Rattle.symbol_solve.proofs.OrderLaws.{MatchesAgree, are_choices}
 use Rattle.symbol_solve.proofs.MapLaws.{IsKnown, any_map, candidates_map}
 
 -- ---- lists and pairs
@@ -202,3 +203,22 @@ choices_within running object numbers choices count is count_is =
     (λ k d lt.
     let c : Candidate = get_or (candidates running object) k d in
     subst (λ n. c.place < n) (sym count_is) (slice_get_within object c.place c.section ((candidates_here running object k d lt).at))))
+
+-- ---- what is propagated, for choices that are those of all candidates
+module _ (running : Running) (object : List NormalSection) (numbers : Numbers) (tried items : List Tried) (choices : List Choice) (pairs : AreTried running object tried) (is : items ≡ tried) (distinct : IsDistinct same_bytes (map name_of object))
+    (each : All (λ t. IsNumbered object numbers t.outcome) items) (are : choices ≡ map (choice_of object numbers) (candidates running object)) where
+  pub choices_ready : MatchesAgree → AreChoices choices
+  choices_ready agree =
+      subst AreChoices (sym are) (are_choices agree running object numbers distinct (all_known running object numbers tried items pairs is distinct each))
+
+  pub left_told : (marks : List Bool) → marks ≡ map (is_among choice_rules (remaining choice_rules choices)) choices → marks ≡ map (is_among candidate_rules (remaining candidate_rules (candidates running object))) (candidates running object)
+  left_told marks same =
+      same ∙ ap (λ (l : List Choice). map (is_among choice_rules (remaining choice_rules l)) l) are
+      ∙ left_alike running object numbers (candidates running object) (all_known running object numbers tried items pairs is distinct each)
+
+  pub conflict_told : (count : ℕ) (places : Option (ℕ × ℕ)) → count ≡ length object → option_and_then (chosen.pair_at choices) places ≡ conflict choice_rules (by_section count (forced choice_rules choices))
+      → option_and_then (pair_at (candidates running object)) places ≡ conflict candidate_rules (by_place (length object) (forced candidate_rules (candidates running object)))
+  conflict_told count places count_is same =
+      conflict_alike running object numbers (candidates running object) (all_known running object numbers tried items pairs is distinct each) count places
+      (subst (λ (l : List Choice). option_and_then (chosen.pair_at l) places ≡ conflict choice_rules (by_section count (forced choice_rules l))) are same)
+      ∙ ap (λ n. conflict candidate_rules (by_place n (forced candidate_rules (candidates running object)))) count_is

@@ -65,7 +65,7 @@ same_self (Outside a) = nat_list_eq_equiv.refl a
 point_self : (p : Point) → same_point p p ≡ true
 point_self p = rw (eq-eqb p.place p.place refl, eq-eqb p.offset p.offset refl, eq-eqb p.address p.address refl) refl
 
-pub unknown_at : (unknowns : List Unknown) (u : Unknown) → Contains unknowns u → slice_get unknowns (number_of unknowns u) ≡ Some u
+unknown_at : (unknowns : List Unknown) (u : Unknown) → Contains unknowns u → slice_get unknowns (number_of unknowns u) ≡ Some u
 unknown_at unknowns u has = (first_at same_unknown one_unknown same_self unknowns u has).1
 
 pub same_number_same_unknown : (unknowns : List Unknown) (u v : Unknown) → Contains unknowns u → Contains unknowns v → number_of unknowns u ≡ number_of unknowns v → u ≡ v

@@ -25,7 +25,7 @@ use Rattle.symbol_solve.specs.contracts.numbers.PointPartialEq.TheImpl as points
 use Rattle.symbol_solve.specs.inside.Numbers.{Numbers, Grows, HasPoint, IsUnknownNumbered, IsInteriorNumbered, IsNumbered, point_of, same_point}
 
 -- ---- when two are one
-pub equal_is_same : (a b : Unknown) → (unknowns.eq-value).it a b ≡ same_unknown a b
+equal_is_same : (a b : Unknown) → (unknowns.eq-value).it a b ≡ same_unknown a b
 equal_is_same (Code a) (Code b) = refl
 equal_is_same (Code a) (Data b) = refl
 equal_is_same (Code a) (Outside b) = refl
@@ -78,16 +78,13 @@ same_copy (Outside a) (Data b) copy = absurd copy
 same_copy (Outside a) (Outside b) copy = ap Outside (sym copy.3 ∙ each_same copy.0.items.items copy.1.items.items copy.4.0 ∙ copy.2)
 
 -- ---- what keeps its number
-pub grows_not : (n : Numbers) → Grows n n
-grows_not n = record { unknowns = λ u h. h; points = λ p h. h }
-
 pub grows_on : (a b c : Numbers) → Grows a b → Grows b c → Grows a c
 grows_on a b c one two = record {
   unknowns = λ u h. two.unknowns u (one.unknowns u h);
   points = λ p h. two.points p (one.points p h);
 }
 
-pub claims_kept : (a b : Numbers) (claims : List Claim) → Grows a b → All (IsUnknownNumbered a) claims → All (IsUnknownNumbered b) claims
+claims_kept : (a b : Numbers) (claims : List Claim) → Grows a b → All (IsUnknownNumbered a) claims → All (IsUnknownNumbered b) claims
 claims_kept a b claims grows each =
     All-weaker (IsUnknownNumbered a) (IsUnknownNumbered b) (λ claim. grows.unknowns claim.unknown) claims each
 
@@ -95,11 +92,11 @@ point_kept : (a b : Numbers) (p : Option Point) → Grows a b → HasPoint a.poi
 point_kept a b None grows has = tt
 point_kept a b (Some p) grows has = grows.points p has
 
-pub interiors_kept : (object : List NormalSection) (a b : Numbers) (interiors : List Interior) → Grows a b → All (IsInteriorNumbered object a) interiors → All (IsInteriorNumbered object b) interiors
+interiors_kept : (object : List NormalSection) (a b : Numbers) (interiors : List Interior) → Grows a b → All (IsInteriorNumbered object a) interiors → All (IsInteriorNumbered object b) interiors
 interiors_kept object a b interiors grows each =
     All-weaker (IsInteriorNumbered object a) (IsInteriorNumbered object b) (λ i. point_kept a b (point_of object i) grows) interiors each
 
-pub numbers_kept : (object : List NormalSection) (a b : Numbers) (o : Result Matched MatchFault) → Grows a b → IsNumbered object a o → IsNumbered object b o
+numbers_kept : (object : List NormalSection) (a b : Numbers) (o : Result Matched MatchFault) → Grows a b → IsNumbered object a o → IsNumbered object b o
 numbers_kept object a b o grows is = record {
   claims = claims_kept a b (claims_in o) grows is.claims;
   interiors = interiors_kept object a b (interiors_in o) grows is.interiors;

@@ -1,5 +1,5 @@
 -- Points by the places of their sections.
-use Rattle.std.proofs.Common.{◌≡◌, ◌≢◌, ℕ, zero, suc, ◌+◌, ◌<◌, ◌≤◌, Bool, cond, eqb, List, [], ◌∷◌, ◌++◌, length, get_or, set, Option, Some, refl, sym, ◌∙◌, ap, subst, inl, inr, add-zero, zero-add, length-set, append-nil, arith}
+use Rattle.std.proofs.Common.{◌≡◌, ◌≢◌, ℕ, zero, suc, ◌+◌, ◌<◌, ◌≤◌, Bool, cond, eqb, List, [], ◌∷◌, ◌++◌, length, get_or, set, Option, Some, sym, ◌∙◌, ap, subst, inl, inr, add-zero, zero-add, length-set, append-nil, arith}
 use Rattle.std.specs.List.{filter, range_with_len, slice_get, position}
 use Rattle.std.specs.Option.{option_map, unwrap_or}
 use Rattle.std.proofs.lemmas.Bool.{cases_Bool, eqb-true, false≢true, eq-eqb}
@@ -27,7 +27,7 @@ range_last a (suc n) =
     let e : (a + 1) + n ≡ a + suc n = omega arith in
     ap (λ l. a ∷ l) (range_last (a + 1) n ∙ ap (λ k. range_with_len (a + 1) n ++ k ∷ []) e)
 
-pub below_more : (points : List Point) (n place : ℕ) (d : Point) → n < length points → points_below points (n + 1) place ≡ points_below points n place ++ cond (eqb (get_or points n d).place place) (n ∷ []) []
+below_more : (points : List Point) (n place : ℕ) (d : Point) → n < length points → points_below points (n + 1) place ≡ points_below points n place ++ cond (eqb (get_or points n d).place place) (n ∷ []) []
 below_more points n place d within =
     let test : ℕ → Bool = λ k. is_at place (slice_get points k) in
     let next : n + 1 ≡ suc n = omega arith in
@@ -35,9 +35,6 @@ below_more points n place d within =
     ∙ ap (filter test) (range_last 0 n ∙ ap (λ k. range_with_len 0 n ++ k ∷ []) (zero-add n))
     ∙ filter-append test (range_with_len 0 n) (n ∷ [])
     ∙ ap (λ o. points_below points n place ++ cond (is_at place o) (n ∷ []) []) (slice_get-get_or points n d within)
-
-pub none_below : (points : List Point) (place : ℕ) → points_below points 0 place ≡ []
-none_below points place = refl
 
 pub put_here : (points : List Point) (n number : ℕ) (table : List (List ℕ)) (list old : List ℕ) (d : Point) (count : ℕ) → n < length points → number ≡ n → AreListed points n table → count ≡ length table → (get_or points n d).place < count
     → old ≡ get_or table (get_or points n d).place old → list ≡ old ++ number ∷ [] → AreListed points (n + 1) (set table (get_or points n d).place list)

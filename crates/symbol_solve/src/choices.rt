@@ -1,11 +1,13 @@
 //! Candidates as choices.
-ghost use Rattle.std.specs.Prelude.{◌≡◌, ◌<◌, ◌++◌, Some, IfOk, OnOk, length, map, option_to_list};
+ghost use Rattle.std.specs.Prelude.{◌≡◌, ◌<◌, ◌++◌, [], Some, IfOk, OnOk, length, map, option_to_list};
+ghost use Rattle.std.specs.Option.{unwrap_or};
 ghost use Rattle.std.specs.List.{filter_map, slice_get};
 ghost use Rattle.run_pre_match.specs.Bodies.{body_at};
 ghost use Rattle.run_pre_match.specs.Candidate.{Candidate};
 ghost use Rattle.match_candidates.specs.Candidates.{code_sections, candidates};
 ghost use Rattle.match_candidates.specs.OwnFaults.{AreTried, IsTried};
-ghost use Rattle.symbol_solve.specs.inside.Numbers.{claim_of, demand_of, stands, standing, choice_from, choice_of, AreListed};
+ghost use Rattle.symbol_solve.specs.inside.Numbers.{claim_of, demand_of, stands, standing, choice_of};
+ghost use Rattle.symbol_solve.specs.inside.Numbers.{choice_from, AreListed};
 
 use crate::numbers::{Numbers, Point, word};
 use crate::points::{points_by_section, points_of};
@@ -86,8 +88,8 @@ fn standing<S: Space>(
     Ok(list)
 }
 
-/// Those of some points whose addresses stand for their offsets in the body at a base. Where there are no points, the body isn't
-/// listed.
+/// Those of some points whose addresses stand for their offsets in the body at a base. Where there are no points, the
+/// body isn't listed.
 fn met<S: Space>(
     alloc: Global,
     space: &S,
@@ -96,7 +98,8 @@ fn met<S: Space>(
     points: &[Point],
     own: &[u32],
 ) -> Result<ListOf<u32>, AllocError>
-    ensures { IfOk result (λ list. list ≡ standing points.now (body_at code.now (S.contents space.now) base) own.now) }
+    ensures { IfOk result (λ list. list ≡ standing points.now
+        (body_at code.now (S.contents space.now) base) own.now) }
 {
     if own.is_empty() {
         return Ok(ListOf::new(alloc));
@@ -105,28 +108,47 @@ fn met<S: Space>(
     standing(alloc, &body, points, own)
 }
 
-/// The choice of a candidate, given the code of its section and the points there.
+/// What choices are made by: the object, the numbers, and the points of each of its sections.
+#[derive(Drop)]
+struct Naming<'m, 'a> {
+    object: &'m Normal<'a>,
+    numbers: &'m Numbers,
+    own: Vec<ListOf<u32>>,
+    ghost count: { length own.items ≡ length object.now },
+    ghost lists: { AreListed numbers.now.points (length numbers.now.points) own.items },
+}
+
+/// The choice of a candidate, given the code of its section.
 fn choice_at<S: Space>(
     alloc: Global,
-    object: &Normal<'_>,
+    naming: &Naming<'_, '_>,
     running: &Running<'_, S>,
     code: &PreCode<'_, '_>,
     t: &Tried,
-    numbers: &Numbers,
-    own: &[u32],
 ) -> Result<Choice, AllocError>
-    ensures { IfOk result (λ choice. choice ≡ choice_from object.now numbers.now code.now.place t.now.home t.now.outcome
-        (standing numbers.now.points (body_at code.now running.now.contents t.now.base) own.now)) }
+    ensures { IfOk result (λ choice. choice
+        ≡ choice_from naming.now.object.now naming.now.numbers.now code.now.place t.now.home t.now.outcome
+        (standing naming.now.numbers.now.points (body_at code.now running.now.contents t.now.base)
+        (unwrap_or (slice_get naming.now.own.items code.now.place) []))) }
 {
-    let section = word(code.place())?;
+    let numbers = naming.numbers;
+    let place = code.place();
+    let section = word(place)?;
     match &t.outcome {
         Ok(matched) => Ok(Choice {
             section,
             home: t.home,
             matches: true,
             claims: numbered_claims(alloc, numbers, matched.claims.as_slice())?,
-            demands: demands(alloc, object, numbers, matched.interiors.as_slice())?,
-            met: met(alloc, running.space, code, t.base, numbers.points(), own)?,
+            demands: demands(alloc, naming.object, numbers, matched.interiors.as_slice())?,
+            met: met(
+                alloc,
+                running.space,
+                code,
+                t.base,
+                numbers.points(),
+                points_of(&naming.own, place),
+            )?,
         }),
         Err(_) => Ok(Choice {
             section,
@@ -139,26 +161,20 @@ fn choice_at<S: Space>(
     }
 }
 
-/// The choice of a candidate of one of some sections, given the points of each section of the object.
+/// The choice of a candidate of one of some sections.
 fn choice_among<S: Space>(
     alloc: Global,
-    object: &Normal<'_>,
+    naming: &Naming<'_, '_>,
     running: &Running<'_, S>,
     codes: &[PreCode<'_, '_>],
     t: &Tried,
-    numbers: &Numbers,
-    table: &[ListOf<u32>],
 ) -> Result<Choice, AllocError>
-    requires section { t.now.section < length codes.now }
-    requires count { length table.now ≡ length object.now }
-    requires lists { AreListed numbers.now.points (length numbers.now.points) table.now }
+    requires { t.now.section < length codes.now }
     ensures { (c : Candidate) → IsTried codes.now c t.now → c.contents ≡ running.now.contents
-        → slice_get object.now c.place ≡ Some c.section
-        → IfOk result (λ choice. choice ≡ choice_of object.now numbers.now c) }
+        → slice_get naming.now.object.now c.place ≡ Some c.section
+        → IfOk result (λ choice. choice ≡ choice_of naming.now.object.now naming.now.numbers.now c) }
 {
-    let code = &codes[t.section];
-    let own = points_of(table, code.place());
-    choice_at(alloc, object, running, code, t, numbers, own)
+    choice_at(alloc, naming, running, &codes[t.section], t)
 }
 
 /// The candidates as choices.
@@ -171,13 +187,18 @@ pub(crate) fn choices_of<S: Space>(
 ) -> Result<Vec<Choice>, AllocError>
     requires codes { trials.now.codes ≡ code_sections object.now }
     requires tried { AreTried running.now object.now trials.now.tried }
-    ensures { IfOk result (λ choices. choices.items ≡ map (choice_of object.now numbers.now) (candidates running.now object.now)) }
+    ensures { IfOk result (λ choices. choices.items
+        ≡ map (choice_of object.now numbers.now) (candidates running.now object.now)) }
 {
-    let table = points_by_section(alloc, object.len(), numbers.points())?;
+    let naming = Naming {
+        object,
+        numbers,
+        own: points_by_section(alloc, object.len(), numbers.points())?,
+    };
     let codes = trials.codes();
     let mut choices = Vec::new(alloc);
     for t in trials.tried() {
-        choices.push(choice_among(alloc, object, running, codes, t, numbers, &table)?)?;
+        choices.push(choice_among(alloc, &naming, running, codes, t)?)?;
     }
     Ok(choices)
 }

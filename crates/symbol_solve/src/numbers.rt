@@ -1,7 +1,8 @@
 //! Numbers of what candidates claim and refer to.
 ghost use Rattle.std.specs.Prelude.{◌≡◌, All, IfOk, OnOk};
 ghost use Rattle.symbol_solve.specs.Clashes.{claims_in, interiors_in};
-ghost use Rattle.symbol_solve.specs.inside.Numbers.{claim_of, demand_of, point_of, IsNumbered, IsUnknownNumbered, IsInteriorNumbered, Grows};
+ghost use Rattle.symbol_solve.specs.inside.Numbers.{claim_of, demand_of, point_of};
+ghost use Rattle.symbol_solve.specs.inside.Numbers.{IsNumbered, IsUnknownNumbered, IsInteriorNumbered, Grows};
 
 use i386_reloc::Normal;
 use indexmap::IndexSet;
@@ -20,7 +21,8 @@ pub(crate) struct Point {
     pub(crate) address: u32,
 }
 
-/// What candidates claim values of, and the interiors that they refer to, each once and in the order in which they are met first.
+/// What candidates claim values of, and the interiors that they refer to, each once and in the order in which they are
+/// met first.
 #[derive(Drop)]
 pub(crate) struct Numbers {
     unknowns: IndexSet<Unknown>,

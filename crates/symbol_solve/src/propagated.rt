@@ -25,8 +25,8 @@ pub(crate) struct Propagated {
     pub(crate) conflict: Option<(usize, usize)>,
 }
 
-/// Which candidates are left when those are excluded that don't match, or clash with one that must be chosen, and which of those
-/// that must be chosen are the first to clash.
+/// Which candidates are left when those are excluded that don't match, or clash with one that must be chosen, and which
+/// of those that must be chosen are the first two to clash.
 pub(crate) fn propagate_candidates<S: Space>(
     alloc: Global,
     object: &Normal<'_>,
@@ -36,9 +36,11 @@ pub(crate) fn propagate_candidates<S: Space>(
     requires codes { trials.now.codes ≡ code_sections object.now }
     requires tried { AreTried running.now object.now trials.now.tried }
     ensures left { IfOk result (λ p. p.left.items
-        ≡ map (is_among candidate_rules (remaining candidate_rules (candidates running.now object.now))) (candidates running.now object.now)) }
+        ≡ map (is_among candidate_rules (remaining candidate_rules (candidates running.now object.now)))
+        (candidates running.now object.now)) }
     ensures conflict { IfOk result (λ p. option_and_then (pair_at (candidates running.now object.now)) p.conflict
-        ≡ conflict candidate_rules (by_place (length object.now) (forced candidate_rules (candidates running.now object.now)))) }
+        ≡ conflict candidate_rules
+        (by_place (length object.now) (forced candidate_rules (candidates running.now object.now)))) }
 {
     // Nothing is done here: the law says that the claims of a match agree.
     claims_agree();

@@ -1,6 +1,7 @@
--- Candidates as choices whose claims and demands are numbers: unknowns are numbered, and so are the interiors of sections that
--- candidates refer to.
-use Rattle.std.specs.Prelude.{◌≡◌, ℕ, ◌<◌, Bool, false, ◌&&◌, ◌==◌, if◌then◌else◌, List, [], slice_index_or, length, map, All, Option, Some, None, Result}
+-- Candidates as choices whose claims and demands are numbers: unknowns are numbered, and so are the interiors of
+-- sections that candidates refer to.
+use Rattle.std.specs.Prelude.{◌≡◌, ℕ, ◌<◌, Bool, false, ◌&&◌, ◌==◌, if◌then◌else◌}
+use Rattle.std.specs.Prelude.{List, [], slice_index_or, length, map, All, Option, Some, None, Result}
 use Rattle.std.specs.Option.{option_map, unwrap_or}
 use Rattle.std.specs.List.{filter, filter_map, position, range_with_len, slice_get, Contains}
 use Rattle.symbol_table.specs.declared.values.Unknown.{Unknown}
@@ -77,7 +78,8 @@ points_at points place = points_below points (length points) place
 
 -- that a table has these lists by place
 abbrev pub AreListed : List Point → ℕ → List (List ℕ) → Type 0
-AreListed points bound table = (place : ℕ) (d : List ℕ) → place < length table → slice_index_or table place d ≡ points_below points bound place
+AreListed points bound table =
+    (place : ℕ) (d : List ℕ) → place < length table → slice_index_or table place d ≡ points_below points bound place
 
 -- whether a point's address stands in a body for its offset
 abbrev pub stands : Body → Option Point → Bool
@@ -115,9 +117,9 @@ abbrev pub IsInteriorNumbered : List NormalSection → Numbers → Interior → 
 IsInteriorNumbered object numbers i = HasPoint numbers.points (point_of object i)
 
 -- all that is claimed and referred to has a number
-pub record IsNumbered (object : List NormalSection) (numbers : Numbers) (outcome : Result Matched MatchFault) : Type 0 where
-  pub claims : All (IsUnknownNumbered numbers) (claims_in outcome)
-  pub interiors : All (IsInteriorNumbered object numbers) (interiors_in outcome)
+pub record IsNumbered (object : List NormalSection) (numbers : Numbers) (came : Result Matched MatchFault) : Type 0 where
+  pub claims : All (IsUnknownNumbered numbers) (claims_in came)
+  pub interiors : All (IsInteriorNumbered object numbers) (interiors_in came)
 
 -- that what has a number keeps one
 pub record Grows (old new : Numbers) : Type 0 where
