@@ -57,15 +57,15 @@ module _ {X : Type 0} (rules : Rules X) where
     among q (x ∷ xs) apart =
         let passing : List X = filter q xs in
         let here : is_among rules (cond (q x) (x ∷ passing) passing) x ≡ q x =
-          elim (q x) as (λ b. list_any (rules.same x) (cond b (x ∷ passing) passing) ≡ b) [
-            | true ↦ ap (λ b. b || list_any (rules.same x) passing) (self x)
-            | false ↦ not_among q x xs apart.0
-          ] in
+        elim (q x) as (λ b. list_any (rules.same x) (cond b (x ∷ passing) passing) ≡ b) [
+          | true ↦ ap (λ b. b || list_any (rules.same x) passing) (self x)
+          | false ↦ not_among q x xs apart.0
+        ] in
         let skips : (y : X) → rules.same y x ≡ false → is_among rules (cond (q x) (x ∷ passing) passing) y ≡ is_among rules passing y =
-          λ y other. elim (q x) as (λ b. list_any (rules.same y) (cond b (x ∷ passing) passing) ≡ list_any (rules.same y) passing) [
-            | true ↦ ap (λ b. b || list_any (rules.same y) passing) other
-            | false ↦ refl
-          ] in
+        λ y other. elim (q x) as (λ b. list_any (rules.same y) (cond b (x ∷ passing) passing) ≡ list_any (rules.same y) passing) [
+          | true ↦ ap (λ b. b || list_any (rules.same y) passing) other
+          | false ↦ refl
+        ] in
         let rest : All (λ y. is_among rules passing y ≡ q y) xs = among q xs apart.1 in
         All-cons (λ y. is_among rules (cond (q x) (x ∷ passing) passing) y ≡ q y) x xs here (λ k d lt. skips _ ((apart.0 k d lt).1) ∙ rest k d lt)
 

@@ -72,9 +72,10 @@ apart_by a b c d (inr (same, less)) =
 
 all_apart : (cs : List Candidate) → Ordered Before cs → AllApart candidate_rules cs
 all_apart [] order = tt
-all_apart (c ∷ cs) order =
-    (All-weaker (Before c) (AreApart candidate_rules c) (λ d before. apart_by c.place d.place c.home d.home before) cs order.0,
-    all_apart cs order.1)
+all_apart (c ∷ cs) order = (
+  All-weaker (Before c) (AreApart candidate_rules c) (λ d before. apart_by c.place d.place c.home d.home before) cs order.0,
+  all_apart cs order.1,
+)
 
 -- ---- what is left, and the answer
 module _ (running : Running) (object : List NormalSection) where

@@ -53,7 +53,7 @@ module _ {H : Type 0} (R : Candidate → H → Type 0) where
       let next : suc i ≡ i + 1 = omega arith in
       let rest : List Value = flat_map values_of (drop (suc i) cs) in
       let parts : drop i cs ≡ c ∷ drop (suc i) cs =
-        drop-cons cs i c (slice_get_within cs i c at) ∙ ap (λ d. d ∷ drop (suc i) cs) (get_or_from_slice_get cs i c c at) in
+      drop-cons cs i c (slice_get_within cs i c at) ∙ ap (λ d. d ∷ drop (suc i) cs) (get_or_from_slice_get cs i c c at) in
       ap (λ (l : List Candidate). fold with_value old (flat_map values_of l)) parts
       ∙ ap (fold with_value old) (flat_map-cons values_of c (drop (suc i) cs))
       ∙ fold-append with_value old (values_of c) rest

@@ -52,7 +52,7 @@ obstacle running object =
 
 -- the value of a candidate's own section
 abbrev pub body_value : Candidate → Matched → Value
-body_value c matched = (Code c.section.name , Body c.home c.base matched.length)
+body_value c matched = (Code c.section.name, Body c.home c.base matched.length)
 
 abbrev pub is_code_unknown : Unknown → Bool
 is_code_unknown (Code name) = true
@@ -62,7 +62,7 @@ is_code_unknown (Outside name) = false
 -- the value of a data section or an outside name that it claims
 abbrev pub address_value : Claim → List Value
 address_value claim =
-    if is_code_unknown claim.unknown then [] else (claim.unknown , Address claim.value) ∷ []
+    if is_code_unknown claim.unknown then [] else (claim.unknown, Address claim.value) ∷ []
 
 abbrev pub values_with : Candidate → Result Matched MatchFault → List Value
 values_with c (Ok matched) = body_value c matched ∷ flat_map address_value matched.claims

@@ -70,7 +70,11 @@ fn claims_conflict(alloc: Global, a: &Claim, b: &Claim) -> Result<Refusal, Alloc
 
 /// The first of some claims that one of others contradicts, with the first that does.
 #[tactic(auto, unfolding(propagation::specs::Conflicts::first_some))]
-fn conflict_of_claims(alloc: Global, ones: &[Claim], others: &[Claim]) -> Result<Option<Refusal>, AllocError>
+fn conflict_of_claims(
+    alloc: Global,
+    ones: &[Claim],
+    others: &[Claim],
+) -> Result<Option<Refusal>, AllocError>
     ensures { IfOk result (λ report. report
         ≡ first_some (λ a. option_map (claims_conflict a) (find (contradict a) others.now)) ones.now) }
 {
@@ -90,13 +94,23 @@ fn is_unmet<S: Space>(body: &Body<'_, '_, '_, S>, name: &[u8], interior: &Interi
 }
 
 /// The first interior that goes to the section of a name and isn't met in its body.
-fn first_unmet<'i, S: Space>(body: &Body<'_, '_, '_, S>, name: &[u8], interiors: &'i [Interior]) -> Option<&'i Interior>
+fn first_unmet<'i, S: Space>(
+    body: &Body<'_, '_, '_, S>,
+    name: &[u8],
+    interiors: &'i [Interior],
+) -> Option<&'i Interior>
     ensures { option_copied result ≡ find (is_unmet_in body.now name.now) interiors.now }
 {
-    interiors.iter().find(|interior| is_unmet(body, name, *interior))
+    interiors
+        .iter()
+        .find(|interior| is_unmet(body, name, *interior))
 }
 
-fn interior_conflict<S: Space>(alloc: Global, body: &Body<'_, '_, '_, S>, i: &Interior) -> Result<Refusal, AllocError>
+fn interior_conflict<S: Space>(
+    alloc: Global,
+    body: &Body<'_, '_, '_, S>,
+    i: &Interior,
+) -> Result<Refusal, AllocError>
     ensures { IfOk result (λ refusal. (d : Candidate) → body.now ≡ body_of d → refusal ≡ interior_conflict d i.now) }
 {
     let name = i.section.as_slice();
@@ -108,7 +122,13 @@ fn interior_conflict<S: Space>(alloc: Global, body: &Body<'_, '_, '_, S>, i: &In
         section: Name::from_slice(alloc, name)?,
         offset: i.offset,
     };
-    Ok(Refusal::Conflict(named, i.address, body.address_of(i.offset), copied_spot(alloc, &i.place)?, target))
+    Ok(Refusal::Conflict(
+        named,
+        i.address,
+        body.address_of(i.offset),
+        copied_spot(alloc, &i.place)?,
+        target,
+    ))
 }
 
 /// The first of some interiors that isn't met in a candidate of a code section.
@@ -150,7 +170,11 @@ fn interiors_of(tried: &Tried) -> &[Interior]
     }
 }
 
-fn claims_between(alloc: Global, one: &Held<'_, '_, '_>, other: &Held<'_, '_, '_>) -> Result<Option<Refusal>, AllocError>
+fn claims_between(
+    alloc: Global,
+    one: &Held<'_, '_, '_>,
+    other: &Held<'_, '_, '_>,
+) -> Result<Option<Refusal>, AllocError>
     ensures { IfOk result (λ report. (c d : Candidate) → IsOf one.now.code.now c one.now.tried.now
         → IsOf other.now.code.now d other.now.tried.now → report ≡ conflict_of_claims c d) }
 {
@@ -166,7 +190,13 @@ fn interiors_between<S: Space>(
     ensures { IfOk result (λ report. (c d : Candidate) → IsOf one.now.code.now c one.now.tried.now
         → IsOf other.now.code.now d other.now.tried.now → d.contents ≡ S.contents space.now → report ≡ conflict_of_interiors c d) }
 {
-    conflict_of_interiors(alloc, space, interiors_of(one.tried), other.code, other.tried.base)
+    conflict_of_interiors(
+        alloc,
+        space,
+        interiors_of(one.tried),
+        other.code,
+        other.tried.base,
+    )
 }
 
 /// What is reported of two candidates: the first claim of the first one that the second contradicts, or else the first interior of
@@ -178,7 +208,7 @@ pub(crate) fn clash_between<S: Space>(
     other: &Held<'_, '_, '_>,
 ) -> Result<Option<Refusal>, AllocError>
     ensures { IfOk result (λ report. (c d : Candidate) → IsOf one.now.code.now c one.now.tried.now → c.contents ≡ S.contents space.now
-        → IsOf other.now.code.now d other.now.tried.now → d.contents ≡ S.contents space.now → report ≡ clash_between (c , d)) }
+        → IsOf other.now.code.now d other.now.tried.now → d.contents ≡ S.contents space.now → report ≡ clash_between (c, d)) }
 {
     let report = claims_between(alloc, one, other)?;
     if report.is_some() {

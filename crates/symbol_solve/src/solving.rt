@@ -82,7 +82,7 @@ fn solve_trials<S: Space>(
     requires tried { AreTried running.now pre.now trials.now.tried }
     ensures { Gives (λ values. values.entries) result
         (values_unless (option_or (reported (length pre.now) (candidates running.now pre.now)) (first_twins (left_of running.now pre.now)))
-            (left_of running.now pre.now)) }
+        (left_of running.now pre.now)) }
 {
     let found = propagate_candidates(alloc, pre, running, trials)?;
     if let Some(refusal) = reported(alloc, running.space, trials, found.conflict)? {

@@ -9,7 +9,11 @@ use ks_base::{Name, Refusal};
 use std::alloc::{AllocError, Global};
 
 /// The refusal of two candidates that are left, if they are of one section.
-pub(crate) fn twins(alloc: Global, one: &Held<'_, '_, '_>, other: &Held<'_, '_, '_>) -> Result<Option<Refusal>, AllocError>
+pub(crate) fn twins(
+    alloc: Global,
+    one: &Held<'_, '_, '_>,
+    other: &Held<'_, '_, '_>,
+) -> Result<Option<Refusal>, AllocError>
     ensures { IfOk result (λ refusal. (c d : Candidate) → IsOf one.now.code.now c one.now.tried.now
         → IsOf other.now.code.now d other.now.tried.now → refusal ≡ twins c d) }
 {

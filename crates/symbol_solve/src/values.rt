@@ -23,7 +23,7 @@ fn has_value(values: &Values, unknown: &Unknown) -> bool
 /// Puts the value of an unknown that has none at the end.
 fn add(values: &mut Values, unknown: Unknown, solved: Solved) -> Result<(), AllocError>
     requires { has_value values.old.entries unknown ≡ false }
-    ensures { OnOk result (values.new.entries ≡ values.old.entries ++ (unknown , solved) ∷ []) }
+    ensures { OnOk result (values.new.entries ≡ values.old.entries ++ (unknown, solved) ∷ []) }
 {
     values.insert(unknown, solved)?;
     Ok(())
@@ -31,7 +31,7 @@ fn add(values: &mut Values, unknown: Unknown, solved: Solved) -> Result<(), Allo
 
 /// Adds a value, unless its unknown has one.
 fn put(values: &mut Values, unknown: Unknown, solved: Solved) -> Result<(), AllocError>
-    ensures { OnOk result (values.new.entries ≡ with_value values.old.entries (unknown , solved)) }
+    ensures { OnOk result (values.new.entries ≡ with_value values.old.entries (unknown, solved)) }
 {
     if has_value(values, &unknown) {
         return Ok(());

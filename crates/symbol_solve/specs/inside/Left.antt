@@ -11,7 +11,7 @@ use Rattle.match_candidates.specs.declared.trials.Tried.{Tried}
 
 abbrev pub pair_with : Candidate → Option Candidate → Option (Candidate × Candidate)
 pair_with c None = None
-pair_with c (Some d) = Some (c , d)
+pair_with c (Some d) = Some (c, d)
 
 abbrev pub pair_of : Option Candidate → Option Candidate → Option (Candidate × Candidate)
 pair_of None d = None

@@ -18,8 +18,8 @@ returns-in_err-code-clause-none c =
     let past : length c.args.codes.now ≤ c.in_ok-tried.tried.now.section = ltb-false c.in_ok-tried.tried.now.section (length c.args.codes.now) (sym c.in_err-code.ensures.lookup.0) in
     rw (c.from_residual-in_err-code.ensures)
     (λ cs all. none_at c.args.codes.now c.args.tried.now c.args.place c.in_ok-tried.tried.now
-        (slice_get_read c.args.tried.now (length c.args.tried.now) c.args.place c.in_ok-tried.tried.now refl (ltb-true c.args.place (length c.args.tried.now) (sym here.0)) here.1)
-        (slice_get_past c.args.codes.now c.in_ok-tried.tried.now.section past) cs all)
+    (slice_get_read c.args.tried.now (length c.args.tried.now) c.args.place c.in_ok-tried.tried.now refl (ltb-true c.args.place (length c.args.tried.now) (sym here.0)) here.1)
+    (slice_get_past c.args.codes.now c.in_ok-tried.tried.now.section past) cs all)
 
 pub returns-clause-some : goal.returns-clause-some
 returns-clause-some c = λ cs all.
