@@ -104,7 +104,7 @@ def suffixes(part):
 def copies(part):
     """Long texts that are equal. In the running program there are more of them, and no two references bring the same
     two together."""
-    ours, theirs, count = text_bytes(part), int(MEMORY * part) - 2 * 1024 * 1024, int(RELOCATIONS * part)
+    ours, theirs, count = text_bytes(part), int((MEMORY - 5 * RELOCATIONS - REST) * part), int(RELOCATIONS * part)
     length = isqrt(ours * theirs // count) * 99 // 100
     text = b"a" * (length - 1) + b"\0"
     here, there = ours // length, theirs // length
