@@ -1,12 +1,19 @@
-//! Tests of matching: `run_pre_match`. They stand apart so that it is proved once, and not once more for its tests.
+//! Tests of matching: `run_pre_match`, `propagation` and `match_candidates`. They stand apart so that these are proved
+//! once, and not once more for their tests.
 #![tactic(auto)]
 
+#[cfg(test)]
+mod candidates;
+#[cfg(test)]
+mod choosing;
 #[cfg(test)]
 mod differences;
 #[cfg(test)]
 mod hostile;
 #[cfg(test)]
 mod later_calls;
+#[cfg(test)]
+mod ordered;
 #[cfg(test)]
 mod trying;
 #[cfg(test)]
