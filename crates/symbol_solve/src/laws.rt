@@ -1,0 +1,21 @@
+//! What the answers say of solutions.
+ghost use Rattle.std.specs.Prelude.{◌≡◌, ℕ, List, Some, None};
+ghost use Rattle.ks_base.specs.declared.refusals.ConflictName.{ConflictName};
+ghost use Rattle.ks_base.specs.declared.refusals.Refusal.TheVariants.{Mismatch, Conflict};
+ghost use Rattle.ks_base.specs.declared.places.Spot.{Spot};
+ghost use Rattle.ks_base.specs.declared.refusals.Difference.{Difference};
+ghost use Rattle.i386_reloc.specs.declared.types.NormalSection.{NormalSection};
+ghost use Rattle.run_pre_match.specs.Candidate.{Candidate};
+ghost use Rattle.match_candidates.specs.Candidates.{Running};
+ghost use Rattle.symbol_solve.specs.Solve.{obstacle};
+ghost use Rattle.symbol_solve.specs.Solution.{IsSolution};
+
+/// What differs and what clashes is refused only where there is no solution.
+pub fn refused_without_solution()
+    ensures mismatch { (running : Running) (object : List NormalSection) (name : List ℕ) (difference : Difference)
+        → obstacle running object ≡ Some (Mismatch name difference)
+        → (chosen : List Candidate) → IsSolution running object chosen → ⊥ }
+    ensures conflict { (running : Running) (object : List NormalSection) (name : ConflictName) (a b : ℕ) (one other : Spot)
+        → obstacle running object ≡ Some (Conflict name a b one other)
+        → (chosen : List Candidate) → IsSolution running object chosen → ⊥ }
+{}
