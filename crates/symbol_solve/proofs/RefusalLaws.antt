@@ -1,14 +1,14 @@
 -- Where a refusal says that there is no solution, there is none.
-use Rattle.std.proofs.Common.{◌≡◌, ℕ, List, [], ◌∷◌, length, Bool, true, false, cond, eqb, Option, Some, None, refl, sym, ap, subst, ◌∙◌}
+use Rattle.std.proofs.Common.{◌≡◌, ℕ, List, [], ◌∷◌, length, true, false, cond, eqb, Option, Some, None, refl, subst}
 use Rattle.std.specs.Option.{option_map, option_or}
 use Rattle.ks_base.specs.declared.refusals.Refusal.{Refusal}
-use Rattle.ks_base.specs.declared.refusals.Refusal.TheVariants.{NoCandidate, Mismatch, Ambiguous, Conflict, PreUndecoded}
+use Rattle.ks_base.specs.declared.refusals.Refusal.TheVariants.{Mismatch, Ambiguous, Conflict, PreUndecoded}
 use Rattle.i386_reloc.specs.declared.types.NormalSection.{NormalSection}
 use Rattle.run_pre_match.specs.Candidate.{Candidate}
 use Rattle.run_pre_match.specs.Matched.{PreSection}
 use Rattle.run_pre_match.specs.Landing.{undecoded_offset}
 use Rattle.propagation.specs.Conflicts.{first_some}
-use Rattle.match_candidates.specs.Candidates.{Running, candidates, candidates_of, code_sections, function_name}
+use Rattle.match_candidates.specs.Candidates.{Running, candidates, candidates_of, code_sections}
 use Rattle.match_candidates.specs.OwnFaults.{undecoded_in, first_undecoded, missing_in, first_missing, first_mismatch, own_fault}
 use Rattle.symbol_solve.specs.Conflicts.{reported}
 use Rattle.symbol_solve.specs.Solve.{twins, first_twins, left_of, obstacle}
