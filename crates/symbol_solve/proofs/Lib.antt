@@ -14,3 +14,4 @@ mod SolveLaws
 mod Members
 mod SolutionLaws
 mod RefusalLaws
+mod OnlyLaws

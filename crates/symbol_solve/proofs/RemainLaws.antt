@@ -23,7 +23,7 @@ filter_alike p q (x ∷ xs) each =
 
 module _ {X : Type 0} (rules : Rules X) where
   -- what is left in a round passes a test
-  kept_in : (round : ℕ) (all : List X) → (q : X → Bool) × (left_in rules round all ≡ filter q all)
+  pub kept_in : (round : ℕ) (all : List X) → (q : X → Bool) × (left_in rules round all ≡ filter q all)
   unfolding left_in
   kept_in zero all = (rules.matches, refl)
   kept_in (suc round) all =

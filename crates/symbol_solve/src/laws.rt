@@ -7,7 +7,7 @@ ghost use Rattle.ks_base.specs.declared.refusals.Difference.{Difference};
 ghost use Rattle.i386_reloc.specs.declared.types.NormalSection.{NormalSection};
 ghost use Rattle.run_pre_match.specs.Candidate.{Candidate};
 ghost use Rattle.match_candidates.specs.Candidates.{Running};
-ghost use Rattle.symbol_solve.specs.Solve.{obstacle};
+ghost use Rattle.symbol_solve.specs.Solve.{left_of, obstacle};
 ghost use Rattle.symbol_solve.specs.Solution.{IsSolution};
 
 /// What differs and what clashes is refused only where there is no solution.
@@ -18,4 +18,12 @@ pub fn refused_without_solution()
     ensures conflict { (running : Running) (object : List NormalSection) (name : ConflictName) (a b : ℕ) (one other : Spot)
         → obstacle running object ≡ Some (Conflict name a b one other)
         → (chosen : List Candidate) → IsSolution running object chosen → ⊥ }
+{}
+
+/// Where nothing stands in the way of an answer, the candidates that are left are a solution, and every solution is the same.
+pub fn answer_is_only_solution()
+    ensures solution { (running : Running) (object : List NormalSection) → obstacle running object ≡ None
+        → IsSolution running object (left_of running object) }
+    ensures only { (running : Running) (object : List NormalSection) → obstacle running object ≡ None
+        → (chosen : List Candidate) → IsSolution running object chosen → chosen ≡ left_of running object }
 {}

@@ -14,5 +14,5 @@ mod solving;
 mod twins;
 mod values;
 
-pub use laws::refused_without_solution;
+pub use laws::{answer_is_only_solution, refused_without_solution};
 pub use solving::solve;
