@@ -15,3 +15,4 @@ mod Members
 mod SolutionLaws
 mod RefusalLaws
 mod OnlyLaws
+mod SolvedLaws

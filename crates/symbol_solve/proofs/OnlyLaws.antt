@@ -349,6 +349,42 @@ module _ (running : Running) (object : List NormalSection) where
             quiet_after is d c has_d has_c (within c in_c) (omega (arith, more, apart)) (clash_back c d clash)
       ]
 
+  -- what is left is one of the candidates
+  pub left_cands : (c : Candidate) → Has (left_of running object) c → Has (candidates running object) c
+  unfolding remaining
+  left_cands c has =
+      let (q, kept) = kept_in candidate_rules (length (candidates running object)) (candidates running object) in
+      (filter_has q (candidates running object) c (subst (λ (l : List Candidate). Has l c) kept has)).0
+
+  -- ---- what is alone is forced, and what is forced doesn't clash with what is left
+  pub forced_has : (d : Candidate) → Has (candidates running object) d
+      → ((y : Candidate) → Has (remaining candidate_rules (candidates running object)) y → y.place ≡ d.place → eqb y.home d.home ≡ true)
+      → Has (forced candidate_rules (candidates running object)) d
+  unfolding forced
+  forced_has d has each =
+      has_filter (is_forced candidate_rules (remaining candidate_rules (candidates running object))) (candidates running object) d has
+      (every_of (λ y. not (candidate_rules.same_section y d) || candidate_rules.same y d) (remaining candidate_rules (candidates running object))
+      (λ y has_y. told y has_y (eqb y.place d.place) refl))
+    where
+      told : (y : Candidate) → Has (remaining candidate_rules (candidates running object)) y → (b : Bool) → eqb y.place d.place ≡ b → (not b || (b && eqb y.home d.home)) ≡ true
+      told y has_y true at = each y has_y (eqb-true y.place d.place at)
+      told y has_y false at = refl
+
+  pub peace_here : ((d : Candidate) → Has (remaining candidate_rules (candidates running object)) d → Has (forced candidate_rules (candidates running object)) d)
+      → (c d : Candidate) → Has (remaining candidate_rules (candidates running object)) c → Has (remaining candidate_rules (candidates running object)) d → clashes c d ≡ false
+  peace_here each c d has_c has_d = by (clashes c d) refl
+    where
+      all : List Candidate
+      all = forced candidate_rules (candidates running object)
+      calm : clashes_with_one candidate_rules all c ≡ false
+      calm =
+          not_true (clashes_with_one candidate_rules all c)
+          (filter_has (λ x. not (clashes_with_one candidate_rules all x)) (remaining candidate_rules (candidates running object)) c
+          (subst (λ (l : List Candidate). Has l c) (remaining_is_kept candidate_rules (candidates running object)) has_c)).1
+      by : (b : Bool) → clashes c d ≡ b → clashes c d ≡ false
+      by true at = absurd (false≢true (sym calm ∙ any_has (clashes c) all d (each d has_d) at))
+      by false at = at
+
   -- ---- one of each section is left, where nothing stands in the way
   module _ (clear : obstacle running object ≡ None) where
     none_own : own_fault running object ≡ None
@@ -403,19 +439,6 @@ module _ (running : Running) (object : List NormalSection) where
           one_in pre c has_pre
           (has_filter q (candidates_of running pre) c (has_of (candidates_of running pre) c choice.among) (left_here c (stays running object chosen it c has)).1)))
 
-      forced_has : (d : Candidate) → Has (candidates running object) d
-          → ((y : Candidate) → Has (remaining candidate_rules (candidates running object)) y → y.place ≡ d.place → eqb y.home d.home ≡ true)
-          → Has (forced candidate_rules (candidates running object)) d
-      unfolding forced
-      forced_has d has each =
-          has_filter (is_forced candidate_rules (remaining candidate_rules (candidates running object))) (candidates running object) d has
-          (every_of (λ y. not (candidate_rules.same_section y d) || candidate_rules.same y d) (remaining candidate_rules (candidates running object))
-          (λ y has_y. told y has_y (eqb y.place d.place) refl))
-        where
-          told : (y : Candidate) → Has (remaining candidate_rules (candidates running object)) y → (b : Bool) → eqb y.place d.place ≡ b → (not b || (b && eqb y.home d.home)) ≡ true
-          told y has_y true at = each y has_y (eqb-true y.place d.place at)
-          told y has_y false at = refl
-
       against_none : (pre : PreSection) → Has (code_sections object) pre → of_section pre ≡ [] → (d : Candidate) → Has (candidates_of running pre) d → Has (candidates running object) d → Against (length (candidates running object)) d → ⊥
       unfolding remaining forced
       against_none pre has_pre none d own has against =
@@ -461,25 +484,11 @@ module _ (running : Running) (object : List NormalSection) where
           let there : Has (d ∷ []) y = subst (λ (l : List Candidate). Has l y) (one_in pre d has_pre here) (in_section pre y has_pre has_y (place ∙ place_in pre d here)) in
           elim there [ inl e ↦ eq-eqb y.home d.home (ap (λ (z : Candidate). z.home) (sym e)) | inr none ↦ absurd none ])
 
-      peace_here : (c d : Candidate) → Has (remaining candidate_rules (candidates running object)) c → Has (remaining candidate_rules (candidates running object)) d → clashes c d ≡ false
-      peace_here c d has_c has_d = by (clashes c d) refl
-        where
-          all : List Candidate
-          all = forced candidate_rules (candidates running object)
-          calm : clashes_with_one candidate_rules all c ≡ false
-          calm =
-              not_true (clashes_with_one candidate_rules all c)
-              (filter_has (λ x. not (clashes_with_one candidate_rules all x)) (remaining candidate_rules (candidates running object)) c
-              (subst (λ (l : List Candidate). Has l c) (remaining_is_kept candidate_rules (candidates running object)) has_c)).1
-          by : (b : Bool) → clashes c d ≡ b → clashes c d ≡ false
-          by true at = absurd (false≢true (sym calm ∙ any_has (clashes c) all d (left_forced d has_d) at))
-          by false at = at
-
       solution_here : IsSolution running object (remaining candidate_rules (candidates running object))
       solution_here = record {
         choice = subst (λ (l : List Candidate). AllZip (IsChoice running) (code_sections object) l) (sym left_flat) (zip_lists (IsChoice running) of_section (code_sections object) filled);
         peaceful = all_of (λ c. All (λ d. clashes c d ≡ false) (remaining candidate_rules (candidates running object))) (remaining candidate_rules (candidates running object))
-          (λ c has_c. all_of (λ d. clashes c d ≡ false) (remaining candidate_rules (candidates running object)) (λ d has_d. peace_here c d has_c has_d));
+          (λ c has_c. all_of (λ d. clashes c d ≡ false) (remaining candidate_rules (candidates running object)) (λ d has_d. peace_here left_forced c d has_c has_d));
       }
 
     pub solution_left : IsSolution running object (left_of running object)

@@ -1,4 +1,5 @@
 use Rattle.symbol_solve.proofs.OnlyLaws.{solution_left, only_left}
+use Rattle.symbol_solve.proofs.SolvedLaws.{none_in_the_way}
 use Rattle.symbol_solve.proofs.laws.answer_is_only_solution.Goals as goal
 
 pub returns-clause-solution : goal.returns-clause-solution
@@ -6,3 +7,6 @@ returns-clause-solution c = solution_left
 
 pub returns-clause-only : goal.returns-clause-only
 returns-clause-only c = only_left
+
+pub returns-clause-exactly : goal.returns-clause-exactly
+returns-clause-exactly c = λ running object decoded there one. none_in_the_way running object one decoded there
