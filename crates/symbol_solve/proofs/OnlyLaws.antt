@@ -36,7 +36,7 @@ use Rattle.symbol_solve.proofs.Members.{Has, has_of, contained, all_has, all_of,
 use Rattle.symbol_solve.proofs.SolutionLaws.{place_of, same_one, only_one, survives, stays}
 
 -- ---- nothing of two
-neither : {X : Type 0} (a b : Option X) → option_or a b ≡ None → (a ≡ None) × (b ≡ None)
+pub neither : {X : Type 0} (a b : Option X) → option_or a b ≡ None → (a ≡ None) × (b ≡ None)
 neither None b is = (refl, is)
 neither (Some x) b is = absurd cc
 
@@ -490,6 +490,12 @@ module _ (running : Running) (object : List NormalSection) where
         peaceful = all_of (λ c. All (λ d. clashes c d ≡ false) (remaining candidate_rules (candidates running object))) (remaining candidate_rules (candidates running object))
           (λ c has_c. all_of (λ d. clashes c d ≡ false) (remaining candidate_rules (candidates running object)) (λ d has_d. peace_here left_forced c d has_c has_d));
       }
+
+    pub parts_clear : (first_undecoded object ≡ None) × (first_missing running object ≡ None)
+    unfolding own_fault
+    parts_clear =
+        let (decoded, rest) = neither (first_undecoded object) (option_or (first_missing running object) (first_mismatch running object)) none_own in
+        (decoded, (neither (first_missing running object) (first_mismatch running object) rest).0)
 
     pub solution_left : IsSolution running object (left_of running object)
     unfolding remaining

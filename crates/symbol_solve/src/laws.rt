@@ -1,5 +1,5 @@
 //! What the answers say of solutions.
-ghost use Rattle.std.specs.Prelude.{◌≡◌, ℕ, List, Some, None};
+ghost use Rattle.std.specs.Prelude.{◌≡◌, ◌↔◌, ℕ, List, Some, None};
 ghost use Rattle.std.specs.List.{AllZip};
 ghost use Rattle.ks_base.specs.declared.refusals.ConflictName.{ConflictName};
 ghost use Rattle.ks_base.specs.declared.refusals.Refusal.TheVariants.{Mismatch, Conflict};
@@ -29,7 +29,7 @@ pub fn answer_is_only_solution()
         → IsSolution running object (left_of running object) }
     ensures only { (running : Running) (object : List NormalSection) → obstacle running object ≡ None
         → (chosen : List Candidate) → IsSolution running object chosen → chosen ≡ left_of running object }
-    ensures exactly { (running : Running) (object : List NormalSection)
-        → first_undecoded object ≡ None → first_missing running object ≡ None
-        → AllZip (IsChoice running) (code_sections object) (left_of running object) → obstacle running object ≡ None }
+    ensures exactly { (running : Running) (object : List NormalSection) → (obstacle running object ≡ None)
+        ↔ ((first_undecoded object ≡ None) × (first_missing running object ≡ None)
+            × AllZip (IsChoice running) (code_sections object) (left_of running object)) }
 {}

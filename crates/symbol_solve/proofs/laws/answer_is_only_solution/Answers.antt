@@ -1,4 +1,4 @@
-use Rattle.symbol_solve.proofs.OnlyLaws.{solution_left, only_left}
+use Rattle.symbol_solve.proofs.OnlyLaws.{parts_clear, solution_left, only_left}
 use Rattle.symbol_solve.proofs.SolvedLaws.{none_in_the_way}
 use Rattle.symbol_solve.proofs.laws.answer_is_only_solution.Goals as goal
 
@@ -9,4 +9,6 @@ pub returns-clause-only : goal.returns-clause-only
 returns-clause-only c = only_left
 
 pub returns-clause-exactly : goal.returns-clause-exactly
-returns-clause-exactly c = λ running object decoded there one. none_in_the_way running object one decoded there
+returns-clause-exactly c = λ running object.
+    ((λ clear. let (decoded, there) = parts_clear running object clear in (decoded, there, (solution_left running object clear).choice)),
+    (λ parts. none_in_the_way running object parts.2 parts.0 parts.1))
