@@ -11,3 +11,8 @@ pub mod OrderLaws
 pub mod LeftLaws
 mod RemainLaws
 mod SolveLaws
+mod Members
+mod SolutionLaws
+mod RefusalLaws
+mod OnlyLaws
+mod SolvedLaws

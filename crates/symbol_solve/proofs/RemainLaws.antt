@@ -1,5 +1,5 @@
 -- Marks for what is left pick out what is left, where no two items are the same.
-use Rattle.std.proofs.Common.{◌≡◌, ℕ, zero, suc, Bool, true, false, not, ◌&&◌, ◌||◌, cond, List, [], ◌∷◌, length, map, refl, sym, ap, subst, ◌∙◌}
+use Rattle.std.proofs.Common.{◌≡◌, ℕ, zero, suc, Bool, true, false, not, ◌&&◌, ◌||◌, cond, List, [], ◌∷◌, length, map, refl, sym, ap, ◌∙◌}
 use Rattle.std.specs.List.{All, filter, list_any}
 use Rattle.std.proofs.lemmas.List.Elements.{All-nil, All-cons, All-head, All-tail}
 use Rattle.run_pre_match.specs.Candidate.{Candidate}
@@ -23,7 +23,7 @@ filter_alike p q (x ∷ xs) each =
 
 module _ {X : Type 0} (rules : Rules X) where
   -- what is left in a round passes a test
-  kept_in : (round : ℕ) (all : List X) → (q : X → Bool) × (left_in rules round all ≡ filter q all)
+  pub kept_in : (round : ℕ) (all : List X) → (q : X → Bool) × (left_in rules round all ≡ filter q all)
   unfolding left_in
   kept_in zero all = (rules.matches, refl)
   kept_in (suc round) all =

@@ -4,6 +4,7 @@
 
 mod choices;
 mod copies;
+pub mod laws;
 mod left;
 mod numbers;
 mod points;
@@ -13,4 +14,5 @@ mod solving;
 mod twins;
 mod values;
 
+pub use laws::{answer_is_only_solution, refused_without_solution};
 pub use solving::solve;

@@ -1,5 +1,4 @@
-use Rattle.std.proofs.Common.{arith, ◌≡◌, ◌≤◌, Some, None, length, refl, ap, sym, ◌∙◌}
-use Rattle.std.specs.List.{slice_get}
+use Rattle.std.proofs.Common.{◌≤◌, length, refl, sym}
 use Rattle.std.proofs.lemmas.Option.{slice_get_past, slice_get_read}
 use Rattle.symbol_solve.specs.inside.Left.{IsOneOf}
 use Rattle.symbol_solve.proofs.HeldLaws.{zip_none, one_at, none_at}

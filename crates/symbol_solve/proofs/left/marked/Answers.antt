@@ -1,4 +1,4 @@
-use Rattle.std.proofs.Common.{rules, arith, ◌≡◌, ℕ, suc, ◌+◌, false, List, get_or, refl, subst}
+use Rattle.std.proofs.Common.{rules, arith, ◌≡◌, ℕ, suc, ◌+◌, false, get_or, refl, subst}
 use Rattle.run_pre_match.specs.Candidate.{Candidate}
 use Rattle.match_candidates.specs.declared.trials.Tried.{Tried}
 use Rattle.symbol_solve.specs.declared.left.Held.{Held}

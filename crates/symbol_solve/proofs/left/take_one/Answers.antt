@@ -1,8 +1,6 @@
-use Rattle.std.proofs.Common.{rules, ◌≡◌, true, false, List, subst, sym, ◌∙◌}
+use Rattle.std.proofs.Common.{subst, sym, ◌∙◌}
 use Rattle.std.proofs.lemmas.Option.{get_or_from_slice_get}
-use Rattle.run_pre_match.specs.Candidate.{Candidate}
 use Rattle.run_pre_match.specs.Matched.{PreSection}
-use Rattle.match_candidates.specs.declared.trials.Tried.{Tried}
 use Rattle.symbol_solve.specs.declared.left.Held.{Held}
 use Rattle.symbol_solve.specs.inside.Left.{IsOf, IsOneOf}
 use Rattle.symbol_solve.proofs.HeldLaws.{taken, passed}

@@ -1,5 +1,4 @@
-use Rattle.std.proofs.Common.{rules, ◌≡◌, Some, sym, ap, ◌∙◌}
-use Rattle.std.specs.Option.{option_copied}
+use Rattle.std.proofs.Common.{rules}
 use Rattle.symbol_solve.proofs.Bodies.{unmet_reported}
 use Rattle.symbol_solve.proofs.report.conflict_of_interiors.Goals as goal
 

@@ -1,6 +1,5 @@
-use Rattle.std.proofs.Common.{arith, ◌≡◌, ℕ, suc, ◌+◌, ◌-◌, ◌<◌, ◌≤◌, Option, List, drop, length, sym, ap, ◌∙◌}
+use Rattle.std.proofs.Common.{arith, ◌≡◌, ℕ, suc, ◌+◌, ◌-◌, ◌<◌, ◌≤◌, Option, drop, length, sym, ap, ◌∙◌}
 use Rattle.std.specs.Option.{option_or}
-use Rattle.std.specs.List.{AllZip}
 use Rattle.ks_base.specs.declared.refusals.Refusal.{Refusal}
 use Rattle.run_pre_match.specs.Candidate.{Candidate}
 use Rattle.symbol_solve.specs.declared.left.Held.{Held}

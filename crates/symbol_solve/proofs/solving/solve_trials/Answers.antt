@@ -1,9 +1,8 @@
-use Rattle.std.proofs.Common.{◌≡◌, List, All, Option, Some, None, length, map, sym, ap, subst, ◌∙◌}
+use Rattle.std.proofs.Common.{List, All, length, sym, ap, subst, ◌∙◌}
 use Rattle.std.specs.List.{AllZip}
 use Rattle.std.specs.Prelude.{Ok}
 use Rattle.std.proofs.lemmas.List.{length-map}
 use Rattle.run_pre_match.specs.Candidate.{Candidate}
-use Rattle.run_pre_match.specs.Matched.{PreSection}
 use Rattle.match_candidates.specs.declared.trials.Tried.{Tried}
 use Rattle.match_candidates.specs.Candidates.{Running, code_sections, candidates}
 use Rattle.match_candidates.specs.OwnFaults.{AreTried, IsTried}
@@ -11,7 +10,7 @@ use Rattle.image_memory.specs.Contents.{Contents}
 use Rattle.symbol_solve.specs.declared.left.Held.{Held}
 use Rattle.symbol_solve.specs.Conflicts.{reported}
 use Rattle.symbol_solve.specs.Solve.{Value, left_of, first_twins}
-use Rattle.symbol_solve.specs.inside.Left.{IsOf, IsOneOf, HasMemory, marked}
+use Rattle.symbol_solve.specs.inside.Left.{IsOf, HasMemory}
 use Rattle.symbol_solve.proofs.HeldLaws.{zip_length}
 use Rattle.symbol_solve.proofs.SolveLaws.{are_of, are_within, have_memory, left_here, reported_here, refused_by, refused_next, answered}
 use Rattle.symbol_solve.proofs.solving.solve_trials.Goals as goal

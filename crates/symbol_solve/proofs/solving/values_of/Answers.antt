@@ -1,4 +1,4 @@
-use Rattle.std.proofs.Common.{arith, ◌≡◌, ◌<◌, ◌≤◌, length, List, sym, ap, ◌∙◌}
+use Rattle.std.proofs.Common.{arith, ◌<◌, ◌≤◌, length, List, sym, ap, ◌∙◌}
 use Rattle.std.specs.List.{flat_map, fold}
 use Rattle.run_pre_match.specs.Candidate.{Candidate}
 use Rattle.symbol_solve.specs.declared.left.Held.{Held}
