@@ -150,6 +150,7 @@ between_from {X} {Y} f (ones ∷ rest) y is = by (first_some (first_of_two f one
   where
     Found : List (List X) → Type 0
     Found lists = (a : X) × (b : X) × (these : List X) × (others : List X) × Has lists these × Has these a × Has lists others × Has others b × (f a b ≡ Some y)
+
     by : (o : Option Y) → first_some (first_of_two f ones) rest ≡ o → (first_between f rest ≡ Some y → Found rest) → option_or o (first_between f rest) ≡ Some y → Found (ones ∷ rest)
     by (Some z) at later here =
         let (others, has_others, two) = first_from (first_of_two f ones) rest y (at ∙ here) in

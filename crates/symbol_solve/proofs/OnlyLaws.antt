@@ -191,9 +191,9 @@ clash_told c d is none =
     let (no_claims, rest) = neither (conflict_of_claims c d) (option_or (conflict_of_interiors c d) (conflict_of_interiors d c)) none in
     let (no_one, no_other) = neither (conflict_of_interiors c d) (conflict_of_interiors d c) rest in
     let one : claims_clash c d ≡ false =
-      any_none (λ x. list_any (contradict x) (claims_of d)) (claims_of c)
-      (λ x has. find_none (contradict x) (claims_of d)
-      (map_none (claims_conflict x) (find (contradict x) (claims_of d)) (no_first (λ a. option_map (claims_conflict a) (find (contradict a) (claims_of d))) (claims_of c) x no_claims has))) in
+    any_none (λ x. list_any (contradict x) (claims_of d)) (claims_of c)
+    (λ x has. find_none (contradict x) (claims_of d)
+    (map_none (claims_conflict x) (find (contradict x) (claims_of d)) (no_first (λ a. option_map (claims_conflict a) (find (contradict a) (claims_of d))) (claims_of c) x no_claims has))) in
     let two : interiors_clash c d ≡ false = find_none (is_unmet d) (interiors_of c) (map_none (interior_conflict d) (find (is_unmet d) (interiors_of c)) no_one) in
     let three : interiors_clash d c ≡ false = find_none (is_unmet c) (interiors_of d) (map_none (interior_conflict c) (find (is_unmet c) (interiors_of d)) no_other) in
     let quiet : (claims_clash c d || interiors_clash c d || interiors_clash d c) ≡ false = λ i. one i || two i || three i in
@@ -245,15 +245,19 @@ module _ (running : Running) (object : List NormalSection) where
     where
       rest : option_or (first_missing running object) (first_mismatch running object) ≡ None
       rest = (neither (first_undecoded object) (option_or (first_missing running object) (first_mismatch running object)) is).1
+
       there : missing_in pre (candidates_of running pre) ≡ None
       there =
           no_first (λ p. missing_in p (candidates_of running p)) (code_sections object) pre (neither (first_missing running object) (first_mismatch running object) rest).0 has
+
       matched : mismatch_in pre (candidates_of running pre) ≡ None
       matched =
           no_first (λ p. mismatch_in p (candidates_of running p)) (code_sections object) pre (neither (first_missing running object) (first_mismatch running object) rest).1 has
+
       either : (c : Candidate) (cs : List Candidate) (b : Bool) → list_any matches (c ∷ cs) ≡ b → cond b None (difference_in pre (outcome c)) ≡ None → (d : Candidate) × Has (c ∷ cs) d × (matches d ≡ true)
       either c cs true at none = any_from matches (c ∷ cs) at
       either c cs false at none = (c, inl refl, match_here pre c none)
+
       by : (cs : List Candidate) → missing_in pre cs ≡ None → mismatch_in pre cs ≡ None → (d : Candidate) × Has cs d × (matches d ≡ true)
       by [] one two = absurd cc
       by (c ∷ cs) one two = either c cs (list_any matches (c ∷ cs)) refl two
@@ -290,18 +294,23 @@ module _ (running : Running) (object : List NormalSection) where
     where
       cs : List Candidate
       cs = candidates running object
+
       left : List Candidate
       left = left_in candidate_rules round cs
+
       r : Candidate → Bool
       r x = not (clashes_with_one candidate_rules (forced_among candidate_rules cs left) x)
+
       on : (f : Candidate) → is_forced candidate_rules left f ≡ true → is_forced candidate_rules (filter r left) f ≡ true
       on f force = every_filter (λ y. not (candidate_rules.same_section y f) || candidate_rules.same y f) r left force
+
       next : (b : Bool) → clashes_with_one candidate_rules (forced_among candidate_rules cs left) d ≡ b → Has left d → Has (filter r left) d ⊎ Against (suc round) d
       next false at here = inl (has_filter r left d here (ap not at))
       next true at here =
           let (f, has_f, clash) = any_from (clashes d) (forced_among candidate_rules cs left) at in
           let (there, force) = filter_has (is_forced candidate_rules left) cs f has_f in
           inr (record { other = f; here = there; force = on f force; clash = clash })
+
       by : Has left d ⊎ Against round d → Has (filter r left) d ⊎ Against (suc round) d
       by (inl here) = next (clashes_with_one candidate_rules (forced_among candidate_rules cs left) d) refl here
       by (inr against) =
@@ -314,10 +323,12 @@ module _ (running : Running) (object : List NormalSection) where
     where
       lists : List (List Candidate)
       lists = by_place count (forced candidate_rules (candidates running object))
+
       apart : (a b : Candidate) (pair : Candidate × Candidate) (t : Bool) → clashes a b ≡ t → cond t (Some (a, b)) None ≡ Some pair → clash_between pair ≡ None → ⊥
       apart a b pair true at same none =
           clash_told a b at (ap clash_between (same_Some (a, b) pair same) ∙ none)
       apart a b pair false at same none = absurd cc
+
       by : (o : Option (Candidate × Candidate)) → conflict candidate_rules lists ≡ o → option_and_then clash_between o ≡ None → o ≡ None
       by None at none = refl
       by (Some pair) at none =
@@ -329,9 +340,9 @@ module _ (running : Running) (object : List NormalSection) where
   quiet_after is c d has_c has_d within less clash =
       let all : List Candidate = forced candidate_rules (candidates running object) in
       let none : clashing candidate_rules c d ≡ None =
-        none_between (clashing candidate_rules) (λ place. filter (is_of place) all) 0 (length object) c.place d.place c d (no_pair (length object) is)
-        (omega arith) less (omega (arith, within))
-        (has_filter (is_of c.place) all c has_c (eq-eqb c.place c.place refl)) (has_filter (is_of d.place) all d has_d (eq-eqb d.place d.place refl)) in
+      none_between (clashing candidate_rules) (λ place. filter (is_of place) all) 0 (length object) c.place d.place c d (no_pair (length object) is)
+      (omega arith) less (omega (arith, within))
+      (has_filter (is_of c.place) all c has_c (eq-eqb c.place c.place refl)) (has_filter (is_of d.place) all d has_d (eq-eqb d.place d.place refl)) in
       let some : Some (c, d) ≡ None = sym (ap (λ b. cond b (Some (c, d)) None) clash) ∙ none in
       absurd cc
 
@@ -376,11 +387,13 @@ module _ (running : Running) (object : List NormalSection) where
     where
       all : List Candidate
       all = forced candidate_rules (candidates running object)
+
       calm : clashes_with_one candidate_rules all c ≡ false
       calm =
           not_true (clashes_with_one candidate_rules all c)
           (filter_has (λ x. not (clashes_with_one candidate_rules all x)) (remaining candidate_rules (candidates running object)) c
           (subst (λ (l : List Candidate). Has l c) (remaining_is_kept candidate_rules (candidates running object)) has_c)).1
+
       by : (b : Bool) → clashes c d ≡ b → clashes c d ≡ false
       by true at = absurd (false≢true (sym calm ∙ any_has (clashes c) all d (each d has_d) at))
       by false at = at
@@ -488,7 +501,7 @@ module _ (running : Running) (object : List NormalSection) where
       solution_here = record {
         choice = subst (λ (l : List Candidate). AllZip (IsChoice running) (code_sections object) l) (sym left_flat) (zip_lists (IsChoice running) of_section (code_sections object) filled);
         peaceful = all_of (λ c. All (λ d. clashes c d ≡ false) (remaining candidate_rules (candidates running object))) (remaining candidate_rules (candidates running object))
-          (λ c has_c. all_of (λ d. clashes c d ≡ false) (remaining candidate_rules (candidates running object)) (λ d has_d. peace_here left_forced c d has_c has_d));
+            (λ c has_c. all_of (λ d. clashes c d ≡ false) (remaining candidate_rules (candidates running object)) (λ d has_d. peace_here left_forced c d has_c has_d));
       }
 
     pub parts_clear : (first_undecoded object ≡ None) × (first_missing running object ≡ None)

@@ -49,7 +49,7 @@ module _ (running : Running) (object : List NormalSection) where
       → Has left c → c.place ≡ d.place → c ≡ d
   only_one left c d has_c has_d force here place =
       let both : (not (eqb c.place d.place) || (eqb c.place d.place && eqb c.home d.home)) ≡ true =
-        every_has (λ y. not (candidate_rules.same_section y d) || candidate_rules.same y d) left c force here in
+      every_has (λ y. not (candidate_rules.same_section y d) || candidate_rules.same y d) left c force here in
       same_one c d has_c has_d place (eqb-true c.home d.home (second_of (eqb c.place d.place) (eqb c.home d.home) (eq-eqb c.place d.place place) both))
 
   module _ (chosen : List Candidate) (it : IsSolution running object chosen) where
@@ -83,12 +83,12 @@ module _ (running : Running) (object : List NormalSection) where
         let cs : List Candidate = candidates running object in
         let left : List Candidate = left_in candidate_rules round cs in
         let none : clashes_with_one candidate_rules (forced_among candidate_rules cs left) c ≡ false =
-          any_none (clashes c) (forced_among candidate_rules cs left)
-          (λ d has_d.
-          let (there, force) = filter_has (is_forced candidate_rules left) cs d has_d in
-          let (e, has_e, place) = rival d there in
-          let one : e ≡ d = only_one left e d (chosen_here e has_e) there force (survives round e has_e) place in
-          subst (λ x. clashes c x ≡ false) one (peace c e has has_e)) in
+        any_none (clashes c) (forced_among candidate_rules cs left)
+        (λ d has_d.
+        let (there, force) = filter_has (is_forced candidate_rules left) cs d has_d in
+        let (e, has_e, place) = rival d there in
+        let one : e ≡ d = only_one left e d (chosen_here e has_e) there force (survives round e has_e) place in
+        subst (λ x. clashes c x ≡ false) one (peace c e has has_e)) in
         has_filter (λ x. not (clashes_with_one candidate_rules (forced_among candidate_rules cs left) x)) left c (survives round c has) (ap not none)
 
     pub stays : (c : Candidate) → Has chosen c → Has (remaining candidate_rules (candidates running object)) c

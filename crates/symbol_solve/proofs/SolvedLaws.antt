@@ -59,15 +59,16 @@ firsts : (R : PreSection → Candidate → Type 0) → ((p : PreSection) (c : Ca
 firsts R at [] [] all order = tt
 firsts R at [] (c ∷ cs) all order = absurd all
 firsts R at (p ∷ codes) [] all order = absurd all
-firsts R at (p ∷ codes) (c ∷ cs) all order =
-    (all_of (ComesFirst c) cs
-    (λ d has.
-    let (later, has_later, here) = beside_right R codes cs d all.1 has in
-    let less : p.place < later.place = all_has (IsBefore p) codes later order.0 has_later in
-    let one : c.place ≡ p.place = at p c all.0 in
-    let two : d.place ≡ later.place = at later d here in
-    omega (arith, less, one, two)),
-    firsts R at codes cs all.1 order.1)
+firsts R at (p ∷ codes) (c ∷ cs) all order = (
+  all_of (ComesFirst c) cs
+      (λ d has.
+      let (later, has_later, here) = beside_right R codes cs d all.1 has in
+      let less : p.place < later.place = all_has (IsBefore p) codes later order.0 has_later in
+      let one : c.place ≡ p.place = at p c all.0 in
+      let two : d.place ≡ later.place = at later d here in
+      omega (arith, less, one, two)),
+  firsts R at codes cs all.1 order.1,
+)
 
 no_twins : (cs : List Candidate) → Ordered ComesFirst cs → first_twins cs ≡ None
 unfolding first_twins
@@ -109,7 +110,7 @@ module _ (running : Running) (object : List NormalSection) (one : AllZip (IsChoi
   it = record {
     choice = one;
     peaceful = all_of (λ c. All (λ d. clashes c d ≡ false) (left_of running object)) (left_of running object)
-      (λ c has_c. all_of (λ d. clashes c d ≡ false) (left_of running object) (λ d has_d. peace_here running object all_forced c d has_c has_d));
+        (λ c has_c. all_of (λ d. clashes c d ≡ false) (left_of running object) (λ d has_d. peace_here running object all_forced c d has_c has_d));
   }
 
   pub none_in_the_way : first_undecoded object ≡ None → first_missing running object ≡ None → obstacle running object ≡ None

@@ -31,5 +31,5 @@ pub fn answer_is_only_solution()
         → (chosen : List Candidate) → IsSolution running object chosen → chosen ≡ left_of running object }
     ensures exactly { (running : Running) (object : List NormalSection) → (obstacle running object ≡ None)
         ↔ ((first_undecoded object ≡ None) × (first_missing running object ≡ None)
-            × AllZip (IsChoice running) (code_sections object) (left_of running object)) }
+        × AllZip (IsChoice running) (code_sections object) (left_of running object)) }
 {}
