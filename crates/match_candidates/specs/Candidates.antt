@@ -65,10 +65,6 @@ candidates running object = flat_map (candidates_of running) (code_sections obje
 abbrev pub is_of : ℕ → Candidate → Bool
 is_of place c = c.place == place
 
--- those of some that are of a section
-abbrev pub of_section : List Candidate → PreSection → List Candidate
-of_section all pre = filter (is_of pre.place) all
-
 abbrev pub is_match : Result Matched MatchFault → Bool
 is_match (Ok matched) = true
 is_match (Err fault) = false

@@ -17,7 +17,8 @@ pushed_grows old new section number pushed s x h =
     subst P (sym (pushed s))
     (cond_both (s == section) (list_at old s ++ number ∷ []) (list_at old s) P (λ _. Contains-append_left (list_at old s) (number ∷ []) x h) (λ _. h))
 
-pub pushed_has : (old new : List (List ℕ)) (section number : ℕ) → IsPushed old new section number → Contains (list_at new section) number
+pub pushed_has : (old new : List (List ℕ)) (section number : ℕ) → IsPushed old new section number
+    → Contains (list_at new section) number
 pushed_has old new section number pushed =
     let P : List ℕ → Type 0 = λ l. Contains l number in
     subst P (sym (pushed section ∙ cond-true (section == section) (list_at old section ++ number ∷ []) (list_at old section) (eq-eqb section section (λ _. section)))) (Contains-push (list_at old section) number)
@@ -25,7 +26,8 @@ pushed_has old new section number pushed =
 some_section : (a b : ℕ) → is_value (Some a) b ≡ true → a ≡ b
 some_section a b t = eqb-true a b t
 
-pub listed_more : (listed : List (Option ℕ)) (old new : List (List ℕ)) (section number : ℕ) → IsPushed old new section number → AreListed listed old → AreListed (set listed number (Some section)) new
+pub listed_more : (listed : List (Option ℕ)) (old new : List (List ℕ)) (section number : ℕ)
+    → IsPushed old new section number → AreListed listed old → AreListed (set listed number (Some section)) new
 listed_more listed old new section number pushed are n s t =
     elim (set_cases listed number n (Some section) None) [
       | inl same ↦
@@ -37,7 +39,9 @@ listed_more listed old new section number pushed are n s t =
           pushed_grows old new section number pushed s n (are n s (ap (λ o. is_value o s) (sym other) ∙ t))
     ]
 
-pub numbers_more : (choices : List Choice) (count : ℕ) (old new : List (List ℕ)) (c : Choice) → slice_get choices count ≡ Some c → Grows old new → HasNumbers choices count old → HasDemands c.section c.demands new → HasNumbers choices (count + 1) new
+pub numbers_more : (choices : List Choice) (count : ℕ) (old new : List (List ℕ)) (c : Choice)
+    → slice_get choices count ≡ Some c → Grows old new → HasNumbers choices count old
+    → HasDemands c.section c.demands new → HasNumbers choices (count + 1) new
 numbers_more choices count old new c at grows has put place b less is demand h ne =
     elim (cases_eq place count) [
       | inl e ↦

@@ -65,7 +65,8 @@ excludes c other =
     (list_any (λ claim. is_against claim other) c.claims || list_any (λ demand. is_refused c.section demand other) c.demands) || is_failed_by c other
 
 module _ (choices : List Choice) (e : Engine) (c : Choice) (agree : Agree c.claims) (chosen : c.matches ≡ true) (matching : (place : ℕ) (other : Choice) → At choices place other → IsLeft e.marking.left place → other.matches ≡ true) (alone : IsAlone choices e.marking.left c) where
-  there : (place : ℕ) (other : Choice) → At choices place other → IsLeft e.marking.left place → excludes c other ≡ true → clash other c ≡ true
+  there : (place : ℕ) (other : Choice) → At choices place other → IsLeft e.marking.left place → excludes c other ≡ true
+      → clash other c ≡ true
   there place other at left t =
       let first = matching place other at left in
       let against : Bool = list_any (λ claim. is_against claim other) c.claims in

@@ -60,7 +60,8 @@ module _ (choices : List Choice) (e : Engine) (keeps : Keeps choices e) (claim :
       let P : ℕ → Type 0 = λ u. Contains (list_at e.claims u) (record { choice = place; value = other.value }) in
       subst P (sym same) (keeps.claims.complete place c other at t h)
 
-  victim_from : (place : ℕ) (c : Choice) → At choices place c → IsLeft e.marking.left place → is_against claim c ≡ true → Contains victims place
+  victim_from : (place : ℕ) (c : Choice) → At choices place c → IsLeft e.marking.left place → is_against claim c ≡ true
+      → Contains victims place
   victim_from place c at t against =
       let some = list_any_has (contradict claim) c.claims against in
       let other : Claim = some.0 in
@@ -69,14 +70,16 @@ module _ (choices : List Choice) (e : Engine) (keeps : Keeps choices e) (claim :
       let kept = Contains-filter says_other list entry (not_from_false (other.value == claim.value) (ne_eqb other.value claim.value (λ same. parts.1 (sym same)))) (stands place c other at t some.1 parts.0) in
       Contains-map (λ (x : Entry). x.choice) (filter says_other list) entry kept
 
-  same_test : (place : ℕ) (c : Choice) → At choices place c → IsLeft e.marking.left place → is_victim place ≡ is_against claim c
+  same_test : (place : ℕ) (c : Choice) → At choices place c → IsLeft e.marking.left place
+      → is_victim place ≡ is_against claim c
   same_test place c at t =
       same_bools (is_victim place) (is_against claim c)
       (λ h. victim_of place c at (has_of victims place h))
       (λ h. has_from victims place (victim_from place c at t h))
 
   -- what is left doesn't contradict the claim
-  agrees : (place : ℕ) (c : Choice) (other : Claim) → At choices place c → IsLeft after.left place → Contains c.claims other → other.unknown ≡ claim.unknown → other.value ≡ claim.value
+  agrees : (place : ℕ) (c : Choice) (other : Claim) → At choices place c → IsLeft after.left place
+      → Contains c.claims other → other.unknown ≡ claim.unknown → other.value ≡ claim.value
   agrees place c other at t h same =
       let was = marks_fewer choices is_victim e.marking after go place c at t in
       let none : is_against claim c ≡ false = sym (same_test place c at was) ∙ marks_passed choices is_victim e.marking after go place t in
@@ -118,7 +121,9 @@ module _ (choices : List Choice) (e : Engine) (keeps : Keeps choices e) (claim :
   value_known : (value : ℕ) → is_value (Some claim.value) value ≡ true → claim.value ≡ value
   value_known value t = eqb-true claim.value value t
 
-  fixed : (unknown value : ℕ) → is_known known unknown value ≡ true → (place : ℕ) (c : Choice) (other : Claim) → At choices place c → IsLeft after.left place → Contains c.claims other → other.unknown ≡ unknown → other.value ≡ value
+  fixed : (unknown value : ℕ) → is_known known unknown value ≡ true → (place : ℕ) (c : Choice) (other : Claim)
+      → At choices place c → IsLeft after.left place → Contains c.claims other → other.unknown ≡ unknown
+      → other.value ≡ value
   fixed unknown value is place c other at t h same =
       elim (set_cases e.fixed claim.unknown unknown (Some claim.value) None) [
         | inl here ↦
@@ -151,7 +156,8 @@ module _ (choices : List Choice) (e : Engine) (keeps : Keeps choices e) (claim :
       (λ _. fixing_goes)
 
 -- each of some claims carried out
-pub claims_go : (choices : List Choice) (e : Engine) (claims : List Claim) → Keeps choices e → Goes choices (λ c. list_any (λ claim. is_against claim c) claims) e (fold (claimed choices) e claims)
+pub claims_go : (choices : List Choice) (e : Engine) (claims : List Claim) → Keeps choices e
+    → Goes choices (λ c. list_any (λ claim. is_against claim c) claims) e (fold (claimed choices) e claims)
 claims_go choices e [] keeps = goes_stay choices (λ _. false) e keeps (λ place c at t. refl)
 claims_go choices e (claim ∷ rest) keeps =
     let next : Engine = claimed choices e claim in

@@ -11,11 +11,13 @@ use Rattle.propagation.proofs.ListLaws.{same_bools, Contains-filter, Contains_of
 use Rattle.propagation.proofs.MarkLaws.{MarksGo, excluded_each_goes}
 use Rattle.propagation.proofs.EngineLaws.{Goes, goes_stay, goes_then, goes_like, goes_from, marks_fewer, marks_passed, claims_fewer, demands_fewer}
 
-pub unmet_from : (c : Choice) (demand : Demand) → demand.section ≡ c.section → meets c demand.number ≡ false → is_unmet c demand ≡ true
+pub unmet_from : (c : Choice) (demand : Demand) → demand.section ≡ c.section → meets c demand.number ≡ false
+    → is_unmet c demand ≡ true
 unmet_from c demand e f =
     and_from (demand.section == c.section) (not (meets c demand.number)) (eq-eqb demand.section c.section e) (not_from_false (meets c demand.number) f)
 
-pub unmet_of : (c : Choice) (demand : Demand) → is_unmet c demand ≡ true → (demand.section ≡ c.section) × (meets c demand.number ≡ false)
+pub unmet_of : (c : Choice) (demand : Demand) → is_unmet c demand ≡ true
+    → (demand.section ≡ c.section) × (meets c demand.number ≡ false)
 unmet_of c demand t =
     let parts = and_parts (demand.section == c.section) (not (meets c demand.number)) t in
     (eqb-true demand.section c.section parts.0, not-true (meets c demand.number) parts.1)
@@ -51,12 +53,14 @@ module _ (choices : List Choice) (e : Engine) (keeps : Keeps choices e) (demand 
       let kept = Contains_of_filter fails_at list place h in
       unmet_from c demand (sym (keeps.members.sound demand.section place kept.0 c at)) (not-true (meets c demand.number) (ap (fails demand.number) (sym at) ∙ kept.1))
 
-  stands : (place : ℕ) (c : Choice) → At choices place c → IsLeft e.marking.left place → demand.section ≡ c.section → Contains list place
+  stands : (place : ℕ) (c : Choice) → At choices place c → IsLeft e.marking.left place → demand.section ≡ c.section
+      → Contains list place
   stands place c at t same =
       let P : ℕ → Type 0 = λ s. Contains (list_at e.members s) place in
       subst P (sym same) (keeps.members.complete place c at t)
 
-  victim_from : (place : ℕ) (c : Choice) → At choices place c → IsLeft e.marking.left place → test c ≡ true → Contains victims place
+  victim_from : (place : ℕ) (c : Choice) → At choices place c → IsLeft e.marking.left place → test c ≡ true
+      → Contains victims place
   victim_from place c at t h =
       let parts = unmet_of c demand h in
       Contains-filter fails_at list place (ap (fails demand.number) at ∙ not_from_false (meets c demand.number) parts.1) (stands place c at t parts.0)
@@ -72,7 +76,8 @@ module _ (choices : List Choice) (e : Engine) (keeps : Keeps choices e) (demand 
   abbrev known : List (Option ℕ)
   known = set e.asked demand.number (Some demand.section)
 
-  complete : (place : ℕ) (c : Choice) → At choices place c → IsLeft after.left place → Contains (list_at table c.section) place
+  complete : (place : ℕ) (c : Choice) → At choices place c → IsLeft after.left place
+      → Contains (list_at table c.section) place
   complete place c at t =
       let P : List ℕ → Type 0 = λ l. Contains l place in
       let was = marks_fewer choices is_victim e.marking after go place c at t in
@@ -82,7 +87,8 @@ module _ (choices : List Choice) (e : Engine) (keeps : Keeps choices e) (demand 
         | inr other ↦ subst P (sym other) (keeps.members.complete place c at was)
       ]
 
-  sound : (section place : ℕ) → Contains (list_at table section) place → (c : Choice) → At choices place c → c.section ≡ section
+  sound : (section place : ℕ) → Contains (list_at table section) place → (c : Choice) → At choices place c
+      → c.section ≡ section
   sound section place h c at =
       let P : List ℕ → Type 0 = λ l. Contains l place in
       elim (set_cases e.members demand.section section (filter (is_left after.left) list) []) [
@@ -93,7 +99,8 @@ module _ (choices : List Choice) (e : Engine) (keeps : Keeps choices e) (demand 
       ]
 
   -- what is left meets the demand
-  meets_it : (place : ℕ) (c : Choice) → At choices place c → IsLeft after.left place → demand.section ≡ c.section → meets c demand.number ≡ true
+  meets_it : (place : ℕ) (c : Choice) → At choices place c → IsLeft after.left place → demand.section ≡ c.section
+      → meets c demand.number ≡ true
   meets_it place c at t same =
       let was = marks_fewer choices is_victim e.marking after go place c at t in
       let none : test c ≡ false = sym (same_test place c at was) ∙ marks_passed choices is_victim e.marking after go place t in
@@ -102,7 +109,8 @@ module _ (choices : List Choice) (e : Engine) (keeps : Keeps choices e) (demand 
   section_known : (section : ℕ) → is_value (Some demand.section) section ≡ true → demand.section ≡ section
   section_known section t = eqb-true demand.section section t
 
-  asked : (number section : ℕ) → is_known known number section ≡ true → (place : ℕ) (c : Choice) → At choices place c → IsLeft after.left place → c.section ≡ section → meets c number ≡ true
+  asked : (number section : ℕ) → is_known known number section ≡ true → (place : ℕ) (c : Choice) → At choices place c
+      → IsLeft after.left place → c.section ≡ section → meets c number ≡ true
   asked number section is place c at t same =
       elim (set_cases e.asked demand.number number (Some demand.section) None) [
         | inl here ↦
@@ -121,7 +129,8 @@ module _ (choices : List Choice) (e : Engine) (keeps : Keeps choices e) (demand 
       (record { complete = complete; sound = sound; asked = asked })
       (demands_fewer choices e.marking.left after.left e.numbers e.makers fewer keeps.demands)
 
-  nothing_more : (own : ℕ) → (demand.section == own || is_known e.asked demand.number demand.section) ≡ true → (place : ℕ) (c : Choice) → At choices place c → IsLeft e.marking.left place → is_refused own demand c ≡ false
+  nothing_more : (own : ℕ) → (demand.section == own || is_known e.asked demand.number demand.section) ≡ true
+      → (place : ℕ) (c : Choice) → At choices place c → IsLeft e.marking.left place → is_refused own demand c ≡ false
   nothing_more own t place c at left =
       elim (or_cases (demand.section == own) (is_known e.asked demand.number demand.section) t) [
         | inl same ↦ and_left (not (demand.section == own)) (test c) (not_from_true (demand.section == own) same)
@@ -142,7 +151,8 @@ module _ (choices : List Choice) (e : Engine) (keeps : Keeps choices e) (demand 
       (λ place c at t. ap (λ b. not b && test c) (sym (or_parts (demand.section == own) (is_known e.asked demand.number demand.section) f).0)))
 
 -- each of some demands carried out
-pub demands_go : (choices : List Choice) (own : ℕ) (e : Engine) (demands : List Demand) → Keeps choices e → Goes choices (λ c. list_any (λ demand. is_refused own demand c) demands) e (fold (asked_by own choices) e demands)
+pub demands_go : (choices : List Choice) (own : ℕ) (e : Engine) (demands : List Demand) → Keeps choices e
+    → Goes choices (λ c. list_any (λ demand. is_refused own demand c) demands) e (fold (asked_by own choices) e demands)
 demands_go choices own e [] keeps = goes_stay choices (λ _. false) e keeps (λ place c at t. refl)
 demands_go choices own e (demand ∷ rest) keeps =
     let next : Engine = asked_by own choices e demand in

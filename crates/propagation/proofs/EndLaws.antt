@@ -9,7 +9,8 @@ use Rattle.propagation.proofs.ListLaws.{Contains-none}
 use Rattle.propagation.proofs.RemainLaws.{marks_remaining}
 
 module _ (choices : List Choice) (e : Engine) (state : State choices e) (over : e.marking.queue ≡ []) where
-  all_closed : (place : ℕ) (c : Choice) → At choices place c → c.matches ≡ true → IsAlone choices e.marking.left c → IsClosed choices e.marking.left c
+  all_closed : (place : ℕ) (c : Choice) → At choices place c → c.matches ≡ true → IsAlone choices e.marking.left c
+      → IsClosed choices e.marking.left c
   all_closed place c at chosen alone =
       elim (state.closed place c at chosen alone) [
         | inl waited ↦

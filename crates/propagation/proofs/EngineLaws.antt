@@ -9,24 +9,30 @@ use Rattle.propagation.proofs.MarkLaws.{MarksGo, and_same, and_or, and_like}
 
 pub record Goes (choices : List Choice) (test : Choice → Bool) (old new : Engine) : Type 0 where
   pub keeps : Keeps choices new
-  pub left : (place : ℕ) (c : Choice) → At choices place c → is_left new.marking.left place ≡ (is_left old.marking.left place && not (test c))
+  pub left : (place : ℕ) (c : Choice) → At choices place c
+      → is_left new.marking.left place ≡ (is_left old.marking.left place && not (test c))
   pub stays : (section : ℕ) → waits old.marking section ≡ true → waits new.marking section ≡ true
-  pub put : (place : ℕ) (c : Choice) → At choices place c → IsLeft old.marking.left place → is_left new.marking.left place ≡ false → waits new.marking c.section ≡ true
+  pub put : (place : ℕ) (c : Choice) → At choices place c → IsLeft old.marking.left place
+      → is_left new.marking.left place ≡ false → waits new.marking c.section ≡ true
   pub weight : weight new.marking ≤ weight old.marking
 
 -- what is left is fewer
 abbrev pub Fewer : List Choice → List Bool → List Bool → Type 0
 Fewer choices old new = (place : ℕ) (c : Choice) → At choices place c → IsLeft new place → IsLeft old place
 
-pub goes_fewer : (choices : List Choice) (test : Choice → Bool) (a b : Engine) → Goes choices test a b → Fewer choices a.marking.left b.marking.left
+pub goes_fewer : (choices : List Choice) (test : Choice → Bool) (a b : Engine) → Goes choices test a b
+    → Fewer choices a.marking.left b.marking.left
 goes_fewer choices test a b goes place c at t =
     (and_parts (is_left a.marking.left place) (not (test c)) (sym (goes.left place c at) ∙ t)).0
 
-pub goes_passed : (choices : List Choice) (test : Choice → Bool) (a b : Engine) → Goes choices test a b → (place : ℕ) (c : Choice) → At choices place c → IsLeft b.marking.left place → test c ≡ false
+pub goes_passed : (choices : List Choice) (test : Choice → Bool) (a b : Engine) → Goes choices test a b
+    → (place : ℕ) (c : Choice) → At choices place c → IsLeft b.marking.left place → test c ≡ false
 goes_passed choices test a b goes place c at t =
     not-true (test c) (and_parts (is_left a.marking.left place) (not (test c)) (sym (goes.left place c at) ∙ t)).1
 
-pub goes_stay : (choices : List Choice) (test : Choice → Bool) (e : Engine) → Keeps choices e → ((place : ℕ) (c : Choice) → At choices place c → IsLeft e.marking.left place → test c ≡ false) → Goes choices test e e
+pub goes_stay : (choices : List Choice) (test : Choice → Bool) (e : Engine) → Keeps choices e
+    → ((place : ℕ) (c : Choice) → At choices place c → IsLeft e.marking.left place → test c ≡ false)
+    → Goes choices test e e
 goes_stay choices test e keeps none = record {
   keeps = keeps;
   left = λ place c at. and_same (is_left e.marking.left place) (test c) (none place c at);
@@ -35,7 +41,8 @@ goes_stay choices test e keeps none = record {
   weight = omega arith;
 }
 
-pub goes_then : (choices : List Choice) (t u : Choice → Bool) (a b c : Engine) → Goes choices t a b → Goes choices u b c → Goes choices (λ x. t x || u x) a c
+pub goes_then : (choices : List Choice) (t u : Choice → Bool) (a b c : Engine) → Goes choices t a b → Goes choices u b c
+    → Goes choices (λ x. t x || u x) a c
 goes_then choices t u a b c first second = record {
   keeps = second.keeps;
   left = λ place x at.
@@ -49,7 +56,8 @@ goes_then choices t u a b c first second = record {
   weight = omega (arith, first.weight, second.weight);
 }
 
-pub goes_like : (choices : List Choice) (t u : Choice → Bool) (a b : Engine) → Goes choices t a b → ((place : ℕ) (c : Choice) → At choices place c → IsLeft a.marking.left place → t c ≡ u c) → Goes choices u a b
+pub goes_like : (choices : List Choice) (t u : Choice → Bool) (a b : Engine) → Goes choices t a b
+    → ((place : ℕ) (c : Choice) → At choices place c → IsLeft a.marking.left place → t c ≡ u c) → Goes choices u a b
 goes_like choices t u a b goes like = record {
   keeps = goes.keeps;
   left = λ place c at.
@@ -60,15 +68,21 @@ goes_like choices t u a b goes like = record {
 }
 
 -- by a test of places
-pub marks_fewer : (choices : List Choice) (t : ℕ → Bool) (a b : Marking) → MarksGo choices t a b → Fewer choices a.left b.left
+pub marks_fewer : (choices : List Choice) (t : ℕ → Bool) (a b : Marking) → MarksGo choices t a b
+    → Fewer choices a.left b.left
 marks_fewer choices t a b go place c at h =
     (and_parts (is_left a.left place) (not (t place)) (sym (go.left place) ∙ h)).0
 
-pub marks_passed : (choices : List Choice) (t : ℕ → Bool) (a b : Marking) → MarksGo choices t a b → (place : ℕ) → IsLeft b.left place → t place ≡ false
+pub marks_passed : (choices : List Choice) (t : ℕ → Bool) (a b : Marking) → MarksGo choices t a b → (place : ℕ)
+    → IsLeft b.left place → t place ≡ false
 marks_passed choices t a b go place h =
     not-true (t place) (and_parts (is_left a.left place) (not (t place)) (sym (go.left place) ∙ h)).1
 
-pub goes_from : (choices : List Choice) (t : ℕ → Bool) (test : Choice → Bool) (a b : Engine) → MarksGo choices t a.marking b.marking → ((place : ℕ) (c : Choice) → At choices place c → IsLeft a.marking.left place → t place ≡ test c) → KeepsClaims choices b.marking.left b.claims b.fixed → KeepsMembers choices b.marking.left b.members b.asked → KeepsDemands choices b.marking.left b.numbers b.makers → Goes choices test a b
+pub goes_from : (choices : List Choice) (t : ℕ → Bool) (test : Choice → Bool) (a b : Engine)
+    → MarksGo choices t a.marking b.marking
+    → ((place : ℕ) (c : Choice) → At choices place c → IsLeft a.marking.left place → t place ≡ test c)
+    → KeepsClaims choices b.marking.left b.claims b.fixed → KeepsMembers choices b.marking.left b.members b.asked
+    → KeepsDemands choices b.marking.left b.numbers b.makers → Goes choices test a b
 goes_from choices t test a b go same claims members demands = record {
   keeps = record { marks = go.keeps; claims = claims; members = members; demands = demands };
   left = λ place c at.
@@ -79,21 +93,24 @@ goes_from choices t test a b go same claims members demands = record {
 }
 
 -- ---- what is kept of fewer that are left
-pub claims_fewer : (choices : List Choice) (old new : List Bool) (table : List (List Entry)) (known : List (Option ℕ)) → Fewer choices old new → KeepsClaims choices old table known → KeepsClaims choices new table known
+pub claims_fewer : (choices : List Choice) (old new : List Bool) (table : List (List Entry)) (known : List (Option ℕ))
+    → Fewer choices old new → KeepsClaims choices old table known → KeepsClaims choices new table known
 claims_fewer choices old new table known fewer keeps = record {
   complete = λ place c claim at t. keeps.complete place c claim at (fewer place c at t);
   sound = keeps.sound;
   fixed = λ unknown value is place c claim at t. keeps.fixed unknown value is place c claim at (fewer place c at t);
 }
 
-pub members_fewer : (choices : List Choice) (old new : List Bool) (table : List (List ℕ)) (known : List (Option ℕ)) → Fewer choices old new → KeepsMembers choices old table known → KeepsMembers choices new table known
+pub members_fewer : (choices : List Choice) (old new : List Bool) (table : List (List ℕ)) (known : List (Option ℕ))
+    → Fewer choices old new → KeepsMembers choices old table known → KeepsMembers choices new table known
 members_fewer choices old new table known fewer keeps = record {
   complete = λ place c at t. keeps.complete place c at (fewer place c at t);
   sound = keeps.sound;
   asked = λ number section is place c at t. keeps.asked number section is place c at (fewer place c at t);
 }
 
-pub demands_fewer : (choices : List Choice) (old new : List Bool) (listed : List (List ℕ)) (table : List (List Entry)) → Fewer choices old new → KeepsDemands choices old listed table → KeepsDemands choices new listed table
+pub demands_fewer : (choices : List Choice) (old new : List Bool) (listed : List (List ℕ)) (table : List (List Entry))
+    → Fewer choices old new → KeepsDemands choices old listed table → KeepsDemands choices new listed table
 demands_fewer choices old new listed table fewer keeps = record {
   numbers = λ place c demand at t. keeps.numbers place c demand at (fewer place c at t);
   makers = λ place c demand at t. keeps.makers place c demand at (fewer place c at t);

@@ -12,3 +12,7 @@ pub mod RunLaws
 pub mod SettleLaws
 pub mod StartLaws
 pub mod EndLaws
+pub mod StrikeLaws
+pub mod FirstLaws
+pub mod ConflictLaws
+pub mod MetLaws

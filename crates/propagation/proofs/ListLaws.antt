@@ -22,14 +22,16 @@ Contains-there x y xs h = (suc h.0, suc-le-suc h.1, h.2)
 pub Contains-none : {X : Type 0} (x : X) → Contains [] x → ⊥
 Contains-none x h = absurd (omega (arith, h.1))
 
-contains_at : {X : Type 0} (x y : X) (xs : List X) (k : ℕ) → k < length (x ∷ xs) → get_or (x ∷ xs) k y ≡ y → (x ≡ y) ⊎ Contains xs y
+contains_at : {X : Type 0} (x y : X) (xs : List X) (k : ℕ) → k < length (x ∷ xs) → get_or (x ∷ xs) k y ≡ y
+    → (x ≡ y) ⊎ Contains xs y
 contains_at x y xs zero less e = inl e
 contains_at x y xs (suc k) less e = inr (k, le_of_suc-le-suc less, e)
 
 pub Contains-cases : {X : Type 0} (x y : X) (xs : List X) → Contains (x ∷ xs) y → (x ≡ y) ⊎ Contains xs y
 Contains-cases x y xs h = contains_at x y xs h.0 h.1 h.2
 
-pub Contains-filter : {X : Type 0} (p : X → Bool) (xs : List X) (x : X) → p x ≡ true → Contains xs x → Contains (filter p xs) x
+pub Contains-filter : {X : Type 0} (p : X → Bool) (xs : List X) (x : X) → p x ≡ true → Contains xs x
+    → Contains (filter p xs) x
 Contains-filter p [] x t h = h
 Contains-filter {X} p (y ∷ ys) x t h =
     elim (Contains-cases y x ys h) [
@@ -42,7 +44,8 @@ Contains-filter {X} p (y ∷ ys) x t h =
           cond_both (p y) (y ∷ filter p ys) (filter p ys) (λ l. Contains l x) (λ _. Contains-there y x (filter p ys) r) (λ _. r))
     ]
 
-pub Contains_of_filter : {X : Type 0} (p : X → Bool) (xs : List X) (x : X) → Contains (filter p xs) x → Contains xs x × (p x ≡ true)
+pub Contains_of_filter : {X : Type 0} (p : X → Bool) (xs : List X) (x : X) → Contains (filter p xs) x
+    → Contains xs x × (p x ≡ true)
 Contains_of_filter p [] x h = absurd (Contains-none x h)
 Contains_of_filter {X} p (y ∷ ys) x h =
     let P : List X → Type 0 = λ l. Contains l x in
@@ -69,7 +72,8 @@ Contains-map {X} {Y} f (y ∷ ys) x h =
       | inr later ↦ Contains-there (f y) (f x) (map f ys) (Contains-map f ys x later)
     ]
 
-pub Contains_of_map : {X Y : Type 0} (f : X → Y) (xs : List X) (y : Y) → Contains (map f xs) y → (x : X) × Contains xs x × (f x ≡ y)
+pub Contains_of_map : {X Y : Type 0} (f : X → Y) (xs : List X) (y : Y) → Contains (map f xs) y
+    → (x : X) × Contains xs x × (f x ≡ y)
 Contains_of_map f [] y h = absurd (Contains-none y h)
 Contains_of_map f (x ∷ xs) y h =
     elim (Contains-cases (f x) y (map f xs) h) [
@@ -77,7 +81,8 @@ Contains_of_map f (x ∷ xs) y h =
       | inr later ↦ (let r = Contains_of_map f xs y later in (r.0, Contains-there x r.0 xs r.1, r.2))
     ]
 
-pub list_any_from : {X : Type 0} (p : X → Bool) (xs : List X) (x : X) → Contains xs x → p x ≡ true → list_any p xs ≡ true
+pub list_any_from : {X : Type 0} (p : X → Bool) (xs : List X) (x : X) → Contains xs x → p x ≡ true
+    → list_any p xs ≡ true
 list_any_from p [] x h t = absurd (Contains-none x h)
 list_any_from p (y ∷ ys) x h t =
     elim (Contains-cases y x ys h) [
@@ -85,7 +90,8 @@ list_any_from p (y ∷ ys) x h t =
       | inr later ↦ or_right (p y) (list_any p ys) (list_any_from p ys x later t)
     ]
 
-pub list_any_has : {X : Type 0} (p : X → Bool) (xs : List X) → list_any p xs ≡ true → (x : X) × Contains xs x × (p x ≡ true)
+pub list_any_has : {X : Type 0} (p : X → Bool) (xs : List X) → list_any p xs ≡ true
+    → (x : X) × Contains xs x × (p x ≡ true)
 list_any_has p [] t = absurd (false≢true t)
 list_any_has p (y ∷ ys) t =
     elim (or_cases (p y) (list_any p ys) t) [
@@ -104,7 +110,8 @@ has_of xs x t =
     subst P (eqb-true r.0 x r.2) r.1
 
 -- ---- what is put at a place
-pub set_cases : {X : Type 0} (xs : List X) (i j : ℕ) (v d : X) → ((j ≡ i) × (get_or (set xs i v) j d ≡ v)) ⊎ (get_or (set xs i v) j d ≡ get_or xs j d)
+pub set_cases : {X : Type 0} (xs : List X) (i j : ℕ) (v d : X)
+    → ((j ≡ i) × (get_or (set xs i v) j d ≡ v)) ⊎ (get_or (set xs i v) j d ≡ get_or xs j d)
 set_cases {X} xs i j v d =
     elim (cases_eq j i) [
       | inl e ↦
@@ -115,14 +122,16 @@ set_cases {X} xs i j v d =
       | inr ne ↦ inr (get_or-set_other xs i j v d ne)
     ]
 
-pub known_of : (known : List (Option ℕ)) (key value : ℕ) → is_known known key value ≡ true → get_or known key None ≡ Some value
+pub known_of : (known : List (Option ℕ)) (key value : ℕ) → is_known known key value ≡ true
+    → get_or known key None ≡ Some value
 known_of known key value t = value_of (get_or known key None) value t
   where
     value_of : (o : Option ℕ) (value : ℕ) → is_value o value ≡ true → o ≡ Some value
     value_of None value t = absurd (false≢true t)
     value_of (Some x) value t = ap Some (eqb-true x value t)
 
-pub known_from : (known : List (Option ℕ)) (key value : ℕ) → get_or known key None ≡ Some value → is_known known key value ≡ true
+pub known_from : (known : List (Option ℕ)) (key value : ℕ) → get_or known key None ≡ Some value
+    → is_known known key value ≡ true
 known_from known key value e = ap (λ o. is_value o value) e ∙ eq-eqb value value refl
 
 -- ---- what is said below a number
@@ -136,7 +145,8 @@ said_has {X} f (suc n) i x less h =
       | inr ne ↦ Contains-append_left (said_below f n) (f n) x (said_has f n i x (omega (arith, ne)) h)
     ]
 
-pub said_of : {X : Type 0} (f : ℕ → List X) (n : ℕ) (x : X) → Contains (said_below f n) x → (i : ℕ) × (i < n) × Contains (f i) x
+pub said_of : {X : Type 0} (f : ℕ → List X) (n : ℕ) (x : X) → Contains (said_below f n) x
+    → (i : ℕ) × (i < n) × Contains (f i) x
 said_of f zero x h = absurd (Contains-none x h)
 said_of f (suc n) x h =
     elim (Contains-append_cases (said_below f n) (f n) x h) [
@@ -160,7 +170,8 @@ list_all_has p (y ∷ ys) x t h =
       | inr later ↦ list_all_has p ys x parts.1 later
     ]
 
-pub list_all_from : {X : Type 0} (p : X → Bool) (xs : List X) → ((x : X) → Contains xs x → p x ≡ true) → list_all p xs ≡ true
+pub list_all_from : {X : Type 0} (p : X → Bool) (xs : List X) → ((x : X) → Contains xs x → p x ≡ true)
+    → list_all p xs ≡ true
 list_all_from p [] each = refl
 list_all_from p (y ∷ ys) each =
     and_from (p y) (list_all p ys) (each y (Contains-here y ys)) (list_all_from p ys (λ x h. each x (Contains-there y x ys h)))

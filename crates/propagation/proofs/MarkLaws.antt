@@ -43,7 +43,8 @@ set_stays : (marks : List Bool) (i j : ℕ) → get_or marks j false ≡ true �
 set_stays marks i j t =
     elim (set_cases marks i j true false) [ inl same ↦ same.1 | inr other ↦ other ∙ t ]
 
-waited_queue : (m : Marking) (section : ℕ) → ((s : ℕ) → waits m s ≡ true → Contains m.queue s) → (s : ℕ) → waits (waited_anew m section) s ≡ true → Contains (m.queue ++ section ∷ []) s
+waited_queue : (m : Marking) (section : ℕ) → ((s : ℕ) → waits m s ≡ true → Contains m.queue s) → (s : ℕ)
+    → waits (waited_anew m section) s ≡ true → Contains (m.queue ++ section ∷ []) s
 waited_queue m section queue s t =
     elim (set_cases m.queued section s true false) [
       | inl same ↦
@@ -70,10 +71,12 @@ pub record MarksGo (choices : List Choice) (test : ℕ → Bool) (old new : Mark
   pub keeps : KeepsMarks choices new
   pub left : (place : ℕ) → is_left new.left place ≡ (is_left old.left place && not (test place))
   pub stays : (section : ℕ) → waits old section ≡ true → waits new section ≡ true
-  pub put : (place : ℕ) (c : Choice) → At choices place c → IsLeft old.left place → is_left new.left place ≡ false → waits new c.section ≡ true
+  pub put : (place : ℕ) (c : Choice) → At choices place c → IsLeft old.left place → is_left new.left place ≡ false
+      → waits new c.section ≡ true
   pub weight : weight new ≤ weight old
 
-marks_stay : (choices : List Choice) (test : ℕ → Bool) (m : Marking) → KeepsMarks choices m → ((place : ℕ) → IsLeft m.left place → test place ≡ false) → MarksGo choices test m m
+marks_stay : (choices : List Choice) (test : ℕ → Bool) (m : Marking) → KeepsMarks choices m
+    → ((place : ℕ) → IsLeft m.left place → test place ≡ false) → MarksGo choices test m m
 marks_stay choices test m keeps none = record {
   keeps = keeps;
   left = λ place. and_same (is_left m.left place) (test place) (none place);
@@ -82,7 +85,8 @@ marks_stay choices test m keeps none = record {
   weight = omega arith;
 }
 
-marks_then : (choices : List Choice) (t u : ℕ → Bool) (a b c : Marking) → MarksGo choices t a b → MarksGo choices u b c → MarksGo choices (λ place. t place || u place) a c
+marks_then : (choices : List Choice) (t u : ℕ → Bool) (a b c : Marking) → MarksGo choices t a b → MarksGo choices u b c
+    → MarksGo choices (λ place. t place || u place) a c
 marks_then choices t u a b c first second = record {
   keeps = second.keeps;
   left = λ place.
@@ -96,7 +100,8 @@ marks_then choices t u a b c first second = record {
   weight = omega (arith, first.weight, second.weight);
 }
 
-set_left : (left : List Bool) (place other : ℕ) → IsLeft left place → is_left (set left place false) other ≡ (is_left left other && not (place == other))
+set_left : (left : List Bool) (place other : ℕ) → IsLeft left place
+    → is_left (set left place false) other ≡ (is_left left other && not (place == other))
 set_left left place other t =
     elim (cases_eq other place) [
       | inl e ↦
@@ -113,7 +118,8 @@ set_left left place other t =
     and_no true = refl
     and_no false = refl
 
-one_less : (left : List Bool) (place : ℕ) → IsLeft left place → sum_by (λ mark. cond mark 1 0) (set left place false) + 1 ≡ sum_by (λ mark. cond mark 1 0) left
+one_less : (left : List Bool) (place : ℕ) → IsLeft left place
+    → sum_by (λ mark. cond mark 1 0) (set left place false) + 1 ≡ sum_by (λ mark. cond mark 1 0) left
 one_less left place t =
     let f : Bool → ℕ = λ mark. cond mark 1 0 in
     let e = sum_by-set f left place false false (left_within left place t) in
@@ -123,7 +129,9 @@ one_less left place t =
 abbrev unmarked : Marking → ℕ → Marking
 unmarked m place = record { left = set m.left place false; queue = m.queue; queued = m.queued }
 
-excluded_anew : (choices : List Choice) (m : Marking) (place : ℕ) (c : Choice) → KeepsMarks choices m → At choices place c → IsLeft m.left place → MarksGo choices (λ other. place == other) m (waiting (unmarked m place) c.section)
+excluded_anew : (choices : List Choice) (m : Marking) (place : ℕ) (c : Choice) → KeepsMarks choices m
+    → At choices place c → IsLeft m.left place
+    → MarksGo choices (λ other. place == other) m (waiting (unmarked m place) c.section)
 excluded_anew choices m place c keeps at t =
     let new : Marking = waiting (unmarked m place) c.section in
     let w : Waited c.section (unmarked m place) new = waited (unmarked m place) c.section (keeps.sections place c at) in
@@ -148,7 +156,8 @@ excluded_anew choices m place c keeps at t =
       weight = omega (arith, one_less m.left place t, w.longer, ap (λ (l : List Bool). sum_by (λ mark. cond mark 1 0) l) w.left);
     }
 
-excluded_goes_of : (choices : List Choice) (m : Marking) (place : ℕ) (c : Choice) → KeepsMarks choices m → At choices place c → MarksGo choices (λ other. place == other) m (excluded_of m place c.section)
+excluded_goes_of : (choices : List Choice) (m : Marking) (place : ℕ) (c : Choice) → KeepsMarks choices m
+    → At choices place c → MarksGo choices (λ other. place == other) m (excluded_of m place c.section)
 excluded_goes_of choices m place c keeps at =
     cond_both (is_left m.left place) (waiting (unmarked m place) c.section) m (MarksGo choices (λ other. place == other) m)
     (λ t. excluded_anew choices m place c keeps at t)
@@ -157,7 +166,8 @@ excluded_goes_of choices m place c keeps at =
     (λ other h. ne_eqb place other (λ e. both_ways (is_left m.left other) (ap (is_left m.left) (sym e) ∙ f) h)))
 
 -- a place that no choice has isn't left
-past_isn't_left : (choices : List Choice) (m : Marking) (place : ℕ) → KeepsMarks choices m → slice_get choices place ≡ None → IsLeft m.left place → ⊥
+past_isn't_left : (choices : List Choice) (m : Marking) (place : ℕ) → KeepsMarks choices m
+    → slice_get choices place ≡ None → IsLeft m.left place → ⊥
 past_isn't_left choices m place keeps none t =
     elim (cases_lt place (length choices)) [
       | inl less ↦ within choices place less none
@@ -172,14 +182,16 @@ past_isn't_left choices m place keeps none t =
     within (x ∷ xs) zero less e = cc
     within (x ∷ xs) (suc k) less e = within xs k (omega arith) e
 
-excluded_goes_from : (choices : List Choice) (m : Marking) (place : ℕ) (o : Option Choice) → KeepsMarks choices m → slice_get choices place ≡ o → MarksGo choices (λ other. place == other) m (excluded_from m place o)
+excluded_goes_from : (choices : List Choice) (m : Marking) (place : ℕ) (o : Option Choice) → KeepsMarks choices m
+    → slice_get choices place ≡ o → MarksGo choices (λ other. place == other) m (excluded_from m place o)
 excluded_goes_from choices m place None keeps at =
     marks_stay choices (λ other. place == other) m keeps
     (λ other h.
     ne_eqb place other (λ e. past_isn't_left choices m other keeps (ap (slice_get choices) (sym e) ∙ at) h))
 excluded_goes_from choices m place (Some c) keeps at = excluded_goes_of choices m place c keeps at
 
-pub excluded_each_goes : (choices : List Choice) (m : Marking) (victims : List ℕ) → KeepsMarks choices m → MarksGo choices (λ place. list_any (λ victim. victim == place) victims) m (excluded_each choices m victims)
+pub excluded_each_goes : (choices : List Choice) (m : Marking) (victims : List ℕ) → KeepsMarks choices m
+    → MarksGo choices (λ place. list_any (λ victim. victim == place) victims) m (excluded_each choices m victims)
 excluded_each_goes choices m [] keeps = marks_stay choices (λ _. false) m keeps (λ place h. refl)
 excluded_each_goes choices m (victim ∷ rest) keeps =
     let next : Marking = excluded choices m victim in

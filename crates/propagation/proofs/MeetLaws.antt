@@ -20,7 +20,8 @@ is_it section number demand = demand.section == section && demand.number == numb
 abbrev makes : ℕ → Choice → ℕ → Bool
 makes section c number = not (c.section == section) && list_any (is_it section number) c.demands
 
-makes_from : (section number : ℕ) (c : Choice) (demand : Demand) → (c.section ≡ section → ⊥) → Contains c.demands demand → demand.section ≡ section → demand.number ≡ number → makes section c number ≡ true
+makes_from : (section number : ℕ) (c : Choice) (demand : Demand) → (c.section ≡ section → ⊥) → Contains c.demands demand
+    → demand.section ≡ section → demand.number ≡ number → makes section c number ≡ true
 makes_from section number c demand ne h e n =
     and_from (not (c.section == section)) (list_any (is_it section number) c.demands) (not_from_false (c.section == section) (ne_eqb c.section section ne))
     (list_any_from (is_it section number) c.demands demand h (and_from (demand.section == section) (demand.number == number) (eq-eqb demand.section section e) (eq-eqb demand.number number n)))
@@ -77,7 +78,8 @@ module _ (choices : List Choice) (section : ℕ) (e : Engine) (keeps : Keeps cho
       let e' = eqb-true entry.value section kept.1 in
       makes_from section number c (record { section = entry.value; number = number }) (λ same. found.1 (e' ∙ sym same)) found.0 e' refl
 
-  victim_from : (place : ℕ) (c : Choice) → At choices place c → IsLeft e.marking.left place → test c ≡ true → Contains victims place
+  victim_from : (place : ℕ) (c : Choice) → At choices place c → IsLeft e.marking.left place → test c ≡ true
+      → Contains victims place
   victim_from place c at t h =
       let made : Made section number c = makes_of section number c h in
       let entry : Entry = record { choice = place; value = made.demand.section } in
@@ -97,7 +99,8 @@ module _ (choices : List Choice) (section : ℕ) (e : Engine) (keeps : Keeps cho
       (members_fewer choices e.marking.left after.left e.members e.asked fewer keeps.members)
       (demands_fewer choices e.marking.left after.left e.numbers e.makers fewer keeps.demands)
 
-refusing_each_goes : (choices : List Choice) (section : ℕ) (e : Engine) (numbers : List ℕ) → Keeps choices e → Goes choices (λ c. list_any (makes section c) numbers) e (fold (refusing choices section) e numbers)
+refusing_each_goes : (choices : List Choice) (section : ℕ) (e : Engine) (numbers : List ℕ) → Keeps choices e
+    → Goes choices (λ c. list_any (makes section c) numbers) e (fold (refusing choices section) e numbers)
 refusing_each_goes choices section e [] keeps = goes_stay choices (λ _. false) e keeps (λ place c at t. refl)
 refusing_each_goes choices section e (number ∷ rest) keeps =
     let next : Engine = refusing choices section e number in
@@ -121,12 +124,15 @@ module _ (choices : List Choice) (e : Engine) (keeps : Keeps choices e) (c : Cho
   abbrev refused : Engine
   refused = fold (refusing choices c.section) e unmet
 
-  listed_at : (place : ℕ) (other : Choice) (demand : Demand) → At choices place other → IsLeft e.marking.left place → Contains other.demands demand → demand.section ≡ c.section → (other.section ≡ c.section → ⊥) → Contains listed demand.number
+  listed_at : (place : ℕ) (other : Choice) (demand : Demand) → At choices place other → IsLeft e.marking.left place
+      → Contains other.demands demand → demand.section ≡ c.section → (other.section ≡ c.section → ⊥)
+      → Contains listed demand.number
   listed_at place other demand at t h e' ne =
       let P : ℕ → Type 0 = λ s. Contains (list_at e.numbers s) demand.number in
       subst P e' (keeps.demands.numbers place other demand at t h (λ same. ne (sym same ∙ e')))
 
-  failed_from : (place : ℕ) (other : Choice) (demand : Demand) → (other.section ≡ c.section → ⊥) → Contains other.demands demand → is_unmet c demand ≡ true → is_failed_by c other ≡ true
+  failed_from : (place : ℕ) (other : Choice) (demand : Demand) → (other.section ≡ c.section → ⊥)
+      → Contains other.demands demand → is_unmet c demand ≡ true → is_failed_by c other ≡ true
   failed_from place other demand ne h t =
       and_from (not (other.section == c.section)) (list_any (is_unmet c) other.demands) (not_from_false (other.section == c.section) (ne_eqb other.section c.section ne)) (list_any_from (is_unmet c) other.demands demand h t)
 
@@ -138,7 +144,8 @@ module _ (choices : List Choice) (e : Engine) (keeps : Keeps choices e) (c : Cho
       failed_from place other made.demand made.elsewhere made.stands
       (unmet_from c made.demand made.on (ap (meets c) made.numbered ∙ not-true (meets c some.0) missed.1))
 
-  back : (place : ℕ) (other : Choice) → At choices place other → IsLeft e.marking.left place → is_failed_by c other ≡ true → list_any (makes c.section other) unmet ≡ true
+  back : (place : ℕ) (other : Choice) → At choices place other → IsLeft e.marking.left place
+      → is_failed_by c other ≡ true → list_any (makes c.section other) unmet ≡ true
   back place other at t failed =
       let parts = and_parts (not (other.section == c.section)) (list_any (is_unmet c) other.demands) failed in
       let ne = eqb-false other.section c.section (not-true (other.section == c.section) parts.0) in
@@ -158,7 +165,9 @@ module _ (choices : List Choice) (e : Engine) (keeps : Keeps choices e) (c : Cho
   abbrev kept : List (List ℕ)
   kept = set refused.numbers c.section (filter (meets c) listed)
 
-  numbers : (place : ℕ) (other : Choice) (demand : Demand) → At choices place other → IsLeft refused.marking.left place → Contains other.demands demand → (demand.section ≡ other.section → ⊥) → Contains (list_at kept demand.section) demand.number
+  numbers : (place : ℕ) (other : Choice) (demand : Demand) → At choices place other → IsLeft refused.marking.left place
+      → Contains other.demands demand → (demand.section ≡ other.section → ⊥)
+      → Contains (list_at kept demand.section) demand.number
   numbers place other demand at t h ne =
       let P : List ℕ → Type 0 = λ l. Contains l demand.number in
       elim (set_cases refused.numbers c.section demand.section (filter (meets c) listed) []) [

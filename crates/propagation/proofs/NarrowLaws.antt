@@ -15,7 +15,8 @@ left_within left place t =
     ]
 
 -- what is left and isn't another than one is this one
-pub same_as_except : (left : List Bool) (except place : ℕ) → IsLeft left place → is_other left except place ≡ false → place ≡ except
+pub same_as_except : (left : List Bool) (except place : ℕ) → IsLeft left place → is_other left except place ≡ false
+    → place ≡ except
 same_as_except left except place t f =
     elim (cases_eq place except) [
       | inl e ↦ e
@@ -28,7 +29,8 @@ at_place xs k place less e = get_or_default xs k 0 place less ∙ e
 
 module _ (left : List Bool) (xs : List ℕ) where
   -- a place that would be past all marks isn't left
-  past_isn't_left : (k place : ℕ) → IsLeft left place → get_or xs k 0 ≡ place → is_other left (length left) (slice_index xs k) ≡ false → ⊥
+  past_isn't_left : (k place : ℕ) → IsLeft left place → get_or xs k 0 ≡ place
+      → is_other left (length left) (slice_index xs k) ≡ false → ⊥
   past_isn't_left k place t e f =
       let same = same_as_except left (length left) place t (ap (is_other left (length left)) (sym e) ∙ f) in
       let within = left_within left place t in

@@ -15,13 +15,15 @@ use Rattle.propagation.proofs.ListLaws.{same_bools, Contains-filter, Contains_of
 use Rattle.propagation.proofs.CarryLaws.{clash_of}
 
 -- what is left in a round is among the items, and matches
-pub left_in_all : {X : Type 0} (rules : Rules X) (round : ℕ) (all : List X) (x : X) → Contains (left_in rules round all) x → Contains all x × (rules.matches x ≡ true)
+pub left_in_all : {X : Type 0} (rules : Rules X) (round : ℕ) (all : List X) (x : X)
+    → Contains (left_in rules round all) x → Contains all x × (rules.matches x ≡ true)
 unfolding left_in
 left_in_all rules zero all x h = Contains_of_filter rules.matches all x h
 left_in_all rules (suc round) all x h =
     left_in_all rules round all x (Contains_of_filter (λ y. not (clashes_with_one rules (forced_among rules all (left_in rules round all)) y)) (left_in rules round all) x h).0
 
-pub remaining_all : {X : Type 0} (rules : Rules X) (all : List X) (x : X) → Contains (remaining rules all) x → Contains all x × (rules.matches x ≡ true)
+pub remaining_all : {X : Type 0} (rules : Rules X) (all : List X) (x : X) → Contains (remaining rules all) x
+    → Contains all x × (rules.matches x ≡ true)
 unfolding remaining
 remaining_all rules all x h = left_in_all rules (length all) all x h
 
@@ -38,7 +40,8 @@ comes_later : (a b : Choice) → ComesBefore a b → a.section ≡ b.section →
 comes_later a b before section home =
     elim before [ inl less ↦ omega (arith, less, section) | inr both ↦ omega (arith, both.1, home) ]
 
-pub same_place : (choices : List Choice) → IsInOrder choices → (i j : ℕ) (a b : Choice) → At choices i a → At choices j b → a.section ≡ b.section → a.home ≡ b.home → i ≡ j
+pub same_place : (choices : List Choice) → IsInOrder choices → (i j : ℕ) (a b : Choice) → At choices i a
+    → At choices j b → a.section ≡ b.section → a.home ≡ b.home → i ≡ j
 same_place choices order i j a b one other section home =
     elim (cases_order i j) [
       | inl e ↦ e
@@ -49,14 +52,15 @@ same_place choices order i j a b one other section home =
           ]
     ]
 
-same_at : (choices : List Choice) → IsInOrder choices → (i j : ℕ) (a b : Choice) → At choices i a → At choices j b → same_choice a b ≡ true → a ≡ b
+pub same_at : (choices : List Choice) → IsInOrder choices → (i j : ℕ) (a b : Choice) → At choices i a → At choices j b
+    → same_choice a b ≡ true → a ≡ b
 same_at choices order i j a b one other t =
     let parts = and_parts (a.section == b.section) (a.home == b.home) t in
     let e = same_place choices order i j a b one other (eqb-true a.section b.section parts.0) (eqb-true a.home b.home parts.1) in
     let both : Some a ≡ Some b = sym one ∙ ap (slice_get choices) e ∙ other in
     cc
 
-same_itself : (a : Choice) → same_choice a a ≡ true
+pub same_itself : (a : Choice) → same_choice a a ≡ true
 same_itself a =
     and_from (a.section == a.section) (a.home == a.home) (eq-eqb a.section a.section refl) (eq-eqb a.home a.home refl)
 
@@ -68,7 +72,8 @@ at_within (x ∷ xs) (suc place) less = at_within xs place (omega (arith, less))
 module _ (choices : List Choice) (order : IsInOrder choices) (left : List Bool) where
   -- ---- all that is left remains, where nothing that is left clashes with what is alone
   module _ (matching : (place : ℕ) (c : Choice) → At choices place c → IsLeft left place → c.matches ≡ true) (closed : (place : ℕ) (c : Choice) → At choices place c → c.matches ≡ true → IsAlone choices left c → IsClosed choices left c) where
-    left_stays : (round : ℕ) (place : ℕ) (c : Choice) → At choices place c → IsLeft left place → Contains (left_in choice_rules round choices) c
+    left_stays : (round : ℕ) (place : ℕ) (c : Choice) → At choices place c → IsLeft left place
+        → Contains (left_in choice_rules round choices) c
     unfolding left_in
     left_stays zero place c at t =
         Contains-filter can_be_chosen choices c (matching place c at t) (contains_place choices place c at)
@@ -87,7 +92,9 @@ module _ (choices : List Choice) (order : IsInOrder choices) (left : List Bool) 
         both_ways (clash c x) (closed k.0 x k.1 (clash_of c x some.2).second alone place c at t) some.2))))
         (left_stays round place c at t)
       where
-        alone_of : (round : ℕ) (x : Choice) (k : ℕ) → At choices k x → is_forced choice_rules (left_in choice_rules round choices) x ≡ true → (j : ℕ) (y : Choice) → At choices j y → Contains (left_in choice_rules round choices) y → y.section ≡ x.section → y ≡ x
+        alone_of : (round : ℕ) (x : Choice) (k : ℕ) → At choices k x
+            → is_forced choice_rules (left_in choice_rules round choices) x ≡ true → (j : ℕ) (y : Choice)
+            → At choices j y → Contains (left_in choice_rules round choices) y → y.section ≡ x.section → y ≡ x
         alone_of round x k here is j y there h section =
             elim (or_cases (not (same_section y x)) (same_choice y x) (list_all_has (λ z. not (same_section z x) || same_choice z x) (left_in choice_rules round choices) y is h)) [
               | inl elsewhere ↦
@@ -95,12 +102,14 @@ module _ (choices : List Choice) (order : IsInOrder choices) (left : List Bool) 
               | inr same ↦ same_at choices order j k y x there here same
             ]
 
-    left_remains : (place : ℕ) (c : Choice) → At choices place c → IsLeft left place → Contains (remaining choice_rules choices) c
+    left_remains : (place : ℕ) (c : Choice) → At choices place c → IsLeft left place
+        → Contains (remaining choice_rules choices) c
     unfolding remaining
     left_remains place c at t = left_stays (length choices) place c at t
 
     module _ (size : length left ≡ length choices) (sound : IsSound choices left) where
-      mark_at : (place : ℕ) (c : Choice) → At choices place c → is_left left place ≡ is_among choice_rules (remaining choice_rules choices) c
+      mark_at : (place : ℕ) (c : Choice) → At choices place c
+          → is_left left place ≡ is_among choice_rules (remaining choice_rules choices) c
       mark_at place c at =
           let rest : List Choice = remaining choice_rules choices in
           same_bools (is_left left place) (list_any (same_choice c) rest)
@@ -124,7 +133,8 @@ module _ (choices : List Choice) (order : IsInOrder choices) (left : List Bool) 
           ∙ sym (get_or_from_slice_get (map among choices) place (among here.0) false (slice_get-map among choices place ∙ ap (option_map among) here.1))))
 
   -- ---- what clashes with what is alone doesn't remain
-  pub clashing_goes : IsSound choices left → (place : ℕ) (c : Choice) → At choices place c → IsAlone choices left c → (other : Choice) → clash other c ≡ true → Contains (remaining choice_rules choices) other → ⊥
+  pub clashing_goes : IsSound choices left → (place : ℕ) (c : Choice) → At choices place c → IsAlone choices left c
+      → (other : Choice) → clash other c ≡ true → Contains (remaining choice_rules choices) other → ⊥
   unfolding forced
   clashing_goes sound place c at alone other t h =
       let rest : List Choice = remaining choice_rules choices in
@@ -136,7 +146,8 @@ module _ (choices : List Choice) (order : IsInOrder choices) (left : List Bool) 
       both_ways (list_any (clash other) ones) (not-true (list_any (clash other) ones) kept.1)
       (list_any_from (clash other) ones c (Contains-filter (is_forced choice_rules rest) choices c is (contains_place choices place c at)) t)
     where
-      is_it : (y : Choice) → Contains (remaining choice_rules choices) y → (not (same_section y c) || same_choice y c) ≡ true
+      is_it : (y : Choice) → Contains (remaining choice_rules choices) y
+          → (not (same_section y c) || same_choice y c) ≡ true
       is_it y k =
           elim (cases_Bool (same_section y c)) [
             | inl same ↦

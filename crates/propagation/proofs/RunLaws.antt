@@ -16,7 +16,8 @@ pub record Onward (choices : List Choice) (old new : Engine) : Type 0 where
   pub keeps : Keeps choices new
   pub fewer : Fewer choices old.marking.left new.marking.left
   pub stays : (section : ℕ) → waits old.marking section ≡ true → waits new.marking section ≡ true
-  pub put : (place : ℕ) (c : Choice) → At choices place c → IsLeft old.marking.left place → is_left new.marking.left place ≡ false → waits new.marking c.section ≡ true
+  pub put : (place : ℕ) (c : Choice) → At choices place c → IsLeft old.marking.left place
+      → is_left new.marking.left place ≡ false → waits new.marking c.section ≡ true
   pub weight : weight new.marking ≤ weight old.marking
   pub sound : IsSound choices old.marking.left → IsSound choices new.marking.left
 
@@ -30,7 +31,8 @@ onward_same choices e keeps = record {
   sound = λ s. s;
 }
 
-pub onward_then : (choices : List Choice) (a b c : Engine) → Onward choices a b → Onward choices b c → Onward choices a c
+pub onward_then : (choices : List Choice) (a b c : Engine) → Onward choices a b → Onward choices b c
+    → Onward choices a c
 onward_then choices a b c first second = record {
   keeps = second.keeps;
   fewer = λ place x at t. first.fewer place x at (second.fewer place x at t);
@@ -48,17 +50,20 @@ abbrev pub AreMatching : List Choice → Engine → Type 0
 AreMatching choices e =
     (place : ℕ) (c : Choice) → At choices place c → IsLeft e.marking.left place → c.matches ≡ true
 
-pub matching_fewer : (choices : List Choice) (a b : Engine) → Fewer choices a.marking.left b.marking.left → AreMatching choices a → AreMatching choices b
+pub matching_fewer : (choices : List Choice) (a b : Engine) → Fewer choices a.marking.left b.marking.left
+    → AreMatching choices a → AreMatching choices b
 matching_fewer choices a b fewer matching place c at t = matching place c at (fewer place c at t)
 
-pub alone_fewer : (choices : List Choice) (old new : List Bool) (c : Choice) → Fewer choices old new → IsAlone choices old c → IsAlone choices new c
+pub alone_fewer : (choices : List Choice) (old new : List Bool) (c : Choice) → Fewer choices old new
+    → IsAlone choices old c → IsAlone choices new c
 alone_fewer choices old new c fewer alone place other at t section = alone place other at (fewer place other at t) section
 
-pub closed_fewer : (choices : List Choice) (old new : List Bool) (c : Choice) → Fewer choices old new → IsClosed choices old c → IsClosed choices new c
+pub closed_fewer : (choices : List Choice) (old new : List Bool) (c : Choice) → Fewer choices old new
+    → IsClosed choices old c → IsClosed choices new c
 closed_fewer choices old new c fewer closed place other at t = closed place other at (fewer place other at t)
 
 module _ (choices : List Choice) (are : AreChoices choices) where
-  is_choice : (place : ℕ) (c : Choice) → At choices place c → IsChoice c
+  pub is_choice : (place : ℕ) (c : Choice) → At choices place c → IsChoice c
   is_choice place c at =
       let h = contains_place choices place c at in
       let P : Choice → Type 0 = IsChoice in
@@ -69,7 +74,9 @@ module _ (choices : List Choice) (are : AreChoices choices) where
     onward : Onward choices old new
     closed : (c : Choice) → At choices place c → c.matches ≡ true → IsClosed choices new.marking.left c
 
-  carried_out_onward : (e : Engine) (place : ℕ) (c : Choice) → Keeps choices e → AreMatching choices e → IsSound choices e.marking.left → At choices place c → c.matches ≡ true → IsAlone choices e.marking.left c → Carried place e (carried_out choices e c)
+  carried_out_onward : (e : Engine) (place : ℕ) (c : Choice) → Keeps choices e → AreMatching choices e
+      → IsSound choices e.marking.left → At choices place c → c.matches ≡ true → IsAlone choices e.marking.left c
+      → Carried place e (carried_out choices e c)
   carried_out_onward e place c keeps matching sound at chosen alone =
       let new : Engine = carried_out choices e c in
       let goes : Goes choices (λ other. clash other c) e new = carried_out_goes choices e c (is_choice place c at).agree chosen matching alone keeps in
@@ -89,7 +96,10 @@ module _ (choices : List Choice) (are : AreChoices choices) where
             subst P (same_choices choices place c x at there) (λ k other here t. goes_passed choices (λ y. clash y c) e new goes k other here t));
       }
 
-  carried_if_onward : (e : Engine) (place : ℕ) (o : Option Choice) → Keeps choices e → AreMatching choices e → IsSound choices e.marking.left → slice_get choices place ≡ o → ((c : Choice) → At choices place c → IsAlone choices e.marking.left c) → Carried place e (carried_if choices e o)
+  carried_if_onward : (e : Engine) (place : ℕ) (o : Option Choice) → Keeps choices e → AreMatching choices e
+      → IsSound choices e.marking.left → slice_get choices place ≡ o
+      → ((c : Choice) → At choices place c → IsAlone choices e.marking.left c)
+      → Carried place e (carried_if choices e o)
   carried_if_onward e place None keeps matching sound at alone =
       record { onward = onward_same choices e keeps; closed = λ c there t. (let no : None ≡ Some c = sym at ∙ there in cc) }
   carried_if_onward e place (Some c) keeps matching sound at alone =
@@ -102,16 +112,22 @@ module _ (choices : List Choice) (are : AreChoices choices) where
             absurd (both_ways c.matches never (subst P (sym (same_choices choices place c x at there)) t)));
       })
 
-  carried_at_onward : (e : Engine) (place : ℕ) → Keeps choices e → AreMatching choices e → IsSound choices e.marking.left → ((c : Choice) → At choices place c → IsAlone choices e.marking.left c) → Carried place e (carried_at choices e place)
+  carried_at_onward : (e : Engine) (place : ℕ) → Keeps choices e → AreMatching choices e
+      → IsSound choices e.marking.left → ((c : Choice) → At choices place c → IsAlone choices e.marking.left c)
+      → Carried place e (carried_at choices e place)
   unfolding carried_at
   carried_at_onward e place keeps matching sound alone = carried_if_onward e place (slice_get choices place) keeps matching sound refl alone
 
   -- each of some places carried out
   pub record CarriedEach (places : List ℕ) (old new : Engine) : Type 0 where
     pub onward : Onward choices old new
-    pub closed : (place : ℕ) → Contains places place → (c : Choice) → At choices place c → c.matches ≡ true → IsClosed choices new.marking.left c
+    pub closed : (place : ℕ) → Contains places place → (c : Choice) → At choices place c → c.matches ≡ true
+        → IsClosed choices new.marking.left c
 
-  pub carried_each : (e : Engine) (places : List ℕ) → Keeps choices e → AreMatching choices e → IsSound choices e.marking.left → ((place : ℕ) → Contains places place → (c : Choice) → At choices place c → IsAlone choices e.marking.left c) → CarriedEach places e (fold (carried_at choices) e places)
+  pub carried_each : (e : Engine) (places : List ℕ) → Keeps choices e → AreMatching choices e
+      → IsSound choices e.marking.left
+      → ((place : ℕ) → Contains places place → (c : Choice) → At choices place c → IsAlone choices e.marking.left c)
+      → CarriedEach places e (fold (carried_at choices) e places)
   carried_each e [] keeps matching sound alone =
       record { onward = onward_same choices e keeps; closed = λ place h. absurd (Contains-none place h) }
   carried_each e (first ∷ rest) keeps matching sound alone =

@@ -26,7 +26,8 @@ record Member (section i place : ℕ) (o : Option Choice) : Type 0 where
   of : choice.section ≡ section
   same : i ≡ place
 
-member_of : (section i place : ℕ) (o : Option Choice) → Contains (member_from section i o) place → Member section i place o
+member_of : (section i place : ℕ) (o : Option Choice) → Contains (member_from section i o) place
+    → Member section i place o
 member_of section i place None h = absurd (Contains-none place h)
 member_of section i place (Some c) h =
     let P : List ℕ → Type 0 = λ l. Contains l place in
@@ -41,13 +42,16 @@ member_of section i place (Some c) h =
       | inr f ↦ absurd (Contains-none place (subst P (cond-false (section == c.section) (i ∷ []) [] f) h))
     ]
 
-pub whole_has : (choices : List Choice) (whole : List (List ℕ)) → IsWhole choices whole → (section place : ℕ) (c : Choice) → At choices place c → c.section ≡ section → Contains (list_at whole section) place
+pub whole_has : (choices : List Choice) (whole : List (List ℕ)) → IsWhole choices whole
+    → (section place : ℕ) (c : Choice) → At choices place c → c.section ≡ section
+    → Contains (list_at whole section) place
 whole_has choices whole is section place c at e =
     let P : List ℕ → Type 0 = λ l. Contains l place in
     subst P (sym (is section))
     (said_has (members_at choices section) (length choices) place place (slice_get_within choices place c at) (subst P (sym (ap (member_from section place) at)) (member_in section place c e)))
 
-pub whole_of : (choices : List Choice) (whole : List (List ℕ)) → IsWhole choices whole → (section place : ℕ) → Contains (list_at whole section) place → (c : Choice) → At choices place c → c.section ≡ section
+pub whole_of : (choices : List Choice) (whole : List (List ℕ)) → IsWhole choices whole → (section place : ℕ)
+    → Contains (list_at whole section) place → (c : Choice) → At choices place c → c.section ≡ section
 whole_of choices whole is section place h c at =
     let P : List ℕ → Type 0 = λ l. Contains l place in
     let some = said_of (members_at choices section) (length choices) place (subst P (is section) h) in
@@ -71,7 +75,8 @@ module _ (choices : List Choice) (section : ℕ) (old new : Marking) (popped : P
   no_more : waits new section ≡ false
   no_more = ap (λ (l : List Bool). get_or l section false) popped.queued ∙ cleared old.queued section
 
-  queue_has : ((s : ℕ) → waits old s ≡ true → Contains old.queue s) → (s : ℕ) → waits new s ≡ true → Contains new.queue s
+  queue_has : ((s : ℕ) → waits old s ≡ true → Contains old.queue s) → (s : ℕ) → waits new s ≡ true
+      → Contains new.queue s
   queue_has queue s t =
       elim (cases_eq s section) [
         | inl e ↦ absurd (both_ways (waits new s) (ap (waits new) e ∙ no_more) t)
@@ -125,7 +130,8 @@ module _ (choices : List Choice) (are : AreChoices choices) (whole : List (List 
   after list = fold (carried_at choices) (with_list list) (carried_of (list_at whole section) list)
 
   module _ (list : List ℕ) (narrowed : IsNarrowed e.marking.left (list_at e.members section) list) where
-    has_all : (place : ℕ) (c : Choice) → At choices place c → IsLeft e.marking.left place → c.section ≡ section → Contains list place
+    has_all : (place : ℕ) (c : Choice) → At choices place c → IsLeft e.marking.left place → c.section ≡ section
+        → Contains list place
     has_all place c at t same =
         let P : ℕ → Type 0 = λ s. Contains (list_at e.members s) place in
         narrowed.kept place (subst P same (keeps.members.complete place c at t)) t
@@ -133,7 +139,8 @@ module _ (choices : List Choice) (are : AreChoices choices) (whole : List (List 
     has_its : (place : ℕ) → Contains list place → (c : Choice) → At choices place c → c.section ≡ section
     has_its place h c at = keeps.members.sound section place (narrowed.from place h) c at
 
-    complete : (place : ℕ) (c : Choice) → At choices place c → IsLeft e.marking.left place → Contains (list_at (set e.members section list) c.section) place
+    complete : (place : ℕ) (c : Choice) → At choices place c → IsLeft e.marking.left place
+        → Contains (list_at (set e.members section list) c.section) place
     complete place c at t =
         let P : List ℕ → Type 0 = λ l. Contains l place in
         elim (set_cases e.members section c.section list []) [
@@ -141,7 +148,8 @@ module _ (choices : List Choice) (are : AreChoices choices) (whole : List (List 
           | inr other ↦ subst P (sym other) (keeps.members.complete place c at t)
         ]
 
-    sound : (s place : ℕ) → Contains (list_at (set e.members section list) s) place → (c : Choice) → At choices place c → c.section ≡ s
+    sound : (s place : ℕ) → Contains (list_at (set e.members section list) s) place → (c : Choice) → At choices place c
+        → c.section ≡ s
     sound s place h c at =
         let P : List ℕ → Type 0 = λ l. Contains l place in
         elim (set_cases e.members section s list []) [
@@ -167,7 +175,9 @@ module _ (choices : List Choice) (are : AreChoices choices) (whole : List (List 
   one_of x place h =
       elim (Contains-cases x place [] h) [ inl same ↦ same | inr none ↦ absurd (Contains-none place none) ]
 
-  carried_alone : (list : List ℕ) → IsNarrowed e.marking.left (list_at e.members section) list → (place : ℕ) → Contains (carried_of (list_at whole section) list) place → (c : Choice) → At choices place c → IsAlone choices e.marking.left c
+  carried_alone : (list : List ℕ) → IsNarrowed e.marking.left (list_at e.members section) list → (place : ℕ)
+      → Contains (carried_of (list_at whole section) list) place → (c : Choice) → At choices place c
+      → IsAlone choices e.marking.left c
   carried_alone [] narrowed place h c at p other there t same =
       absurd (Contains-none p (has_all [] narrowed p other there t (same ∙ whole_of choices whole is section place h c at)))
   carried_alone (x ∷ []) narrowed place h c at p other there t same =
@@ -177,7 +187,10 @@ module _ (choices : List Choice) (are : AreChoices choices) (whole : List (List 
       same_choices choices p other c there (ap (slice_get choices) (sym e1 ∙ e2) ∙ at)
   carried_alone (x ∷ y ∷ rest) narrowed place h c at p other there t same = absurd (Contains-none place h)
 
-  settled : (list : List ℕ) → IsNarrowed e.marking.left (list_at e.members section) list → (new : Engine) → CarriedEach choices are (carried_of (list_at whole section) list) (with_list list) new → new ≡ after list → (place : ℕ) (c : Choice) → At choices place c → c.matches ≡ true → IsAlone choices new.marking.left c → c.section ≡ section → (waits new.marking section ≡ true) ⊎ IsClosed choices new.marking.left c
+  settled : (list : List ℕ) → IsNarrowed e.marking.left (list_at e.members section) list → (new : Engine)
+      → CarriedEach choices are (carried_of (list_at whole section) list) (with_list list) new → new ≡ after list
+      → (place : ℕ) (c : Choice) → At choices place c → c.matches ≡ true → IsAlone choices new.marking.left c
+      → c.section ≡ section → (waits new.marking section ≡ true) ⊎ IsClosed choices new.marking.left c
   settled [] narrowed new each same place c at chosen alone its =
       inr (each.closed place (whole_has choices whole is section place c at its) c at chosen)
   settled (x ∷ []) narrowed new each same place c at chosen alone its =
@@ -209,7 +222,9 @@ module _ (choices : List Choice) (are : AreChoices choices) (whole : List (List 
       let apart = same_place choices are.order p q a.0 b.0 a.1 b.1 (ap (λ (z : Choice). z.section) both) (ap (λ (z : Choice). z.home) both) in
       absurd (eqb-false q p (not-true (q == p) parts.1) (sym apart))
 
-  settled_each : (list : List ℕ) → IsNarrowed e.marking.left (list_at e.members section) list → AreMatching choices e → IsSound choices e.marking.left → CarriedEach choices are (carried_of (list_at whole section) list) (with_list list) (after list)
+  settled_each : (list : List ℕ) → IsNarrowed e.marking.left (list_at e.members section) list → AreMatching choices e
+      → IsSound choices e.marking.left
+      → CarriedEach choices are (carried_of (list_at whole section) list) (with_list list) (after list)
   settled_each list narrowed matching below =
       carried_each choices are (with_list list) (carried_of (list_at whole section) list) (list_keeps list narrowed) matching below (carried_alone list narrowed)
 
@@ -237,7 +252,8 @@ module _ (choices : List Choice) (are : AreChoices choices) (whole : List (List 
   each = settled_each choices are whole is taken taken_keeps section list narrowed taken_matching
       (λ place c at h. (let P : List Bool → Type 0 = λ l. IsLeft l place in subst P (sym popped.left) (state.sound place c at h)))
 
-  was_alone : (c : Choice) → waits new.marking c.section ≡ false → IsAlone choices new.marking.left c → IsAlone choices m.left c
+  was_alone : (c : Choice) → waits new.marking c.section ≡ false → IsAlone choices new.marking.left c
+      → IsAlone choices m.left c
   was_alone c quiet alone place other at t same =
       elim (cases_Bool (is_left new.marking.left place)) [
         | inl still ↦ alone place other at still same
@@ -246,7 +262,8 @@ module _ (choices : List Choice) (are : AreChoices choices) (whole : List (List 
             absurd (both_ways (waits new.marking c.section) quiet (subst P same (each.onward.put place other at t gone))))
       ]
 
-  elsewhere : (place : ℕ) (c : Choice) → At choices place c → c.matches ≡ true → waits new.marking c.section ≡ false → IsAlone choices new.marking.left c → (c.section ≡ section → ⊥) → IsClosed choices new.marking.left c
+  elsewhere : (place : ℕ) (c : Choice) → At choices place c → c.matches ≡ true → waits new.marking c.section ≡ false
+      → IsAlone choices new.marking.left c → (c.section ≡ section → ⊥) → IsClosed choices new.marking.left c
   elsewhere place c at chosen quiet alone ne =
       let P : List Bool → Type 0 = λ l. IsAlone choices l c in
       elim (state.closed place c at chosen (subst P popped.left (was_alone c quiet alone))) [
@@ -257,7 +274,8 @@ module _ (choices : List Choice) (are : AreChoices choices) (whole : List (List 
             closed_fewer choices m.left new.marking.left c each.onward.fewer (subst Q (sym popped.left) closed))
       ]
 
-  closed_or_waits : (place : ℕ) (c : Choice) → At choices place c → c.matches ≡ true → IsAlone choices new.marking.left c → (waits new.marking c.section ≡ true) ⊎ IsClosed choices new.marking.left c
+  closed_or_waits : (place : ℕ) (c : Choice) → At choices place c → c.matches ≡ true
+      → IsAlone choices new.marking.left c → (waits new.marking c.section ≡ true) ⊎ IsClosed choices new.marking.left c
   closed_or_waits place c at chosen alone =
       elim (cases_Bool (waits new.marking c.section)) [
         | inl t ↦ inl t

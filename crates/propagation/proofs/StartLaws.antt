@@ -40,7 +40,8 @@ nothing_at room key none =
           get_or_past (replicate room none) key none (omega (arith, past, long)))
     ]
 
-nothing_known : (known : List (Option ℕ)) (room key value : ℕ) → known ≡ replicate room None → is_known known key value ≡ true → ⊥
+nothing_known : (known : List (Option ℕ)) (room key value : ℕ) → known ≡ replicate room None
+    → is_known known key value ≡ true → ⊥
 nothing_known known room key value e t =
     false≢true (sym (ap (λ o. is_value o value) (ap (λ (l : List (Option ℕ)). get_or l key None) e ∙ nothing_at room key None)) ∙ t)
 
@@ -51,7 +52,8 @@ record Claimed (unknown i : ℕ) (entry : Entry) (o : Option Choice) : Type 0 wh
   place : i ≡ entry.choice
   has : Contains choice.claims (record { unknown = unknown; value = entry.value })
 
-claimed_of : (unknown i : ℕ) (entry : Entry) (o : Option Choice) → Contains (claims_from unknown i o) entry → Claimed unknown i entry o
+claimed_of : (unknown i : ℕ) (entry : Entry) (o : Option Choice) → Contains (claims_from unknown i o) entry
+    → Claimed unknown i entry o
 claimed_of unknown i entry None h = absurd (Contains-none entry h)
 claimed_of unknown i entry (Some c) h =
     let make : Claim → Entry = λ claim. record { choice = i; value = claim.value } in
@@ -75,7 +77,8 @@ record Demanded (number i : ℕ) (entry : Entry) (o : Option Choice) : Type 0 wh
   has : Contains choice.demands (record { section = entry.value; number = number })
   elsewhere : entry.value ≡ choice.section → ⊥
 
-demanded_of : (number i : ℕ) (entry : Entry) (o : Option Choice) → Contains (demands_from number i o) entry → Demanded number i entry o
+demanded_of : (number i : ℕ) (entry : Entry) (o : Option Choice) → Contains (demands_from number i o) entry
+    → Demanded number i entry o
 demanded_of number i entry None h = absurd (Contains-none entry h)
 demanded_of number i entry (Some c) h =
     let make : Demand → Entry = λ demand. record { choice = i; value = demand.section } in
@@ -172,7 +175,8 @@ module _ (choices : List Choice) (sections fixed_room asked_room : ℕ) (e : Eng
   built_waits place c at =
       ap (λ (l : List Bool). get_or l c.section false) built.queued ∙ get_or-replicate sections c.section true false (below place c at)
 
-pub start_state : (choices : List Choice) (e : Engine) → Keeps choices e → e.marking.left ≡ map can_be_chosen choices → AllWait choices e.marking → State choices e
+pub start_state : (choices : List Choice) (e : Engine) → Keeps choices e → e.marking.left ≡ map can_be_chosen choices
+    → AllWait choices e.marking → State choices e
 start_state choices e keeps left all =
     let at_left : (place : ℕ) (c : Choice) → At choices place c → is_left e.marking.left place ≡ c.matches = λ place c at. ap (λ (l : List Bool). get_or l place false) left ∙ get_or_from_slice_get (map can_be_chosen choices) place c.matches false (slice_get-map can_be_chosen choices place ∙ ap (option_map can_be_chosen) at) in
     record {

@@ -56,7 +56,8 @@ ComesBefore a b = (a.section < b.section) ⊎ ((a.section ≡ b.section) × (a.h
 -- choices by section, and in each by home, none twice
 pub record AreChoices (choices : List Choice) : Type 0 where
   pub each : All IsChoice choices
-  pub order : (i j : ℕ) (a b : Choice) → i < j → slice_get choices i ≡ Some a → slice_get choices j ≡ Some b → ComesBefore a b
+  pub order : (i j : ℕ) (a b : Choice) → i < j → slice_get choices i ≡ Some a → slice_get choices j ≡ Some b
+      → ComesBefore a b
 
 abbrev pub is_of : ℕ → Choice → Bool
 is_of section choice = choice.section == section

@@ -26,7 +26,8 @@ fn put_claims(
     place: usize,
     claims: &[Claim],
 ) -> Result<(), AllocError>
-    ensures { OnOk result ((unknown : ℕ) → list_at table.new unknown ≡ list_at table.old unknown ++ claims_of unknown place claims.now) }
+    ensures { OnOk result ((unknown : ℕ) →
+        list_at table.new unknown ≡ list_at table.old unknown ++ claims_of unknown place claims.now) }
 {
     for claim in claims {
         let entry = Entry {
@@ -43,7 +44,8 @@ pub(crate) fn claims_by_unknown(
     alloc: Global,
     choices: &[Choice],
 ) -> Result<Table<Entry>, AllocError>
-    ensures { IfOk result (λ table. (unknown : ℕ) → list_at table unknown ≡ said_below (claims_at choices.now unknown) (length choices.now)) }
+    ensures { IfOk result (λ table. (unknown : ℕ) →
+        list_at table unknown ≡ said_below (claims_at choices.now unknown) (length choices.now)) }
 {
     let mut table = Table::new(alloc);
     for (place, choice) in choices.iter().enumerate() {
@@ -59,7 +61,8 @@ fn put_member(
     own: u32,
     place: usize,
 ) -> Result<(), AllocError>
-    ensures { OnOk result ((section : ℕ) → list_at table.new section ≡ list_at table.old section ++ place_if section own place) }
+    ensures { OnOk result ((section : ℕ) →
+        list_at table.new section ≡ list_at table.old section ++ place_if section own place) }
 {
     table.push(alloc, own as usize, place)
 }
@@ -69,7 +72,8 @@ pub(crate) fn members_by_section(
     alloc: Global,
     choices: &[Choice],
 ) -> Result<Table<usize>, AllocError>
-    ensures { IfOk result (λ table. (section : ℕ) → list_at table section ≡ said_below (members_at choices.now section) (length choices.now)) }
+    ensures { IfOk result (λ table. (section : ℕ) →
+        list_at table section ≡ said_below (members_at choices.now section) (length choices.now)) }
 {
     let mut table = Table::new(alloc);
     for (place, choice) in choices.iter().enumerate() {
@@ -86,7 +90,8 @@ fn put_demands(
     own: u32,
     demands: &[Demand],
 ) -> Result<(), AllocError>
-    ensures { OnOk result ((number : ℕ) → list_at table.new number ≡ list_at table.old number ++ demands_of number place own demands.now) }
+    ensures { OnOk result ((number : ℕ) →
+        list_at table.new number ≡ list_at table.old number ++ demands_of number place own demands.now) }
 {
     for demand in demands {
         put_demand(alloc, table, place, own, *demand)?;
@@ -102,7 +107,8 @@ fn put_demand(
     own: u32,
     demand: Demand,
 ) -> Result<(), AllocError>
-    ensures { OnOk result ((number : ℕ) → list_at table.new number ≡ list_at table.old number ++ demands_of number place own (demand ∷ [])) }
+    ensures { OnOk result ((number : ℕ) →
+        list_at table.new number ≡ list_at table.old number ++ demands_of number place own (demand ∷ [])) }
 {
     if demand.section == own {
         return Ok(());
@@ -119,7 +125,8 @@ pub(crate) fn demands_by_number(
     alloc: Global,
     choices: &[Choice],
 ) -> Result<Table<Entry>, AllocError>
-    ensures { IfOk result (λ table. (number : ℕ) → list_at table number ≡ said_below (demands_at choices.now number) (length choices.now)) }
+    ensures { IfOk result (λ table. (number : ℕ) →
+        list_at table number ≡ said_below (demands_at choices.now number) (length choices.now)) }
 {
     let mut table = Table::new(alloc);
     for (place, choice) in choices.iter().enumerate() {
@@ -174,8 +181,8 @@ fn put_numbers(
     Ok(())
 }
 
-// By section, the numbers of the demands that choices of other sections make on it, each once where a number stands for demands on one
-// section alone. `listed` has room for so many numbers.
+// By section, the numbers of the demands that choices of other sections make on it, each once where a number stands
+// for demands on one section alone. There is room to tell so many numbers.
 pub(crate) fn numbers_by_section(
     alloc: Global,
     choices: &[Choice],

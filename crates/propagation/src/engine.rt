@@ -14,8 +14,8 @@ use crate::tables::{Entry, Known, Table};
 use std::alloc::{AllocError, Global};
 use std::marker::Model;
 
-// Which choices are left, and what the choices say. A list that is gone through loses what is then excluded, so all walks together
-// come to no more than what is excluded and what stays since it agrees, which is asked once.
+// Which choices are left, and what the choices say. A list that is gone through loses what isn't left, and what stays
+// agrees with what was asked, which is asked once: so all walks together come to no more than all that choices say.
 #[derive(Drop)]
 pub(crate) struct Engine {
     marks: Marks,
@@ -32,7 +32,15 @@ impl Model for Engine {
 
     ghost Value = { inside.Engine };
 
-    ghost view = { λ e. record { marking = e.marks; claims = e.claims; fixed = e.fixed; members = e.members; numbers = e.numbers; makers = e.makers; asked = e.asked } };
+    ghost view = { λ e. record {
+      marking = e.marks;
+      claims = e.claims;
+      fixed = e.fixed;
+      members = e.members;
+      numbers = e.numbers;
+      makers = e.makers;
+      asked = e.asked;
+    } };
 }
 
 // Whether a choice meets a demand.
@@ -40,7 +48,7 @@ fn is_met(choice: &Choice, number: u32) -> bool
     requires { Ascends choice.now }
     ensures { result ≡ meets choice.now number }
 {
-    choice.met.as_slice().iter().any(|other| *other == number)
+    choice.met.as_slice().binary_search(&number).is_ok()
 }
 
 // Whether the choice at a place doesn't meet a demand.
@@ -84,7 +92,8 @@ fn failing(
     number: u32,
 ) -> Result<Vec<usize>, AllocError>
     requires { All Ascends choices.now }
-    ensures { IfOk result (λ places. places.items ≡ filter (λ choice. fails number (slice_get choices.now choice)) members.now) }
+    ensures { IfOk result (λ places.
+        places.items ≡ filter (λ choice. fails number (slice_get choices.now choice)) members.now) }
 {
     members
         .iter()
@@ -317,7 +326,7 @@ impl Engine {
     }
 
     // The same for each of some places.
-    fn carry_out_each(
+    pub(crate) fn carry_out_each(
         &mut self,
         alloc: Global,
         choices: &[Choice],
@@ -350,7 +359,8 @@ impl Engine {
         Ok(())
     }
 
-    // Looks at a section that waits. `whole` has each choice at its section. The answer is false exactly where none waits.
+    // Looks at a section that waits. `whole` has each choice at its section. The answer is false exactly where none
+    // waits.
     pub(crate) fn step(
         &mut self,
         alloc: Global,

@@ -1,5 +1,5 @@
-//! Choosing by propagation: one item is to be chosen for each of several sections, and what must be chosen excludes what can't
-//! be chosen beside it.
+//! Choosing by propagation: one item is to be chosen for each of several sections, and one that is forced excludes what
+//! can't be chosen beside it.
 #![tactic(auto)]
 
 mod building;
@@ -8,6 +8,7 @@ mod conflicts;
 mod engine;
 mod marking;
 mod propagating;
+mod striking;
 mod tables;
 
 pub use choice::{Choice, Claim, Demand};

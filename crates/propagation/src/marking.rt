@@ -10,7 +10,8 @@ use crate::tables::Entry;
 use std::alloc::{AllocError, Global};
 use std::marker::Model;
 
-// Which choices are left, and which sections are to be looked at, since the number of those of their choices that are left fell.
+// Which choices are left, and which sections are to be looked at, since the number of those of their choices that are
+// left fell.
 #[derive(Drop)]
 pub(crate) struct Marks {
     left: Vec<bool>,
@@ -29,7 +30,7 @@ impl Model for Marks {
 }
 
 // The mark at a place, false past the end.
-fn mark_at(marks: &[bool], place: usize) -> bool
+pub(crate) fn mark_at(marks: &[bool], place: usize) -> bool
     ensures { result ≡ slice_index_or marks.now place false }
 {
     match marks.get(place) {
@@ -172,7 +173,8 @@ impl Marks {
         self.is_left(choice) && choice != except
     }
 
-    // How long the front of a list is that ends with the last choice that is left, and not at a place, among the first ones.
+    // How long the front of a list is that ends with the last choice that is left, and not at a place, among the first
+    // ones.
     fn end_of_left(&self, list: &[usize], end: usize, except: usize) -> usize
         requires { end ≤ length list.now }
         ensures { IsEnd self.now.left list.now end except result }
@@ -194,8 +196,8 @@ impl Marks {
         self.left.len()
     }
 
-    // A list without choices at its end that aren't left, and without those before its last one. What is dropped is dropped once, so
-    // this takes constant time beside it.
+    // A list without choices at its end that aren't left, and without those before its last one. What is dropped is
+    // dropped once, so this takes constant time beside it.
     pub(crate) fn narrowed(&self, mut list: Vec<usize>) -> Vec<usize>
         ensures { IsNarrowed self.now.left list.items result.items }
     {

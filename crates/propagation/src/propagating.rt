@@ -8,11 +8,13 @@ use crate::choice::Choice;
 use crate::engine::Engine;
 use std::alloc::{AllocError, Global};
 
-/// Which of some choices are left when those are excluded that can't be chosen at all, or clash with one that must be chosen,
-/// since it is the last of its section: a mark for each. The work grows with the number of choices, claims and demands.
+/// Which of some choices are left when those are excluded that can't be chosen at all, or clash with one that must be
+/// chosen, since all others of its section are excluded: a mark for each. The work grows with the number of choices,
+/// claims and demands, and with the greatest numbers of sections, unknowns and demands: number them from 0.
 pub fn propagate(alloc: Global, choices: &[Choice]) -> Result<Vec<bool>, AllocError>
     requires { AreChoices choices.now }
-    ensures { IfOk result (λ left. left.items ≡ map (is_among choice_rules (remaining choice_rules choices.now)) choices.now) }
+    ensures { IfOk result (λ left.
+        left.items ≡ map (is_among choice_rules (remaining choice_rules choices.now)) choices.now) }
 {
     let whole = members_by_section(alloc, choices)?;
     let mut engine = Engine::new(alloc, choices)?;

@@ -58,7 +58,8 @@ impl<T: Drop> Table<T> {
 
     // Puts an item at the end of a number's list.
     pub(crate) fn push(&mut self, alloc: Global, key: usize, item: T) -> Result<(), AllocError>
-        ensures { OnOk result ((k : ℕ) → list_at self.new k ≡ (if k == key then list_at self.old k ++ item ∷ [] else list_at self.old k)) }
+        ensures { OnOk result ((k : ℕ) →
+            list_at self.new k ≡ (if k == key then list_at self.old k ++ item ∷ [] else list_at self.old k)) }
     {
         self.grow(alloc, key)?;
         let list = &mut self.lists[key];

@@ -44,9 +44,9 @@ pub record StandForOne (c : Candidate) (offset address : ℕ) : Type 0 where
   pub by_address : stands_for (run_list c) address ≡ Some number
 
 -- Instructions agree but for what references say. Two direct branches have equal prefixes and one kind, and where the
--- object's has no reference their targets stand for the same number. Two others have equal prefixes and opcodes, and equal
--- bytes where zeros are put in the fields of references. (Equal bytes have equal prefixes and opcodes where no reference
--- stands on these.)
+-- object's has no reference their targets stand for the same number. Two others have equal prefixes and opcodes, and
+-- equal bytes where zeros are put in the fields of references. (Equal bytes have equal prefixes and opcodes where no
+-- reference stands on these.)
 abbrev pub AgreeAs : Candidate → Pair → Option Branch → Option Branch → Type 0
 AgreeAs c pair (Some pre) (Some run) =
     IsTrue (same_kind pre.kind run.kind)
@@ -123,9 +123,9 @@ pub record IsNamed (c : Candidate) (interior : Interior) (field : Given) : Type 
   pub section : interior.section ≡ name_at c place
   pub address : interior.address ≡ interior_address field.value interior.offset
 
--- What is said of a match: the values that its valuation gives but for those of read-only sections, none left out and no
--- other, and the interiors of other code sections to which its fields go. How often, in which order and at which places
--- they are told stands in Matched.
+-- What is said of a match: the values that its valuation gives but for those of read-only sections, none left out and
+-- no other, and the interiors of other code sections to which its fields go. How often, in which order and at which
+-- places they are told stands in Matched.
 pub record Says (c : Candidate) (v : Valuation) (m : Matched) : Type 0 where
   pub claims : All (IsSaid c v) m.claims
   pub all_claims : (goal : Goal) (about : Unknown) (value : ℕ) → unknown_of c goal ≡ Some about →

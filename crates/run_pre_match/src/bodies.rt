@@ -29,7 +29,8 @@ impl<'c, 'n, 'a, S: Space> Model for Body<'c, 'n, 'a, S> {
 
     ghost view = { λ b. body_at b.code.now (S.contents b.space.now) b.base };
 
-    ghost invariant = { λ b. b.run.places ≡ places_of (run_body (S.contents b.space.now) b.base (length (kept_of (pre_code b.code.now.section)))) };
+    ghost invariant = { λ b. b.run.places
+        ≡ places_of (run_body (S.contents b.space.now) b.base (length (kept_of (pre_code b.code.now.section)))) };
 }
 
 impl<'n, 'a> PreCode<'n, 'a> {
@@ -53,8 +54,8 @@ impl<'n, 'a> PreCode<'n, 'a> {
 }
 
 impl<'c, 'n, 'a, S: Space> Body<'c, 'n, 'a, S> {
-    /// Whether an address stands in the body for the instruction at an offset of the section. An instruction that the body
-    /// doesn't reach counts as agreeing.
+    /// Whether an address stands in the body for the instruction at an offset of the section. An instruction that the
+    /// body doesn't reach counts as agreeing.
     #[tactic(auto, using(crate::proofs::BodyPlaces::agrees_by))]
     pub fn is_number_of(&self, offset: u32, address: u32) -> bool
         ensures { result ≡ is_number_of self.now offset address }

@@ -9,8 +9,8 @@ ghost use Rattle.run_pre_match.specs.declared.goals.Goal.{Goal};
 ghost use Rattle.run_pre_match.specs.declared.types.Claim.{Claim};
 ghost use Rattle.run_pre_match.specs.declared.types.Matched.{Matched};
 
-/// The claims of a match in an object whose names are distinct give one thing one value, and the own home is the first of
-/// them.
+/// The claims of a match in an object whose names are distinct give one thing one value, and the own home is the first
+/// of them.
 pub fn claims_agree()
     ensures agree { (c : Candidate) (m : Matched) → slice_get c.object c.place ≡ Some c.section →
         IsDistinct same_bytes (map name_of c.object) → outcome c ≡ Ok m →
@@ -18,8 +18,8 @@ pub fn claims_agree()
     ensures home { (c : Candidate) (m : Matched) → outcome c ≡ Ok m → slice_get m.claims 0 ≡ Some (home_claim c) }
 {}
 
-/// Where a section's code can be matched, a candidate comes out as a match exactly where some valuation makes it one. There
-/// is no second valuation, and the values and interiors that are told are what it gives.
+/// Where a section's code can be matched, a candidate comes out as a match exactly where some valuation makes it one.
+/// There is no second valuation, and the values and interiors that are told are what it gives.
 pub fn matches_have_one_valuation()
     ensures some { (c : Candidate) (m : Matched) → outcome c ≡ Ok m → (v : Valuation) × Match c v }
     ensures comes { (c : Candidate) (v : Valuation) → Match c v → (m : Matched) × (outcome c ≡ Ok m) }

@@ -1,4 +1,3 @@
-pub mod AscendingLaws
 pub mod BlockLaws
 pub mod BodyLaws
 pub mod EntryLaws

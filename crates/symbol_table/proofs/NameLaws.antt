@@ -25,7 +25,7 @@ use Rattle.symbol_table.specs.Symbols.{ascending, addresses_of, address_of, is_n
 use Rattle.symbol_table.specs.inside.Entries.{name_of, order_of, order_at, address_order, name_less, HasAll}
 use Rattle.symbol_table.specs.inside.Names.{is_before, is_not_after, is_named_at, stands_at, kind_address, found_at, is_entry_of}
 use Rattle.symbol_table.proofs.BlockLaws.{drop_between}
-use Rattle.symbol_table.proofs.AscendingLaws.{has, same_members, has-ascending, ascends-ascending}
+use Rattle.symbol_table.specs.AscendingLaws.{has, same_members, has-ascending, ascends-ascending}
 use Rattle.symbol_table.proofs.EntryLaws.{entry_laws, any_entry}
 
 -- ---- what a search by halving finds

@@ -189,7 +189,7 @@ static UNDECODED: [Row; 17] = [
 ];
 
 /// What could be taken for something else.
-static MISLEADING: [Row; 9] = [
+static MISLEADING: [Row; 10] = [
     // data that the program may change name any offset
     (
         b"\xb8\0\0\0\0\xc3",
@@ -255,6 +255,14 @@ static MISLEADING: [Row; 9] = [
         &[X],
         &[(CODE, HOME, b"\x8d\xb6\0\0\0\0\xc3")],
         "refused 15 mismatch .text.f index 0 pre 0x0 run 0x00100006 opcode\n",
+    ),
+    // such a field's value has to hold as any other: the name isn't listed
+    (
+        b"\x8d\xb6\0\0\0\0\xc3",
+        &[(2, ABSOLUTE, "ext")],
+        &[],
+        &[(CODE, HOME, b"\x8d\xb6\0\0\x20\0\xc3")],
+        "refused 15 mismatch .text.f index 0 pre 0x0 run 0x00100000 value\n",
     ),
     // what isn't padding in memory is kept there, though it is padding here
     (

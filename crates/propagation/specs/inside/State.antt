@@ -21,18 +21,24 @@ IsLeft left place = is_left left place ≡ true
 pub record KeepsClaims (choices : List Choice) (left : List Bool) (table : List (List Entry)) (known : List (Option ℕ)) : Type 0 where
   pub complete : (place : ℕ) (c : Choice) (claim : Claim) → At choices place c → IsLeft left place → Contains c.claims claim → Contains (list_at table claim.unknown) (record { choice = place; value = claim.value })
   pub sound : (unknown : ℕ) (entry : Entry) → Contains (list_at table unknown) entry → (c : Choice) → At choices entry.choice c → Contains c.claims (record { unknown = unknown; value = entry.value })
-  pub fixed : (unknown value : ℕ) → is_known known unknown value ≡ true → (place : ℕ) (c : Choice) (claim : Claim) → At choices place c → IsLeft left place → Contains c.claims claim → claim.unknown ≡ unknown → claim.value ≡ value
+  pub fixed : (unknown value : ℕ) → is_known known unknown value ≡ true → (place : ℕ) (c : Choice) (claim : Claim)
+      → At choices place c → IsLeft left place → Contains c.claims claim → claim.unknown ≡ unknown → claim.value ≡ value
 
 -- What is left stands in its section's list, which has choices of this section alone. What is left of a section meets a demand that it
 -- was asked.
 pub record KeepsMembers (choices : List Choice) (left : List Bool) (table : List (List ℕ)) (known : List (Option ℕ)) : Type 0 where
-  pub complete : (place : ℕ) (c : Choice) → At choices place c → IsLeft left place → Contains (list_at table c.section) place
-  pub sound : (section place : ℕ) → Contains (list_at table section) place → (c : Choice) → At choices place c → c.section ≡ section
-  pub asked : (number section : ℕ) → is_known known number section ≡ true → (place : ℕ) (c : Choice) → At choices place c → IsLeft left place → c.section ≡ section → meets c number ≡ true
+  pub complete : (place : ℕ) (c : Choice) → At choices place c → IsLeft left place
+      → Contains (list_at table c.section) place
+  pub sound : (section place : ℕ) → Contains (list_at table section) place → (c : Choice) → At choices place c
+      → c.section ≡ section
+  pub asked : (number section : ℕ) → is_known known number section ≡ true → (place : ℕ) (c : Choice)
+      → At choices place c → IsLeft left place → c.section ≡ section → meets c number ≡ true
 
 -- The demands of what is left on other sections stand in both tables, and that of their makers has none that isn't made.
 pub record KeepsDemands (choices : List Choice) (left : List Bool) (listed : List (List ℕ)) (table : List (List Entry)) : Type 0 where
-  pub numbers : (place : ℕ) (c : Choice) (demand : Demand) → At choices place c → IsLeft left place → Contains c.demands demand → (demand.section ≡ c.section → ⊥) → Contains (list_at listed demand.section) demand.number
+  pub numbers : (place : ℕ) (c : Choice) (demand : Demand) → At choices place c → IsLeft left place
+      → Contains c.demands demand → (demand.section ≡ c.section → ⊥)
+      → Contains (list_at listed demand.section) demand.number
   pub makers : (place : ℕ) (c : Choice) (demand : Demand) → At choices place c → IsLeft left place → Contains c.demands demand → (demand.section ≡ c.section → ⊥) → Contains (list_at table demand.number) (record { choice = place; value = demand.section })
   pub sound : (number : ℕ) (entry : Entry) → Contains (list_at table number) entry → (c : Choice) → At choices entry.choice c → Contains c.demands (record { section = entry.value; number = number }) × (entry.value ≡ c.section → ⊥)
 
@@ -86,7 +92,8 @@ pub record IsNarrowed (left : List Bool) (old new : List ℕ) : Type 0 where
   pub kept : (place : ℕ) → Contains old place → IsLeft left place → Contains new place
   pub from : (place : ℕ) → Contains new place → Contains old place
   pub last : 0 < length new → IsLeft left (slice_index new (length new - 1))
-  pub other : 1 < length new → is_other left (slice_index new (length new - 1)) (slice_index new (length new - 2)) ≡ true
+  pub other : 1 < length new
+      → is_other left (slice_index new (length new - 1)) (slice_index new (length new - 2)) ≡ true
 
 -- what is carried out of a section with these choices, by what is left of them: all where none is left, or the only one
 abbrev pub carried_of : List ℕ → List ℕ → List ℕ
@@ -109,5 +116,7 @@ IsWhole choices whole =
 pub record State (choices : List Choice) (engine : Engine) : Type 0 where
   pub keeps : Keeps choices engine
   pub matching : (place : ℕ) (c : Choice) → At choices place c → IsLeft engine.marking.left place → c.matches ≡ true
-  pub sound : (place : ℕ) (c : Choice) → At choices place c → Contains (remaining choice_rules choices) c → IsLeft engine.marking.left place
-  pub closed : (place : ℕ) (c : Choice) → At choices place c → c.matches ≡ true → IsAlone choices engine.marking.left c → (waits engine.marking c.section ≡ true) ⊎ IsClosed choices engine.marking.left c
+  pub sound : (place : ℕ) (c : Choice) → At choices place c → Contains (remaining choice_rules choices) c
+      → IsLeft engine.marking.left place
+  pub closed : (place : ℕ) (c : Choice) → At choices place c → c.matches ≡ true → IsAlone choices engine.marking.left c
+      → (waits engine.marking c.section ≡ true) ⊎ IsClosed choices engine.marking.left c

@@ -1,0 +1,141 @@
+-- What has a number, and what keeps it.
+use Rattle.std.proofs.Common.{◌≡◌, ℕ, ◌+◌, ◌<◌, ◌≤◌, arith, true, ◌&&◌, eqb, List, length, take, get_or, Option, Some, None, Result, Ok, Contains, refl, sym, ◌∙◌, ap, subst}
+use Rattle.std.specs.List.{All, each_same}
+use Rattle.std.specs.Cmp.Lexicographic.{bytes_decides}
+use Rattle.std.proofs.lemmas.Bool.{and_parts, eqb-true}
+use Rattle.std.proofs.lemmas.List.{take_all}
+use Rattle.std.proofs.lemmas.List.Elements.{All-weaker, All-more}
+use Rattle.i386_reloc.specs.declared.types.NormalSection.{NormalSection}
+use Rattle.symbol_table.specs.declared.values.Unknown.{Unknown}
+use Rattle.symbol_table.specs.declared.values.Unknown.TheVariants.{Code, Data, Outside}
+use Rattle.symbol_table.specs.Unknowns.{same_unknown}
+use Rattle.symbol_table.specs.contracts.values.UnknownPartialEq.TheImpl as unknowns
+use Rattle.symbol_table.specs.contracts.values.UnknownClone.TheImpl as cloned
+use Rattle.i386_reloc.specs.NamedPlaces.{section_at_place}
+use Rattle.i386_reloc.specs.Places.{place_named}
+use Rattle.std.proofs.lemmas.Option.{slice_get_within}
+use Rattle.run_pre_match.specs.declared.types.Claim.{Claim}
+use Rattle.run_pre_match.specs.declared.types.Interior.{Interior}
+use Rattle.run_pre_match.specs.declared.types.Matched.{Matched}
+use Rattle.run_pre_match.specs.declared.types.MatchFault.{MatchFault}
+use Rattle.match_candidates.specs.declared.trials.Tried.{Tried}
+use Rattle.symbol_solve.specs.Clashes.{claims_in, interiors_in}
+use Rattle.symbol_solve.specs.declared.numbers.Point.{Point}
+use Rattle.symbol_solve.specs.contracts.numbers.PointPartialEq.TheImpl as points
+use Rattle.symbol_solve.specs.inside.Numbers.{Numbers, Grows, HasPoint, IsUnknownNumbered, IsInteriorNumbered, IsNumbered, point_of, same_point}
+
+-- ---- when two are one
+equal_is_same : (a b : Unknown) → (unknowns.eq-value).it a b ≡ same_unknown a b
+equal_is_same (Code a) (Code b) = refl
+equal_is_same (Code a) (Data b) = refl
+equal_is_same (Code a) (Outside b) = refl
+equal_is_same (Data a) (Code b) = refl
+equal_is_same (Data a) (Data b) = refl
+equal_is_same (Data a) (Outside b) = refl
+equal_is_same (Outside a) (Code b) = refl
+equal_is_same (Outside a) (Data b) = refl
+equal_is_same (Outside a) (Outside b) = refl
+
+pub one_unknown : (a b : Unknown) → same_unknown a b ≡ true → a ≡ b
+one_unknown (Code a) (Code b) h = ap Code ((bytes_decides a b).0 h)
+one_unknown (Code a) (Data b) h = absurd cc
+one_unknown (Code a) (Outside b) h = absurd cc
+one_unknown (Data a) (Code b) h = absurd cc
+one_unknown (Data a) (Data b) h = ap Data ((bytes_decides a b).0 h)
+one_unknown (Data a) (Outside b) h = absurd cc
+one_unknown (Outside a) (Code b) h = absurd cc
+one_unknown (Outside a) (Data b) h = absurd cc
+one_unknown (Outside a) (Outside b) h = ap Outside ((bytes_decides a b).0 h)
+
+pub equal_unknown : (a b : Unknown) → (unknowns.eq-value).it a b ≡ true → a ≡ b
+equal_unknown a b h = one_unknown a b (sym (equal_is_same a b) ∙ h)
+
+pub point_is_same : (a b : Point) → (points.eq-value).it a b ≡ same_point a b
+point_is_same a b = refl
+
+pub one_point : (a b : Point) → same_point a b ≡ true → a ≡ b
+one_point a b h =
+    let (place, rest) = and_parts (eqb a.place b.place) (eqb a.offset b.offset && eqb a.address b.address) h in
+    let (offset, address) = and_parts (eqb a.offset b.offset) (eqb a.address b.address) rest in
+    λ i. record {
+      place = eqb-true a.place b.place place i;
+      offset = eqb-true a.offset b.offset offset i;
+      address = eqb-true a.address b.address address i;
+    }
+
+pub equal_point : (a b : Point) → (points.eq-value).it a b ≡ true → a ≡ b
+equal_point a b h = one_point a b h
+
+pub same_copy : (a b : Unknown) → (cloned.ghosts).is_clone a b → b ≡ a
+same_copy (Code a) (Code b) copy = ap Code (sym copy.3 ∙ each_same copy.0.items.items copy.1.items.items copy.4.0 ∙ copy.2)
+same_copy (Code a) (Data b) copy = absurd copy
+same_copy (Code a) (Outside b) copy = absurd copy
+same_copy (Data a) (Code b) copy = absurd copy
+same_copy (Data a) (Data b) copy = ap Data (sym copy.3 ∙ each_same copy.0.items.items copy.1.items.items copy.4.0 ∙ copy.2)
+same_copy (Data a) (Outside b) copy = absurd copy
+same_copy (Outside a) (Code b) copy = absurd copy
+same_copy (Outside a) (Data b) copy = absurd copy
+same_copy (Outside a) (Outside b) copy = ap Outside (sym copy.3 ∙ each_same copy.0.items.items copy.1.items.items copy.4.0 ∙ copy.2)
+
+-- ---- what keeps its number
+pub grows_on : (a b c : Numbers) → Grows a b → Grows b c → Grows a c
+grows_on a b c one two = record {
+  unknowns = λ u h. two.unknowns u (one.unknowns u h);
+  points = λ p h. two.points p (one.points p h);
+}
+
+claims_kept : (a b : Numbers) (claims : List Claim) → Grows a b → All (IsUnknownNumbered a) claims → All (IsUnknownNumbered b) claims
+claims_kept a b claims grows each =
+    All-weaker (IsUnknownNumbered a) (IsUnknownNumbered b) (λ claim. grows.unknowns claim.unknown) claims each
+
+point_kept : (a b : Numbers) (p : Option Point) → Grows a b → HasPoint a.points p → HasPoint b.points p
+point_kept a b None grows has = tt
+point_kept a b (Some p) grows has = grows.points p has
+
+interiors_kept : (object : List NormalSection) (a b : Numbers) (interiors : List Interior) → Grows a b → All (IsInteriorNumbered object a) interiors → All (IsInteriorNumbered object b) interiors
+interiors_kept object a b interiors grows each =
+    All-weaker (IsInteriorNumbered object a) (IsInteriorNumbered object b) (λ i. point_kept a b (point_of object i) grows) interiors each
+
+numbers_kept : (object : List NormalSection) (a b : Numbers) (o : Result Matched MatchFault) → Grows a b → IsNumbered object a o → IsNumbered object b o
+numbers_kept object a b o grows is = record {
+  claims = claims_kept a b (claims_in o) grows is.claims;
+  interiors = interiors_kept object a b (interiors_in o) grows is.interiors;
+}
+
+-- a match's claims and interiors
+pub matched_numbered : (object : List NormalSection) (a b : Numbers) (claims : List Claim) (interiors : List Interior) (outcome : Result Matched MatchFault) (matched : Matched) → outcome ≡ Ok matched → claims ≡ matched.claims → interiors ≡ matched.interiors → Grows a b → All (IsUnknownNumbered a) claims → All (IsInteriorNumbered object b) interiors → IsNumbered object b outcome
+matched_numbered object a b claims interiors outcome matched is claims_is interiors_is grows numbered met =
+    subst (IsNumbered object b) (sym is)
+    (record {
+      claims = claims_kept a b matched.claims grows (subst (All (IsUnknownNumbered a)) claims_is numbered);
+      interiors = subst (All (IsInteriorNumbered object b)) interiors_is met;
+    })
+
+-- a place in an object of few sections fits a word
+pub place_fits : (object : List NormalSection) (name : List ℕ) (place : ℕ) → Some place ≡ place_named object name → length object ≤ 4096 → place < 4294967296
+place_fits object name place there few =
+    let (s, at, same) = section_at_place object name place (sym there) in
+    let within = slice_get_within object place s at in omega arith
+
+-- the point of an interior that was put in
+pub point_numbered : (object : List NormalSection) (n : Numbers) (i : Interior) (point : Point) → Some point ≡ point_of object i → Contains n.points point → IsInteriorNumbered object n i
+point_numbered object n i point is has = subst (HasPoint n.points) is has
+
+-- ---- one more
+-- what holds of each item up to a place holds of all where this is their end
+pub at_end : {X : Type 0} (P : X → Type 0) (xs : List X) (i : ℕ) → length xs ≤ i → All P (take i xs) → All P xs
+at_end P xs i end each = subst (All P) (take_all i xs end) each
+
+pub claims_more : (a b : Numbers) (claims : List Claim) (i : ℕ) (d : Claim) → i < length claims → d ≡ get_or claims i d → Grows a b → IsUnknownNumbered b d → All (IsUnknownNumbered a) (take i claims) → All (IsUnknownNumbered b) (take (i + 1) claims)
+claims_more a b claims i d within at grows own each =
+    All-more (IsUnknownNumbered b) claims i d within (claims_kept a b (take i claims) grows each) (subst (IsUnknownNumbered b) at own)
+
+pub interiors_more : (object : List NormalSection) (a b : Numbers) (interiors : List Interior) (i : ℕ) (d : Interior) → i < length interiors → d ≡ get_or interiors i d → Grows a b → IsInteriorNumbered object b d → All (IsInteriorNumbered object a) (take i interiors) → All (IsInteriorNumbered object b) (take (i + 1) interiors)
+interiors_more object a b interiors i d within at grows own each =
+    All-more (IsInteriorNumbered object b) interiors i d within (interiors_kept object a b (take i interiors) grows each) (subst (IsInteriorNumbered object b) at own)
+
+pub outcomes_more : (object : List NormalSection) (a b : Numbers) (tried : List Tried) (i : ℕ) (d : Tried) → i < length tried → d ≡ get_or tried i d → Grows a b → IsNumbered object b d.outcome → All (λ t. IsNumbered object a t.outcome) (take i tried) → All (λ t. IsNumbered object b t.outcome) (take (i + 1) tried)
+outcomes_more object a b tried i d within at grows own each =
+    All-more (λ t. IsNumbered object b t.outcome) tried i d within
+    (All-weaker (λ t. IsNumbered object a t.outcome) (λ t. IsNumbered object b t.outcome) (λ t. numbers_kept object a b t.outcome grows) (take i tried) each)
+    (subst (λ t. IsNumbered object b t.outcome) at own)

@@ -1,0 +1,3 @@
+-- What the code keeps: no public clause cites it.
+pub mod Numbers
+pub mod Left

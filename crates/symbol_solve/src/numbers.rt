@@ -1,0 +1,180 @@
+//! Numbers of what candidates claim and refer to.
+ghost use Rattle.std.specs.Prelude.{◌≡◌, All, IfOk, OnOk};
+ghost use Rattle.symbol_solve.specs.Clashes.{claims_in, interiors_in};
+ghost use Rattle.symbol_solve.specs.inside.Numbers.{claim_of, demand_of, point_of};
+ghost use Rattle.symbol_solve.specs.inside.Numbers.{IsNumbered, IsUnknownNumbered, IsInteriorNumbered, Grows};
+
+use i386_reloc::Normal;
+use indexmap::IndexSet;
+use match_candidates::Tried;
+use propagation::Demand;
+use run_pre_match::{Claim, Interior, MatchFault, Matched};
+use std::alloc::{AllocError, Global};
+use std::marker::Model;
+use symbol_table::Unknown;
+
+/// That an address is that of an offset in the section at a place.
+#[derive(Clone, Copy, PartialEq, Eq, Hash, Debug)]
+pub(crate) struct Point {
+    pub(crate) place: u32,
+    pub(crate) offset: u32,
+    pub(crate) address: u32,
+}
+
+/// What candidates claim values of, and the interiors that they refer to, each once and in the order in which they are
+/// met first.
+#[derive(Drop)]
+pub(crate) struct Numbers {
+    unknowns: IndexSet<Unknown>,
+    points: IndexSet<Point>,
+}
+
+impl Model for Numbers {
+    ghost use Rattle.symbol_solve.specs.inside.Numbers.{Numbers};
+
+    ghost Value = { Numbers };
+
+    ghost view = { λ n. record { unknowns = n.unknowns.keys; points = n.points.keys } };
+}
+
+impl Numbers {
+    /// The points by number.
+    pub(crate) fn points(&self) -> &[Point]
+        ensures { result.now ≡ self.now.points }
+    {
+        self.points.as_slice()
+    }
+
+    /// A claim with the number of its unknown.
+    pub(crate) fn claim(&self, claim: &Claim) -> Result<propagation::Claim, AllocError>
+        ensures { IfOk result (λ numbered. numbered ≡ claim_of self.now claim.now) }
+    {
+        let number = self.unknowns.get_index_of(&claim.unknown).unwrap_or(0);
+        Ok(propagation::Claim {
+            unknown: word(number)?,
+            value: claim.value,
+        })
+    }
+
+    /// What an interior asks of the section that it is in, `None` where the object has no such section.
+    pub(crate) fn demand(
+        &self,
+        object: &Normal<'_>,
+        interior: &Interior,
+    ) -> Result<Option<Demand>, AllocError>
+        ensures { IfOk result (λ demand. demand ≡ demand_of object.now self.now interior.now) }
+    {
+        let Some(point) = point_of(object, interior) else {
+            return Ok(None);
+        };
+        let number = self.points.get_index_of(&point).unwrap_or(0);
+        Ok(Some(Demand {
+            section: point.place,
+            number: word(number)?,
+        }))
+    }
+
+    /// Numbers the unknown of a claim.
+    fn add_claim(&mut self, claim: &Claim) -> Result<(), AllocError>
+        ensures grows { OnOk result (Grows self.old self.new) }
+        ensures numbered { OnOk result (IsUnknownNumbered self.new claim.now) }
+    {
+        let unknown = claim.unknown.clone()?;
+        self.unknowns.insert(unknown)?;
+        Ok(())
+    }
+
+    /// Numbers an interior, where the object has its section.
+    fn add_interior(&mut self, object: &Normal<'_>, interior: &Interior) -> Result<(), AllocError>
+        ensures grows { OnOk result (Grows self.old self.new) }
+        ensures numbered { OnOk result (IsInteriorNumbered object.now self.new interior.now) }
+    {
+        if let Some(point) = point_of(object, interior) {
+            self.points.insert(point)?;
+        }
+        Ok(())
+    }
+
+    /// Numbers the unknowns of claims.
+    fn add_claims(&mut self, claims: &[Claim]) -> Result<(), AllocError>
+        ensures grows { OnOk result (Grows self.old self.new) }
+        ensures numbered { OnOk result (All (IsUnknownNumbered self.new) claims.now) }
+    {
+        for claim in claims {
+            self.add_claim(claim)?;
+        }
+        Ok(())
+    }
+
+    /// Numbers interiors.
+    fn add_interiors(
+        &mut self,
+        object: &Normal<'_>,
+        interiors: &[Interior],
+    ) -> Result<(), AllocError>
+        ensures grows { OnOk result (Grows self.old self.new) }
+        ensures numbered { OnOk result (All (IsInteriorNumbered object.now self.new) interiors.now) }
+    {
+        for interior in interiors {
+            self.add_interior(object, interior)?;
+        }
+        Ok(())
+    }
+
+    /// Numbers what a candidate claims and refers to.
+    fn add_outcome(
+        &mut self,
+        object: &Normal<'_>,
+        outcome: &Result<Matched, MatchFault>,
+    ) -> Result<(), AllocError>
+        ensures grows { OnOk result (Grows self.old self.new) }
+        ensures numbered { OnOk result (IsNumbered object.now self.new outcome.now) }
+    {
+        if let Ok(matched) = outcome {
+            self.add_claims(matched.claims.as_slice())?;
+            self.add_interiors(object, matched.interiors.as_slice())?;
+        }
+        Ok(())
+    }
+}
+
+/// A number as 32 bits. More than these have no memory.
+pub(crate) fn word(number: usize) -> Result<u32, AllocError>
+    ensures { IfOk result (λ word. word ≡ number) }
+{
+    if number > u32::MAX as usize {
+        return Err(AllocError);
+    }
+    Ok(number as u32)
+}
+
+/// Where an interior lies, by the place of its section, `None` exactly where the object has no section of its name.
+fn point_of(object: &Normal<'_>, interior: &Interior) -> Option<Point>
+    ensures { result ≡ point_of object.now interior.now }
+{
+    let count = object.len();
+    let place = object.place(interior.section.as_slice())?;
+    Some(Point {
+        place: place as u32,
+        offset: interior.offset,
+        address: interior.address,
+    })
+}
+
+/// Numbers for all that candidates claim and refer to.
+pub(crate) fn number_all(
+    alloc: Global,
+    object: &Normal<'_>,
+    tried: &[Tried],
+) -> Result<Numbers, AllocError>
+    ensures { IfOk result (λ numbers. All (λ t. IsNumbered object.now numbers t.outcome) tried.now) }
+{
+    let mut numbers = Numbers {
+        unknowns: IndexSet::new(alloc),
+        points: IndexSet::new(alloc),
+    };
+    for t in tried {
+        numbers.add_outcome(object, &t.outcome)?;
+    }
+    Ok(numbers)
+}

@@ -1,0 +1,222 @@
+//! What is reported of two candidates that clash.
+ghost use Rattle.std.specs.Prelude.{◌≡◌, ◌<◌, length, IfOk};
+ghost use Rattle.std.specs.Option.{option_copied, option_map};
+ghost use Rattle.std.specs.List.{find};
+ghost use Rattle.symbol_table.specs.Unknowns.{same_unknown};
+ghost use Rattle.run_pre_match.specs.Bodies.{body_of};
+ghost use Rattle.run_pre_match.specs.Candidate.{Candidate};
+ghost use Rattle.propagation.specs.Conflicts.{first_some};
+ghost use Rattle.symbol_solve.specs.Clashes.{contradict, is_unmet, claims_in, interiors_in};
+ghost use Rattle.symbol_solve.specs.Conflicts.{unknown_name, claims_conflict, interior_conflict, conflict_of_claims, conflict_of_interiors, clash_between};
+ghost use Rattle.symbol_solve.specs.inside.Left.{IsOf, is_unmet_in};
+
+use crate::copies::copied_spot;
+use crate::left::Held;
+use image_memory::Space;
+use ks_base::{ConflictName, Name, Refusal, Spot};
+use match_candidates::Tried;
+use run_pre_match::{Body, Claim, Interior, PreCode};
+use std::alloc::{AllocError, Global};
+use symbol_table::Unknown;
+
+fn is_same(a: &Unknown, b: &Unknown) -> bool
+    ensures { result ≡ same_unknown a.now b.now }
+{
+    match (a, b) {
+        (Unknown::Code(a), Unknown::Code(b)) => a == b,
+        (Unknown::Data(a), Unknown::Data(b)) => a == b,
+        (Unknown::Outside(a), Unknown::Outside(b)) => a == b,
+        _ => false,
+    }
+}
+
+/// Whether two claims give one unknown two values.
+fn contradict(a: &Claim, b: &Claim) -> bool
+    ensures { result ≡ contradict a.now b.now }
+{
+    is_same(&a.unknown, &b.unknown) && a.value != b.value
+}
+
+/// The first of some claims that gives the unknown of a claim another value.
+fn contradiction<'c>(claims: &'c [Claim], claim: &Claim) -> Option<&'c Claim>
+    ensures { option_copied result ≡ find (contradict claim.now) claims.now }
+{
+    claims.iter().find(|other| contradict(claim, *other))
+}
+
+fn name_of(unknown: &Unknown) -> &Name
+    ensures { result.now ≡ unknown_name unknown.now }
+{
+    match unknown {
+        Unknown::Code(name) | Unknown::Data(name) | Unknown::Outside(name) => name,
+    }
+}
+
+fn claims_conflict(alloc: Global, a: &Claim, b: &Claim) -> Result<Refusal, AllocError>
+    ensures { IfOk result (λ refusal. refusal ≡ claims_conflict a.now b.now) }
+{
+    let named = ConflictName {
+        name: Name::from_slice(alloc, name_of(&a.unknown).as_slice())?,
+        offset: None,
+    };
+    Ok(Refusal::Conflict(
+        named,
+        a.value,
+        b.value,
+        copied_spot(alloc, &a.place)?,
+        copied_spot(alloc, &b.place)?,
+    ))
+}
+
+/// The first of some claims that one of others contradicts, with the first that does.
+#[tactic(auto, unfolding(propagation::specs::Conflicts::first_some))]
+fn conflict_of_claims(
+    alloc: Global,
+    ones: &[Claim],
+    others: &[Claim],
+) -> Result<Option<Refusal>, AllocError>
+    ensures { IfOk result (λ report. report
+        ≡ first_some (λ a. option_map (claims_conflict a) (find (contradict a) others.now)) ones.now) }
+{
+    for claim in ones {
+        if let Some(other) = contradiction(others, claim) {
+            return Ok(Some(claims_conflict(alloc, claim, other)?));
+        }
+    }
+    Ok(None)
+}
+
+/// Whether an interior goes to the section of a name and doesn't stand, in its body, for the number of its offset.
+fn is_unmet<S: Space>(body: &Body<'_, '_, '_, S>, name: &[u8], interior: &Interior) -> bool
+    ensures { result ≡ is_unmet_in body.now name.now interior.now }
+{
+    interior.section.as_slice() == name && !body.is_number_of(interior.offset, interior.address)
+}
+
+/// The first interior that goes to the section of a name and isn't met in its body.
+fn first_unmet<'i, S: Space>(
+    body: &Body<'_, '_, '_, S>,
+    name: &[u8],
+    interiors: &'i [Interior],
+) -> Option<&'i Interior>
+    ensures { option_copied result ≡ find (is_unmet_in body.now name.now) interiors.now }
+{
+    interiors
+        .iter()
+        .find(|interior| is_unmet(body, name, *interior))
+}
+
+fn interior_conflict<S: Space>(
+    alloc: Global,
+    body: &Body<'_, '_, '_, S>,
+    i: &Interior,
+) -> Result<Refusal, AllocError>
+    ensures { IfOk result (λ refusal. (d : Candidate) → body.now ≡ body_of d → refusal ≡ interior_conflict d i.now) }
+{
+    let name = i.section.as_slice();
+    let named = ConflictName {
+        name: Name::from_slice(alloc, name)?,
+        offset: Some(i.offset),
+    };
+    let target = Spot {
+        section: Name::from_slice(alloc, name)?,
+        offset: i.offset,
+    };
+    Ok(Refusal::Conflict(
+        named,
+        i.address,
+        body.address_of(i.offset),
+        copied_spot(alloc, &i.place)?,
+        target,
+    ))
+}
+
+/// The first of some interiors that isn't met in a candidate of a code section.
+#[tactic(auto, using(crate::proofs::Bodies::unmet_found))]
+fn conflict_of_interiors<S: Space>(
+    alloc: Global,
+    space: &S,
+    interiors: &[Interior],
+    code: &PreCode<'_, '_>,
+    base: u32,
+) -> Result<Option<Refusal>, AllocError>
+    ensures { IfOk result (λ report. (d : Candidate) → d.section ≡ code.now.section → d.contents ≡ S.contents space.now → d.base ≡ base
+        → report ≡ option_map (interior_conflict d) (find (is_unmet d) interiors.now)) }
+{
+    let body = code.body(alloc, space, base)?;
+    match first_unmet(&body, code.section().name.as_slice(), interiors) {
+        Some(interior) => Ok(Some(interior_conflict(alloc, &body, interior)?)),
+        None => Ok(None),
+    }
+}
+
+/// The claims of a candidate, none where it doesn't match.
+fn claims_of(tried: &Tried) -> &[Claim]
+    ensures { result.now ≡ claims_in tried.now.outcome }
+{
+    match &tried.outcome {
+        Ok(matched) => matched.claims.as_slice(),
+        Err(_) => &[],
+    }
+}
+
+/// Its references to interiors of other sections.
+fn interiors_of(tried: &Tried) -> &[Interior]
+    ensures { result.now ≡ interiors_in tried.now.outcome }
+{
+    match &tried.outcome {
+        Ok(matched) => matched.interiors.as_slice(),
+        Err(_) => &[],
+    }
+}
+
+fn claims_between(
+    alloc: Global,
+    one: &Held<'_, '_, '_>,
+    other: &Held<'_, '_, '_>,
+) -> Result<Option<Refusal>, AllocError>
+    ensures { IfOk result (λ report. (c d : Candidate) → IsOf one.now.code.now c one.now.tried.now
+        → IsOf other.now.code.now d other.now.tried.now → report ≡ conflict_of_claims c d) }
+{
+    conflict_of_claims(alloc, claims_of(one.tried), claims_of(other.tried))
+}
+
+fn interiors_between<S: Space>(
+    alloc: Global,
+    space: &S,
+    one: &Held<'_, '_, '_>,
+    other: &Held<'_, '_, '_>,
+) -> Result<Option<Refusal>, AllocError>
+    ensures { IfOk result (λ report. (c d : Candidate) → IsOf one.now.code.now c one.now.tried.now
+        → IsOf other.now.code.now d other.now.tried.now → d.contents ≡ S.contents space.now → report ≡ conflict_of_interiors c d) }
+{
+    conflict_of_interiors(
+        alloc,
+        space,
+        interiors_of(one.tried),
+        other.code,
+        other.tried.base,
+    )
+}
+
+/// What is reported of two candidates: the first claim of the first one that the second contradicts, or else the first interior of
+/// either that isn't met in the other.
+pub(crate) fn clash_between<S: Space>(
+    alloc: Global,
+    space: &S,
+    one: &Held<'_, '_, '_>,
+    other: &Held<'_, '_, '_>,
+) -> Result<Option<Refusal>, AllocError>
+    ensures { IfOk result (λ report. (c d : Candidate) → IsOf one.now.code.now c one.now.tried.now → c.contents ≡ S.contents space.now
+        → IsOf other.now.code.now d other.now.tried.now → d.contents ≡ S.contents space.now → report ≡ clash_between (c, d)) }
+{
+    let report = claims_between(alloc, one, other)?;
+    if report.is_some() {
+        return Ok(report);
+    }
+    let report = interiors_between(alloc, space, one, other)?;
+    if report.is_some() {
+        return Ok(report);
+    }
+    interiors_between(alloc, space, other, one)
+}

@@ -1,0 +1,104 @@
+//! What the unknowns of an object come to by the candidates that are left.
+ghost use Rattle.std.specs.Prelude.{◌≡◌, ◌++◌, ◌∷◌, [], false, Ok, OnOk};
+ghost use Rattle.std.specs.List.{flat_map, fold};
+ghost use Rattle.run_pre_match.specs.Candidate.{Candidate};
+ghost use Rattle.symbol_solve.specs.Solve.{has_value, with_value, is_code_unknown, address_value, values_with, values_of};
+ghost use Rattle.symbol_solve.specs.inside.Left.{IsOf};
+
+use crate::copies::copied_unknown;
+use ks_base::Name;
+use match_candidates::Tried;
+use run_pre_match::{Claim, Matched, PreCode};
+use std::alloc::{AllocError, Global};
+use symbol_table::{Solved, Unknown, Values};
+
+/// Whether an unknown has a value.
+#[tactic(auto, using(crate::proofs::Unknowns::found))]
+fn has_value(values: &Values, unknown: &Unknown) -> bool
+    ensures { result ≡ has_value values.now.entries unknown.now }
+{
+    values.get(unknown).copied().is_some()
+}
+
+/// Puts the value of an unknown that has none at the end.
+fn add(values: &mut Values, unknown: Unknown, solved: Solved) -> Result<(), AllocError>
+    requires { has_value values.old.entries unknown ≡ false }
+    ensures { OnOk result (values.new.entries ≡ values.old.entries ++ (unknown, solved) ∷ []) }
+{
+    values.insert(unknown, solved)?;
+    Ok(())
+}
+
+/// Adds a value, unless its unknown has one.
+fn put(values: &mut Values, unknown: Unknown, solved: Solved) -> Result<(), AllocError>
+    ensures { OnOk result (values.new.entries ≡ with_value values.old.entries (unknown, solved)) }
+{
+    if has_value(values, &unknown) {
+        return Ok(());
+    }
+    add(values, unknown, solved)
+}
+
+fn is_code_unknown(unknown: &Unknown) -> bool
+    ensures { result ≡ is_code_unknown unknown.now }
+{
+    matches!(unknown, Unknown::Code(_))
+}
+
+/// Adds what a claim says of a data section or an outside name.
+fn put_claim(alloc: Global, values: &mut Values, claim: &Claim) -> Result<(), AllocError>
+    ensures { OnOk result (values.new.entries ≡ fold with_value values.old.entries (address_value claim.now)) }
+{
+    if is_code_unknown(&claim.unknown) {
+        return Ok(());
+    }
+    let unknown = copied_unknown(alloc, &claim.unknown)?;
+    put(values, unknown, Solved::Address(claim.value))
+}
+
+/// Adds what claims say of data sections and outside names.
+fn put_claims(alloc: Global, values: &mut Values, claims: &[Claim]) -> Result<(), AllocError>
+    ensures { OnOk result (values.new.entries ≡ fold with_value values.old.entries (flat_map address_value claims.now)) }
+{
+    for claim in claims {
+        put_claim(alloc, values, claim)?;
+    }
+    Ok(())
+}
+
+/// Adds the values of a candidate that matches.
+fn put_match(
+    alloc: Global,
+    values: &mut Values,
+    code: &PreCode<'_, '_>,
+    tried: &Tried,
+    matched: &Matched,
+) -> Result<(), AllocError>
+    ensures { OnOk result ((c : Candidate) → IsOf code.now c tried.now
+        → values.new.entries ≡ fold with_value values.old.entries (values_with c (Ok matched.now))) }
+{
+    let name = Name::from_slice(alloc, code.section().name.as_slice())?;
+    let body = Solved::Body {
+        home: tried.home,
+        base: tried.base,
+        length: matched.length,
+    };
+    put(values, Unknown::Code(name), body)?;
+    put_claims(alloc, values, matched.claims.as_slice())
+}
+
+/// Adds the values of a candidate.
+pub(crate) fn put_candidate(
+    alloc: Global,
+    values: &mut Values,
+    code: &PreCode<'_, '_>,
+    tried: &Tried,
+) -> Result<(), AllocError>
+    ensures { OnOk result ((c : Candidate) → IsOf code.now c tried.now
+        → values.new.entries ≡ fold with_value values.old.entries (values_of c)) }
+{
+    match &tried.outcome {
+        Ok(matched) => put_match(alloc, values, code, tried, matched),
+        Err(_) => Ok(()),
+    }
+}
