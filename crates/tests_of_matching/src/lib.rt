@@ -1,5 +1,5 @@
-//! Tests of matching: `run_pre_match`, `propagation` and `match_candidates`. They stand apart so that these are proved
-//! once, and not once more for their tests.
+//! Tests of matching: `run_pre_match`, `propagation`, `match_candidates` and `symbol_solve`. They stand apart so that
+//! these are proved once, and not once more for their tests.
 #![tactic(auto)]
 
 #[cfg(test)]
@@ -14,6 +14,8 @@ mod hostile;
 mod later_calls;
 #[cfg(test)]
 mod ordered;
+#[cfg(test)]
+mod solving;
 #[cfg(test)]
 mod trying;
 #[cfg(test)]
