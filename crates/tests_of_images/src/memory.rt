@@ -10,14 +10,19 @@ use std::test::Fail;
 
 const LONG_CODE: [u8; 17] = [1, 2, 3, 4, 5, 6, 7, 8, 9, 10, 11, 12, 13, 14, 15, 16, 17];
 
-fn piece_of(alloc: Global, kind: Kind, base: u32, bytes: &[u8]) -> Result<Piece, AllocError>
+pub(crate) fn piece_of(
+    alloc: Global,
+    kind: Kind,
+    base: u32,
+    bytes: &[u8],
+) -> Result<Piece, AllocError>
     ensures { IfOk result (λ piece. piece ≡ record { kind = kind; base = base; bytes = bytes.now }) }
 {
     let bytes = Bytes::from_slice(alloc, bytes)?;
     Ok(Piece { kind, base, bytes })
 }
 
-fn alone(alloc: Global, piece: Piece) -> Result<Pieces, AllocError>
+pub(crate) fn alone(alloc: Global, piece: Piece) -> Result<Pieces, AllocError>
     ensures { IfOk result (λ pieces. pieces ≡ piece ∷ []) }
 {
     let mut pieces = Pieces::new(alloc);

@@ -15,6 +15,7 @@ use Rattle.ia32_step.specs.Step.{Left, context_of, exits, done, change_by, chang
 use Rattle.image_threads.specs.Program.{Program, running_at}
 use Rattle.image_threads.specs.Spawning.{Started, started, with_started, spawned as program_spawned}
 use Rattle.image_threads.specs.Stepping.{continued, moved_by as program_moved_by, moved as program_moved}
+use Rattle.splice_jump.specs.Jumps.{jumped}
 use Rattle.update_stack.specs.CallTable.{CallTable, is_home, view_in, machine_of}
 use Rattle.update_stack.specs.Steps.{step_at, step_in, after_step, moved_by, moved, after_start, spawned}
 use Rattle.update_stack.specs.StandsFor.{Seen, StandsFor, patched}
@@ -177,7 +178,7 @@ spawn_bare old new name argument (Ok number) none h same = spawn_keeps old new n
 spawn_bare old new name argument (Err refusal) none h same = ap (λ (p : Program). p.contents.fences) same ∙ none
 
 pub stands : (program : Program) (arena : Range) → program.contents.fences ≡ [] → StandsFor program (machine_of program arena)
-unfolding patched
+unfolding patched jumped
 stands program arena none =
     ap (λ (contents : Contents). let s : Seen = record { contents = contents; symbols = program.table.symbols; stacks = program.stacks; threads = program.threads } in s)
     (is_bare program.contents none)

@@ -1,6 +1,5 @@
--- Public clauses cite all of these: the machine that never patches code (CallTable, Steps, Events), the jump at a
--- home, and what stands for the machine.
-pub mod Jump
+-- Public clauses cite all of these: the machine that never patches code (CallTable, Steps, Events), and
+-- what stands for it (StandsFor).
 pub mod CallTable
 pub mod Steps
 pub mod Events

@@ -1,22 +1,16 @@
 -- When a system stands for the machine that never patches code: its code bytes are the machine's text, but for the jumps at homes.
-use Rattle.std.specs.Prelude.{◌≡◌, ℕ, List}
-use Rattle.std.specs.List.{fold}
+use Rattle.std.specs.Prelude.{◌≡◌, List}
 use Rattle.ks_base.specs.declared.places.Range.{Range}
-use Rattle.image_memory.specs.declared.types.Piece.{Piece}
 use Rattle.image_memory.specs.Contents.{Contents}
 use Rattle.symbol_table.specs.declared.symbols.Symbol.{Symbol}
 use Rattle.ia32_step.specs.declared.types.Thread.{Thread}
 use Rattle.image_threads.specs.Program.{Program}
-use Rattle.update_stack.specs.Jump.{with_jump}
+use Rattle.splice_jump.specs.Jumps.{jumped_memory}
 use Rattle.update_stack.specs.CallTable.{CallTable, bodies_in, contents_of}
-
--- pieces with the jump to the newest base at the home of a row
-abbrev pub with_row : List Piece → ℕ × ℕ → List Piece
-with_row pieces row = with_jump row.0 row.1 pieces
 
 -- The memory that a system has for the machine: the machine's own, with the jump at the home of each row.
 unfoldable pub patched : CallTable → Contents
-patched k = record (contents_of k) { pieces = fold with_row k.pieces (bodies_in k.table) }
+patched k = jumped_memory (bodies_in k.table) (contents_of k)
 
 -- what is seen of a program: memory, symbols, stacks and threads, and nothing of what is spare
 pub record Seen : Type 0 where

@@ -1,0 +1,118 @@
+-- What jumps leave as it was: what a thread meets, and all bytes but theirs.
+use Rattle.std.proofs.Common.{◌≡◌, ℕ, zero, suc, ◌+◌, ◌-◌, ◌≤◌, ◌<◌, Bool, true, false, cond, List, [], ◌∷◌, map}
+use Rattle.std.proofs.Common.{length, get_or, take, Option, Some, None, refl, sym, ap, ◌∙◌, arith, nat_lt}
+use Rattle.std.specs.Option.{option_map, unwrap_or}
+use Rattle.std.specs.List.{find, list_any, All, AllPairs}
+use Rattle.std.proofs.lemmas.List.{ext_get_or, length-map, get_or-map, length-take-le, get_or-take}
+use Rattle.ks_base.specs.declared.places.Range.{Range}
+use Rattle.image_memory.specs.Ranges.{lies_in}
+use Rattle.image_memory.specs.Contents.{Contents, IsValid, fence_range, spliced_at}
+use Rattle.image_memory.specs.Fetch.{AtHome, Stray, Bytes, code_from, cut_before, window_of, seen_in, view, view_at}
+use Rattle.image_memory.specs.Fetch.{jump_at}
+use Rattle.splice_jump.specs.Jump.{jump_bytes}
+use Rattle.splice_jump.specs.Jumps.{jumped, jumped_memory, AreSpliced}
+use Rattle.splice_jump.proofs.WriteLaws.{bytes_after, Misses, Away, length-bytes_after, get_or-bytes_after, jump_of}
+use Rattle.splice_jump.proofs.WriteLaws.{jumps_of, jumped-is, byte_outside, byte_inside, code_from-after}
+use Rattle.splice_jump.proofs.RowLaws.{homes_apart, Before, before_jumps}
+
+-- code that no write reaches
+take_outside : (ws : List (ℕ × List ℕ)) (n pc : ℕ) (xs : List ℕ) → ((k : ℕ) → k < n → All (Misses (pc + k)) ws)
+    → take n (bytes_after ws pc xs) ≡ take n xs
+unfolding bytes_after
+take_outside ws zero pc xs h = refl
+take_outside ws (suc n) pc [] h = refl
+take_outside ws (suc n) pc (x ∷ xs) h =
+    let e : pc + 0 ≡ pc = omega arith in
+    let first = byte_outside ws pc x (rw e at (h 0 (omega arith))) in
+    let rest = take_outside ws n (pc + 1) xs (λ k l.
+    let f : pc + suc k ≡ (pc + 1) + k = omega arith in
+    rw f at (h (suc k) (omega arith))) in
+    rw (first, rest) refl
+
+pub all_outside : (ws : List (ℕ × List ℕ)) (pc : ℕ) (xs : List ℕ)
+    → ((k : ℕ) → k < length xs → All (Misses (pc + k)) ws)
+    → bytes_after ws pc xs ≡ xs
+unfolding bytes_after
+all_outside ws pc [] h = refl
+all_outside ws pc (x ∷ xs) h =
+    let e : pc + 0 ≡ pc = omega arith in
+    let first = byte_outside ws pc x (rw e at (h 0 (omega arith))) in
+    let rest = all_outside ws (pc + 1) xs (λ k l.
+    let f : pc + suc k ≡ (pc + 1) + k = omega arith in
+    rw f at (h (suc k) (omega arith))) in
+    rw (first, rest) refl
+
+cut_outside : (ws : List (ℕ × List ℕ)) (pc : ℕ) (next : Option Range) (xs : List ℕ)
+    → ((a : ℕ) → pc ≤ a → Before a next → All (Misses a) ws)
+    → cut_before pc next (bytes_after ws pc xs) ≡ cut_before pc next xs
+cut_outside ws pc None xs h = all_outside ws pc xs (λ k l. h (pc + k) (omega arith) tt)
+cut_outside ws pc (Some range) xs h =
+    take_outside ws (range.low - pc) pc xs (λ k l. h (pc + k) (omega arith) (omega arith))
+
+-- what is met
+pub view_stays : (contents : Contents) (rows : List (ℕ × ℕ)) (pc : ℕ) → IsValid contents → AreSpliced contents rows
+    → view_at (jumped_memory rows contents) pc ≡ view_at contents pc
+unfolding view
+view_stays contents rows pc valid spliced =
+    rw (jumped-is rows contents.pieces, code_from-after (jumps_of rows) contents.pieces pc)
+    (by_code (code_from contents.pieces pc))
+  where
+    by_fence : (code : List ℕ) (b : Bool) → list_any (lies_in pc) (map fence_range contents.fences) ≡ b
+        → cond b Stray (Bytes (window_of (map fence_range contents.fences) pc (bytes_after (jumps_of rows) pc code)))
+        ≡ cond b Stray (Bytes (window_of (map fence_range contents.fences) pc code))
+    by_fence code true is = refl
+    by_fence code false is =
+        ap (λ (bytes : List ℕ). Bytes (take 15 bytes))
+        (cut_outside (jumps_of rows) pc (find (λ range. nat_lt pc range.low) (map fence_range contents.fences)) code
+        (λ a from before. before_jumps contents rows pc a valid spliced from is before))
+
+    by_home : (code : List ℕ) (b : Bool)
+        → cond b AtHome (cond (list_any (lies_in pc) (map fence_range contents.fences)) Stray
+        (Bytes (window_of (map fence_range contents.fences) pc (bytes_after (jumps_of rows) pc code))))
+        ≡ cond b AtHome (cond (list_any (lies_in pc) (map fence_range contents.fences)) Stray
+        (Bytes (window_of (map fence_range contents.fences) pc code)))
+    by_home code true = refl
+    by_home code false = by_fence code (list_any (lies_in pc) (map fence_range contents.fences)) refl
+
+    by_code : (code : Option (List ℕ))
+        → seen_in (spliced_at contents.fences) (map fence_range contents.fences) pc
+        (option_map (bytes_after (jumps_of rows) pc) code)
+        ≡ seen_in (spliced_at contents.fences) (map fence_range contents.fences) pc code
+    by_code None = refl
+    by_code (Some code) = by_home code (spliced_at contents.fences pc)
+
+-- the jump at a home
+jump_after : (ws : List (ℕ × List ℕ)) (i : ℕ) (d : ℕ × List ℕ) (home : ℕ) (bytes code : List ℕ) → AllPairs Away ws
+    → i < length ws
+    → (get_or ws i d).0 ≡ home → (get_or ws i d).1 ≡ bytes → length bytes ≡ 5 → 5 ≤ length code
+    → take 5 (bytes_after ws home code) ≡ bytes
+jump_after ws i d home bytes code apart l low is five room =
+    let long : 5 ≤ length (bytes_after ws home code) = rw (length-bytes_after ws home code) room in
+    ext_get_or 0 _ _ (length-take-le 5 (bytes_after ws home code) long ∙ sym five) (λ k m.
+    let n : k < 5 = rw (length-take-le 5 (bytes_after ws home code) long) at m in
+    let high : home + k < (get_or ws i d).0 + length (get_or ws i d).1 = rw (low, is, five) (omega arith) in
+    let e : home + k - (get_or ws i d).0 ≡ k = rw low (omega arith) in
+    get_or-take 5 (bytes_after ws home code) k 0 n
+    ∙ (get_or-bytes_after ws home code k (omega arith)
+    ∙ (byte_inside ws i d (home + k) (get_or code k 0) apart l (rw low (omega arith)) high
+    ∙ rw (e, is) refl)))
+
+pub jump_stands : (contents : Contents) (rows : List (ℕ × ℕ)) → IsValid contents → AreSpliced contents rows
+    → All (λ row. jump_at (jumped rows contents.pieces) row.0 ≡ jump_bytes row.0 row.1) rows
+jump_stands contents rows valid spliced i d l =
+    let row = get_or rows i d in
+    let e = get_or-map jump_of rows i d (jump_of d) l in
+    let m : i < length (jumps_of rows) = rw length-map l in
+    rw (jumped-is rows contents.pieces, code_from-after (jumps_of rows) contents.pieces row.0)
+    (by_code (code_from contents.pieces row.0) (spliced.each i d l).code m e)
+  where
+    by_code : (code : Option (List ℕ)) → 5 ≤ length (unwrap_or code []) → i < length (jumps_of rows)
+        → get_or (jumps_of rows) i (jump_of d) ≡ jump_of (get_or rows i d)
+        → take 5 (unwrap_or (option_map (bytes_after (jumps_of rows) (get_or rows i d).0) code) [])
+        ≡ jump_bytes (get_or rows i d).0 (get_or rows i d).1
+    by_code None room m e = absurd (omega arith)
+    by_code (Some code) room m e =
+        let row = get_or rows i d in
+        jump_after (jumps_of rows) i (jump_of d) row.0 (jump_bytes row.0 row.1) code
+        (homes_apart contents rows valid spliced) m (ap (λ (w : ℕ × List ℕ). w.0) e)
+        (ap (λ (w : ℕ × List ℕ). w.1) e) refl room

@@ -1,0 +1,162 @@
+-- What stays true of memory with jumps: it is a memory, and its homes stay spliced while it changes.
+use Rattle.std.proofs.Common.{◌≡◌, ◌≢◌, ℕ, zero, suc, ◌≤◌, ◌<◌, Bool, true, false, cond}
+use Rattle.std.proofs.Common.{List, [], ◌∷◌, ◌++◌, map, length, get_or, nat_lt}
+use Rattle.std.proofs.Common.{Option, Some, None, refl, ◌∙◌, arith, inl, inr}
+use Rattle.std.specs.Option.{option_map, unwrap_or}
+use Rattle.std.specs.List.{All, Any}
+use Rattle.std.proofs.lemmas.List.{length-map, get_or-map, length-append, get_or_append_left}
+use Rattle.std.proofs.lemmas.List.Elements.{All-push}
+use Rattle.std.proofs.lemmas.List.Quantifiers.{all_pairs_push}
+use Rattle.image_memory.specs.declared.types.Fence.{Fence}
+use Rattle.image_memory.specs.declared.types.Piece.{Piece}
+use Rattle.image_memory.specs.Ranges.{lies_in, MeetsNone, Ascends}
+use Rattle.image_memory.specs.Contents.{Contents, ArePlaced, IsValid, piece_range, holding}
+use Rattle.image_memory.specs.Access.{written, after_write}
+use Rattle.image_memory.specs.Fetch.{code_from, HasCode}
+use Rattle.image_memory.specs.Changes.{with_piece, with_fence, after_add, after_fence}
+use Rattle.image_memory.proofs.RangeLaws.{above, below}
+use Rattle.splice_jump.specs.Jumps.{jumped_memory, unjumped, IsFenced, IsSpliced, AreSpliced}
+use Rattle.splice_jump.proofs.CodeLaws.{code_at}
+use Rattle.splice_jump.proofs.WriteLaws.{bytes_after, piece_after, length-bytes_after, unjumped-is, jumps_of}
+use Rattle.splice_jump.proofs.WriteLaws.{jumped-is, code_from-after, in_or_out}
+use Rattle.splice_jump.proofs.ChangeLaws.{not_held_twice}
+
+-- pieces stay in their places
+Ascends-after : (ws : List (ℕ × List ℕ)) (floor : ℕ) (ps : List Piece) → Ascends piece_range floor ps
+    → Ascends piece_range floor (map (piece_after ws) ps)
+Ascends-after ws floor [] up = tt
+Ascends-after ws floor (p ∷ ps) up =
+    rw (length-bytes_after ws p.base p.bytes) (up.0, up.1, Ascends-after ws (piece_range p).high ps up.2)
+
+placed_after : (ws : List (ℕ × List ℕ)) (ps : List Piece) → ArePlaced ps → ArePlaced (map (piece_after ws) ps)
+placed_after ws ps placed = record {
+  ascend = Ascends-after ws 0 ps placed.ascend;
+  end_below = λ k d l.
+      let m : k < length ps = rw length-map at l in
+      let p = get_or ps k d in
+      rw (get_or-map (piece_after ws) ps k d d m, length-bytes_after ws p.base p.bytes) (placed.end_below k d m);
+}
+
+pub valid_jumped : (contents : Contents) (rows : List (ℕ × ℕ)) → IsValid contents
+    → IsValid (jumped_memory rows contents)
+valid_jumped contents rows valid = record {
+  placed = rw (jumped-is rows contents.pieces) (placed_after (jumps_of rows) contents.pieces valid.placed);
+  fenced = valid.fenced;
+}
+
+-- homes stay spliced where their code does and their fences do
+pub still_spliced : (before after : Contents) (rows : List (ℕ × ℕ)) → AreSpliced before rows
+    → ((home : ℕ) → HasCode before.pieces home 5 → HasCode after.pieces home 5)
+    → ((home : ℕ) → Any (IsFenced home) before.fences → Any (IsFenced home) after.fences) → AreSpliced after rows
+still_spliced before after rows spliced codes fences = record {
+  each = λ k d l.
+      let one = spliced.each k d l in
+      record { code = codes (get_or rows k d).0 one.code; fence = fences (get_or rows k d).0 one.fence };
+  once = spliced.once;
+}
+
+code_after : (ws : List (ℕ × List ℕ)) (ps : List Piece) (home count : ℕ) → HasCode ps home count
+    → HasCode (map (piece_after ws) ps) home count
+code_after ws ps home count code = rw (code_from-after ws ps home) (each (code_from ps home) code)
+  where
+    each : (o : Option (List ℕ)) → count ≤ length (unwrap_or o [])
+        → count ≤ length (unwrap_or (option_map (bytes_after ws home) o) [])
+    each None room = room
+    each (Some code) room = rw (length-bytes_after ws home code) room
+
+pub spliced_jumped : (contents : Contents) (rows others : List (ℕ × ℕ)) → AreSpliced contents rows
+    → AreSpliced (jumped_memory others contents) rows
+spliced_jumped contents rows others spliced =
+    still_spliced contents (jumped_memory others contents) rows spliced
+    (λ home code. rw (jumped-is others contents.pieces) (code_after (jumps_of others) contents.pieces home 5 code))
+    (λ home fence. fence)
+
+one_write : (start : ℕ) (bytes : List ℕ) (ps : List Piece)
+    → written start bytes ps ≡ unjumped ((start, bytes) ∷ []) ps
+unfolding unjumped
+one_write start bytes ps = refl
+
+pub code_written : (ps : List Piece) (start : ℕ) (bytes : List ℕ) (home count : ℕ) → HasCode ps home count
+    → HasCode (written start bytes ps) home count
+code_written ps start bytes home count code =
+    rw (one_write start bytes ps ∙ unjumped-is ((start, bytes) ∷ []) ps)
+    (code_after ((start, bytes) ∷ []) ps home count code)
+
+pub spliced_written : (contents : Contents) (rows : List (ℕ × ℕ)) (start : ℕ) (bytes : List ℕ)
+    → AreSpliced contents rows
+    → AreSpliced (after_write contents start bytes) rows
+spliced_written contents rows start bytes spliced =
+    still_spliced contents (after_write contents start bytes) rows spliced
+    (λ home code. code_written contents.pieces start bytes home 5 code) (λ home fence. fence)
+
+-- a piece more holds no other addresses than its own
+holding-put : (piece : Piece) (ps : List Piece) (a : ℕ) → lies_in a (piece_range piece) ≡ false
+    → holding (with_piece piece ps) a ≡ holding ps a
+holding-put piece [] a out = rw out refl
+holding-put piece (p ∷ ps) a out = by_order (nat_lt piece.base p.base) (holding-put piece ps a out)
+  where
+    by_order : (b : Bool) → holding (with_piece piece ps) a ≡ holding ps a
+        → holding (cond b (piece ∷ p ∷ ps) (p ∷ with_piece piece ps)) a ≡ holding (p ∷ ps) a
+    by_order true rest = rw out refl
+    by_order false rest = rw rest refl
+
+pub spliced_added : (contents : Contents) (rows : List (ℕ × ℕ)) (piece : Piece) → IsValid contents
+    → AreSpliced contents rows
+    → MeetsNone piece_range (piece_range piece) contents.pieces → AreSpliced (after_add contents piece) rows
+spliced_added contents rows piece valid spliced apart =
+    still_spliced contents (after_add contents piece) rows spliced kept (λ home fence. fence)
+  where
+    out : (home : ℕ) → HasCode contents.pieces home 5 → lies_in home (piece_range piece) ≡ false
+    out home code = elim (in_or_out piece.base (piece_range piece).high home) [
+      | inr (inl low) ↦ below home (piece_range piece) low
+      | inr (inr high) ↦ above home (piece_range piece) high
+      | inl among ↦
+          absurd (not_held_twice contents.pieces piece home apart
+          (code_at contents home 5 home valid code (omega arith) (omega arith)) among.0 among.1)
+    ]
+
+    kept : (home : ℕ) → HasCode contents.pieces home 5 → HasCode (with_piece piece contents.pieces) home 5
+    kept home code = rw (holding-put piece contents.pieces home (out home code)) code
+
+-- a fence more
+any_put : (P : Fence → Type 0) (fence : Fence) (fences : List Fence) (k : ℕ) (y : Fence) → k < length fences
+    → get_or fences k y ≡ y → P y → Any P (with_fence fence fences)
+any_put P fence [] k y l is h = absurd (omega arith)
+any_put P fence (x ∷ xs) zero y l is h = by_order (nat_lt fence.range.low x.range.low)
+  where
+    by_order : (b : Bool) → Any P (cond b (fence ∷ x ∷ xs) (x ∷ with_fence fence xs))
+    by_order true = (1, y, omega arith, is, h)
+    by_order false = (0, y, omega arith, is, h)
+any_put P fence (x ∷ xs) (suc k) y l is h =
+    by_order (nat_lt fence.range.low x.range.low) (any_put P fence xs k y (omega arith) is h)
+  where
+    by_order : (b : Bool) → Any P (with_fence fence xs) → Any P (cond b (fence ∷ x ∷ xs) (x ∷ with_fence fence xs))
+    by_order true rest = (suc (suc k), y, omega arith, is, h)
+    by_order false rest = let m = rest.2 in (suc rest.0, rest.1, omega arith, rest.3, rest.4)
+
+pub spliced_fenced : (contents : Contents) (rows : List (ℕ × ℕ)) (fence : Fence) → AreSpliced contents rows
+    → AreSpliced (after_fence contents fence) rows
+spliced_fenced contents rows fence spliced =
+    still_spliced contents (after_fence contents fence) rows spliced (λ home code. code)
+    (λ home at. any_put (IsFenced home) fence contents.fences at.0 at.1 at.2 at.3 at.4)
+
+-- a row more and a row fewer
+pub spliced_appended : (contents : Contents) (rows : List (ℕ × ℕ)) (home base : ℕ) → AreSpliced contents rows
+    → IsSpliced contents home → All (λ row. row.0 ≢ home) rows → AreSpliced contents (rows ++ (home, base) ∷ [])
+spliced_appended contents rows home base spliced one other = record {
+  each = All-push (λ row. IsSpliced contents row.0) rows (home, base) spliced.each one;
+  once = all_pairs_push (λ row next. row.0 ≢ next.0) rows (home, base) spliced.once other;
+}
+
+pub spliced_before : (contents : Contents) (rows : List (ℕ × ℕ)) (home base : ℕ)
+    → AreSpliced contents (rows ++ (home, base) ∷ []) → AreSpliced contents rows
+spliced_before contents rows home base spliced =
+    let last : List (ℕ × ℕ) = (home, base) ∷ [] in
+    let long = length-append rows last in
+    record {
+      each = λ k d l. rw (get_or_append_left rows last d k l) at (spliced.each k d (rw long (omega arith)));
+      once = λ i j d first l.
+          let m : i < length rows = omega arith in
+          rw (get_or_append_left rows last d i m, get_or_append_left rows last d j l)
+          at (spliced.once i j d first (rw long (omega arith)));
+    }

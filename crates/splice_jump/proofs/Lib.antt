@@ -1,0 +1,7 @@
+pub mod CodeLaws
+pub mod WriteLaws
+pub mod RowLaws
+pub mod JumpLaws
+pub mod DataLaws
+pub mod ChangeLaws
+pub mod KeepLaws
