@@ -1,3 +1,4 @@
+mod AlikeLaws
 pub mod FirstLaws
 pub mod CodeLaws
 pub mod HomeLaws

@@ -3,9 +3,11 @@
 
 mod codes;
 mod homes;
+pub mod laws;
 pub mod running;
 pub mod trials;
 mod trying;
 
+pub use laws::alike_programs_have_alike_candidates;
 pub use running::Running;
 pub use trials::{Trials, Tried, try_all};

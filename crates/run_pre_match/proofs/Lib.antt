@@ -1,5 +1,8 @@
 mod Agreeing
 mod Aims
+mod Alike
+mod AlikeFound
+mod AlikeRuns
 mod AllBelow
 mod BodyLaws
 mod BodyPlaces
@@ -16,6 +19,7 @@ mod KeptLaws
 mod KindsOf
 mod LeastLaws
 mod ListParts
+mod Lengths
 mod Listed
 mod MetLaws
 mod NamedLaws

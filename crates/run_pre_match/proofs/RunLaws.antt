@@ -96,12 +96,12 @@ window_shows contents pc r away tells =
     shows (view_at contents pc) (jump_at contents.pieces pc) r (not_home contents pc away) tells
 
 -- the code and what it spells, where an instruction is met
-record Spelled (address : ℕ) (v : View) (i : Instruction) : Type 0 where
-  code : List ℕ
-  decoded : Decoded
-  met : v ≡ Bytes code
-  spells : decoded_from code ≡ Some decoded
-  same : run_instruction address code decoded ≡ i
+pub record Spelled (address : ℕ) (v : View) (i : Instruction) : Type 0 where
+  pub code : List ℕ
+  pub decoded : Decoded
+  pub met : v ≡ Bytes code
+  pub spells : decoded_from code ≡ Some decoded
+  pub same : run_instruction address code decoded ≡ i
 
 spelled_in : (address : ℕ) (code : List ℕ) (o : Option Decoded) (i : Instruction) → decoded_from code ≡ o →
     option_map (run_instruction address code) o ≡ Some i → Spelled address (Bytes code) i
@@ -114,7 +114,7 @@ spelled address AtHome i is = absurd (cc)
 spelled address Stray i is = absurd (cc)
 spelled address (Bytes code) i is = spelled_in address code (decoded_from code) i refl is
 
-spelled_at : (contents : Contents) (address : ℕ) (i : Instruction) → run_instruction_at contents address ≡ Some i →
+pub spelled_at : (contents : Contents) (address : ℕ) (i : Instruction) → run_instruction_at contents address ≡ Some i →
     Spelled address (view_at contents address) i
 unfolding run_instruction_at
 spelled_at contents address i is = spelled address (view_at contents address) i is

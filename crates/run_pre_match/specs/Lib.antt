@@ -1,7 +1,8 @@
 -- Public clauses cite Landing (where a section's code can't be matched), Candidate, Goals, Found, Differences and
 -- Matched (what comes of a candidate), Match (what a match is, with no order in which anything is found) and Bodies
--- (where an offset stands in a running body); they stand on Instructions, PreCode, RunCode (the two lists of
--- instructions) and Constants (what lies in read-only memory). What stands in inside is the code's own.
+-- (where an offset stands in a running body), and laws Alike (memories in which all of this is the same); they stand on
+-- Instructions, PreCode, RunCode (the two lists of instructions) and Constants (what lies in read-only memory). What
+-- stands in inside is the code's own.
 pub mod Instructions
 pub mod PreCode
 pub mod Landing
@@ -14,4 +15,5 @@ pub mod Differences
 pub mod Matched
 pub mod Match
 pub mod Bodies
+pub mod Alike
 pub mod inside

@@ -1,13 +1,22 @@
 //! What holds of every match.
-ghost use Rattle.std.specs.Prelude.{◌≡◌, Some, Ok, map};
+ghost use Rattle.std.specs.Prelude.{◌≡◌, ◌<◌, ◌≤◌, ℕ, ◌+◌, List, All, None, Some, Ok, length, map};
 ghost use Rattle.std.specs.List.{Contains, IsDistinct, slice_get};
 ghost use Rattle.i386_reloc.specs.Normal.{same_bytes, name_of};
+ghost use Rattle.i386_reloc.specs.declared.types.NormalSection.{NormalSection};
+ghost use Rattle.image_memory.specs.Contents.{Contents, IsValid};
+ghost use Rattle.run_pre_match.specs.Alike.{AreAlike, HasFieldsInside, in_memory};
+ghost use Rattle.run_pre_match.specs.Bodies.{body_at, body_of};
 ghost use Rattle.run_pre_match.specs.Candidate.{Candidate};
+ghost use Rattle.run_pre_match.specs.Instructions.{kept_of};
+ghost use Rattle.run_pre_match.specs.Landing.{undecoded_offset};
 ghost use Rattle.run_pre_match.specs.Match.{Valuation, Match, Says};
-ghost use Rattle.run_pre_match.specs.Matched.{home_claim, outcome};
+ghost use Rattle.run_pre_match.specs.Matched.{PreSection, home_claim, outcome};
+ghost use Rattle.run_pre_match.specs.PreCode.{pre_code};
 ghost use Rattle.run_pre_match.specs.declared.goals.Goal.{Goal};
 ghost use Rattle.run_pre_match.specs.declared.types.Claim.{Claim};
 ghost use Rattle.run_pre_match.specs.declared.types.Matched.{Matched};
+
+use ia32_decode::instructions_have_bytes;
 
 /// The claims of a match in an object whose names are distinct give one thing one value, and the own home is the first
 /// of them.
@@ -27,3 +36,30 @@ pub fn matches_have_one_valuation()
     ensures says { (c : Candidate) (v : Valuation) (m : Matched) → slice_get c.object c.place ≡ Some c.section →
         Match c v → outcome c ≡ Ok m → Says c v m }
 {}
+
+/// In memories where the same is met at each address and the same stands in read-only memory, a candidate comes to the
+/// same, and so does what stands at each place of its body. Of bytes that are never met, as those of a jump at a home,
+/// nothing is seen.
+pub fn alike_memories_match_alike()
+    ensures outcome { (c : Candidate) (contents : Contents) → AreAlike c.contents contents
+        → All HasFieldsInside c.object
+        → outcome c ≡ outcome (in_memory contents c) }
+    ensures body { (c : Candidate) (contents : Contents) → AreAlike c.contents contents
+        → body_of c ≡ body_of (in_memory contents c) }
+    ensures body_at { (pre : PreSection) (a b : Contents) (base : ℕ) → AreAlike a b
+        → body_at pre a base ≡ body_at pre b base }
+{}
+
+/// A section whose code can be matched has a kept instruction. The body of a match of such a section isn't empty, and
+/// ends where a piece of code does or before.
+pub fn bodies_lie_in_code()
+    ensures kept { (object : List NormalSection) (section : NormalSection) → undecoded_offset object section ≡ None
+        → 0 < length (kept_of (pre_code section)) }
+    ensures some { (c : Candidate) (m : Matched) → IsValid c.contents → 0 < length (kept_of (pre_code c.section))
+        → outcome c ≡ Ok m → 0 < m.length }
+    ensures low { (c : Candidate) (m : Matched) → IsValid c.contents → 0 < length (kept_of (pre_code c.section))
+        → outcome c ≡ Ok m → c.base + m.length ≤ 0xFFFF_0000 }
+{
+    // Nothing is done here: the law says that each instruction has a byte, and no more than are there.
+    instructions_have_bytes();
+}

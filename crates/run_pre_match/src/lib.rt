@@ -29,6 +29,8 @@ mod values;
 
 pub use bodies::Body;
 pub use code::{PreCode, PreObject, match_body};
-pub use laws::{claims_agree, matches_have_one_valuation};
+pub use laws::{
+    alike_memories_match_alike, bodies_lie_in_code, claims_agree, matches_have_one_valuation,
+};
 pub use running::{RunInstruction, instruction_at, run_code_goes_on};
 pub use types::{Claim, Claims, Interior, Interiors, MatchFault, Matched};

@@ -34,7 +34,7 @@ map_on P g h f same [] each = refl
 map_on P g h f same (x ∷ xs) each =
     λ i. same x (All-head P x xs each) i ∷ map_on P g h f same xs (All-tail P x xs each) i
 
-filter_through : {X Y : Type 0} (p : Y → Bool) (q : X → Bool) (f : X → Y) → ((x : X) → p (f x) ≡ q x) → (xs : List X) → filter p (map f xs) ≡ map f (filter q xs)
+pub filter_through : {X Y : Type 0} (p : Y → Bool) (q : X → Bool) (f : X → Y) → ((x : X) → p (f x) ≡ q x) → (xs : List X) → filter p (map f xs) ≡ map f (filter q xs)
 filter_through p q f same [] = refl
 filter_through {X} {Y} p q f same (x ∷ xs) =
     ap (λ b. cond b (f x ∷ filter p (map f xs)) (filter p (map f xs))) (same x)
@@ -45,7 +45,7 @@ filter_through {X} {Y} p q f same (x ∷ xs) =
     by false rest = rest
 
 -- both of a pair, where there is one
-abbrev OfPair : {X : Type 0} → (X → Type 0) → Option (X × X) → Type 0
+abbrev pub OfPair : {X : Type 0} → (X → Type 0) → Option (X × X) → Type 0
 OfPair P None = Unit {0}
 OfPair P (Some pair) = P pair.0 × P pair.1
 
@@ -63,7 +63,7 @@ clashing_pair : {X : Type 0} (P : X → Type 0) (rules : Rules X) (a b : X) → 
 clashing_pair P rules a b here there =
     elim (rules.clashes a b) as (λ t. OfPair P (cond t (Some (a, b)) None)) [ true ↦ (here, there) | false ↦ tt ]
 
-conflict_pair : {X : Type 0} (P : X → Type 0) (rules : Rules X) (sections : List (List X)) → All (All P) sections → OfPair P (conflict rules sections)
+pub conflict_pair : {X : Type 0} (P : X → Type 0) (rules : Rules X) (sections : List (List X)) → All (All P) sections → OfPair P (conflict rules sections)
 unfolding first_between
 conflict_pair P rules [] each = tt
 conflict_pair P rules (ones ∷ rest) each =

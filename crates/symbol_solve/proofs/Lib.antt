@@ -16,3 +16,5 @@ mod SolutionLaws
 mod RefusalLaws
 mod OnlyLaws
 mod SolvedLaws
+mod AlikeLaws
+mod AnsweredLaws

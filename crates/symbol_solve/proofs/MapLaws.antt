@@ -57,7 +57,7 @@ first_at eq one self xs x has =
     let there : slice_get xs k ≡ Some x = slice_get-get_or xs k x below ∙ ap (λ y. Some y) (sym (one x (get_or xs k x) passes)) in
     (subst (λ n. n < length xs) (sym number) below, ap (slice_get xs) number ∙ there)
 
-same_self : (u : Unknown) → same_unknown u u ≡ true
+pub same_self : (u : Unknown) → same_unknown u u ≡ true
 same_self (Code a) = nat_list_eq_equiv.refl a
 same_self (Data a) = nat_list_eq_equiv.refl a
 same_self (Outside a) = nat_list_eq_equiv.refl a

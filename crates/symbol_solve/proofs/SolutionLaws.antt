@@ -23,7 +23,7 @@ second_of : (a b : Bool) → a ≡ true → (not a || (a && b)) ≡ true → b �
 second_of true b is both = both
 second_of false b is both = absurd cc
 
-map_has : {X Y : Type 0} (f : X → Y) (xs : List X) (y : Y) → Has (map f xs) y → (x : X) × Has xs x × (f x ≡ y)
+pub map_has : {X Y : Type 0} (f : X → Y) (xs : List X) (y : Y) → Has (map f xs) y → (x : X) × Has xs x × (f x ≡ y)
 map_has f [] y has = absurd has
 map_has f (x ∷ xs) y (inl is) = (x, inl refl, is)
 map_has f (x ∷ xs) y (inr rest) =

@@ -27,7 +27,7 @@ use Rattle.symbol_solve.proofs.OnlyLaws.{forced_has, peace_here, left_cands}
 abbrev IsBefore : PreSection → PreSection → Type 0
 IsBefore a b = a.place < b.place
 
-abbrev ComesFirst : Candidate → Candidate → Type 0
+abbrev pub ComesFirst : Candidate → Candidate → Type 0
 ComesFirst c d = c.place < d.place
 
 -- ---- code sections stand by place
@@ -79,7 +79,7 @@ no_twins (c ∷ d ∷ rest) order =
     let apart : eqb c.place d.place ≡ false = ne_eqb c.place d.place (λ e. omega (arith, e, less)) in
     ap (λ b. option_or (cond b (Some (Ambiguous c.section.name c.home d.home)) None) (first_twins (d ∷ rest))) apart ∙ no_twins (d ∷ rest) order.1
 
-one_of : (cs : List Candidate) (c d : Candidate) → Ordered ComesFirst cs → Has cs c → Has cs d → c.place ≡ d.place → c ≡ d
+pub one_of : (cs : List Candidate) (c d : Candidate) → Ordered ComesFirst cs → Has cs c → Has cs d → c.place ≡ d.place → c ≡ d
 one_of [] c d order has_c has_d place = absurd has_c
 one_of (x ∷ xs) c d order (inl is_c) (inl is_d) place = sym is_c ∙ is_d
 one_of (x ∷ xs) c d order (inl is_c) (inr in_d) place =
@@ -97,7 +97,7 @@ none_of None not_some = refl
 none_of (Some x) not_some = absurd (not_some x refl)
 
 module _ (running : Running) (object : List NormalSection) (one : AllZip (IsChoice running) (code_sections object) (left_of running object)) where
-  rising : Ordered ComesFirst (left_of running object)
+  pub rising : Ordered ComesFirst (left_of running object)
   rising =
       firsts (IsChoice running) (λ p c choice. place_of running object p c (has_of (candidates_of running p) c choice.among)) (code_sections object) (left_of running object) one (codes_rise object 0 object)
 

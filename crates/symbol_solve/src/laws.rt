@@ -1,16 +1,24 @@
 //! What the answers say of solutions.
-ghost use Rattle.std.specs.Prelude.{◌≡◌, ◌↔◌, ℕ, List, Some, None};
-ghost use Rattle.std.specs.List.{AllZip};
+ghost use Rattle.std.specs.Prelude.{◌≡◌, ◌↔◌, ℕ, List, All, map, Some, None, Ok};
+ghost use Rattle.std.specs.List.{AllZip, IsDistinct};
 ghost use Rattle.ks_base.specs.declared.refusals.ConflictName.{ConflictName};
 ghost use Rattle.ks_base.specs.declared.refusals.Refusal.TheVariants.{Mismatch, Conflict};
 ghost use Rattle.ks_base.specs.declared.places.Spot.{Spot};
 ghost use Rattle.ks_base.specs.declared.refusals.Difference.{Difference};
 ghost use Rattle.i386_reloc.specs.declared.types.NormalSection.{NormalSection};
+ghost use Rattle.i386_reloc.specs.Normal.{same_bytes, name_of};
+ghost use Rattle.image_memory.specs.Contents.{IsValid};
+ghost use Rattle.run_pre_match.specs.Alike.{HasFieldsInside, in_memory};
 ghost use Rattle.run_pre_match.specs.Candidate.{Candidate};
+ghost use Rattle.match_candidates.specs.Alike.{RunAlike};
 ghost use Rattle.match_candidates.specs.Candidates.{Running, code_sections};
 ghost use Rattle.match_candidates.specs.OwnFaults.{first_undecoded, first_missing};
-ghost use Rattle.symbol_solve.specs.Solve.{left_of, obstacle};
+ghost use Rattle.symbol_solve.specs.Solve.{Value, left_of, obstacle, solved};
 ghost use Rattle.symbol_solve.specs.Solution.{IsChoice, IsSolution};
+ghost use Rattle.symbol_solve.specs.Answered.{IsAnswered};
+
+use match_candidates::alike_programs_have_alike_candidates;
+use run_pre_match::{alike_memories_match_alike, bodies_lie_in_code};
 
 /// What differs and what clashes is refused only where there is no solution.
 pub fn refused_without_solution()
@@ -33,3 +41,31 @@ pub fn answer_is_only_solution()
         ↔ ((first_undecoded object ≡ None) × (first_missing running object ≡ None)
         × AllZip (IsChoice running) (code_sections object) (left_of running object)) }
 {}
+
+/// In running programs that are alike an object has the same answer, from the same candidates but for the memories that
+/// these hold. So bytes that are never met have no say, as those of a jump at a home, nor has the order in which newest
+/// bases are listed.
+pub fn alike_programs_have_one_answer()
+    ensures left { (one other : Running) (object : List NormalSection) → RunAlike one other
+        → All HasFieldsInside object
+        → left_of other object ≡ map (in_memory other.contents) (left_of one object) }
+    ensures answer { (one other : Running) (object : List NormalSection) → RunAlike one other
+        → All HasFieldsInside object
+        → solved object one.bodies one.contents one.symbols ≡ solved object other.bodies other.contents other.symbols }
+{
+    // Nothing is done here: the laws say that matches and candidates are the same.
+    alike_memories_match_alike();
+    alike_programs_have_alike_candidates();
+}
+
+/// An answer for an object whose names are distinct has one value for each code section: the home and the newest base
+/// of a function of its name, and how many bytes of code its body has there.
+pub fn answers_tell_each_body()
+    ensures { (running : Running) (object : List NormalSection) (values : List Value) → IsValid running.contents
+        → IsDistinct same_bytes (map name_of object)
+        → solved object running.bodies running.contents running.symbols ≡ Ok values
+        → All (IsAnswered running values) (code_sections object) }
+{
+    // Nothing is done here: the law says that the body of a match lies in code.
+    bodies_lie_in_code();
+}

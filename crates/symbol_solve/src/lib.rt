@@ -14,5 +14,8 @@ mod solving;
 mod twins;
 mod values;
 
-pub use laws::{answer_is_only_solution, refused_without_solution};
+pub use laws::{
+    alike_programs_have_one_answer, answer_is_only_solution, answers_tell_each_body,
+    refused_without_solution,
+};
 pub use solving::solve;
