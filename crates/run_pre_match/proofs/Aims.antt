@@ -16,7 +16,8 @@ use Rattle.i386_reloc.specs.Places.{reference_at}
 use Rattle.run_pre_match.specs.declared.goals.Goal.{Goal}
 use Rattle.run_pre_match.specs.declared.goals.Goal.TheVariants.{Entry, Inside, Variable, Constant}
 use Rattle.run_pre_match.specs.Landing.{interior_offset}
-use Rattle.run_pre_match.specs.inside.Texts.{IsPart, HasText, bytes_of, bytes_at}
+use Rattle.run_pre_match.specs.inside.Endings.{bytes_of, bytes_at}
+use Rattle.run_pre_match.specs.inside.Texts.{IsPart, HasText}
 use Rattle.run_pre_match.specs.Goals.{goal_of, goal_to, goal_at_place, goal_in_code}
 
 pub goal_here : (object : List NormalSection) (place : Option ℕ) (section k : ℕ) (r : Ref) →

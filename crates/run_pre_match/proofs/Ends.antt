@@ -2,73 +2,51 @@
 use Rattle.std.proofs.Common.{◌≡◌, ◌⊎◌, inl, inr, ℕ, suc, ◌+◌, ◌-◌, ◌<◌, ◌≤◌, Bool, true, false, List, take, drop}
 use Rattle.std.proofs.Common.{slice_index, Option, Some, None, Result, Ok, Err, OnOk, OnErr, unwrap_or, cond, is_eq}
 use Rattle.std.proofs.Common.{Ordering, Less, Equal, Greater, sym, ◌∙◌, ap, subst, refl, arith}
-use Rattle.std.specs.Ordering.{nat_cmp, ordering_then}
+use Rattle.std.specs.Ordering.{nat_cmp}
 use Rattle.std.specs.Map.{lookup}
 use Rattle.std.specs.BTreeMap.{BTreeMap, get, is_at, Updates, IsUnchanged}
-use Rattle.std.proofs.lemmas.Map.Lookups.{CmpEqualImpliesEq, exact_unsigned}
+use Rattle.std.proofs.lemmas.Map.Lookups.{exact_unsigned}
 use Rattle.std.specs.Bool.{◌==◌}
 use Rattle.std.proofs.lemmas.Bool.{eq-eqb}
 use Rattle.std.proofs.lemmas.Option.{same_Some}
 use Rattle.std.proofs.lemmas.List.{get_or-take, get_or-drop}
 use Rattle.i386_reloc.specs.declared.types.NormalSection.{NormalSection}
 use Rattle.image_memory.specs.declared.types.Piece.{Piece}
-use Rattle.run_pre_match.specs.declared.texts.End.{End}
+use Rattle.run_pre_match.specs.declared.texts.Known.{Known}
 use Rattle.run_pre_match.specs.Constants.{is_byte, constant_at, stand_at}
 use Rattle.run_pre_match.proofs.AllBelow.{all_below_from, all_below_not}
-use Rattle.run_pre_match.specs.inside.Texts.{StandBefore, StandFor, IsKnown, AreKnown, bytes_at, end_cmp}
-
-then_equal : (o p : Ordering) → ordering_then o p ≡ Equal → (o ≡ Equal) × (p ≡ Equal)
-then_equal Less p e = absurd cc
-then_equal Equal p e = (refl, e)
-then_equal Greater p e = absurd cc
-
-abbrev end_of : ℕ → ℕ → ℕ → End
-end_of place end address = record { place = place; end = end; address = address }
-
-pub exact_ends : CmpEqualImpliesEq end_cmp
-exact_ends x y e =
-    let a = then_equal (nat_cmp x.place y.place) _ e in
-    let b = then_equal (nat_cmp x.end y.end) (nat_cmp x.address y.address) a.1 in
-    ap (λ k. end_of k x.end x.address) (exact_unsigned _ _ a.0)
-    ∙ ap (λ k. end_of y.place k x.address) (exact_unsigned _ _ b.0)
-    ∙ ap (λ k. end_of y.place y.end k) (exact_unsigned _ _ b.1)
+use Rattle.run_pre_match.specs.inside.Texts.{StandBefore, StandFor, IsKnown, AreKnown}
 
 -- no byte is known
 pub none_stand : (pieces : List Piece) (bytes : List ℕ) (end address : ℕ) → StandBefore pieces bytes end address 0
 none_stand pieces bytes end address =
     record { in_bytes = omega arith; in_memory = omega arith; each = λ i lt. absurd (omega arith) }
 
-pub known_or_none : (object : List NormalSection) (pieces : List Piece) (known : BTreeMap End ℕ) (end : End)
-    (o : Option ℕ) → o ≡ get end_cmp known end → AreKnown object pieces known →
-    IsKnown object pieces end (unwrap_or o 0)
-known_or_none object pieces known end None is all = none_stand pieces (bytes_at object end.place) end.end end.address
-known_or_none object pieces known end (Some count) is all = all.each end count (sym is)
-
-with_end : (object : List NormalSection) (pieces : List Piece) (old new : BTreeMap End ℕ) (end : End) (count : ℕ) →
-    Updates end_cmp old new end (Some count) → AreKnown object pieces old → IsKnown object pieces end count →
-    AreKnown object pieces new
-with_end object pieces old new end count updates all here =
-    let at : (q : End) (n : ℕ) (o : Ordering) → end_cmp end q ≡ o →
-    get end_cmp new q ≡ cond (is_eq o) (Some count) (get end_cmp old q) → get end_cmp new q ≡ Some n →
+with_known : (object : List NormalSection) (pieces : List Piece) (old new : BTreeMap ℕ Known) (address : ℕ)
+    (now : Known) → Updates nat_cmp old new address (Some now) → AreKnown object pieces old →
+    IsKnown object pieces address now → AreKnown object pieces new
+with_known object pieces old new address now updates all here =
+    let at : (q : ℕ) (n : Known) (o : Ordering) → nat_cmp address q ≡ o →
+    get nat_cmp new q ≡ cond (is_eq o) (Some now) (get nat_cmp old q) → get nat_cmp new q ≡ Some n →
     IsKnown object pieces q n = λ q n o. elim o as
-    (λ o. end_cmp end q ≡ o → get end_cmp new q ≡ cond (is_eq o) (Some count) (get end_cmp old q) →
-    get end_cmp new q ≡ Some n → IsKnown object pieces q n) [
+    (λ o. nat_cmp address q ≡ o → get nat_cmp new q ≡ cond (is_eq o) (Some now) (get nat_cmp old q) →
+    get nat_cmp new q ≡ Some n → IsKnown object pieces q n) [
       | Less ↦ λ _ is found. all.each q n (sym is ∙ found)
       | Equal ↦ λ same is found.
-          subst (λ (k : ℕ). IsKnown object pieces q k) (same_Some count n (sym is ∙ found))
-          (subst (λ (k : End). IsKnown object pieces k count) (exact_ends end q same) here)
+          subst (λ (k : Known). IsKnown object pieces q k) (same_Some now n (sym is ∙ found))
+          (subst (λ (a : ℕ). IsKnown object pieces a now) (exact_unsigned address q same) here)
       | Greater ↦ λ _ is found. all.each q n (sym is ∙ found)
     ] in
-    record { each = λ q n found. at q n (end_cmp end q) refl (updates.0 q) found }
+    record { each = λ q n found. at q n (nat_cmp address q) refl (updates.0 q) found }
 
-pub after_insert : {X Y : Type 0} (object : List NormalSection) (pieces : List Piece) (old new : BTreeMap End ℕ)
-    (end : End) (count : ℕ) (result : Result X Y) → OnOk result (Updates end_cmp old new end (Some count)) →
-    OnErr result (IsUnchanged old new) → AreKnown object pieces old → IsKnown object pieces end count →
+pub after_insert : {X Y : Type 0} (object : List NormalSection) (pieces : List Piece) (old new : BTreeMap ℕ Known)
+    (address : ℕ) (now : Known) (result : Result X Y) → OnOk result (Updates nat_cmp old new address (Some now)) →
+    OnErr result (IsUnchanged old new) → AreKnown object pieces old → IsKnown object pieces address now →
     AreKnown object pieces new
-after_insert object pieces old new end count (Ok x) ok err all here =
-    with_end object pieces old new end count ok all here
-after_insert object pieces old new end count (Err e) ok err all here =
-    record { each = λ q n found. all.each q n (ap (λ entries. lookup (is_at (end_cmp q)) entries) (sym err) ∙ found) }
+after_insert object pieces old new address now (Ok x) ok err all here =
+    with_known object pieces old new address now ok all here
+after_insert object pieces old new address now (Err e) ok err all here =
+    record { each = λ q n found. all.each q n (ap (λ entries. lookup (is_at (nat_cmp q)) entries) (sym err) ∙ found) }
 
 -- fewer bytes than stand
 pub fewer_stand : (pieces : List Piece) (bytes : List ℕ) (end address count fewer : ℕ) →

@@ -32,6 +32,7 @@ mod PreLists
 mod Rising
 mod RunLaws
 mod SameNumber
+mod Shared
 mod Splits
 mod Statements
 mod Stepwise

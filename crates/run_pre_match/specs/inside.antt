@@ -1,5 +1,6 @@
 -- What the code keeps: no public clause cites it.
 pub mod Candidates
+pub mod Endings
 pub mod Kept
 pub mod Least
 pub mod Met

@@ -12,6 +12,7 @@ ghost use Rattle.run_pre_match.specs.Landing.{interior_offset};
 ghost use Rattle.run_pre_match.specs.inside.Texts.{HasText};
 ghost use Rattle.run_pre_match.specs.Goals.{goal_of, goal_at_place, goal_in_section, goal_in_code};
 
+use crate::endings::Endings;
 use crate::goals::Goal;
 use crate::places::Places;
 use crate::run_code::RunList;
@@ -27,6 +28,7 @@ pub(crate) struct Candidate<'m, 'a, S: Space> {
     pub(crate) place: usize,
     pub(crate) section: &'m NormalSection<'a>,
     pub(crate) pre: &'m Places,
+    pub(crate) endings: &'m Endings,
     pub(crate) space: &'m S,
     pub(crate) table: &'m SymbolTable,
     pub(crate) run: &'m RunList,
@@ -40,6 +42,7 @@ impl<'m, 'a, S: Space> Model for Candidate<'m, 'a, S> {
     ghost use Rattle.run_pre_match.specs.Candidate.{Candidate, pre_list, run_list};
     ghost use Rattle.run_pre_match.specs.inside.Places.{places_of};
     ghost use Rattle.run_pre_match.specs.inside.Candidates.{parts};
+    ghost use Rattle.run_pre_match.specs.inside.Endings.{AreEndings};
     ghost use Rattle.run_pre_match.specs.Instructions.{end_of};
 
     ghost Value = { Candidate };
@@ -53,7 +56,8 @@ impl<'m, 'a, S: Space> Model for Candidate<'m, 'a, S> {
         × (c.run.now.places ≡ places_of (run_list (parts c.normal.now c.place c.section.now
         (S.contents c.space.now) c.table.now.symbols c.home c.base)))
         × (c.run.now.end ≡ end_of c.base (run_list (parts c.normal.now c.place c.section.now
-        (S.contents c.space.now) c.table.now.symbols c.home c.base))) };
+        (S.contents c.space.now) c.table.now.symbols c.home c.base)))
+        × AreEndings c.normal.now c.endings.now };
 }
 
 impl<'m, 'a, S: Space> Candidate<'m, 'a, S> {

@@ -11,6 +11,7 @@ ghost use Rattle.run_pre_match.specs.PreCode.{pre_code};
 ghost use Rattle.run_pre_match.specs.Matched.{candidate, listed_code, outcome, answer, Comes};
 
 use crate::candidate::Candidate;
+use crate::endings::Endings;
 use crate::landing::undecoded_offset;
 use crate::named::{Offsets, offsets_named};
 use crate::places::Places;
@@ -22,25 +23,30 @@ use image_memory::Space;
 use ks_base::Name;
 use std::alloc::{AllocError, Global};
 use std::marker::Model;
+use std::rc::Rc;
 use symbol_table::SymbolTable;
 
-/// An object whose code is to be matched, with the offsets in each of its sections that references name.
+/// An object whose code is to be matched, with the offsets in each of its sections that references name, and the ends
+/// of its texts.
 #[derive(Drop)]
 pub struct PreObject<'n, 'a> {
     normal: &'n Normal<'a>,
     named: Vec<Offsets>,
+    endings: Rc<Endings>,
 }
 
 impl<'n, 'a> Model for PreObject<'n, 'a> {
     ghost use Rattle.std.specs.Prelude.{◌≡◌, List};
     ghost use Rattle.i386_reloc.specs.declared.types.NormalSection.{NormalSection};
     ghost use Rattle.run_pre_match.specs.inside.Named.{all_offsets};
+    ghost use Rattle.run_pre_match.specs.inside.Endings.{AreEndings};
 
     ghost Value = { List NormalSection };
 
     ghost view = { λ o. o.normal.now };
 
-    ghost invariant = { λ o. o.named.items ≡ all_offsets o.normal.now };
+    ghost invariant = { λ o. (o.named.items ≡ all_offsets o.normal.now)
+        × AreEndings o.normal.now o.endings.value };
 }
 
 /// The code of a section of an object that can be matched: the places of its instructions, listed once for all
@@ -51,6 +57,7 @@ pub struct PreCode<'n, 'a> {
     place: usize,
     section: &'n NormalSection<'a>,
     places: Places,
+    endings: Rc<Endings>,
 }
 
 impl<'n, 'a> Model for PreCode<'n, 'a> {
@@ -58,6 +65,7 @@ impl<'n, 'a> Model for PreCode<'n, 'a> {
     ghost use Rattle.std.specs.List.{slice_get};
     ghost use Rattle.run_pre_match.specs.PreCode.{pre_code};
     ghost use Rattle.run_pre_match.specs.Matched.{PreSection};
+    ghost use Rattle.run_pre_match.specs.inside.Endings.{AreEndings};
     ghost use Rattle.run_pre_match.specs.inside.Places.{places_of};
 
     ghost Value = { PreSection };
@@ -65,7 +73,8 @@ impl<'n, 'a> Model for PreCode<'n, 'a> {
     ghost view = { λ c. record { object = c.normal.now; place = c.place; section = c.section.now } };
 
     ghost invariant = { λ c. (slice_get c.normal.now c.place ≡ Some c.section.now)
-        × (c.places ≡ places_of (pre_code c.section.now)) };
+        × (c.places ≡ places_of (pre_code c.section.now))
+        × AreEndings c.normal.now c.endings.value };
 }
 
 impl<'n, 'a> PreObject<'n, 'a> {
@@ -76,6 +85,7 @@ impl<'n, 'a> PreObject<'n, 'a> {
         Ok(PreObject {
             normal,
             named: offsets_named(alloc, normal)?,
+            endings: Rc::new(alloc, Endings::new(alloc, normal)?)?,
         })
     }
 
@@ -106,6 +116,7 @@ impl<'n, 'a> PreObject<'n, 'a> {
             place,
             section,
             places: list.places,
+            endings: self.endings.clone()?,
         })
     }
 }
@@ -130,6 +141,7 @@ impl<'n, 'a> PreCode<'n, 'a> {
             place: self.place,
             section: self.section,
             pre: &self.places,
+            endings: self.endings.as_ref(),
             space,
             table,
             run: &run,

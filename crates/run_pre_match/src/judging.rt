@@ -10,7 +10,8 @@ ghost use Rattle.run_pre_match.specs.Goals.{interior_address};
 ghost use Rattle.run_pre_match.specs.declared.values.Values.{Values};
 ghost use Rattle.run_pre_match.specs.declared.goals.Verdict.TheVariants.{Holds, Absent};
 ghost use Rattle.run_pre_match.specs.declared.goals.Goal.TheVariants.{Entry, Inside, Variable, Constant, Outside, Text};
-ghost use Rattle.run_pre_match.specs.inside.Texts.{AreKnown, bytes_at};
+ghost use Rattle.run_pre_match.specs.inside.Endings.{bytes_at};
+ghost use Rattle.run_pre_match.specs.inside.Texts.{AreKnown};
 ghost use Rattle.run_pre_match.specs.inside.Kept.{first_of, Keeps, Judges, given};
 
 use crate::candidate::Candidate;
@@ -211,7 +212,14 @@ impl<'m, 'a, S: Space> Candidate<'m, 'a, S> {
             (take text.len (drop text.offset (bytes_at self.now.object text.place)))) value) result values.new }
         ensures known { AreKnown self.now.object self.now.contents.pieces values.new.texts }
     {
-        let stands = text_stands(self.space, &mut values.texts, self.normal, text, value);
+        let stands = text_stands(
+            self.space,
+            &mut values.texts,
+            self.endings,
+            self.normal,
+            text,
+            value,
+        );
         closed(holding(stands, Verdict::Absent))
     }
 }

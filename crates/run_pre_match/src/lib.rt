@@ -7,6 +7,7 @@ mod candidate;
 mod code;
 mod comparing;
 mod constants;
+mod endings;
 mod finding;
 mod goals;
 mod instructions;

@@ -1,22 +1,25 @@
-//! Texts in read-only memory. They are compared from their ends, so that of all texts that end at one place of an
-//! object and at one address each byte is compared once.
+//! Texts in read-only memory. They are compared from their ends, and what is known of one text before an address goes
+//! for all that share it, so that each byte before an address is found equal once.
 ghost use Rattle.std.specs.Prelude.{◌≡◌, ◌≤◌, ◌+◌, ◌-◌, suc, ℕ, List, length, take, drop};
+ghost use Rattle.std.specs.Ordering.{nat_cmp};
+ghost use Rattle.std.specs.BTreeMap.{get};
 ghost use Rattle.i386_reloc.specs.declared.types.NormalSection.{NormalSection};
 ghost use Rattle.image_memory.specs.declared.types.Piece.{Piece};
 ghost use Rattle.run_pre_match.specs.Constants.{stand_at};
-ghost use Rattle.run_pre_match.specs.inside.Texts.{StandBefore, StandFor, IsKnown, AreKnown, bytes_at};
+ghost use Rattle.run_pre_match.specs.inside.Endings.{AreEndings, bytes_at};
+ghost use Rattle.run_pre_match.specs.inside.Texts.{StandBefore, StandFor, IsKnown, AreKnown};
 
 use crate::constants::constant_at;
+use crate::endings::{End, Endings, bytes_at};
 use i386_reloc::Normal;
 use image_memory::Space;
 use std::collections::BTreeMap;
 
-/// Where a text ends: in which section of the object, behind how many bytes of it; and before which address.
-#[derive(Clone, Copy, PartialEq, Eq, PartialOrd, Ord, Debug)]
-pub(crate) struct End {
-    pub(crate) place: usize,
-    pub(crate) end: usize,
-    pub(crate) address: u64,
+/// How many bytes before an end of a text of the object are known to stand before an address.
+#[derive(Clone, Copy, PartialEq, Eq, Debug)]
+pub(crate) struct Known {
+    pub(crate) end: End,
+    pub(crate) count: usize,
 }
 
 /// Where a text stands in an object: in which section, from which of its bytes on, and how many bytes it has.
@@ -52,33 +55,77 @@ fn agreement<S: Space>(
     bound
 }
 
-/// How many bytes before an end are known to stand.
-fn known_before(known: &BTreeMap<End, usize>, end: End) -> usize
-    ensures { (object : List NormalSection) (pieces : List Piece) → AreKnown object pieces known.now
-        → IsKnown object pieces end result }
+/// What is known of an address.
+fn known_at(known: &BTreeMap<u64, Known>, address: u64) -> Option<Known>
+    ensures { result ≡ get nat_cmp known.now address }
 {
-    known.get(&end).copied().unwrap_or(0)
+    known.get(&address).copied()
 }
 
-/// Keeps how many bytes before an end stand. Where there is no memory for it nothing is kept, and no more than time is
-/// lost.
-fn keep(known: &mut BTreeMap<End, usize>, end: End, count: usize)
-    ensures { (object : List NormalSection) (pieces : List Piece) → AreKnown object pieces known.old
-        → IsKnown object pieces end count → AreKnown object pieces known.new }
+/// How many bytes before an end stand, by what is known of another end before the same address.
+#[tactic(auto, using(crate::proofs::Shared::stand_shared, crate::proofs::Shared::stand_same))]
+fn known_by(endings: &Endings, best: Known, end: End) -> usize
+    ensures { (object : List NormalSection) (pieces : List Piece) (address : ℕ) → AreEndings object endings.now
+        → IsKnown object pieces address best → IsKnown object pieces address (record { end = end; count = result }) }
 {
-    let _kept = known.insert(end, count);
+    if best.end == end {
+        return best.count;
+    }
+    best.count.min(endings.shared(best.end, end))
+}
+
+/// How many bytes before an end are known to stand before an address.
+#[tactic(auto, using(crate::proofs::Ends::none_stand))]
+fn known_before(known: &BTreeMap<u64, Known>, endings: &Endings, end: End, address: u64) -> usize
+    ensures { (object : List NormalSection) (pieces : List Piece) → AreEndings object endings.now
+        → AreKnown object pieces known.now → IsKnown object pieces address (record { end = end; count = result }) }
+{
+    match known_at(known, address) {
+        Some(best) => known_by(endings, best, end),
+        None => 0,
+    }
+}
+
+/// Whether so many bytes are more than are known to stand before an address.
+fn is_more(known: &BTreeMap<u64, Known>, address: u64, count: usize) -> bool {
+    match known_at(known, address) {
+        Some(best) => best.count < count,
+        None => true,
+    }
+}
+
+/// Keeps how many bytes before an end stand before an address. Where there is no memory for it nothing is kept, and no
+/// more than time is lost.
+fn keep(known: &mut BTreeMap<u64, Known>, address: u64, now: Known)
+    ensures { (object : List NormalSection) (pieces : List Piece) → AreKnown object pieces known.old
+        → IsKnown object pieces address now → AreKnown object pieces known.new }
+{
+    let _kept = known.insert(address, now);
+}
+
+/// Keeps how many bytes before an end stand before an address, if they are more than are known to.
+fn keep_most(known: &mut BTreeMap<u64, Known>, address: u64, now: Known)
+    ensures { (object : List NormalSection) (pieces : List Piece) → AreKnown object pieces known.old
+        → IsKnown object pieces address now → AreKnown object pieces known.new }
+{
+    if !is_more(known, address, now.count) {
+        return;
+    }
+    keep(known, address, now);
 }
 
 /// Whether the text of so many bytes that stands at an offset in the section at a place of an object stands, as it does
 /// there, in read-only memory at an address.
 pub(crate) fn text_stands<S: Space>(
     space: &S,
-    known: &mut BTreeMap<End, usize>,
+    known: &mut BTreeMap<u64, Known>,
+    endings: &Endings,
     normal: &Normal<'_>,
     text: TextPlace,
     value: u32,
 ) -> bool
     requires within { text.offset + text.len ≤ length (bytes_at normal.now text.place) }
+    requires endings { AreEndings normal.now endings.now }
     requires known { AreKnown normal.now (S.contents space.now).pieces known.old }
     ensures stands { result ≡ stand_at (S.contents space.now).pieces value
         (take text.len (drop text.offset (bytes_at normal.now text.place))) text.len }
@@ -88,23 +135,13 @@ pub(crate) fn text_stands<S: Space>(
     let end = End {
         place: text.place,
         end: text.offset + text.len,
-        address: value as u64 + text.len as u64,
     };
-    let before = known_before(known, end);
+    let address = value as u64 + text.len as u64;
+    let before = known_before(known, endings, end, address);
     if text.len <= before {
         return true;
     }
-    let count = agreement(space, bytes, end.end, end.address, before, text.len);
-    keep(known, end, count);
+    let count = agreement(space, bytes, end.end, address, before, text.len);
+    keep_most(known, address, Known { end, count });
     count == text.len
-}
-
-/// The bytes of the section at a place, none where there is no section.
-fn bytes_at<'n>(normal: &'n Normal<'_>, place: usize) -> &'n [u8]
-    ensures { result.now ≡ bytes_at normal.now place }
-{
-    match normal.as_slice().get(place) {
-        Some(section) => section.bytes.as_slice(),
-        None => &[],
-    }
 }

@@ -7,7 +7,7 @@ ghost use Rattle.run_pre_match.specs.inside.Texts.{AreKnown};
 ghost use Rattle.run_pre_match.specs.inside.Kept.{Keeps, verdict_by};
 
 use crate::goals::Verdict;
-use crate::texts::End;
+use crate::texts::Known;
 use std::alloc::Global;
 use std::collections::BTreeMap;
 
@@ -19,14 +19,15 @@ pub(crate) struct First {
 }
 
 /// The first values for each thing that has one: the entries of functions, data, read-only sections (each by its place
-/// among the object's sections), and outside names; and how far texts are known to stand.
+/// among the object's sections), and outside names; and how far texts are known to stand before
+/// addresses.
 #[derive(Drop)]
 pub(crate) struct Values<'a> {
     pub(crate) entries: BTreeMap<usize, First>,
     pub(crate) variables: BTreeMap<usize, First>,
     pub(crate) constants: BTreeMap<usize, First>,
     pub(crate) outsides: BTreeMap<&'a [u8], First>,
-    pub(crate) texts: BTreeMap<End, usize>,
+    pub(crate) texts: BTreeMap<u64, Known>,
 }
 
 impl<'a> Values<'a> {

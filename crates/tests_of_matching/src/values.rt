@@ -25,6 +25,14 @@ const TEXTS: Section = Section {
     references: &[],
 };
 
+/// Two texts that are equal, and two that differ in their first bytes.
+const SHARING_TEXTS: Section = Section {
+    name: ".rodata.sharing",
+    kind: Kind::Strings,
+    bytes: b"ab\0ab\0xcd\0ycd\0",
+    references: &[],
+};
+
 const TWO_BYTES: Section = Section {
     name: ".rodata.c",
     kind: Kind::ReadOnly,
@@ -296,6 +304,142 @@ static STANDING_TEXTS: [Row; 8] = [
     ),
 ];
 
+/// Texts that share what they end with: `mov $text,%eax; mov $text,%ecx; mov $text,%edx; ret`.
+static SHARING: [Row; 7] = [
+    // equal texts, each at a copy and both at one
+    (
+        b"\xb8\0\0\0\0\xb9\x03\0\0\0\xba\x03\0\0\0\xc3",
+        &[
+            (1, ABSOLUTE, ".rodata.sharing"),
+            (6, ABSOLUTE, ".rodata.sharing"),
+            (11, ABSOLUTE, ".rodata.sharing"),
+        ],
+        &[SHARING_TEXTS],
+        &[
+            (
+                CODE,
+                HOME,
+                b"\xb8\0\0\x18\0\xb9\x03\0\x18\0\xba\0\0\x18\0\xc3",
+            ),
+            (CONSTANT, 0x0018_0000, b"ab\0ab\0"),
+        ],
+        "length 16\ncode .text.f 0x00100000 at .text.f+0x0\n",
+    ),
+    // and where one of them is no copy
+    (
+        b"\xb8\0\0\0\0\xb9\x03\0\0\0\xba\x03\0\0\0\xc3",
+        &[
+            (1, ABSOLUTE, ".rodata.sharing"),
+            (6, ABSOLUTE, ".rodata.sharing"),
+            (11, ABSOLUTE, ".rodata.sharing"),
+        ],
+        &[SHARING_TEXTS],
+        &[
+            (
+                CODE,
+                HOME,
+                b"\xb8\0\0\x18\0\xb9\0\0\x18\0\xba\x03\0\x18\0\xc3",
+            ),
+            (CONSTANT, 0x0018_0000, b"ab\0bb\0"),
+        ],
+        "refused 15 mismatch .text.f index 2 pre 0xa run 0x0010000a content\n",
+    ),
+    // texts that differ in their first bytes, each where it stands, and what they share at both
+    (
+        b"\xb8\x06\0\0\0\xb9\x0a\0\0\0\xba\x07\0\0\0\xc3",
+        &[
+            (1, ABSOLUTE, ".rodata.sharing"),
+            (6, ABSOLUTE, ".rodata.sharing"),
+            (11, ABSOLUTE, ".rodata.sharing"),
+        ],
+        &[SHARING_TEXTS],
+        &[
+            (
+                CODE,
+                HOME,
+                b"\xb8\0\0\x18\0\xb9\x04\0\x18\0\xba\x05\0\x18\0\xc3",
+            ),
+            (CONSTANT, 0x0018_0000, b"xcd\0ycd\0"),
+        ],
+        "length 16\ncode .text.f 0x00100000 at .text.f+0x0\n",
+    ),
+    // and each where the other one stands
+    (
+        b"\xb8\x06\0\0\0\xb9\x0a\0\0\0\xba\x0a\0\0\0\xc3",
+        &[
+            (1, ABSOLUTE, ".rodata.sharing"),
+            (6, ABSOLUTE, ".rodata.sharing"),
+            (11, ABSOLUTE, ".rodata.sharing"),
+        ],
+        &[SHARING_TEXTS],
+        &[
+            (
+                CODE,
+                HOME,
+                b"\xb8\0\0\x18\0\xb9\x04\0\x18\0\xba\0\0\x18\0\xc3",
+            ),
+            (CONSTANT, 0x0018_0000, b"xcd\0ycd\0"),
+        ],
+        "refused 15 mismatch .text.f index 2 pre 0xa run 0x0010000a content\n",
+    ),
+    (
+        b"\xb8\x0a\0\0\0\xb9\x06\0\0\0\xba\x06\0\0\0\xc3",
+        &[
+            (1, ABSOLUTE, ".rodata.sharing"),
+            (6, ABSOLUTE, ".rodata.sharing"),
+            (11, ABSOLUTE, ".rodata.sharing"),
+        ],
+        &[SHARING_TEXTS],
+        &[
+            (
+                CODE,
+                HOME,
+                b"\xb8\x04\0\x18\0\xb9\0\0\x18\0\xba\x04\0\x18\0\xc3",
+            ),
+            (CONSTANT, 0x0018_0000, b"xcd\0ycd\0"),
+        ],
+        "refused 15 mismatch .text.f index 2 pre 0xa run 0x0010000a content\n",
+    ),
+    // the rest of a text that differs in its first byte alone, and all of it
+    (
+        b"\xb8\x07\0\0\0\xb9\x0b\0\0\0\xba\x06\0\0\0\xc3",
+        &[
+            (1, ABSOLUTE, ".rodata.sharing"),
+            (6, ABSOLUTE, ".rodata.sharing"),
+            (11, ABSOLUTE, ".rodata.sharing"),
+        ],
+        &[SHARING_TEXTS],
+        &[
+            (
+                CODE,
+                HOME,
+                b"\xb8\x01\0\x18\0\xb9\x01\0\x18\0\xba\0\0\x18\0\xc3",
+            ),
+            (CONSTANT, 0x0018_0000, b"zcd\0"),
+        ],
+        "refused 15 mismatch .text.f index 2 pre 0xa run 0x0010000a content\n",
+    ),
+    // the first byte of a text, found after what both share
+    (
+        b"\xb8\x07\0\0\0\xb9\x0a\0\0\0\xba\x06\0\0\0\xc3",
+        &[
+            (1, ABSOLUTE, ".rodata.sharing"),
+            (6, ABSOLUTE, ".rodata.sharing"),
+            (11, ABSOLUTE, ".rodata.sharing"),
+        ],
+        &[SHARING_TEXTS],
+        &[
+            (
+                CODE,
+                HOME,
+                b"\xb8\x01\0\x18\0\xb9\0\0\x18\0\xba\x04\0\x18\0\xc3",
+            ),
+            (CONSTANT, 0x0018_0000, b"ycd\0xcd\0"),
+        ],
+        "length 16\ncode .text.f 0x00100000 at .text.f+0x0\n",
+    ),
+];
+
 /// Read-only data that stand, or don't. A `push %eax; mov $data,%eax; ret`.
 static STANDING_DATA: [Row; 9] = [
     (
@@ -437,6 +581,7 @@ fn values_and_contents(rt: HostRuntime) -> Result<(), Fail> {
     ];
     rows_come(&rt, rt.alloc(), &symbols, &VALUES)?;
     rows_come(&rt, rt.alloc(), &symbols, &STANDING_TEXTS)?;
+    rows_come(&rt, rt.alloc(), &symbols, &SHARING)?;
     rows_come(&rt, rt.alloc(), &symbols, &STANDING_DATA)?;
     rows_come(&rt, rt.alloc(), &symbols, &SEVERAL_KINDS)
 }

@@ -1,15 +1,13 @@
--- What is known of the bytes before the ends of texts, of the object and in memory.
-use Rattle.std.specs.Prelude.{◌≡◌, ℕ, suc, ◌+◌, ◌-◌, ◌<◌, ◌≤◌, true, false, List, [], length, take, drop, Option, Some}
-use Rattle.std.specs.Prelude.{None, slice_index}
-use Rattle.std.specs.List.{slice_get}
-use Rattle.std.specs.declared.cmp.Ordering.{Ordering}
-use Rattle.std.specs.Ordering.{ordering_then, nat_cmp}
+-- What is known of the bytes before addresses.
+use Rattle.std.specs.Prelude.{◌≡◌, ℕ, suc, ◌+◌, ◌-◌, ◌<◌, ◌≤◌, true, false, List, length, take, drop, Some, slice_index}
+use Rattle.std.specs.Ordering.{nat_cmp}
 use Rattle.std.specs.BTreeMap.{BTreeMap, get}
 use Rattle.i386_reloc.specs.declared.types.NormalSection.{NormalSection}
 use Rattle.image_memory.specs.declared.types.Piece.{Piece}
 use Rattle.run_pre_match.specs.declared.goals.Goal.{Goal}
 use Rattle.run_pre_match.specs.declared.goals.Goal.TheVariants.{Entry, Inside, Variable, Constant, Outside, Text}
-use Rattle.run_pre_match.specs.declared.texts.End.{End}
+use Rattle.run_pre_match.specs.declared.texts.Known.{Known}
+use Rattle.run_pre_match.specs.inside.Endings.{bytes_at}
 use Rattle.run_pre_match.specs.Constants.{is_byte, constant_at}
 
 -- As many bytes before an end in a list are those of read-only memory before an address.
@@ -26,31 +24,19 @@ pub record StandFor (pieces : List Piece) (bytes : List ℕ) (end address bound 
   pub differs : count < bound → is_byte (slice_index bytes (end - suc count)) (constant_at pieces (address - suc count))
       ≡ false
 
--- the bytes of the section at a place
-abbrev pub bytes_of : Option NormalSection → List ℕ
-bytes_of None = []
-bytes_of (Some section) = section.bytes
-
-abbrev pub bytes_at : List NormalSection → ℕ → List ℕ
-bytes_at sections place = bytes_of (slice_get sections place)
-
 -- bytes that stand at an offset of others
 pub record IsPart (bytes : List ℕ) (offset : ℕ) (part : List ℕ) : Type 0 where
   pub within : offset + length part ≤ length bytes
   pub is : part ≡ take (length part) (drop offset bytes)
 
--- so many bytes before an end stand
-abbrev pub IsKnown : List NormalSection → List Piece → End → ℕ → Type 0
-IsKnown object pieces end count = StandBefore pieces (bytes_at object end.place) end.end end.address count
-
--- ends are ordered by their numbers
-abbrev pub end_cmp : End → End → Ordering
-end_cmp x y =
-    ordering_then (nat_cmp x.place y.place) (ordering_then (nat_cmp x.end y.end) (nat_cmp x.address y.address))
+-- so many bytes before an end stand before an address
+abbrev pub IsKnown : List NormalSection → List Piece → ℕ → Known → Type 0
+IsKnown object pieces address known =
+    StandBefore pieces (bytes_at object known.end.place) known.end.end address known.count
 
 -- of all that is kept
-pub record AreKnown (object : List NormalSection) (pieces : List Piece) (known : BTreeMap End ℕ) : Type 0 where
-  pub each : (end : End) (count : ℕ) → get end_cmp known end ≡ Some count → IsKnown object pieces end count
+pub record AreKnown (object : List NormalSection) (pieces : List Piece) (known : BTreeMap ℕ Known) : Type 0 where
+  pub each : (address : ℕ) (here : Known) → get nat_cmp known address ≡ Some here → IsKnown object pieces address here
 
 -- where a goal is a text, the section at its place holds it
 abbrev pub HasText : List NormalSection → Goal → Type 0

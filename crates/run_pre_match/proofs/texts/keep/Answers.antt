@@ -5,5 +5,5 @@ use Rattle.run_pre_match.proofs.texts.keep.Goals as goal
 pub returns : goal.returns
 returns c =
     λ object pieces all here.
-    after_insert object pieces c.args.known.now c.insert-kept.new.self c.args.end c.args.count c.insert-kept.result
+    after_insert object pieces c.args.known.now c.insert-kept.new.self c.args.address c.args.now c.insert-kept.result
     c.insert-kept.ensures.updates c.insert-kept.ensures.err all here

@@ -1,9 +1,7 @@
-use Rattle.std.proofs.Common.{◌∙◌}
-use Rattle.run_pre_match.proofs.Ends.{known_or_none}
+use Rattle.std.proofs.Common.{sym, ◌∙◌}
 use Rattle.run_pre_match.proofs.texts.known_before.Goals as goal
 
-pub returns : goal.returns
-returns c =
-    λ object pieces all. rw c.unwrap_or.ensures
-    (known_or_none object pieces c.args.known.now c.args.end c.copied.result
-    (c.copied.ensures ∙ c.get.ensures.value) all)
+pub returns-in-Some : goal.returns-in-Some
+returns-in-Some c = λ object pieces endings all.
+    c.known_by.ensures object pieces c.args.address endings
+    (all.each c.args.address c.in-Some.best (sym c.known_at.ensures ∙ c.in-Some.is))

@@ -1,7 +1,8 @@
 -- What is known is enough, or the rest is counted.
 use Rattle.std.proofs.Common.{ℕ, ◌+◌, List, subst, sym, arith}
 use Rattle.image_memory.specs.declared.types.Piece.{Piece}
-use Rattle.run_pre_match.specs.inside.Texts.{StandBefore, StandFor, bytes_at}
+use Rattle.run_pre_match.specs.inside.Endings.{bytes_at}
+use Rattle.run_pre_match.specs.inside.Texts.{StandBefore, StandFor}
 use Rattle.run_pre_match.proofs.Ends.{fewer_stand, whole_stands, counted_stand}
 use Rattle.run_pre_match.proofs.texts.text_stands.Goals as goal
 
@@ -11,7 +12,7 @@ returns-then-text-before-clause-stands g c =
     let bytes : List ℕ = bytes_at c.args.normal.now c.args.text.place in
     let stand : StandBefore pieces bytes (c.args.text.offset + c.args.text.len)
     (c.args.value + c.args.text.len) c.known_before-before.result =
-    c.known_before-before.ensures c.args.normal.now pieces c.requires.known in
+    c.known_before-before.ensures c.args.normal.now pieces c.requires.endings c.requires.known in
     sym (whole_stands pieces bytes c.args.text.offset c.args.text.len c.args.value
     (fewer_stand pieces bytes _ _ _ c.args.text.len stand (omega arith)))
 
@@ -21,7 +22,7 @@ agreement-count-requires-clause-end g c = rw c.bytes_at-bytes.ensures c.requires
 pub agreement-count-requires-clause-stand : goal.agreement-count-requires-clause-stand
 agreement-count-requires-clause-stand g c =
     rw c.bytes_at-bytes.ensures (c.known_before-before.ensures c.args.normal.now
-    (g.S.Space.contents c.args.space.now).pieces c.requires.known)
+    (g.S.Space.contents c.args.space.now).pieces c.requires.endings c.requires.known)
 
 pub returns-clause-stands : goal.returns-clause-stands
 returns-clause-stands g c =
@@ -34,7 +35,7 @@ returns-clause-stands g c =
 pub returns-clause-known : goal.returns-clause-known
 returns-clause-known g c =
     let pieces : List Piece = (g.S.Space.contents c.args.space.now).pieces in
-    c.keep.ensures c.args.normal.now pieces c.requires.known
+    c.keep_most.ensures c.args.normal.now pieces c.requires.known
     (subst (λ (b : List ℕ). StandBefore pieces b (c.args.text.offset + c.args.text.len)
     (c.args.value + c.args.text.len) c.agreement-count.result) c.bytes_at-bytes.ensures
     c.agreement-count.ensures.stand)
