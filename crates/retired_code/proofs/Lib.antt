@@ -1,0 +1,8 @@
+pub mod ListLaws
+pub mod CountLaws
+pub mod OverlapLaws
+pub mod MetLaws
+pub mod PaddingLaws
+pub mod RoomLaws
+pub mod SameRoom
+pub mod ApartLaws

@@ -1,0 +1,6 @@
+-- Public clauses cite all of these: the room for a jump (Room), the ranges that are retired or guarded (Retired), and
+-- why an update is refused for them (Overlaps).
+pub mod Room
+pub mod Retired
+pub mod Overlaps
+pub mod inside

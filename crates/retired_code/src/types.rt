@@ -1,0 +1,33 @@
+//! The functions of an old object as they run, and what an update does with each.
+use ks_base::Name;
+
+/// The bytes of the jump that an update writes at the home of a function that it replaces.
+pub const JUMP_LENGTH: u32 = 5;
+
+/// What an update does with a function of its old object.
+#[derive(Clone, Copy, PartialEq, Eq, Debug)]
+pub enum Fate {
+    /// It stays as it is.
+    Kept,
+    /// A new version takes its place.
+    Replaced,
+    /// The new object has it no longer. It still runs where something calls it.
+    Dropped,
+}
+
+/// A function of the old object of an update, as it runs.
+#[derive(Clone, PartialEq, Eq, Debug, Drop)]
+pub struct OldFunction {
+    /// The name of its section.
+    pub section: Name,
+    /// Its name.
+    pub function: Name,
+    /// Where its first version begins.
+    pub home: u32,
+    /// Where its newest version begins.
+    pub base: u32,
+    /// How many bytes its newest version has.
+    pub length: u32,
+    /// What the update does with it.
+    pub fate: Fate,
+}
