@@ -1,0 +1,2 @@
+-- The map of old functions, said by contracts inside this crate alone.
+pub mod OldMaps

@@ -1,0 +1,16 @@
+//! What an update adds to the running program: its pieces of memory and its symbols; and what it reports.
+#![tactic(auto)]
+
+pub mod laws;
+mod olds;
+mod parts;
+mod pieces;
+mod reporting;
+mod roles;
+mod symbols;
+
+pub use crate::parts::{Part, sizes};
+pub use crate::pieces::new_pieces;
+pub use crate::reporting::report_of;
+pub use crate::roles::Role;
+pub use crate::symbols::{NewSymbols, new_symbols};

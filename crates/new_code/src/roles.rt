@@ -1,0 +1,14 @@
+//! What becomes of the sections that an update places.
+
+/// What an update does with a section of its new object that it places.
+#[derive(Clone, Copy, PartialEq, Eq, Debug)]
+pub enum Role {
+    /// A function that takes the place of one that runs.
+    Changed,
+    /// A function that the old object doesn't have.
+    Added,
+    /// Read-only data or texts that the others reach.
+    Carried,
+    /// Data that the old object doesn't have.
+    NewData,
+}
