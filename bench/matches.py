@@ -1,7 +1,8 @@
 """Makes the objects and images that `bench/match` times, a maker a case.
 
-A maker takes a part of the limits (0.5 or 1.0). It answers the object's bytes, the image's, the name of the section
-whose function stands at `BASE`, and the line that `match_count` prints of it.
+A maker takes a part of the limits (0.5 or 1.0). One of `BODIES` answers the object's bytes, the image's, the name of
+the section whose function stands at `BASE`, and the line that `match_count` prints of it; one of `COMMANDS` the
+object's bytes, the image's, and what `ksplice match` prints of the two.
 """
 import random
 import struct
@@ -9,11 +10,14 @@ from math import isqrt
 
 from images import BASE, CODE as CODE_REGION, FUNCTION as FUNCTION_SYMBOL, GLOBAL, MEMORY, MIXED, REGIONS
 from objects import (ABSOLUTE, CODE, FILE, LABEL, READ_ONLY, RELOCATIONS, SECTION, SECTIONS, SYMBOLS, TEXTS,
-                     TEXT_SECTION, Unit, body, call, push)
+                     TEXT_SECTION, WRITABLE as DATA, Unit, body, call, push)
 
 READ_ONLY_REGION = 2
 # of other functions, of outside names, and of read-only data
 OTHERS, OUTSIDES, CONSTANTS = 0x02000000, 0x03000000, 0x04000000
+VARIABLES = 0x05000000
+# how many functions with a reference an object may have: each has a section of relocations, too
+CLAIMING = 2_040
 # what a file has besides the bytes of its sections and relocations, where it has few of them
 REST = 4_096
 
@@ -197,5 +201,100 @@ def long_names(part):
     return over_outsides(part, ".text." + "f" * 4_090, ["a" * 4_092 + f"{k:04}" for k in range(int(1_000 * part))])
 
 
-CASES = {make.__name__: make for make in (code, padding, one_text, suffixes, copies, tables, interiors, own_interiors,
-                                          outsides, long_names)}
+def reading(section, number, symbol):
+    """Makes field `number` of a body that of an instruction that reads a variable."""
+    section.data[5 + 5 * number] = 0xA1
+    section.refer(6 + 5 * number, ABSOLUTE, symbol, 0)
+
+
+def unit_of(count, fields, variables):
+    """A unit of so many functions with fields, and of variables; the numbers of their section symbols."""
+    unit = Unit()
+    for i in range(count):
+        unit.section(f".text.function_{i}", CODE, body(i, fields), 1)
+    for i in range(variables):
+        unit.section(f".data.variable_{i}", DATA, bytes(4), 4)
+    return unit, [unit.symbol("", 1 + i, info=SECTION) for i in range(count + variables)]
+
+
+def running(unit, count, outside, symbols):
+    """The image of a unit's first sections, which are functions, with further symbols; and where all sections are."""
+    bases, at = [], BASE
+    for i, section in enumerate(unit.sections):
+        bases.append(at if i < count else VARIABLES + 4 * (i - count))
+        at += len(section.data)
+    content = bytearray().join(linked(unit, i, bases, outside) for i in range(count))
+    regions = [(CODE_REGION, BASE, content)] + ([(CODE_REGION, OUTSIDES, b"\xc3")] if outside else [])
+    functions = [(bases[i], f"function_{i}".encode()) for i in range(count)]
+    return regions, functions + symbols, bases
+
+
+def function_line(number, base):
+    return f"code function_{number} {base:#010x}\n"
+
+
+def calls(part):
+    """As many functions as an object may have, each of which calls three others and reads two variables."""
+    count, variables = int(2_000 * part), int(80 * part)
+    unit, sections = unit_of(count, 5, variables)
+    for i in range(count):
+        unit.symbol(f"function_{i}", 1 + i, 0, len(unit.sections[i].data))
+    read = [[(31 * i + 17 * k) % variables for k in (1, 2)] for i in range(count)]
+    for i in range(count):
+        for k in range(3):
+            call(unit.sections[i], k, sections[(7 * i + 101 * k + 1) % count])
+        for k in range(2):
+            reading(unit.sections[i], 3 + k, sections[count + read[i][k]])
+    regions, symbols, bases = running(unit, count, None, [])
+    lines, told = [], set()
+    for i in range(count):
+        lines.append(function_line(i, bases[i]))
+        for number in read[i]:
+            if number not in told:
+                told.add(number)
+                lines.append(f"data .data.variable_{number} {bases[count + number]:#010x}\n")
+    return unit.bytes(), encode(regions, symbols), "".join(lines)
+
+
+def one_name(part):
+    """One function against as many functions of its name as an image may have, of which the last one is the same."""
+    count = int(SYMBOLS * part)
+    unit = Unit()
+    unit.section(".text.f", CODE, body(count - 1, 0))
+    unit.symbol("f", 1, 0, 6)
+    content = b"".join(body(i, 0) for i in range(count))
+    image = encode([(CODE_REGION, BASE, content)], [(BASE + 6 * i, b"f") for i in range(count)])
+    return unit.bytes(), image, f"code f {BASE + 6 * (count - 1):#010x}\n"
+
+
+def one_outside(part):
+    """As many functions as an object may have that all call one outside name."""
+    count = int(CLAIMING * part)
+    unit, _ = unit_of(count, 1, 0)
+    for i in range(count):
+        unit.symbol(f"function_{i}", 1 + i, 0, len(unit.sections[i].data))
+    shared = unit.symbol("shared", 0, info=LABEL)
+    for i in range(count):
+        call(unit.sections[i], 0, shared)
+    regions, symbols, bases = running(unit, count, {shared: OUTSIDES}, [(OUTSIDES, b"shared")])
+    lines = [function_line(i, bases[i]) for i in range(count)]
+    lines.insert(1, f"outside shared {OUTSIDES:#010x}\n")
+    return unit.bytes(), encode(regions, symbols), "".join(lines)
+
+
+def one_variable(part):
+    """As many functions as an object may have that all read one variable. In the running program the last reads another."""
+    count = int(CLAIMING * part)
+    unit, sections = unit_of(count, 1, 1)
+    for i in range(count):
+        unit.symbol(f"function_{i}", 1 + i, 0, len(unit.sections[i].data))
+        reading(unit.sections[i], 0, sections[count])
+    regions, symbols, _ = running(unit, count, None, [])
+    struct.pack_into("<I", regions[0][2], len(regions[0][2]) - 5, VARIABLES + 8)
+    places = [f"{VARIABLES + 8 * k:#010x} at .text.function_{i}+0x6" for k, i in enumerate((0, count - 1))]
+    return unit.bytes(), encode(regions, symbols), f"refused 17 conflict .data.variable_0 {places[0]} {places[1]}\n"
+
+
+BODIES = {make.__name__: make for make in (code, padding, one_text, suffixes, copies, tables, interiors, own_interiors,
+                                           outsides, long_names)}
+COMMANDS = {make.__name__: make for make in (calls, one_name, one_outside, one_variable)}

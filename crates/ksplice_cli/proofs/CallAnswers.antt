@@ -9,8 +9,8 @@ use Rattle.ks_io.specs.declared.types.Lost.{Lost}
 use Rattle.ks_io.specs.declared.types.Wanted.{Wanted}
 use Rattle.ksplice_cli.specs.Answer.{Answer, ComesOut, OneComesOut, Answered, NoMemory, lost_answer, usage_answer}
 use Rattle.ksplice_cli.specs.Calls.{named_files, line_files, session_files, Answers, RunAnswers}
-use Rattle.ksplice_cli.specs.Reply.{IsReply, code_answer, session_of}
-use Rattle.ksplice_cli.specs.Words.{Asked, Diff, Code, Run}
+use Rattle.ksplice_cli.specs.Reply.{IsReply, code_answer, match_answer, session_of}
+use Rattle.ksplice_cli.specs.Words.{Asked, Diff, Code, Match, Run}
 
 -- what comes out is one of these answers, so it is one of those
 pub carried_over : {P Q : Answer → Type 0} {old new : Option (List ℕ)} {status : ℕ} → ((answer : Answer) → P answer → Q answer) → OneComesOut P old new status → OneComesOut Q old new status
@@ -75,6 +75,12 @@ pub code_answers : (image name bytes : List ℕ) (held : List (List ℕ)) {told 
     → held ≡ bytes ∷ [] → CameTo told (named_files (Some (Code image name))) held None before now
     → OneComesOut (λ answer. answer ≡ code_answer bytes name) old new status → Answers (Some (Code image name)) told before now old new status
 code_answers image name bytes held one loads out = record { held = bytes ∷ []; lost = None; loads = rw one at loads; answer = out }
+
+-- Image and object were held, and the reply for the two came out.
+pub match_answers : (image pre bytes object : List ℕ) (held : List (List ℕ)) {told : Told} {before now : Counts} {old new : Option (List ℕ)} {status : ℕ}
+    → held ≡ bytes ∷ object ∷ [] → CameTo told (named_files (Some (Match image pre))) held None before now
+    → OneComesOut (λ answer. answer ≡ match_answer bytes object) old new status → Answers (Some (Match image pre)) told before now old new status
+match_answers image pre bytes object held two loads out = record { held = bytes ∷ object ∷ []; lost = None; loads = rw two at loads; answer = out }
 
 -- Image and script were held, and what came out of the session.
 pub run_answers : (image script bytes lines : List ℕ) (held : List (List ℕ)) {told told' : Told} {before between now : Counts} {old new : Option (List ℕ)} {status : ℕ}

@@ -8,3 +8,4 @@ pub mod OneAnswer
 pub mod Promised
 pub mod Readers
 pub mod Sessions
+pub mod Solutions

@@ -13,7 +13,7 @@ use Rattle.ksplice_cli.specs.Answer.{Answer}
 use Rattle.ksplice_cli.specs.Difference.{listing}
 use Rattle.ksplice_cli.specs.Reply.{both_sections, IsDifference, IsReply, reply_answer}
 use Rattle.ksplice_cli.specs.Reply.IsDifference.{Unread, NoneExtracted, Lists}
-use Rattle.ksplice_cli.specs.Words.{Asked, Diff, Code, Run}
+use Rattle.ksplice_cli.specs.Words.{Asked, Diff, Code, Match, Run}
 use Rattle.ksplice_cli.specs.Calls.{IsAnswer, IsAnswerBy, failed_load, named_files, needed}
 use Rattle.ksplice_cli.proofs.OneLoading.{same_loads}
 
@@ -63,10 +63,13 @@ one_by : HasOneExtract → (first : Option Needed) (command : Asked) (held : Lis
 one_by law (Some file) command held lost one other is is' = is ∙ sym is'
 one_by law None (Diff pre post) (old ∷ new ∷ held) lost one other is is' = one_reply law old new one other is is'
 one_by law None (Code image name) (bytes ∷ held) lost one other is is' = is ∙ sym is'
+one_by law None (Match image pre) (bytes ∷ object ∷ held) lost one other is is' = is ∙ sym is'
 one_by law None (Run image script) (bytes ∷ lines ∷ held) lost one other is is' = is ∙ sym is'
 one_by law None (Diff pre post) [] lost one other is is' = absurd is
 one_by law None (Diff pre post) (old ∷ []) lost one other is is' = absurd is
 one_by law None (Code image name) [] lost one other is is' = absurd is
+one_by law None (Match image pre) [] lost one other is is' = absurd is
+one_by law None (Match image pre) (bytes ∷ []) lost one other is is' = absurd is
 one_by law None (Run image script) [] lost one other is is' = absurd is
 one_by law None (Run image script) (bytes ∷ []) lost one other is is' = absurd is
 

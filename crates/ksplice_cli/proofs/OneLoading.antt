@@ -12,7 +12,7 @@ use Rattle.ksplice_session.specs.Session.{lacking, session_played}
 use Rattle.ksplice_cli.specs.Answer.{Answer}
 use Rattle.ksplice_cli.specs.Calls.{failed_load, named_files, needed, session_files, IsAnswer, IsAnswerBy}
 use Rattle.ksplice_cli.specs.Reply.{session_of, session_status, session_answer}
-use Rattle.ksplice_cli.specs.Words.{Asked, Diff, Code, Run}
+use Rattle.ksplice_cli.specs.Words.{Asked, Diff, Code, Match, Run}
 
 -- loads that ended for a fault, or were all made
 Ended : (List ℕ → Option (List ℕ)) → Option Needed → Option FileFault → Type 0
@@ -130,6 +130,7 @@ same_call : (files : List ℕ → Option (List ℕ)) (asked : Option Asked) (hel
 same_call files None held held' lost lost' = same_by files [] held held' lost lost'
 same_call files (Some (Diff pre post)) held held' lost lost' = same_by files (named_files (Some (Diff pre post))) held held' lost lost'
 same_call files (Some (Code image name)) held held' lost lost' = same_by files (named_files (Some (Code image name))) held held' lost lost'
+same_call files (Some (Match image pre)) held held' lost lost' = same_by files (named_files (Some (Match image pre))) held held' lost lost'
 same_call files (Some (Run image script)) held held' lost lost' = same_run files image script held held' lost lost'
 
 -- loads that ended, but not for want of memory
@@ -157,11 +158,14 @@ whole_by (Some file) command held None answer one ample is = absurd (ample (ap (
 whole_by (Some file) command held (Some fault) answer one ample is = absurd (cc)
 whole_by None (Diff pre post) (old ∷ new ∷ held) lost answer one ample is = refl
 whole_by None (Code image name) (bytes ∷ held) lost answer one ample is = refl
+whole_by None (Match image pre) (bytes ∷ object ∷ held) lost answer one ample is = refl
 whole_by None (Run image script) (bytes ∷ lines ∷ held) lost answer one ample is =
     whole_session (session_of bytes lines) held lost (λ e. ample (ap (λ (a : Answer). a.status) one ∙ e)) is
 whole_by None (Diff pre post) [] lost answer one ample is = absurd one
 whole_by None (Diff pre post) (old ∷ []) lost answer one ample is = absurd one
 whole_by None (Code image name) [] lost answer one ample is = absurd one
+whole_by None (Match image pre) [] lost answer one ample is = absurd one
+whole_by None (Match image pre) (bytes ∷ []) lost answer one ample is = absurd one
 whole_by None (Run image script) [] lost answer one ample is = absurd one
 whole_by None (Run image script) (bytes ∷ []) lost answer one ample is = absurd one
 

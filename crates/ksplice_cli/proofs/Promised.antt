@@ -15,8 +15,8 @@ use Rattle.ksplice_session.specs.Session.{lacking, lost_line, session_played}
 use Rattle.ksplice_cli.specs.Answer.{Answer, OneComesOut, Answered, NoMemory, ComesOut, usage_answer}
 use Rattle.ksplice_cli.specs.Calls.{named_files, line_files, session_files, needed, IsAnswerBy, Answers}
 use Rattle.ksplice_cli.specs.Promises.{RepliesSome, EndsWithFile, CountsTellOf}
-use Rattle.ksplice_cli.specs.Reply.{code_reply, reply_answer, session_of, session_status, session_answer}
-use Rattle.ksplice_cli.specs.Words.{Asked, Diff, Code, Run}
+use Rattle.ksplice_cli.specs.Reply.{code_reply, match_reply, reply_answer, session_of, session_status, session_answer}
+use Rattle.ksplice_cli.specs.Words.{Asked, Diff, Code, Match, Run}
 
 -- no reading
 pub usage_line : (told : Told) (before now : Counts) (old new : Option (List ℕ)) (status : ℕ) → Answers None told before now old new status → ComesOut usage_answer old new status
@@ -130,12 +130,16 @@ file_at None (Diff pre post) told (bytes ∷ others ∷ held) lost before now ol
     absurd (not_four one.reply (out.0 ∙ ap (λ (a : Answer). a.status) one.told))
 file_at None (Code image name) told (bytes ∷ held) lost before now old new is ends (Answered answer one out) =
     absurd (not_four (code_reply bytes name) (out.0 ∙ ap (λ (a : Answer). a.status) one))
+file_at None (Match image pre) told (bytes ∷ object ∷ held) lost before now old new is ends (Answered answer one out) =
+    absurd (not_four (match_reply bytes object) (out.0 ∙ ap (λ (a : Answer). a.status) one))
 file_at None (Run image script) told (bytes ∷ lines ∷ held) lost before now old new is ends (Answered answer one out) =
     session_at image script bytes lines (session_of bytes lines) held told lost before now old new refl ends
     (out.0 ∙ ap (λ (a : Answer). a.status) one) (out.1 ∙ ap (λ (a : Answer). grown old a.output) one)
 file_at None (Diff pre post) told [] lost before now old new is ends (Answered answer one out) = absurd one
 file_at None (Diff pre post) told (bytes ∷ []) lost before now old new is ends (Answered answer one out) = absurd one
 file_at None (Code image name) told [] lost before now old new is ends (Answered answer one out) = absurd one
+file_at None (Match image pre) told [] lost before now old new is ends (Answered answer one out) = absurd one
+file_at None (Match image pre) told (bytes ∷ []) lost before now old new is ends (Answered answer one out) = absurd one
 file_at None (Run image script) told [] lost before now old new is ends (Answered answer one out) = absurd one
 file_at None (Run image script) told (bytes ∷ []) lost before now old new is ends (Answered answer one out) = absurd one
 

@@ -49,6 +49,7 @@ refusal_comes_out pre post refusal old new status difference =
     refusal_is_one (IsReply pre post) refusal old new status (λ ample. record { reply = Err refusal; difference = difference ample; told = refl })
 
 -- the usage line comes out, where the words have no reading
-pub usage_comes_out : (output : List ℕ) (old new : Option (List ℕ)) (status : ℕ) → output ≡ codes "usage: ksplice diff PRE POST | code IMAGE NAME | run IMAGE SCRIPT\n"
+pub usage_comes_out : (output : List ℕ) (old new : Option (List ℕ)) (status : ℕ)
+    → output ≡ codes "usage: ksplice diff PRE POST | code IMAGE NAME | match IMAGE PRE | run IMAGE SCRIPT\n"
     → ComesOut (answer_of output 2) old new status → ComesOut usage_answer old new status
 usage_comes_out output old new status e out = subst (λ (x : List ℕ). ComesOut (answer_of x 2) old new status) e out

@@ -17,7 +17,10 @@ answer_of output status = record { output = output; status = status }
 
 -- the line for words without a reading, with status 2
 abbrev pub usage_answer : Answer
-usage_answer = record { output = codes "usage: ksplice diff PRE POST | code IMAGE NAME | run IMAGE SCRIPT\n"; status = 2 }
+usage_answer = record {
+  output = codes "usage: ksplice diff PRE POST | code IMAGE NAME | match IMAGE PRE | run IMAGE SCRIPT\n";
+  status = 2;
+}
 
 -- the status of a refusal: 7 for what isn't in the form of an image or of a script, and 3 for all others
 abbrev pub refused_status : Refusal → ℕ

@@ -12,8 +12,8 @@ use Rattle.ksplice_session.specs.Session.{files_along}
 use Rattle.ksplice_session.specs.declared.types.SessionEnd.{SessionEnd}
 use Rattle.ksplice_session.specs.declared.types.SessionEnd.TheVariants.{Done, SomeRefused, FileEnd, SinkEnd, MemoryEnd}
 use Rattle.ksplice_cli.specs.Answer.{Answer, OneComesOut, usage_answer, lost_answer}
-use Rattle.ksplice_cli.specs.Reply.{IsReply, code_answer, run_answer, session_of}
-use Rattle.ksplice_cli.specs.Words.{Asked, Diff, Code, Run}
+use Rattle.ksplice_cli.specs.Reply.{IsReply, code_answer, match_answer, run_answer, session_of}
+use Rattle.ksplice_cli.specs.Words.{Asked, Diff, Code, Match, Run}
 
 -- the most bytes that an object file may have, an image file, and a script
 abbrev pub object_limit : ℕ
@@ -33,6 +33,7 @@ abbrev pub named_files : Option Asked → List Needed
 named_files None = []
 named_files (Some (Diff pre post)) = needed_file pre object_limit ∷ needed_file post object_limit ∷ []
 named_files (Some (Code image name)) = needed_file image image_limit ∷ []
+named_files (Some (Match image pre)) = needed_file image image_limit ∷ needed_file pre object_limit ∷ []
 named_files (Some (Run image script)) = needed_file image image_limit ∷ needed_file script script_limit ∷ []
 
 -- the files of a session that was read
@@ -54,6 +55,7 @@ needed asked held = named_files asked ++ line_files asked held
 abbrev pub IsReplyTo : Asked → List (List ℕ) → Option FileFault → Answer → Type 0
 IsReplyTo (Diff pre post) (old ∷ new ∷ held) lost answer = IsReply old new answer
 IsReplyTo (Code image name) (bytes ∷ held) lost answer = answer ≡ code_answer bytes name
+IsReplyTo (Match image pre) (bytes ∷ object ∷ held) lost answer = answer ≡ match_answer bytes object
 IsReplyTo (Run image script) (bytes ∷ lines ∷ held) lost answer = answer ≡ run_answer bytes lines held lost
 IsReplyTo asked held lost answer = ⊥
 

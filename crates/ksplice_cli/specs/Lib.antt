@@ -1,7 +1,8 @@
--- Public clauses cite Calls (what a call comes to), by Words, Reply, Difference and Answer, and Promises in laws.
--- What stands in inside is the code's own.
+-- Public clauses cite Calls (what a call comes to), by Words, Reply, Difference, Solution and Answer, and Promises in
+-- laws. What stands in inside is the code's own.
 pub mod Words
 pub mod Difference
+pub mod Solution
 pub mod Answer
 pub mod Reply
 pub mod Calls

@@ -1,6 +1,6 @@
--- The replies: to `diff` the difference of two object files, to `code` the instructions of one function of an image, to `run`
--- those of a session; or why there are none.
-use Rattle.std.specs.Prelude.{◌≡◌, ℕ, Bool, if◌then◌else◌, List, Option, Some, None, Result, Ok, Err}
+-- The replies: to `diff` the difference of two object files, to `code` the instructions of one function of an image, to
+-- `match` which functions of an image an object's code is, to `run` those of a session; or why there are none.
+use Rattle.std.specs.Prelude.{◌≡◌, ℕ, Bool, if◌then◌else◌, List, [], Option, Some, None, Result, Ok, Err}
 use Rattle.ks_base.specs.declared.refusals.Refusal.{Refusal}
 use Rattle.elf32_object.specs.declared.types.ObjectFault.{ObjectFault}
 use Rattle.elf32_object.specs.Rules.{object_fault}
@@ -10,7 +10,8 @@ use Rattle.i386_reloc.specs.Refused.{normal_fault, refusal_of_fault}
 use Rattle.extract_post.specs.declared.types.Extract.{Extract}
 use Rattle.extract_post.specs.Extract.{Extracts}
 use Rattle.image_file.specs.Reading.{Contents, image_of}
-use Rattle.code_listing.specs.Listing.{code_of}
+use Rattle.code_listing.specs.Listing.{code_of, memory_of}
+use Rattle.symbol_solve.specs.Solve.{Value, solved}
 use Rattle.script_lines.specs.declared.types.Command.{Command}
 use Rattle.script_lines.specs.Script.{script_of}
 use Rattle.update_stack.specs.CallTable.{CallTable, first_machine}
@@ -19,6 +20,7 @@ use Rattle.ks_io.specs.declared.types.FileFault.{FileFault}
 use Rattle.ksplice_session.specs.Session.{whole_output, lacking, session_played}
 use Rattle.ksplice_cli.specs.Answer.{Answer, refused_answer, answer_of, lost_status}
 use Rattle.ksplice_cli.specs.Difference.{listing}
+use Rattle.ksplice_cli.specs.Solution.{value_lines}
 
 abbrev pub sections_unless : Option ObjectFault → Option Refusal → List NormalSection → Result (List NormalSection) Refusal
 sections_unless (Some fault) refusal sections = Err (refusal_of_fault fault)
@@ -77,6 +79,28 @@ code_reply bytes name = code_of_read (image_of bytes) name
 
 abbrev pub code_answer : List ℕ → List ℕ → Answer
 code_answer bytes name = reply_answer (code_reply bytes name)
+
+-- the lines of an object's values, or why there are none
+abbrev pub lines_of_values : List NormalSection → Result (List Value) Refusal → Result (List ℕ) Refusal
+lines_of_values object (Err refusal) = Err refusal
+lines_of_values object (Ok values) = Ok (value_lines object values)
+
+-- the lines of an object that was read, in an image in which nothing was replaced
+abbrev pub matched_in : Contents → Result (List NormalSection) Refusal → Result (List ℕ) Refusal
+matched_in image (Err refusal) = Err refusal
+matched_in image (Ok object) = lines_of_values object (solved object [] (memory_of image) image.symbols)
+
+abbrev pub matched_of_read : Result Contents Refusal → Result (List NormalSection) Refusal → Result (List ℕ) Refusal
+matched_of_read (Err refusal) object = Err refusal
+matched_of_read (Ok image) object = matched_in image object
+
+-- The reply to `match` where both files are loaded. What is wrong with the image comes before what is wrong with the
+-- object, and that before why the object has no values in the image.
+unfoldable pub match_reply : List ℕ → List ℕ → Result (List ℕ) Refusal
+match_reply image pre = matched_of_read (image_of image) (sections_of pre)
+
+abbrev pub match_answer : List ℕ → List ℕ → Answer
+match_answer image pre = reply_answer (match_reply image pre)
 
 -- the machine of an image at its start, and the lines of a script
 abbrev pub with_lines : CallTable → Result (List Command) Refusal → Result (CallTable × List Command) Refusal

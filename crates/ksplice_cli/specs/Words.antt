@@ -7,6 +7,7 @@ use Rattle.i386_reloc.specs.Normal.{same_bytes}
 pub data Asked : Type 0 where
   Diff : (pre post : List ℕ) → Asked
   Code : (image name : List ℕ) → Asked
+  Match : (image pre : List ℕ) → Asked
   Run : (image script : List ℕ) → Asked
 
 -- a word that begins with a dash is an option, and there are none
@@ -19,7 +20,8 @@ abbrev pub command_of : List (List ℕ) → Option Asked
 command_of (command ∷ first ∷ second ∷ []) =
     if same_bytes command (codes "diff") then Some (Diff first second)
     else (if same_bytes command (codes "code") then Some (Code first second)
-    else (if same_bytes command (codes "run") then Some (Run first second) else None))
+    else (if same_bytes command (codes "match") then Some (Match first second)
+    else (if same_bytes command (codes "run") then Some (Run first second) else None)))
 command_of _ = None
 
 -- the words' reading, if they have one

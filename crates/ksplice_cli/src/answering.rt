@@ -9,6 +9,7 @@ ghost use Rattle.ksplice_cli.specs.Words.{reading};
 use crate::command::Command;
 use crate::diffing::diff;
 use crate::image_code::code;
+use crate::matching::match_object;
 use crate::saying::say;
 use crate::session_run::run;
 use crate::status::Status;
@@ -16,7 +17,8 @@ use crate::words::read_words;
 use ks_io::{Files, Sink};
 use std::alloc::Global;
 
-const USAGE: &str = "usage: ksplice diff PRE POST | code IMAGE NAME | run IMAGE SCRIPT\n";
+const USAGE: &str =
+    "usage: ksplice diff PRE POST | code IMAGE NAME | match IMAGE PRE | run IMAGE SCRIPT\n";
 
 /// Carries out a call: the words after the program's name, the files that it may load, and the sink that its
 /// output goes to. The status says how it ended.
@@ -73,6 +75,7 @@ fn carry_out<F: Files, O: Sink>(
     match command {
         Command::Diff { pre, post } => diff(alloc, pre, post, files, out),
         Command::Code { image, name } => code(alloc, image, name, files, out),
+        Command::Match { image, pre } => match_object(alloc, image, pre, files, out),
         Command::Run { image, script } => run(alloc, image, script, files, out),
     }
 }

@@ -7,6 +7,8 @@ pub enum Command<'a> {
     Diff { pre: &'a str, post: &'a str },
     /// `code IMAGE NAME`: the instructions of one function of an image, by the names of both.
     Code { image: &'a str, name: &'a str },
+    /// `match IMAGE PRE`: which functions of an image the code of an object file is, by the names of both.
+    Match { image: &'a str, pre: &'a str },
     /// `run IMAGE SCRIPT`: a session, by the names of the image and of the script.
     Run { image: &'a str, script: &'a str },
 }

@@ -2,12 +2,12 @@
 ghost use Rattle.std.specs.Prelude.{◌≢◌, Ok, Err, IfOk, IfErr};
 ghost use Rattle.ks_base.specs.Gives.{Gives};
 ghost use Rattle.extract_post.specs.Extract.{Extracts};
-ghost use Rattle.ksplice_cli.specs.Reply.{IsDifference, Listed, both_sections, sections_of};
+ghost use Rattle.ksplice_cli.specs.Reply.{IsDifference, Listed, both_sections};
 
 use crate::listing::list_extract;
-use elf32_object::read_object;
+use crate::object_file::read_sections;
 use extract_post::extract;
-use i386_reloc::{Normal, normalise, object_refusal};
+use i386_reloc::Normal;
 use ks_base::{Line, Refusal};
 use std::alloc::Global;
 
@@ -33,16 +33,6 @@ fn read_both<'a>(
     let old = read_sections(alloc, pre)?;
     let new = read_sections(alloc, post)?;
     Ok((old, new))
-}
-
-#[tactic(auto, unfolding(crate::specs::Reply::sections_of))]
-fn read_sections(alloc: Global, bytes: &[u8]) -> Result<Normal<'_>, Refusal>
-    ensures { Gives (λ sections. sections) result (sections_of bytes.now) }
-{
-    match read_object(alloc, bytes) {
-        Ok(object) => normalise(alloc, &object),
-        Err(fault) => Err(object_refusal(fault)),
-    }
 }
 
 fn difference<'a>(alloc: Global, old: &Normal<'a>, new: &Normal<'a>) -> Result<Line, Refusal>

@@ -115,8 +115,8 @@ fn put_line(alloc: Global, lines: &mut Line, verb: &str, name: &[u8]) -> Result<
     lines.put_text("\n")
 }
 
-// The name of the function that a section is, and none where there is no section.
-fn function_of<'a>(section: Option<&'a NormalSection<'_>>) -> &'a [u8]
+/// The name of the function that a section is, and none where there is no section.
+pub fn function_of<'a>(section: Option<&'a NormalSection<'_>>) -> &'a [u8]
     ensures { result.now ≡ function_of (option_copied section.entry) }
 {
     match section {

@@ -1,19 +1,19 @@
 //! Whole calls over files and a sink in memory.
-mod builder;
 mod images;
 mod objects;
 mod real_files;
 
 use crate::answering::ksplice;
-use builder::object;
-use images::{LISTING, PROGRAM};
+use images::{LISTING, PAIR, PROGRAM};
 use ks_io::{MemoryFiles, MemorySink};
+use object_builder::object;
 use objects::OBJECTS;
 use std::alloc::Global;
 use std::process::Abort;
 use std::test::Fail;
 
-const USAGE: &str = "usage: ksplice diff PRE POST | code IMAGE NAME | run IMAGE SCRIPT\n";
+const USAGE: &str =
+    "usage: ksplice diff PRE POST | code IMAGE NAME | match IMAGE PRE | run IMAGE SCRIPT\n";
 
 /// A script with one reply of each kind, and its replies.
 const SCRIPT: &str = "# a thread\nspawn main 7\nstep 0 2\nthreads\n\nrr 1 9\npeek 0x00100000 2\n";
@@ -44,6 +44,7 @@ fn answer(
     }
     files.put("empty", &[])?;
     files.put("program", &PROGRAM)?;
+    files.put("pair", &PAIR)?;
     files.put("cut", b"KIM1")?;
     put_scripts(&mut files)?;
     if words.iter().any(|word| *word == "long name") {
@@ -112,7 +113,7 @@ fn answers(rt: HostRuntime) -> Result<(), Fail> {
         (&["diff", "one", "two", "one"], USAGE, 2),
         (&["diff", "-one", "two"], USAGE, 2),
         (&["Diff", "one", "two"], USAGE, 2),
-        (&["match", "one", "two"], USAGE, 2),
+        (&["apply", "one", "two"], USAGE, 2),
         (&[], USAGE, 2),
     ];
     compare_answers(&rt, rt.alloc(), &calls)
@@ -189,6 +190,88 @@ fn code_of_an_image(rt: HostRuntime) -> Result<(), Fail> {
     compare_answers(&rt, rt.alloc(), &calls)
 }
 
+/// What `match pair start` prints: the call tells which `tw` it is.
+const START_VALUES: &str = "\
+code start 0x00100040
+outside ext 0x00100050
+code tw 0x00100030
+";
+
+const CONFLICT: &str =
+    "refused 17 conflict .data.x 0x00200000 at .text.p+0x1 0x00200008 at .text.q+0x1\n";
+
+#[test]
+fn objects_in_an_image(rt: HostRuntime) -> Result<(), Fail> {
+    let calls: [(&[&str], &str, u8); 21] = [
+        (
+            &["match", "program", "call"],
+            "code f 0x00100000\ncode main 0x00100010\n",
+            0,
+        ),
+        (
+            &["match", "pair", "p"],
+            "code p 0x00100000\ndata .data.x 0x00200000\n",
+            0,
+        ),
+        (&["match", "pair", "start"], START_VALUES, 0),
+        (
+            &["match", "program", "renamed"],
+            "refused 14 no candidate \\x07\n",
+            3,
+        ),
+        (
+            &["match", "program", "f and g"],
+            "refused 14 no candidate g\n",
+            3,
+        ),
+        (
+            &["match", "program", "two"],
+            "refused 15 mismatch .text.f index 0 pre 0x0 run 0x00100000 operand\n",
+            3,
+        ),
+        (
+            &["match", "pair", "tw"],
+            "refused 16 ambiguous .text.tw 0x00100020 0x00100030\n",
+            3,
+        ),
+        (&["match", "pair", "p and q"], CONFLICT, 3),
+        (
+            &["match", "program", "cut f"],
+            "refused 20 pre undecoded .text.f 0x0\n",
+            3,
+        ),
+        (
+            &["match", "cut", "empty"],
+            "refused 28 bad image at 4 short\n",
+            7,
+        ),
+        (
+            &["match", "one", "program"],
+            "refused 28 bad image at 0 magic\n",
+            7,
+        ),
+        (&["match", "program", "empty"], "refused 1 not elf\n", 3),
+        (
+            &["match", "program", "cut object"],
+            "refused 3 bad header 20\n",
+            3,
+        ),
+        (&["match", "cut", "none"], "file none missing\n", 4),
+        (&["match", "none", "long name"], "file none missing\n", 4),
+        (
+            &["match", "program", "long name"],
+            "file long\\x20name too long\n",
+            4,
+        ),
+        (&["match", "program"], USAGE, 2),
+        (&["match", "program", "one", "two"], USAGE, 2),
+        (&["match", "program", "-one"], USAGE, 2),
+        (&["match"], USAGE, 2),
+        (&["code", "match", "one"], "file match missing\n", 4),
+    ];
+    compare_answers(&rt, rt.alloc(), &calls)
+}
+
 #[test]
 fn sessions(rt: HostRuntime) -> Result<(), Fail> {
     let calls: [(&[&str], &str, u8); 11] = [
@@ -242,8 +325,9 @@ fn faults_of_the_outside(rt: HostRuntime) -> Result<(), Fail> {
     let alloc = rt.alloc();
     let diff: [&str; 3] = ["diff", "one", "two"];
     let code: [&str; 3] = ["code", "program", "f"];
+    let matches: [&str; 3] = ["match", "pair", "start"];
     let run: [&str; 3] = ["run", "program", "script"];
-    let calls: [(&[&str], &[u64], &[u64], usize, &str, u8); 15] = [
+    let calls: [(&[&str], &[u64], &[u64], usize, &str, u8); 19] = [
         (&diff, &[1], &[], 100, "file one failed\n", 4),
         (&diff, &[2], &[], 100, "file two failed\n", 4),
         (&diff, &[3], &[], 100, "changed f\n", 0),
@@ -254,6 +338,10 @@ fn faults_of_the_outside(rt: HostRuntime) -> Result<(), Fail> {
         (&code, &[2], &[], 1, LISTING, 0),
         (&code, &[], &[3], 5, "0x00100000", 5),
         (&code, &[], &[], 0, "", 5),
+        (&matches, &[1], &[], 100, "file pair failed\n", 4),
+        (&matches, &[2], &[], 100, "file start failed\n", 4),
+        (&matches, &[3], &[], 1, START_VALUES, 0),
+        (&matches, &[], &[2], 10, "code start", 5),
         (&run, &[1], &[], 100, "file program failed\n", 4),
         (&run, &[2], &[], 100, "file script failed\n", 4),
         (&run, &[3], &[], 1, REPLIES, 0),
@@ -281,7 +369,9 @@ fn faults_of_the_outside(rt: HostRuntime) -> Result<(), Fail> {
 #[test]
 fn want_of_memory(rt: HostRuntime) -> Result<(), Fail> {
     let alloc = rt.alloc();
-    let calls: [(&[&str], &str, u8); 6] = [
+    let calls: [(&[&str], &str, u8); 8] = [
+        (&["match", "pair", "start"], START_VALUES, 0),
+        (&["match", "pair", "p and q"], CONFLICT, 3),
         (&["run", "program", "script"], REPLIES, 0),
         (&["code", "program", "f"], LISTING, 0),
         (&["diff", "one", "two"], "changed f\n", 0),

@@ -53,6 +53,10 @@ fn command_in(words: &[String]) -> Option<Command<'_>>
             image: image.as_str(),
             name: name.as_str(),
         }),
+        [name, image, pre] if name.as_str() == "match" => Some(Command::Match {
+            image: image.as_str(),
+            pre: pre.as_str(),
+        }),
         [name, image, script] if name.as_str() == "run" => Some(Command::Run {
             image: image.as_str(),
             script: script.as_str(),

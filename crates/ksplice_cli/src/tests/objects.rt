@@ -1,7 +1,7 @@
 //! The objects of the tests, by the names of their files.
 
-use crate::tests::builder::Kind::{Comment, Data, Global, Local, ReadOnly, Strings, Zeros};
-use crate::tests::builder::{ABSOLUTE, RELATIVE, Section};
+use object_builder::Kind::{Comment, Data, Global, Local, ReadOnly, Strings, Zeros};
+use object_builder::{ABSOLUTE, RELATIVE, Section};
 
 /// `mov eax, 1` and `ret`.
 const F: Section = Section {
@@ -211,13 +211,64 @@ const STACK_NOTE: Section = Section {
     references: &[],
 };
 
-pub(crate) const OBJECTS: [(&str, &[Section]); 15] = [
+/// Loads the variable `x`, and `ret`; twice.
+const P: Section = Section {
+    name: ".text.p",
+    kind: Global("p"),
+    bytes: b"\xa1\0\0\0\0\xc3",
+    references: &[(1, ABSOLUTE, ".data.x")],
+};
+
+const Q: Section = Section {
+    name: ".text.q",
+    kind: Global("q"),
+    bytes: b"\xa1\0\0\0\0\xc3",
+    references: &[(1, ABSOLUTE, ".data.x")],
+};
+
+const X: Section = Section {
+    name: ".data.x",
+    kind: Data,
+    bytes: b"\0\0\0\0",
+    references: &[],
+};
+
+/// `xor eax, eax` and `ret`.
+const TW: Section = Section {
+    name: ".text.tw",
+    kind: Local("tw"),
+    bytes: b"\x31\xc0\xc3",
+    references: &[],
+};
+
+/// Calls `tw` and `ext`, and `ret`.
+const START: Section = Section {
+    name: ".text.start",
+    kind: Global("start"),
+    bytes: b"\xe8\xfc\xff\xff\xff\xe8\xfc\xff\xff\xff\xc3",
+    references: &[(1, RELATIVE, ".text.tw"), (6, RELATIVE, "ext")],
+};
+
+/// No instruction.
+const F_CUT: Section = Section {
+    name: ".text.f",
+    kind: Global("f"),
+    bytes: b"\xb8\x01",
+    references: &[],
+};
+
+pub(crate) const OBJECTS: [(&str, &[Section]); 20] = [
     ("one", &[F]),
     ("two", &[F_CHANGED]),
     ("renamed", &[F_RENAMED]),
     ("f and g", &[F, G]),
     ("f and h", &[F, H]),
     ("call", &[F, MAIN]),
+    ("p", &[P, X]),
+    ("p and q", &[X, P, Q]),
+    ("tw", &[TW]),
+    ("start", &[START, TW]),
+    ("cut f", &[F_CUT]),
     ("work and cold", &[WORK, COLD]),
     ("work", &[WORK_ALONE]),
     ("text a", &[TEXT_AT_0, A]),

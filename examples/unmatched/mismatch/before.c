@@ -1,0 +1,3 @@
+/* The source of the program that runs, compiled with another flag. */
+
+#include "../../leaf/before.c"
