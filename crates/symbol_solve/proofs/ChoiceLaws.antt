@@ -1,5 +1,5 @@
 -- The choice of a candidate.
-use Rattle.std.proofs.Common.{◌≡◌, ℕ, ◌+◌, ◌<◌, Bool, true, false, ◌&&◌, cond, List, [], ◌∷◌, ◌++◌, length, map, take, get_or, Option, Some, None, Result, refl, sym, ◌∙◌, ap, arith}
+use Rattle.std.proofs.Common.{◌≡◌, ℕ, ◌+◌, ◌<◌, Bool, true, false, ◌&&◌, cond, List, [], ◌∷◌, ◌++◌, length, map, take, get_or, Option, Some, None, Result, Ok, refl, subst, sym, ◌∙◌, ap, arith}
 use Rattle.std.specs.List.{filter, slice_get}
 use Rattle.std.specs.Option.{unwrap_or}
 use Rattle.std.specs.Result.{IfOk}
@@ -9,7 +9,9 @@ use Rattle.std.proofs.lemmas.Option.{slice_get_within, get_or_from_slice_get}
 use Rattle.std.proofs.lemmas.List.Elements.{filter_agree}
 use Rattle.i386_reloc.specs.declared.types.NormalSection.{NormalSection}
 use Rattle.image_memory.specs.Contents.{Contents}
-use Rattle.run_pre_match.specs.Bodies.{body_at, body_of}
+use Rattle.run_pre_match.specs.Bodies.{Body, body_at, body_of}
+use Rattle.run_pre_match.specs.declared.types.Matched.{Matched}
+use Rattle.run_pre_match.specs.Match.{Valuation, Match}
 use Rattle.run_pre_match.specs.Candidate.{Candidate, same_number}
 use Rattle.run_pre_match.specs.Matched.{PreSection, outcome}
 use Rattle.match_candidates.specs.declared.trials.Tried.{Tried}
@@ -18,7 +20,9 @@ use Rattle.match_candidates.specs.OwnFaults.{IsTried}
 use Rattle.symbol_solve.specs.declared.numbers.Point.{Point}
 use Rattle.symbol_solve.specs.inside.Numbers.{Numbers, is_at, points_at, stands, standing, meets, met_among, choice_from, choice_of, AreListed}
 use Rattle.symbol_solve.proofs.CandidateLaws.{placed}
+use Rattle.symbol_solve.specs.inside.Points.{LiesIn}
 use Rattle.symbol_solve.proofs.PointLaws.{own_here}
+use Rattle.symbol_solve.proofs.WithinLaws.{AreMet, match_lies}
 
 filter_twice : {X : Type 0} (p q : X → Bool) (xs : List X) → filter p (filter q xs) ≡ filter (λ x. q x && p x) xs
 filter_twice p q [] = refl
@@ -52,6 +56,16 @@ choice_is object numbers c code t contents own own_is code_is home base came the
 pub code_here : (codes : List PreSection) (k : ℕ) (code pre : PreSection) → k < length codes → code ≡ get_or codes k code → slice_get codes k ≡ Some pre → code ≡ pre
 code_here codes k code pre within is at =
     is ∙ get_or_from_slice_get codes k pre code at
+
+-- where a candidate that was tried and matches lies
+pub lies_tried : ((c : Candidate) (m : Matched) → outcome c ≡ Ok m → (v : Valuation) × Match c v) → ((contents : Contents) → AreMet contents) → (codes : List PreSection) (c : Candidate) (code : PreSection) (t : Tried) (contents : Contents) (m : Matched) → t.section < length codes
+    → code ≡ get_or codes t.section code → IsTried codes c t → c.contents ≡ contents → t.outcome ≡ Ok m → LiesIn (body_at code contents t.base) t.base (t.base + m.length)
+lies_tried some met codes c code t contents m section code_is tried there is =
+    let same : code ≡ placed c.object c.place c.section = code_here codes t.section code (placed c.object c.place c.section) section code_is tried.code in
+    let body : body_at code contents t.base ≡ body_of c = λ i. body_at (same i) (sym there i) (tried.base i) in
+    let lies = match_lies some c m (met c.contents) (tried.outcome ∙ is) in
+    subst (λ (b : ℕ). LiesIn (body_at code contents t.base) b (b + m.length)) (sym tried.base)
+    (subst (λ (y : Body). LiesIn y c.base (c.base + m.length)) (sym body) lies)
 
 pub choice_of_tried : (object : List NormalSection) (numbers : Numbers) (table : List (List ℕ)) (codes : List PreSection) (c : Candidate) (code : PreSection) (place : ℕ) (t : Tried) (contents : Contents) (own : List ℕ) → t.section < length codes → code ≡ get_or codes t.section code → length table ≡ length object
     → AreListed numbers.points (length numbers.points) table → own ≡ unwrap_or (slice_get table place) [] → place ≡ code.place → IsTried codes c t → c.contents ≡ contents → slice_get object c.place ≡ Some c.section

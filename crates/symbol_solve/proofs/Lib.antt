@@ -5,8 +5,11 @@ mod TwinLaws
 pub mod NumberLaws
 pub mod PointLaws
 pub mod CandidateLaws
+mod WithinLaws
+pub mod RangeLaws
 pub mod ChoiceLaws
 pub mod MapLaws
+mod FirstClaims
 pub mod OrderLaws
 pub mod LeftLaws
 mod RemainLaws

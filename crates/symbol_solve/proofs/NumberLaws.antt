@@ -139,3 +139,7 @@ outcomes_more object a b tried i d within at grows own each =
     All-more (λ t. IsNumbered object b t.outcome) tried i d within
     (All-weaker (λ t. IsNumbered object a t.outcome) (λ t. IsNumbered object b t.outcome) (λ t. numbers_kept object a b t.outcome grows) (take i tried) each)
     (subst (λ t. IsNumbered object b t.outcome) at own)
+
+pub outcomes_kept : (object : List NormalSection) (a b : Numbers) (tried : List Tried) → Grows a b → All (λ t. IsNumbered object a t.outcome) tried → All (λ t. IsNumbered object b t.outcome) tried
+outcomes_kept object a b tried grows each =
+    All-weaker (λ t. IsNumbered object a t.outcome) (λ t. IsNumbered object b t.outcome) (λ t. numbers_kept object a b t.outcome grows) tried each

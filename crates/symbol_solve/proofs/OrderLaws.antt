@@ -22,7 +22,8 @@ use Rattle.propagation.specs.Choices.{Agree, IsChoice, ComesBefore, AreChoices}
 use Rattle.match_candidates.specs.Candidates.{Running, code_from, candidate_at, homes_of, candidates_of, candidates, function_name, is_match}
 use Rattle.symbol_solve.specs.Clashes.{claims_in, claims_of}
 use Rattle.symbol_solve.specs.inside.Numbers.{Numbers, claim_of, choice_of, met_among, IsUnknownNumbered}
-use Rattle.symbol_solve.proofs.CandidateLaws.{placed}
+use Rattle.symbol_solve.specs.inside.Claims.{IsAtOne}
+use Rattle.symbol_solve.proofs.CandidateLaws.{placed, IsHere, candidates_here}
 use Rattle.symbol_solve.proofs.MapLaws.{IsKnown, same_number_same_unknown}
 
 -- ---- lists in order
@@ -182,3 +183,12 @@ module _ (agree : MatchesAgree) (running : Running) (object : List NormalSection
     each = All-map IsChoice (choice_of object numbers) (candidates running object) (All-weaker (IsKnown running object numbers) (λ c. IsChoice (choice_of object numbers c)) is_choice (candidates running object) known);
     order = λ i j a b less at_i at_j. ordered_at ComesBefore (map (choice_of object numbers) (candidates running object)) i j a b (before_alike (candidates running object) (candidates_ordered running object)) less at_i at_j;
   }
+
+-- the claims of each candidate agree
+pub all_at_one : MatchesAgree → (running : Running) (object : List NormalSection) → IsDistinct same_bytes (map name_of object) → All IsAtOne (candidates running object)
+all_at_one agree running object distinct =
+    All-weaker (IsHere running object) IsAtOne
+    (λ c here.
+    let own : c.object ≡ object = ap (λ (d : Candidate). d.object) here.own in
+    claims_agree_in agree c (ap (λ (o : List NormalSection). slice_get o c.place) own ∙ here.at) (subst (λ (o : List NormalSection). IsDistinct same_bytes (map name_of o)) (sym own) distinct) (outcome c) refl)
+    (candidates running object) (candidates_here running object)

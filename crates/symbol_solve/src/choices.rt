@@ -1,22 +1,27 @@
 //! Candidates as choices.
-ghost use Rattle.std.specs.Prelude.{◌≡◌, ◌<◌, ◌++◌, [], Some, IfOk, OnOk, length, map, option_to_list};
+ghost use Rattle.std.specs.Prelude.{◌≡◌, ◌<◌, ◌+◌, ◌++◌, [], false, Some, Ok, IfOk, OnOk, length, map, option_to_list};
 ghost use Rattle.std.specs.Option.{unwrap_or};
 ghost use Rattle.std.specs.List.{filter_map, slice_get};
 ghost use Rattle.run_pre_match.specs.Bodies.{body_at};
 ghost use Rattle.run_pre_match.specs.Candidate.{Candidate};
+ghost use Rattle.run_pre_match.specs.declared.types.Matched.{Matched};
 ghost use Rattle.match_candidates.specs.Candidates.{code_sections, candidates};
 ghost use Rattle.match_candidates.specs.OwnFaults.{AreTried, IsTried};
 ghost use Rattle.symbol_solve.specs.inside.Numbers.{claim_of, demand_of, stands, standing, choice_of};
 ghost use Rattle.symbol_solve.specs.inside.Numbers.{choice_from, AreListed};
+ghost use Rattle.symbol_solve.specs.inside.Points.{AreInOrder, Ascend, LiesIn};
 
 use crate::numbers::{Numbers, Point, word};
 use crate::points::{points_by_section, points_of};
+use crate::ranges::points_within;
 use i386_reloc::Normal;
 use image_memory::Space;
 use ks_base::ListOf;
 use match_candidates::{Running, Trials, Tried};
 use propagation::{Choice, Demand};
-use run_pre_match::{Body, Claim, Interior, PreCode};
+use run_pre_match::{
+    Body, Claim, Interior, Matched, PreCode, matches_have_one_valuation, run_code_goes_on,
+};
 use std::alloc::{AllocError, Global};
 
 /// Claims with the numbers of their unknowns.
@@ -88,19 +93,22 @@ fn standing<S: Space>(
     Ok(list)
 }
 
-/// Those of some points whose addresses stand for their offsets in the body at a base. Where there are no points, the
-/// body isn't listed.
+/// Those of some points, ascending by address, whose addresses stand for their offsets in the body of so many bytes at
+/// a base. Only those that lie in these bytes are asked for. Where there are none, the body isn't listed.
 fn met<S: Space>(
     alloc: Global,
     space: &S,
     code: &PreCode<'_, '_>,
     base: u32,
+    length: u32,
     points: &[Point],
     own: &[u32],
 ) -> Result<ListOf<u32>, AllocError>
-    ensures { IfOk result (λ list. list ≡ standing points.now
-        (body_at code.now (S.contents space.now) base) own.now) }
+    requires { Ascend points.now own.now }
+    ensures { LiesIn (body_at code.now (S.contents space.now) base) base (base + length)
+        → IfOk result (λ list. list ≡ standing points.now (body_at code.now (S.contents space.now) base) own.now) }
 {
+    let own = points_within(points, own, base, length);
     if own.is_empty() {
         return Ok(ListOf::new(alloc));
     }
@@ -116,6 +124,49 @@ struct Naming<'m, 'a> {
     own: Vec<ListOf<u32>>,
     ghost count: { length own.items ≡ length object.now },
     ghost lists: { AreListed numbers.now.points (length numbers.now.points) own.items },
+    ghost order: { AreInOrder numbers.now.points },
+}
+
+/// The choice of a candidate that doesn't match.
+fn no_choice(alloc: Global, section: u32, home: u32) -> Choice
+    ensures { result ≡ record { section = section; home = home; matches = false; claims = []; demands = []; met = [] } }
+{
+    Choice {
+        section,
+        home,
+        matches: false,
+        claims: ListOf::new(alloc),
+        demands: ListOf::new(alloc),
+        met: ListOf::new(alloc),
+    }
+}
+
+/// The choice of a candidate that matches, given the code of its section.
+fn choice_of_match<S: Space>(
+    alloc: Global,
+    naming: &Naming<'_, '_>,
+    space: &S,
+    code: &PreCode<'_, '_>,
+    t: &Tried,
+    matched: &Matched,
+) -> Result<Choice, AllocError>
+    ensures { LiesIn (body_at code.now (S.contents space.now) t.now.base) t.now.base (t.now.base + matched.now.length)
+        → IfOk result (λ choice. choice
+        ≡ choice_from naming.now.object.now naming.now.numbers.now code.now.place t.now.home (Ok matched.now)
+        (standing naming.now.numbers.now.points (body_at code.now (S.contents space.now) t.now.base)
+        (unwrap_or (slice_get naming.now.own.items code.now.place) []))) }
+{
+    let numbers = naming.numbers;
+    let own = points_of(&naming.own, code.place());
+    let length = matched.length;
+    Ok(Choice {
+        section: word(code.place())?,
+        home: t.home,
+        matches: true,
+        claims: numbered_claims(alloc, numbers, matched.claims.as_slice())?,
+        demands: demands(alloc, naming.object, numbers, matched.interiors.as_slice())?,
+        met: met(alloc, space, code, t.base, length, numbers.points(), own)?,
+    })
 }
 
 /// The choice of a candidate, given the code of its section.
@@ -126,38 +177,16 @@ fn choice_at<S: Space>(
     code: &PreCode<'_, '_>,
     t: &Tried,
 ) -> Result<Choice, AllocError>
-    ensures { IfOk result (λ choice. choice
+    ensures { ((matched : Matched) → t.now.outcome ≡ Ok matched
+        → LiesIn (body_at code.now running.now.contents t.now.base) t.now.base (t.now.base + matched.length))
+        → IfOk result (λ choice. choice
         ≡ choice_from naming.now.object.now naming.now.numbers.now code.now.place t.now.home t.now.outcome
         (standing naming.now.numbers.now.points (body_at code.now running.now.contents t.now.base)
         (unwrap_or (slice_get naming.now.own.items code.now.place) []))) }
 {
-    let numbers = naming.numbers;
-    let place = code.place();
-    let section = word(place)?;
     match &t.outcome {
-        Ok(matched) => Ok(Choice {
-            section,
-            home: t.home,
-            matches: true,
-            claims: numbered_claims(alloc, numbers, matched.claims.as_slice())?,
-            demands: demands(alloc, naming.object, numbers, matched.interiors.as_slice())?,
-            met: met(
-                alloc,
-                running.space,
-                code,
-                t.base,
-                numbers.points(),
-                points_of(&naming.own, place),
-            )?,
-        }),
-        Err(_) => Ok(Choice {
-            section,
-            home: t.home,
-            matches: false,
-            claims: ListOf::new(alloc),
-            demands: ListOf::new(alloc),
-            met: ListOf::new(alloc),
-        }),
+        Ok(matched) => choice_of_match(alloc, naming, running.space, code, t, matched),
+        Err(_) => Ok(no_choice(alloc, word(code.place())?, t.home)),
     }
 }
 
@@ -174,6 +203,9 @@ fn choice_among<S: Space>(
         → slice_get naming.now.object.now c.place ≡ Some c.section
         → IfOk result (λ choice. choice ≡ choice_of naming.now.object.now naming.now.numbers.now c) }
 {
+    // Nothing is done here: the laws say that a match lies in its bytes.
+    matches_have_one_valuation();
+    run_code_goes_on();
     choice_at(alloc, naming, running, &codes[t.section], t)
 }
 
@@ -187,6 +219,7 @@ pub(crate) fn choices_of<S: Space>(
 ) -> Result<Vec<Choice>, AllocError>
     requires codes { trials.now.codes ≡ code_sections object.now }
     requires tried { AreTried running.now object.now trials.now.tried }
+    requires order { AreInOrder numbers.now.points }
     ensures { IfOk result (λ choices. choices.items
         ≡ map (choice_of object.now numbers.now) (candidates running.now object.now)) }
 {

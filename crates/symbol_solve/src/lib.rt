@@ -1,14 +1,16 @@
-//! Solving: which functions of a running program the code sections of an object are, and what that makes of the addresses that it
-//! refers to.
+//! Solving: which functions of a running program the code sections of an object are, and what that makes of the
+//! addresses that it refers to.
 #![tactic(auto)]
 
 mod choices;
 mod copies;
+mod first_claims;
 pub mod laws;
 mod left;
 mod numbers;
 mod points;
 mod propagated;
+mod ranges;
 mod report;
 mod solving;
 mod twins;

@@ -3,6 +3,7 @@ ghost use Rattle.std.specs.Prelude.{◌≡◌, All, IfOk, OnOk};
 ghost use Rattle.symbol_solve.specs.Clashes.{claims_in, interiors_in};
 ghost use Rattle.symbol_solve.specs.inside.Numbers.{claim_of, demand_of, point_of};
 ghost use Rattle.symbol_solve.specs.inside.Numbers.{IsNumbered, IsUnknownNumbered, IsInteriorNumbered, Grows};
+ghost use Rattle.symbol_solve.specs.inside.Points.{AreInOrder};
 
 use i386_reloc::Normal;
 use indexmap::IndexSet;
@@ -21,8 +22,8 @@ pub(crate) struct Point {
     pub(crate) address: u32,
 }
 
-/// What candidates claim values of, and the interiors that they refer to, each once and in the order in which they are
-/// met first.
+/// What candidates claim values of, in the order in which it is met first, and the interiors that they refer to, in the
+/// order of their addresses; each once.
 #[derive(Drop)]
 pub(crate) struct Numbers {
     unknowns: IndexSet<Unknown>,
@@ -136,6 +137,14 @@ impl Numbers {
         }
         Ok(())
     }
+
+    /// Gives the points numbers in the order of their addresses.
+    fn sort_points(&mut self) -> Result<(), AllocError>
+        ensures grows { OnOk result (Grows self.old self.new) }
+        ensures order { OnOk result (AreInOrder self.new.points) }
+    {
+        self.points.sort_by_key(|point| point.address)
+    }
 }
 
 /// A number as 32 bits. More than these have no memory.
@@ -167,7 +176,8 @@ pub(crate) fn number_all(
     object: &Normal<'_>,
     tried: &[Tried],
 ) -> Result<Numbers, AllocError>
-    ensures { IfOk result (λ numbers. All (λ t. IsNumbered object.now numbers t.outcome) tried.now) }
+    ensures numbered { IfOk result (λ numbers. All (λ t. IsNumbered object.now numbers t.outcome) tried.now) }
+    ensures order { IfOk result (λ numbers. AreInOrder numbers.points) }
 {
     let mut numbers = Numbers {
         unknowns: IndexSet::new(alloc),
@@ -176,5 +186,6 @@ pub(crate) fn number_all(
     for t in tried {
         numbers.add_outcome(object, &t.outcome)?;
     }
+    numbers.sort_points()?;
     Ok(numbers)
 }

@@ -1,5 +1,5 @@
 //! Which candidates are left.
-ghost use Rattle.std.specs.Prelude.{◌≡◌, IfOk, length, map};
+ghost use Rattle.std.specs.Prelude.{◌≡◌, All, IfOk, length, map};
 ghost use Rattle.std.specs.Option.{option_and_then};
 ghost use Rattle.propagation.specs.Rounds.{remaining, forced, is_among};
 ghost use Rattle.propagation.specs.Conflicts.{conflict};
@@ -7,6 +7,7 @@ ghost use Rattle.match_candidates.specs.Candidates.{code_sections, candidates};
 ghost use Rattle.match_candidates.specs.OwnFaults.{AreTried};
 ghost use Rattle.symbol_solve.specs.Clashes.{candidate_rules};
 ghost use Rattle.symbol_solve.specs.Conflicts.{by_place};
+ghost use Rattle.symbol_solve.specs.inside.Claims.{IsAtOne};
 ghost use Rattle.symbol_solve.specs.inside.Left.{pair_at};
 
 use crate::choices::choices_of;
@@ -38,6 +39,7 @@ pub(crate) fn propagate_candidates<S: Space>(
     ensures left { IfOk result (λ p. p.left.items
         ≡ map (is_among candidate_rules (remaining candidate_rules (candidates running.now object.now)))
         (candidates running.now object.now)) }
+    ensures agree { IfOk result (λ _. All IsAtOne (candidates running.now object.now)) }
     ensures conflict { IfOk result (λ p. option_and_then (pair_at (candidates running.now object.now)) p.conflict
         ≡ conflict candidate_rules
         (by_place (length object.now) (forced candidate_rules (candidates running.now object.now)))) }

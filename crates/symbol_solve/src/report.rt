@@ -2,15 +2,17 @@
 ghost use Rattle.std.specs.Prelude.{◌≡◌, ◌<◌, length, IfOk};
 ghost use Rattle.std.specs.Option.{option_copied, option_map};
 ghost use Rattle.std.specs.List.{find};
-ghost use Rattle.symbol_table.specs.Unknowns.{same_unknown};
 ghost use Rattle.run_pre_match.specs.Bodies.{body_of};
 ghost use Rattle.run_pre_match.specs.Candidate.{Candidate};
 ghost use Rattle.propagation.specs.Conflicts.{first_some};
 ghost use Rattle.symbol_solve.specs.Clashes.{contradict, is_unmet, claims_in, interiors_in};
-ghost use Rattle.symbol_solve.specs.Conflicts.{unknown_name, claims_conflict, interior_conflict, conflict_of_claims, conflict_of_interiors, clash_between};
+ghost use Rattle.symbol_solve.specs.Conflicts.{unknown_name, claims_conflict, interior_conflict, clash_between};
+ghost use Rattle.symbol_solve.specs.Conflicts.{conflict_of_claims, conflict_of_interiors};
+ghost use Rattle.symbol_solve.specs.inside.Claims.{GiveOneValue, IsAtOne};
 ghost use Rattle.symbol_solve.specs.inside.Left.{IsOf, is_unmet_in};
 
 use crate::copies::copied_spot;
+use crate::first_claims::{contradiction, first_claims};
 use crate::left::Held;
 use image_memory::Space;
 use ks_base::{ConflictName, Name, Refusal, Spot};
@@ -18,31 +20,6 @@ use match_candidates::Tried;
 use run_pre_match::{Body, Claim, Interior, PreCode};
 use std::alloc::{AllocError, Global};
 use symbol_table::Unknown;
-
-fn is_same(a: &Unknown, b: &Unknown) -> bool
-    ensures { result ≡ same_unknown a.now b.now }
-{
-    match (a, b) {
-        (Unknown::Code(a), Unknown::Code(b)) => a == b,
-        (Unknown::Data(a), Unknown::Data(b)) => a == b,
-        (Unknown::Outside(a), Unknown::Outside(b)) => a == b,
-        _ => false,
-    }
-}
-
-/// Whether two claims give one unknown two values.
-fn contradict(a: &Claim, b: &Claim) -> bool
-    ensures { result ≡ contradict a.now b.now }
-{
-    is_same(&a.unknown, &b.unknown) && a.value != b.value
-}
-
-/// The first of some claims that gives the unknown of a claim another value.
-fn contradiction<'c>(claims: &'c [Claim], claim: &Claim) -> Option<&'c Claim>
-    ensures { option_copied result ≡ find (contradict claim.now) claims.now }
-{
-    claims.iter().find(|other| contradict(claim, *other))
-}
 
 fn name_of(unknown: &Unknown) -> &Name
     ensures { result.now ≡ unknown_name unknown.now }
@@ -68,18 +45,20 @@ fn claims_conflict(alloc: Global, a: &Claim, b: &Claim) -> Result<Refusal, Alloc
     ))
 }
 
-/// The first of some claims that one of others contradicts, with the first that does.
+/// The first of some claims that one of others contradicts, with the first that does, where others of one thing give it
+/// one value.
 #[tactic(auto, unfolding(propagation::specs::Conflicts::first_some))]
-fn conflict_of_claims(
+fn conflict_of_claims<'c>(
     alloc: Global,
-    ones: &[Claim],
-    others: &[Claim],
+    ones: &'c [Claim],
+    others: &'c [Claim],
 ) -> Result<Option<Refusal>, AllocError>
-    ensures { IfOk result (λ report. report
+    ensures { GiveOneValue others.now → IfOk result (λ report. report
         ≡ first_some (λ a. option_map (claims_conflict a) (find (contradict a) others.now)) ones.now) }
 {
+    let first = first_claims(alloc, others)?;
     for claim in ones {
-        if let Some(other) = contradiction(others, claim) {
+        if let Some(other) = contradiction(&first, claim) {
             return Ok(Some(claims_conflict(alloc, claim, other)?));
         }
     }
@@ -140,7 +119,8 @@ fn conflict_of_interiors<S: Space>(
     code: &PreCode<'_, '_>,
     base: u32,
 ) -> Result<Option<Refusal>, AllocError>
-    ensures { IfOk result (λ report. (d : Candidate) → d.section ≡ code.now.section → d.contents ≡ S.contents space.now → d.base ≡ base
+    ensures { IfOk result (λ report. (d : Candidate) → d.section ≡ code.now.section
+        → d.contents ≡ S.contents space.now → d.base ≡ base
         → report ≡ option_map (interior_conflict d) (find (is_unmet d) interiors.now)) }
 {
     let body = code.body(alloc, space, base)?;
@@ -176,7 +156,7 @@ fn claims_between(
     other: &Held<'_, '_, '_>,
 ) -> Result<Option<Refusal>, AllocError>
     ensures { IfOk result (λ report. (c d : Candidate) → IsOf one.now.code.now c one.now.tried.now
-        → IsOf other.now.code.now d other.now.tried.now → report ≡ conflict_of_claims c d) }
+        → IsOf other.now.code.now d other.now.tried.now → IsAtOne d → report ≡ conflict_of_claims c d) }
 {
     conflict_of_claims(alloc, claims_of(one.tried), claims_of(other.tried))
 }
@@ -188,7 +168,8 @@ fn interiors_between<S: Space>(
     other: &Held<'_, '_, '_>,
 ) -> Result<Option<Refusal>, AllocError>
     ensures { IfOk result (λ report. (c d : Candidate) → IsOf one.now.code.now c one.now.tried.now
-        → IsOf other.now.code.now d other.now.tried.now → d.contents ≡ S.contents space.now → report ≡ conflict_of_interiors c d) }
+        → IsOf other.now.code.now d other.now.tried.now → d.contents ≡ S.contents space.now
+        → report ≡ conflict_of_interiors c d) }
 {
     conflict_of_interiors(
         alloc,
@@ -199,16 +180,18 @@ fn interiors_between<S: Space>(
     )
 }
 
-/// What is reported of two candidates: the first claim of the first one that the second contradicts, or else the first interior of
-/// either that isn't met in the other.
+/// What is reported of two candidates: the first claim of the first one that the second contradicts, or else the first
+/// interior of either that isn't met in the other.
 pub(crate) fn clash_between<S: Space>(
     alloc: Global,
     space: &S,
     one: &Held<'_, '_, '_>,
     other: &Held<'_, '_, '_>,
 ) -> Result<Option<Refusal>, AllocError>
-    ensures { IfOk result (λ report. (c d : Candidate) → IsOf one.now.code.now c one.now.tried.now → c.contents ≡ S.contents space.now
-        → IsOf other.now.code.now d other.now.tried.now → d.contents ≡ S.contents space.now → report ≡ clash_between (c, d)) }
+    ensures { IfOk result (λ report. (c d : Candidate) → IsOf one.now.code.now c one.now.tried.now
+        → c.contents ≡ S.contents space.now
+        → IsOf other.now.code.now d other.now.tried.now → d.contents ≡ S.contents space.now → IsAtOne d
+        → report ≡ clash_between (c, d)) }
 {
     let report = claims_between(alloc, one, other)?;
     if report.is_some() {

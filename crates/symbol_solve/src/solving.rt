@@ -8,6 +8,7 @@ ghost use Rattle.match_candidates.specs.Candidates.{code_sections, candidates};
 ghost use Rattle.match_candidates.specs.OwnFaults.{AreTried};
 ghost use Rattle.symbol_solve.specs.Conflicts.{clash_between, reported};
 ghost use Rattle.symbol_solve.specs.Solve.{first_twins, left_of, values, values_unless, solved};
+ghost use Rattle.symbol_solve.specs.inside.Claims.{IsAtOne};
 ghost use Rattle.symbol_solve.specs.inside.Left.{IsOf, IsOneOf, HasMemory, pair_at};
 
 use crate::left::{Held, held_at, marked};
@@ -31,7 +32,7 @@ fn reported<S: Space>(
     places: Option<(usize, usize)>,
 ) -> Result<Option<Refusal>, AllocError>
     ensures { IfOk result (λ report. (cs : List Candidate) → AllZip (IsOneOf trials.now.codes) cs trials.now.tried
-        → All (HasMemory (S.contents space.now)) cs
+        → All (HasMemory (S.contents space.now)) cs → All IsAtOne cs
         → report ≡ option_and_then clash_between (option_and_then (pair_at cs) places)) }
 {
     let Some((first, second)) = places else {

@@ -2,7 +2,7 @@
 
 use crate::candidates::{Program, bodies_of};
 use crate::trying::{
-    CODE, CONSTANT, HOME, References, Running, at_home, normal_of, space_of, table_of,
+    CODE, CONSTANT, HOME, Listed, References, Running, at_home, normal_of, space_of, table_of,
 };
 use ks_base::{Line, Name, Refusal};
 use object_builder::{ABSOLUTE, Kind, RELATIVE, Section, object};
@@ -169,6 +169,28 @@ const READS_YX: Told = (
     &[(1, ABSOLUTE, ".data.y"), (6, ABSOLUTE, ".data.x")],
 );
 
+/// `mov x,%eax; mov y,%eax; mov y,%eax; ret`
+const READS_XYY: Told = (
+    ".text.t",
+    Kind::Global("t"),
+    b"\xa1\0\0\0\0\xa1\0\0\0\0\xa1\0\0\0\0\xc3",
+    &[
+        (1, ABSOLUTE, ".data.x"),
+        (6, ABSOLUTE, ".data.y"),
+        (11, ABSOLUTE, ".data.y"),
+    ],
+);
+
+/// `nop; xor %eax,%eax; ret`, a function of its object alone
+const PADDED_TW: Told = (".text.tw", Kind::Local("tw"), b"\x90\x31\xc0\xc3", &[]);
+
+/// Two of it, the second one where the first one ends, and `a`.
+const TOUCHING: &[Listed] = &[
+    ("a", true, HOME),
+    ("tw", false, 0x0010_0010),
+    ("tw", false, 0x0010_0014),
+];
+
 const X: Told = (".data.x", Kind::Data, b"\0\0\0\0", &[]);
 
 const Y: Told = (".data.y", Kind::Data, b"\0\0\0\0", &[]);
@@ -176,7 +198,7 @@ const Y: Told = (".data.y", Kind::Data, b"\0\0\0\0", &[]);
 const Z: Told = (".data.z", Kind::Data, b"\0\0\0\0", &[]);
 
 /// Objects whose sections all fit in one way.
-static SOLVED: [Row; 10] = [
+static SOLVED: [Row; 12] = [
     (
         &[CALLER_OF_EXT],
         (
@@ -420,6 +442,58 @@ static SOLVED: [Row; 10] = [
         ),
         "code .text.tw 0x00100020 0x00100020 3\ncode .text.a 0x00100000 0x00100000 6\n",
     ),
+    // of twins that touch: the place is the second one's first byte, padding before its first instruction
+    (
+        &[
+            PADDED_TW,
+            (
+                ".text.a",
+                Kind::Global("a"),
+                b"\xb8\x01\0\0\0\xc3",
+                &[(1, ABSOLUTE, ".text.tw")],
+            ),
+        ],
+        (
+            &[
+                (CODE, HOME, b"\xb8\x14\0\x10\0\xc3"),
+                (
+                    CODE,
+                    0x0010_0010,
+                    b"\x90\x31\xc0\xc3\x90\x31\xc0\xc3",
+                ),
+            ],
+            TOUCHING,
+            None,
+            None,
+        ),
+        "code .text.tw 0x00100014 0x00100014 4\ncode .text.a 0x00100000 0x00100000 6\n",
+    ),
+    // and the first one's last byte
+    (
+        &[
+            PADDED_TW,
+            (
+                ".text.a",
+                Kind::Global("a"),
+                b"\xb8\x03\0\0\0\xc3",
+                &[(1, ABSOLUTE, ".text.tw")],
+            ),
+        ],
+        (
+            &[
+                (CODE, HOME, b"\xb8\x13\0\x10\0\xc3"),
+                (
+                    CODE,
+                    0x0010_0010,
+                    b"\x90\x31\xc0\xc3\x90\x31\xc0\xc3",
+                ),
+            ],
+            TOUCHING,
+            None,
+            None,
+        ),
+        "code .text.tw 0x00100010 0x00100010 4\ncode .text.a 0x00100000 0x00100000 6\n",
+    ),
 ];
 
 /// What `p` and `q` say of one variable.
@@ -455,7 +529,7 @@ const OF_A_PLACE: Program = (
 );
 
 /// Objects whose sections don't fit, or fit in more than one way.
-static REFUSED: [Row; 15] = [
+static REFUSED: [Row; 17] = [
     (
         &[H],
         (
@@ -579,6 +653,38 @@ static REFUSED: [Row; 15] = [
             None,
         ),
         "refused 17 conflict .data.x 0x00200000 at .text.r+0x1 0x00200008 at .text.s+0x6\n",
+    ),
+    // the second claim of each, and of two claims of one thing the first
+    (
+        &[READS_XY, READS_XYY, X, Y],
+        (
+            &[
+                (CODE, HOME, b"\xa1\0\0\x20\0\xa1\x10\0\x20\0\xc3"),
+                (
+                    CODE,
+                    0x0010_0010,
+                    b"\xa1\0\0\x20\0\xa1\x18\0\x20\0\xa1\x18\0\x20\0\xc3",
+                ),
+            ],
+            &[("r", true, HOME), ("t", true, 0x0010_0010)],
+            None,
+            None,
+        ),
+        "refused 17 conflict .data.y 0x00200010 at .text.r+0x6 0x00200018 at .text.t+0x6\n",
+    ),
+    // a place where the other function has ended
+    (
+        &[A, F],
+        (
+            &[
+                (CODE, HOME, b"\xb8\x27\0\x10\0\xc3"),
+                (CODE, 0x0010_0020, b"\xb8\x01\0\0\0\x90\xc3\xc3"),
+            ],
+            &[("a", true, HOME), ("f", true, 0x0010_0020)],
+            None,
+            None,
+        ),
+        "refused 17 conflict .text.f+0x5 0x00100027 at .text.a+0x1 0x00100026 at .text.f+0x5\n",
     ),
     // of three that are left the two lowest
     (

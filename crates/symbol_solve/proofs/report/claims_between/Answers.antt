@@ -1,4 +1,4 @@
-use Rattle.std.proofs.Common.{◌≡◌, ◌∙◌, List, Option}
+use Rattle.std.proofs.Common.{◌≡◌, ◌∙◌, List, Option, ap, subst, sym}
 use Rattle.std.specs.Prelude.{Result, Ok, Err, IfOk}
 use Rattle.std.specs.Option.{option_map}
 use Rattle.std.specs.List.{find}
@@ -10,17 +10,18 @@ use Rattle.match_candidates.specs.declared.trials.Tried.{Tried}
 use Rattle.propagation.specs.Conflicts.{first_some}
 use Rattle.symbol_solve.specs.Clashes.{contradict, claims_in}
 use Rattle.symbol_solve.specs.Conflicts.{claims_conflict, conflict_of_claims}
+use Rattle.symbol_solve.specs.inside.Claims.{GiveOneValue, IsAtOne}
 use Rattle.symbol_solve.specs.inside.Left.{IsOf}
 use Rattle.symbol_solve.proofs.Bodies.{claims_told}
 use Rattle.symbol_solve.proofs.report.claims_between.Goals as goal
 
 by : {E : Type 0} (one other : PreSection) (t u : Tried) (ones others : List Claim) (r : Result (Option Refusal) E)
     → ones ≡ claims_in t.outcome → others ≡ claims_in u.outcome
-    → IfOk r (λ report. report ≡ first_some (λ a. option_map (claims_conflict a) (find (contradict a) others)) ones)
-    → IfOk r (λ report. (c d : Candidate) → IsOf one c t → IsOf other d u → report ≡ conflict_of_claims c d)
-by one other t u ones others (Ok report) are these told = λ c d held kept.
+    → (GiveOneValue others → IfOk r (λ report. report ≡ first_some (λ a. option_map (claims_conflict a) (find (contradict a) others)) ones))
+    → IfOk r (λ report. (c d : Candidate) → IsOf one c t → IsOf other d u → IsAtOne d → report ≡ conflict_of_claims c d)
+by one other t u ones others (Ok report) are these told = λ c d held kept at_one.
     claims_told c d t.outcome u.outcome report held.outcome kept.outcome
-    (told ∙ (λ i. first_some (λ a. option_map (claims_conflict a) (find (contradict a) (these i))) (are i)))
+    (told (subst GiveOneValue (ap claims_in kept.outcome ∙ sym these) at_one) ∙ (λ i. first_some (λ a. option_map (claims_conflict a) (find (contradict a) (these i))) (are i)))
 by one other t u ones others (Err fault) are these told = tt
 
 pub returns : goal.returns

@@ -24,7 +24,7 @@ returns-in-Some g c = λ other.
     let cs : List Candidate = candidates running c.args.pre.now in
     let memory = ap (λ (r : Running). r.contents) c.running.view_is in
     let told = c.in_ok-refusal.ensures cs (are_of running c.args.pre.now c.args.trials.now.codes c.args.trials.now.tried c.requires.codes c.requires.tried)
-    (subst (λ (m : Contents). All (HasMemory m) cs) (sym memory) (have_memory running c.args.pre.now)) in
+    (subst (λ (m : Contents). All (HasMemory m) cs) (sym memory) (have_memory running c.args.pre.now)) c.in_ok-found.ensures.agree in
     refused_by (reported (length c.args.pre.now) cs) (first_twins (left_of running c.args.pre.now)) c.in-Some.refusal (left_of running c.args.pre.now)
     (sym c.in-Some.is ∙ reported_here (length c.args.pre.now) cs c.in_ok-refusal.field-0 c.in_ok-found.found.conflict told c.in_ok-found.ensures.conflict)
 
@@ -47,7 +47,7 @@ returns-in-Some-2 g c = λ other.
     let cs : List Candidate = candidates running c.args.pre.now in
     let memory = ap (λ (r : Running). r.contents) c.running.view_is in
     let told = c.in_ok-refusal.ensures cs (are_of running c.args.pre.now c.args.trials.now.codes c.args.trials.now.tried c.requires.codes c.requires.tried)
-    (subst (λ (m : Contents). All (HasMemory m) cs) (sym memory) (have_memory running c.args.pre.now)) in
+    (subst (λ (m : Contents). All (HasMemory m) cs) (sym memory) (have_memory running c.args.pre.now)) c.in_ok-found.ensures.agree in
     let pairs = are_of running c.args.pre.now c.codes.result.now c.tried.result.now (c.codes.ensures ∙ c.requires.codes) (subst (λ (l : List Tried). AreTried running c.args.pre.now l) (sym c.tried.ensures) c.requires.tried) in
     let marks = left_here running c.args.pre.now c.as_slice.result.now (c.as_slice.ensures.value ∙ c.in_ok-found.ensures.left) in
     let held = subst (λ (l : List Candidate). AllZip Is l c.in_ok-held.held.items) marks (c.in_ok-held.ensures cs pairs) in
@@ -61,7 +61,7 @@ returns g c =
     let cs : List Candidate = candidates running c.args.pre.now in
     let memory = ap (λ (r : Running). r.contents) c.running.view_is in
     let told = c.in_ok-refusal.ensures cs (are_of running c.args.pre.now c.args.trials.now.codes c.args.trials.now.tried c.requires.codes c.requires.tried)
-    (subst (λ (m : Contents). All (HasMemory m) cs) (sym memory) (have_memory running c.args.pre.now)) in
+    (subst (λ (m : Contents). All (HasMemory m) cs) (sym memory) (have_memory running c.args.pre.now)) c.in_ok-found.ensures.agree in
     let pairs = are_of running c.args.pre.now c.codes.result.now c.tried.result.now (c.codes.ensures ∙ c.requires.codes) (subst (λ (l : List Tried). AreTried running c.args.pre.now l) (sym c.tried.ensures) c.requires.tried) in
     let marks = left_here running c.args.pre.now c.as_slice.result.now (c.as_slice.ensures.value ∙ c.in_ok-found.ensures.left) in
     let held = subst (λ (l : List Candidate). AllZip Is l c.in_ok-held.held.items) marks (c.in_ok-held.ensures cs pairs) in
