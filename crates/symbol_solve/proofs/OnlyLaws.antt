@@ -1,12 +1,10 @@
 -- Where nothing stands in the way, what is left is the one solution.
 use Rattle.std.proofs.Common.{arith, ◌≡◌, ◌⊎◌, inl, inr, ℕ, zero, suc, ◌+◌, ◌<◌, ◌≤◌, Bool, true, false, not, ◌&&◌, ◌||◌, eqb, cond, List, [], ◌∷◌, ◌++◌, length, map, Option, Some, None, refl, sym, ap, subst, ◌∙◌}
-use Rattle.std.specs.Prelude.{Result, Ok, Err}
 use Rattle.std.specs.List.{All, AllZip, filter, flat_map, find, list_any, list_all, slice_get, range_with_len}
 use Rattle.std.specs.Option.{option_map, option_or, option_and_then}
-use Rattle.std.proofs.lemmas.Bool.{cases_eq, cases_lt, eq-eqb, ne_eqb, eqb-true, false≢true}
+use Rattle.std.proofs.lemmas.Bool.{cases_eq, cases_lt, eq-eqb, eqb-true, false≢true}
 use Rattle.std.proofs.lemmas.Cmp.{nat_eq_equiv, nat_list_eq_equiv}
 use Rattle.std.proofs.lemmas.Option.{same_Some, slice_get_within}
-use Rattle.ks_base.specs.declared.refusals.Refusal.{Refusal}
 use Rattle.ks_base.specs.declared.refusals.Refusal.TheVariants.{Ambiguous}
 use Rattle.ks_base.specs.declared.refusals.Difference.{Difference}
 use Rattle.i386_reloc.specs.declared.types.NormalSection.{NormalSection}
@@ -15,7 +13,6 @@ use Rattle.symbol_table.specs.declared.values.Unknown.TheVariants.{Code, Data, O
 use Rattle.symbol_table.specs.Unknowns.{same_unknown}
 use Rattle.run_pre_match.specs.declared.types.Claim.{Claim}
 use Rattle.run_pre_match.specs.declared.types.Matched.{Matched}
-use Rattle.run_pre_match.specs.declared.types.MatchFault.{MatchFault}
 use Rattle.run_pre_match.specs.Candidate.{Candidate}
 use Rattle.run_pre_match.specs.Candidate.{pairs}
 use Rattle.run_pre_match.specs.Differences.{difference_from}
@@ -24,16 +21,16 @@ use Rattle.run_pre_match.specs.Matched.{PreSection, outcome, matched_unless, mat
 use Rattle.match_candidates.specs.Candidates.{Running, candidates_of, candidates, code_sections, is_of, is_match, matches}
 use Rattle.match_candidates.specs.OwnFaults.{missing_in, mismatch_in, difference_in, first_missing, first_mismatch, first_undecoded, own_fault}
 use Rattle.propagation.specs.RoundLaws.{remaining_is_kept}
-use Rattle.propagation.specs.Rounds.{without_clashes, left_in, remaining, forced, is_forced, forced_among, clashes_with_one}
+use Rattle.propagation.specs.Rounds.{left_in, remaining, forced, is_forced, forced_among, clashes_with_one}
 use Rattle.propagation.specs.Conflicts.{first_some, first_of_two, first_between, clashing, conflict}
 use Rattle.symbol_solve.specs.Clashes.{clashes, claims_clash, interiors_clash, claims_of, interiors_of, contradict, is_unmet, candidate_rules}
 use Rattle.symbol_solve.specs.Conflicts.{by_place, claims_conflict, interior_conflict, conflict_of_claims, conflict_of_interiors, clash_between, reported}
 use Rattle.symbol_solve.specs.Solve.{twins, first_twins, left_of, obstacle}
 use Rattle.symbol_solve.specs.Solution.{IsChoice, IsSolution}
-use Rattle.symbol_solve.proofs.CandidateLaws.{placed, IsPlaced, IsHere, codes_here, candidates_here}
+use Rattle.symbol_solve.proofs.CandidateLaws.{IsPlaced, IsHere, codes_here, candidates_here}
 use Rattle.symbol_solve.proofs.RemainLaws.{kept_in}
-use Rattle.symbol_solve.proofs.Members.{Has, has_of, contained, all_has, all_of, any_has, any_none, every_has, has_filter, filter_has, has_flat, flat_has, beside_left, beside_right, no_first, between_from}
-use Rattle.symbol_solve.proofs.SolutionLaws.{place_of, same_one, only_one, survives, stays}
+use Rattle.symbol_solve.proofs.Members.{Has, has_of, contained, all_has, all_of, any_has, any_none, every_has, has_filter, filter_has, has_flat, flat_has, no_first, between_from}
+use Rattle.symbol_solve.proofs.SolutionLaws.{place_of, stays}
 
 -- ---- nothing of two
 pub neither : {X : Type 0} (a b : Option X) → option_or a b ≡ None → (a ≡ None) × (b ≡ None)

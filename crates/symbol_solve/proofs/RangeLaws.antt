@@ -1,21 +1,21 @@
 -- Points of a section by their addresses.
 use Rattle.std.proofs.Common.{◌≡◌, ℕ, zero, suc, ◌+◌, ◌<◌, ◌≤◌, Bool, true, false, not, ◌&&◌, cond, ltb, List, [], ◌∷◌, length, take, drop, get_or, Option, Some, None, Result, Ok, Err, refl, sym, ◌∙◌, ap, subst, inl, inr, zero-add, arith}
 use Rattle.std.specs.List.{AllWithin, filter, range_with_len, slice_get}
-use Rattle.std.specs.List.Sorted.{IsNonDecreasingBy, IsPartitionPoint, IsSortedBy}
+use Rattle.std.specs.List.Sorted.{IsPartitionPoint, IsSortedBy}
 use Rattle.std.specs.Option.{unwrap_or}
 use Rattle.std.specs.Result.{IfOk, OnOk}
 use Rattle.std.proofs.lemmas.Result.{IfOk-weaker}
-use Rattle.std.proofs.lemmas.Bool.{cases_Bool, cases_lt, false≢true, ltb-false, lt-ltb, le-ltb}
+use Rattle.std.proofs.lemmas.Bool.{cases_lt, false≢true, ltb-false, lt-ltb, le-ltb}
 use Rattle.std.proofs.lemmas.List.FromFn.{length-range_with_len, get_or-range_with_len}
 use Rattle.std.proofs.lemmas.List.Elements.{filter_agree}
 use Rattle.std.proofs.lemmas.List.Kept.{IsSortedBy-filter}
 use Rattle.std.proofs.lemmas.List.MinMax.{IsStrictWeakOrder-by_number}
 use Rattle.std.proofs.lemmas.List.Sorted.{sorted_far}
 use Rattle.std.proofs.lemmas.Option.{slice_get-get_or, unwrap_or-slice_get}
-use Rattle.run_pre_match.specs.Bodies.{Body, is_number_of}
+use Rattle.run_pre_match.specs.Bodies.{Body}
 use Rattle.symbol_solve.specs.declared.numbers.Point.{Point}
-use Rattle.symbol_solve.specs.inside.Numbers.{is_at, points_at, points_below, stands, standing, AreListed}
-use Rattle.symbol_solve.specs.inside.Points.{AreInOrder, Ascend, LiesIn, address_in, address_at, is_before, points_before, points_from, points_between}
+use Rattle.symbol_solve.specs.inside.Numbers.{is_at, stands, standing, AreListed}
+use Rattle.symbol_solve.specs.inside.Points.{AreInOrder, Ascend, LiesIn, address_in, address_at, is_before, points_between}
 
 -- ---- what passes a test stands before what doesn't
 module _ {X : Type 0} (p : X → Bool) where

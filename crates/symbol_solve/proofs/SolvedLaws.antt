@@ -1,10 +1,9 @@
 -- Where one candidate of each section is left, nothing stands in the way but what is wrong with a section by itself.
-use Rattle.std.proofs.Common.{arith, ◌≡◌, ◌⊎◌, inl, inr, ℕ, suc, ◌<◌, ◌≤◌, true, false, cond, eqb, List, [], ◌∷◌, length, Option, Some, None, refl, sym, ap, subst, le_refl, ◌∙◌}
-use Rattle.std.specs.List.{All, AllZip, flat_map}
+use Rattle.std.proofs.Common.{arith, ◌≡◌, inl, inr, ℕ, suc, ◌<◌, ◌≤◌, true, false, cond, eqb, List, [], ◌∷◌, length, Option, Some, None, refl, sym, ap, le_refl, ◌∙◌}
+use Rattle.std.specs.List.{All, AllZip}
 use Rattle.std.specs.Option.{option_or}
 use Rattle.std.proofs.lemmas.Bool.{eq-eqb, ne_eqb}
 use Rattle.std.proofs.lemmas.List.Elements.{All-nil, All-cons, All-weaker}
-use Rattle.ks_base.specs.declared.refusals.Refusal.{Refusal}
 use Rattle.ks_base.specs.declared.refusals.Refusal.TheVariants.{Ambiguous}
 use Rattle.i386_reloc.specs.declared.types.NormalSection.{NormalSection}
 use Rattle.i386_reloc.specs.Classes.{is_code_class}
@@ -12,15 +11,14 @@ use Rattle.run_pre_match.specs.Candidate.{Candidate}
 use Rattle.run_pre_match.specs.Matched.{PreSection}
 use Rattle.match_candidates.specs.Candidates.{Running, code_from, code_sections, candidates_of, candidates}
 use Rattle.match_candidates.specs.OwnFaults.{first_undecoded, first_missing, first_mismatch, own_fault}
-use Rattle.propagation.specs.Rounds.{remaining, forced}
+use Rattle.propagation.specs.Rounds.{forced}
 use Rattle.symbol_solve.specs.Clashes.{clashes, candidate_rules}
 use Rattle.symbol_solve.specs.Conflicts.{reported}
-use Rattle.symbol_solve.specs.Solve.{twins, first_twins, left_of, obstacle}
+use Rattle.symbol_solve.specs.Solve.{first_twins, left_of, obstacle}
 use Rattle.symbol_solve.specs.Solution.{IsChoice, IsSolution}
 use Rattle.symbol_solve.proofs.CandidateLaws.{placed}
 use Rattle.symbol_solve.proofs.OrderLaws.{Ordered}
 use Rattle.symbol_solve.proofs.Members.{Has, has_of, all_has, all_of, beside_right}
-use Rattle.symbol_solve.proofs.RemainLaws.{kept_in}
 use Rattle.symbol_solve.proofs.SolutionLaws.{place_of, none_reported, none_mismatched}
 use Rattle.symbol_solve.proofs.OnlyLaws.{forced_has, peace_here, left_cands}
 

@@ -1,5 +1,5 @@
 -- Where the running body of a candidate that matches lies.
-use Rattle.std.proofs.Common.{◌≡◌, ℕ, zero, suc, ◌+◌, ◌-◌, ◌<◌, ◌≤◌, Bool, true, false, not, ◌||◌, cond, eqb, ltb, leb, List, [], ◌∷◌, length, Option, Some, None, Result, Ok, Err, refl, sym, ◌∙◌, ap, subst, inl, inr, arith}
+use Rattle.std.proofs.Common.{◌≡◌, ℕ, zero, suc, ◌+◌, ◌-◌, ◌<◌, ◌≤◌, Bool, true, ◌||◌, cond, eqb, ltb, leb, List, [], ◌∷◌, length, Option, Some, None, Result, Ok, Err, refl, sym, ◌∙◌, ap, subst, inl, inr, arith}
 use Rattle.std.specs.List.{list_any, position, position_or_len}
 use Rattle.std.proofs.lemmas.Bool.{cases_Bool, eqb-true, leb-true, ltb-true, false≢true}
 use Rattle.std.proofs.lemmas.Option.{same_Some}
@@ -10,7 +10,7 @@ use Rattle.run_pre_match.specs.declared.types.MatchFault.{MatchFault}
 use Rattle.run_pre_match.specs.Instructions.{Instruction, after, end_of, listed, listed_on, through_kept, kept_of, begins_at, stands_for}
 use Rattle.run_pre_match.specs.RunCode.{run_instruction_at, run_code}
 use Rattle.run_pre_match.specs.Candidate.{Candidate, pre_list, run_list, has_number, is_number}
-use Rattle.run_pre_match.specs.Matched.{outcome, matched_unless, matched_by}
+use Rattle.run_pre_match.specs.Matched.{outcome, matched_unless}
 use Rattle.run_pre_match.specs.Match.{Valuation, Match}
 use Rattle.run_pre_match.specs.Bodies.{body_of}
 use Rattle.symbol_solve.specs.inside.Points.{LiesIn}

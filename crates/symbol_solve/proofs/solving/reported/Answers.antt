@@ -1,5 +1,5 @@
 -- The two candidates at two places are those whose tried ones are held.
-use Rattle.std.proofs.Common.{◌≡◌, ◌∙◌, ℕ, List, All, Option, Some, Result, Ok, Err, ap, subst, sym}
+use Rattle.std.proofs.Common.{◌≡◌, ◌∙◌, ℕ, List, All, Option, Some, Result, Ok, Err, subst, sym}
 use Rattle.std.specs.List.{AllZip, slice_get}
 use Rattle.std.specs.Option.{option_and_then}
 use Rattle.std.specs.Result.{IfOk}
@@ -25,7 +25,7 @@ by : {E : Type 0} (codes : List PreSection) (tried : List Tried) (contents : Con
     → places ≡ Some (first, second) → IsHeld codes tried first a t → IsHeld codes tried second b u
     → IfOk r (λ report. (c d : Candidate) → IsOf a c t → c.contents ≡ contents → IsOf b d u → d.contents ≡ contents → IsAtOne d → report ≡ clash_between (c, d))
     → IfOk r (λ report. (cs : List Candidate) → AllZip (IsOneOf codes) cs tried → All (HasMemory contents) cs → All IsAtOne cs
-      → report ≡ option_and_then clash_between (option_and_then (pair_at cs) places))
+    → report ≡ option_and_then clash_between (option_and_then (pair_at cs) places))
 by codes tried contents places first second a b t u (Ok report) is one other told = λ cs pairs memory at_one.
     let c = one cs pairs in
     let d = other cs pairs in
