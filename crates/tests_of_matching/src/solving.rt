@@ -456,11 +456,7 @@ static SOLVED: [Row; 12] = [
         (
             &[
                 (CODE, HOME, b"\xb8\x14\0\x10\0\xc3"),
-                (
-                    CODE,
-                    0x0010_0010,
-                    b"\x90\x31\xc0\xc3\x90\x31\xc0\xc3",
-                ),
+                (CODE, 0x0010_0010, b"\x90\x31\xc0\xc3\x90\x31\xc0\xc3"),
             ],
             TOUCHING,
             None,
@@ -482,11 +478,7 @@ static SOLVED: [Row; 12] = [
         (
             &[
                 (CODE, HOME, b"\xb8\x13\0\x10\0\xc3"),
-                (
-                    CODE,
-                    0x0010_0010,
-                    b"\x90\x31\xc0\xc3\x90\x31\xc0\xc3",
-                ),
+                (CODE, 0x0010_0010, b"\x90\x31\xc0\xc3\x90\x31\xc0\xc3"),
             ],
             TOUCHING,
             None,

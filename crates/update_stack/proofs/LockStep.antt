@@ -103,8 +103,11 @@ barred_beside : (contents : Contents) (rows : List (ℕ × ℕ)) → WritesBesid
     → unless_barred fault (jumped_memory rows contents) thread change ≡ jumped_left rows left
 barred_beside contents rows beside thread (Some fault) change left leaves is = ap (jumped_left rows) (sym leaves)
 barred_beside contents rows beside thread None change left leaves is =
-    ap (λ (after : Contents). let l : Left = record { contents = after; thread = resumed thread change.context;
-        outcome = Moved change.flow } in l)
+    ap (λ (after : Contents). let l : Left = record {
+      contents = after;
+      thread = resumed thread change.context;
+      outcome = Moved change.flow;
+    } in l)
     (store_beside contents rows beside change.store is)
     ∙ ap (jumped_left rows) (sym leaves)
 
@@ -117,7 +120,7 @@ done_beside faults contents rows same beside thread (Ok change) =
     ap (λ (f : Option Fault). unless_barred f (jumped_memory rows contents) thread change)
     (faults (jumped_memory rows contents) contents same change.store)
     ∙ barred_beside contents rows beside thread (store_fault contents change.store) change
-      (done contents thread (Ok change)) refl refl
+    (done contents thread (Ok change)) refl refl
 
 -- a step by what is met
 by_view : Decodes → NoSay → NoFaultSay → (contents : Contents) (rows : List (ℕ × ℕ))
@@ -125,29 +128,29 @@ by_view : Decodes → NoSay → NoFaultSay → (contents : Contents) (rows : Lis
     → WritesBeside contents rows → (thread : Thread) (base : ℕ) (met : View)
     → (met ≡ AtHome → (jump_at (jumped rows contents.pieces) thread.pc ≡ jump_bytes thread.pc base) × (base < 2 ^ 32))
     → done (jumped_memory rows contents) thread
-      (change_in (jumped rows contents.pieces) (context_of thread)
-          (window_for met (jump_at (jumped rows contents.pieces) thread.pc)))
+    (change_in (jumped rows contents.pieces) (context_of thread)
+    (window_for met (jump_at (jumped rows contents.pieces) thread.pc)))
     ≡ jumped_left rows (step_at contents thread base met)
 by_view decodes say faults contents rows same beside thread base Unmapped home = refl
 by_view decodes say faults contents rows same beside thread base Stray home = refl
 by_view decodes say faults contents rows same beside thread base (Bytes code) home =
     ap (λ (bytes : List ℕ). done (jumped_memory rows contents) thread
-        (change_by (jumped rows contents.pieces) (context_of thread) (decoded_from bytes))) (fetched_is code)
+    (change_by (jumped rows contents.pieces) (context_of thread) (decoded_from bytes))) (fetched_is code)
     ∙ ap (done (jumped_memory rows contents) thread) (say (jumped rows contents.pieces) contents.pieces same
-      (context_of thread) (decoded_from code))
+    (context_of thread) (decoded_from code))
     ∙ done_beside faults contents rows same beside thread (change_by contents.pieces (context_of thread)
-      (decoded_from code))
+    (decoded_from code))
 by_view decodes say faults contents rows same beside thread base AtHome home =
     let pieces = jumped rows contents.pieces in
     ap (λ (bytes : List ℕ). done (jumped_memory rows contents) thread
-        (change_by pieces (context_of thread) (decoded_from bytes)))
+    (change_by pieces (context_of thread) (decoded_from bytes)))
     (fetched_is (jump_at pieces thread.pc) ∙ (home refl).0)
     ∙ ap (λ (decoded : Option Decoded). done (jumped_memory rows contents) thread
-      (change_by pieces (context_of thread) decoded)) (jump_is_met decodes thread.pc base)
+    (change_by pieces (context_of thread) decoded)) (jump_is_met decodes thread.pc base)
     ∙ ap (done (jumped_memory rows contents) thread) (jump_carried_out pieces (context_of thread)
-      (displacement thread.pc base))
+    (displacement thread.pc base))
     ∙ ap (λ (pc : ℕ). left_by (jumped_memory rows contents) (record thread { pc = pc }) (Moved Plain))
-      (jump_leads thread.pc base (home refl).1)
+    (jump_leads thread.pc base (home refl).1)
 
 -- the machine and its own memory meet the same
 ranges_back : (table : List Row) (retired : List Range) → map fence_range (map (fence_in table) retired) ≡ retired
@@ -159,9 +162,9 @@ seen_alike : (f g : ℕ → Bool) (a b : List Range) (pc : ℕ) (code : Option (
 seen_alike f g a b pc None same ranges = refl
 seen_alike f g a b pc (Some bytes) same ranges =
     ap (λ (is : Bool). if is then AtHome else (if list_any (lies_in pc) a then Stray else Bytes
-        (window_of a pc bytes))) same
+    (window_of a pc bytes))) same
     ∙ ap (λ (rs : List Range). if g pc then AtHome else (if list_any (lies_in pc) rs then Stray else Bytes
-      (window_of rs pc bytes))) ranges
+    (window_of rs pc bytes))) ranges
 
 -- a home with a row has what each row has
 row_by : (row : Row) (rest : List Row) (pc : ℕ) (P : ℕ × ℕ → Type 0) (here : Bool) → (row.home == pc) ≡ here
@@ -171,7 +174,7 @@ row_by row rest pc P true e this later is =
     let same : pc ≡ row.home = sym (eqb-true row.home pc e) in
     let found : newest (bodies_in (row ∷ rest)) pc ≡ (newest_in row).1 = cond-true _ _ _ e in
     subst P (ap (λ (n : ℕ). let r : ℕ × ℕ = (n, (newest_in row).1) in r) (sym same)
-        ∙ ap (λ (n : ℕ). let r : ℕ × ℕ = (pc, n) in r) (sym found)) this
+    ∙ ap (λ (n : ℕ). let r : ℕ × ℕ = (pc, n) in r) (sym found)) this
 row_by row rest pc P false e this later is =
     let found : newest (bodies_in (row ∷ rest)) pc ≡ newest (bodies_in rest) pc = cond-false _ _ _ e in
     let there : is_home rest pc ≡ true = ap (λ (b : Bool). b || is_home rest pc) (sym e) ∙ is in
@@ -198,7 +201,7 @@ unmarked : (table : List Row) (pc : ℕ) (range : Range) (here : Bool) → (rang
     → is_home table pc ≡ false → marks pc (fence_in table range) ≡ false
 unmarked table pc range true e none =
     ap (λ (n : ℕ). is_home table n && (range.low == pc)) (eqb-true range.low pc e)
-        ∙ ap (λ (b : Bool). b && (range.low == pc)) none
+    ∙ ap (λ (b : Bool). b && (range.low == pc)) none
 unmarked table pc range false e none = ap (λ (b : Bool). is_home table range.low && b) e
     ∙ and-false (is_home table range.low)
 
@@ -207,7 +210,7 @@ none_marked : (table : List Row) (pc : ℕ) (retired : List Range) → is_home t
 none_marked table pc [] none = refl
 none_marked table pc (range ∷ ranges) none =
     ap (λ (b : Bool). b || list_any (marks pc) (map (fence_in table) ranges))
-        (unmarked table pc range (range.low == pc) refl none)
+    (unmarked table pc range (range.low == pc) refl none)
     ∙ none_marked table pc ranges none
 
 marked_by : (k : CallTable) (pc : ℕ) (is : Bool) → is_home k.table pc ≡ is
@@ -224,7 +227,7 @@ met_alike : (k : CallTable) (pc : ℕ) → All (λ row. IsSpliced (contents_of k
 unfolding view view_in
 met_alike k pc all =
     seen_alike (spliced_at (contents_of k).fences) (is_home k.table) (map fence_range (contents_of k).fences)
-        k.retired pc (code_from k.pieces pc)
+    k.retired pc (code_from k.pieces pc)
     (marked_by k pc (is_home k.table pc) refl all) (ranges_back k.table k.retired)
 
 -- the jump that is met at a home, and where it leads
@@ -232,9 +235,10 @@ home_jump : (k : CallTable) (pc : ℕ)
     → All (λ row. jump_at (jumped (bodies_in k.table) k.pieces) row.0 ≡ jump_bytes row.0 row.1) (bodies_in k.table)
     → All (λ row. row.1 < 2 ^ 32) (bodies_in k.table) → is_home k.table pc ≡ true
     → (jump_at (jumped (bodies_in k.table) k.pieces) pc ≡ jump_bytes pc (base_of k pc)) × (base_of k pc < 2 ^ 32)
-home_jump k pc jumps low is =
-    (home_row k.table pc (λ row. jump_at (jumped (bodies_in k.table) k.pieces) row.0 ≡ jump_bytes row.0 row.1) jumps is,
-    home_row k.table pc (λ row. row.1 < 2 ^ 32) low is)
+home_jump k pc jumps low is = (
+  home_row k.table pc (λ row. jump_at (jumped (bodies_in k.table) k.pieces) row.0 ≡ jump_bytes row.0 row.1) jumps is,
+  home_row k.table pc (λ row. row.1 < 2 ^ 32) low is,
+)
 
 -- a home that is met is one
 met_home : (f : ℕ → Bool) (retired : List Range) (pc : ℕ) (code : Option (List ℕ))
@@ -245,6 +249,7 @@ met_home f retired pc (Some bytes) is = by_test (f pc) refl is
     other : (b : Bool) → (if b then Stray else Bytes (window_of retired pc bytes)) ≡ AtHome → ⊥
     other true is = cc
     other false is = cc
+
     by_test : (b : Bool) → f pc ≡ b
         → (if b then AtHome else (if list_any (lies_in pc) retired then Stray else Bytes
         (window_of retired pc bytes))) ≡ AtHome → f pc ≡ true
@@ -256,19 +261,19 @@ step_beside : Decodes → NoSay → NoFaultSay → (k : CallTable) → SameData 
     → WritesBeside (contents_of k) (bodies_in k.table) → (thread : Thread)
     → view_at (jumped_memory (bodies_in k.table) (contents_of k)) thread.pc ≡ view_in k thread.pc
     → (is_home k.table thread.pc ≡ true
-      → (jump_at (jumped (bodies_in k.table) k.pieces) thread.pc
-      ≡ jump_bytes thread.pc (base_of k thread.pc)) × (base_of k thread.pc < 2 ^ 32))
+    → (jump_at (jumped (bodies_in k.table) k.pieces) thread.pc
+    ≡ jump_bytes thread.pc (base_of k thread.pc)) × (base_of k thread.pc < 2 ^ 32))
     → done (jumped_memory (bodies_in k.table) (contents_of k)) thread
-      (next_change (jumped_memory (bodies_in k.table) (contents_of k)) thread)
+    (next_change (jumped_memory (bodies_in k.table) (contents_of k)) thread)
     ≡ jumped_left (bodies_in k.table) (step_at (contents_of k) thread (base_of k thread.pc) (view_in k thread.pc))
 unfolding next_change window_at view_in view
 step_beside decodes say faults k same beside thread views home =
     let rows = bodies_in k.table in
     let memory = jumped_memory rows (contents_of k) in
     ap (λ (met : View). done memory thread (change_in memory.pieces (context_of thread)
-        (window_for met (jump_at memory.pieces thread.pc)))) views
+    (window_for met (jump_at memory.pieces thread.pc)))) views
     ∙ by_view decodes say faults (contents_of k) rows same beside thread (base_of k thread.pc) (view_in k thread.pc)
-      (λ is. home (met_home (is_home k.table) k.retired thread.pc (code_from k.pieces thread.pc) is))
+    (λ is. home (met_home (is_home k.table) k.retired thread.pc (code_from k.pieces thread.pc) is))
 
 -- either way
 either_way : (rows : List (ℕ × ℕ)) (b : Bool) (one other : Left) (x y : Left) → x ≡ jumped_left rows one
@@ -284,22 +289,22 @@ pub step_stands : Decodes → NoSay → NoFaultSay → (k : CallTable)
     → All (λ row. jump_at (jumped (bodies_in k.table) k.pieces) row.0 ≡ jump_bytes row.0 row.1) (bodies_in k.table)
     → AreSpliced (contents_of k) (bodies_in k.table) → All (λ row. row.1 < 2 ^ 32) (bodies_in k.table)
     → stepped (jumped_memory (bodies_in k.table) (contents_of k)) thread
-      ≡ jumped_left (bodies_in k.table) (step_in k thread)
+    ≡ jumped_left (bodies_in k.table) (step_in k thread)
 unfolding stepped step_in
 step_stands decodes say faults k same beside thread views jumps spliced low =
     let rows = bodies_in k.table in
     let memory = jumped_memory rows (contents_of k) in
     either_way rows (thread.pc == 0xFFFF_0000) (exits (contents_of k) thread)
-        (step_at (contents_of k) thread (base_of k thread.pc) (view_in k thread.pc))
+    (step_at (contents_of k) thread (base_of k thread.pc) (view_in k thread.pc))
     (exits memory thread) (done memory thread (next_change memory thread)) refl
     (step_beside decodes say faults k same beside thread (views thread.pc
-        ∙ met_alike k thread.pc spliced.each) (home_jump k thread.pc jumps low))
+    ∙ met_alike k thread.pc spliced.each) (home_jump k thread.pc jumps low))
 
 -- jumps change no data
 abbrev WrittenCode : Type 0
 WrittenCode = (pieces : List Piece) (start : ℕ) (bytes : List ℕ) → ArePlaced pieces →
     ((a : ℕ) → start ≤ a → a < start + length bytes → option_map kind_of (holding pieces a) ≡ Some Code)
-        → SameData (written start bytes pieces) pieces
+    → SameData (written start bytes pieces) pieces
 
 abbrev CodeHeld : Type 0
 CodeHeld = (contents : Contents) (start count address : ℕ) → IsValid contents → HasCode contents.pieces start count →
@@ -327,7 +332,7 @@ same_data code held stays spliced_on [] contents valid spliced = refl
 same_data code held stays spliced_on (row ∷ rows) contents valid spliced =
     let after = after_write contents row.0 (jump_bytes row.0 row.1) in
     same_data code held stays spliced_on rows after (stays contents (row ∷ []) valid)
-      (spliced_on contents rows row.0 (jump_bytes row.0 row.1) (rest_spliced contents row rows spliced))
+    (spliced_on contents rows row.0 (jump_bytes row.0 row.1) (rest_spliced contents row rows spliced))
     ∙ code contents.pieces row.0 (jump_bytes row.0 row.1) valid.placed
-      (λ a low high. held contents row.0 5 a valid (All-head (λ r. IsSpliced contents r.0) row rows spliced.each).code
-          low high)
+    (λ a low high. held contents row.0 5 a valid (All-head (λ r. IsSpliced contents r.0) row rows spliced.each).code
+    low high)

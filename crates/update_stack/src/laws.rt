@@ -6,7 +6,8 @@ ghost use Rattle.update_stack.specs.Jumps.{CanJump, StepsStand};
 use ia32_decode::jumps_decode;
 use ia32_step::code_bytes_have_no_say;
 use splice_jump::laws::{
-    code_stays_code, data_are_written_past_jumps, homes_stay_spliced, jumps_leave_views, jumps_stand,
+    code_stays_code, data_are_written_past_jumps, homes_stay_spliced, jumps_leave_views,
+    jumps_stand,
 };
 
 /// Over the memory with the jumps a thread's step comes to what it comes to on the machine: at a home it goes on at the
