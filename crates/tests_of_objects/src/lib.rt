@@ -1,10 +1,7 @@
-//! Tests of objects and their difference, and of new code: `elf32_object`, `i386_reloc`, `section_equal`,
-//! `extract_post`, `link_post`, `new_code`. They stand apart so that those crates are proved once, and not once more for
-//! their tests.
+//! Tests of objects and their difference: `elf32_object`, `i386_reloc`, `section_equal`, `extract_post`, `link_post`.
+//! They stand apart so that those crates are proved once, and not once more for their tests.
 #![tactic(auto)]
 
-#[cfg(test)]
-mod adding;
 #[cfg(test)]
 mod extracts;
 #[cfg(test)]

@@ -10,7 +10,7 @@ use std::test::Fail;
 use symbol_table::{Solved, Symbol, SymbolTable, Unknown, Values};
 
 /// The new sections of the object, and their places.
-pub(crate) static PLACES: [(&str, u32); 7] = [
+static PLACES: [(&str, u32); 7] = [
     (".text.main", 0x0080_0010),
     (".text.s", 0x0080_0020),
     (".rodata.s", 0x0080_0040),
@@ -20,7 +20,7 @@ pub(crate) static PLACES: [(&str, u32); 7] = [
     (".text.g", 0x0080_0090),
 ];
 
-pub(crate) fn normal_of(alloc: Global, file: &'static [u8]) -> Result<Normal<'static>, Fail> {
+fn normal_of(alloc: Global, file: &'static [u8]) -> Result<Normal<'static>, Fail> {
     let object = read_object(alloc, file).ok().ok_or("not read")?;
     Ok(normalise(alloc, &object).ok().ok_or("no sections")?)
 }
@@ -64,7 +64,7 @@ fn names_of(alloc: Global) -> Result<Names, Fail> {
     Ok(names)
 }
 
-pub(crate) fn placement_of(alloc: Global) -> Result<Placement, Fail> {
+fn placement_of(alloc: Global) -> Result<Placement, Fail> {
     let mut placement = Placement::new(alloc);
     for (name, base) in PLACES {
         placement.push(Placed {
@@ -76,7 +76,7 @@ pub(crate) fn placement_of(alloc: Global) -> Result<Placement, Fail> {
 }
 
 // The values that the new sections need.
-pub(crate) fn resolved(
+fn resolved(
     alloc: Global,
     symbols: &[(bool, &str, u32)],
     with_data: bool,
