@@ -8,6 +8,7 @@ use Rattle.ks_io.specs.declared.types.FileFault.{FileFault}
 use Rattle.ks_io.specs.declared.types.FileFault.TheVariants.{Missing, TooLong, Failed, Memory}
 use Rattle.script_lines.specs.declared.types.Command.{Command}
 use Rattle.update_stack.specs.CallTable.{CallTable}
+use Rattle.ksplice_session.specs.Replies.{object_limit}
 use Rattle.ksplice_session.specs.Session.{files_along}
 use Rattle.ksplice_session.specs.declared.types.SessionEnd.{SessionEnd}
 use Rattle.ksplice_session.specs.declared.types.SessionEnd.TheVariants.{Done, SomeRefused, FileEnd, SinkEnd, MemoryEnd}
@@ -15,10 +16,7 @@ use Rattle.ksplice_cli.specs.Answer.{Answer, OneComesOut, usage_answer, lost_ans
 use Rattle.ksplice_cli.specs.Reply.{IsReply, code_answer, match_answer, run_answer, session_of}
 use Rattle.ksplice_cli.specs.Words.{Asked, Diff, Code, Match, Run}
 
--- the most bytes that an object file may have, an image file, and a script
-abbrev pub object_limit : ℕ
-object_limit = 8388608
-
+-- the most bytes that an image file may have, and a script
 abbrev pub image_limit : ℕ
 image_limit = 33554432
 

@@ -1,23 +1,13 @@
 -- The difference between two objects: what becomes of each section of the second, and which functions go.
-use Rattle.std.specs.Prelude.{ℕ, Bool, if◌then◌else◌, List, [], ◌∷◌, ◌++◌, codes, Option, Some, None, unwrap_or}
-use Rattle.std.specs.List.{flat_map, list_any}
+use Rattle.std.specs.Prelude.{ℕ, List, [], ◌∷◌, ◌++◌, codes, Option, Some, None, unwrap_or}
+use Rattle.std.specs.List.{flat_map}
 use Rattle.ks_base.specs.Text.{shown_name}
 use Rattle.i386_reloc.specs.declared.types.NormalSection.{NormalSection}
-use Rattle.i386_reloc.specs.Normal.{same_bytes, section_named}
+use Rattle.i386_reloc.specs.Normal.{section_named}
 use Rattle.extract_post.specs.declared.types.Extract.{Extract}
-use Rattle.ksplice_cli.specs.declared.verb.Verb.{Verb}
-use Rattle.ksplice_cli.specs.declared.verb.Verb.TheVariants.{Changed, Added, Carried, Data}
-
-abbrev pub is_among : List (List ℕ) → List ℕ → Bool
-is_among names name = list_any (λ other. same_bytes other name) names
-
--- what becomes of the section of a name in an update
-unfoldable pub verb_of : Extract → List ℕ → Option Verb
-verb_of extract name =
-    if is_among extract.changed name then Some Changed
-    else (if is_among extract.added name then Some Added
-    else (if is_among extract.carried name then Some Carried
-    else (if is_among extract.new_data name then Some Data else None)))
+use Rattle.section_roles.specs.declared.role.Role.{Role}
+use Rattle.section_roles.specs.declared.role.Role.TheVariants.{Changed, Added, Carried, NewData}
+use Rattle.section_roles.specs.Roles.{role_of}
 
 -- the name of the function that a section is, where there is one
 abbrev pub function_in : NormalSection → List ℕ
@@ -33,15 +23,15 @@ verb_line verb name = verb ++ shown_name name ++ 10 ∷ []
 
 -- The line of a section of the second object, given the section of its name in the first. A changed function is called as
 -- the first object calls it. A section of which nothing becomes has no line.
-abbrev pub section_line : Option Verb → Option NormalSection → NormalSection → List ℕ
+abbrev pub section_line : Option Role → Option NormalSection → NormalSection → List ℕ
 section_line None old new = []
 section_line (Some Changed) old new = verb_line (codes "changed ") (function_of old)
 section_line (Some Added) old new = verb_line (codes "added ") (function_in new)
 section_line (Some Carried) old new = verb_line (codes "carried ") new.name
-section_line (Some Data) old new = verb_line (codes "data ") new.name
+section_line (Some NewData) old new = verb_line (codes "data ") new.name
 
-abbrev pub line_in : (List ℕ → Option Verb) → List NormalSection → NormalSection → List ℕ
-line_in verbs pre new = section_line (verbs new.name) (section_named pre new.name) new
+abbrev pub line_in : (List ℕ → Option Role) → List NormalSection → NormalSection → List ℕ
+line_in roles pre new = section_line (roles new.name) (section_named pre new.name) new
 
 -- the line of a function of the first object that goes
 abbrev pub dropped_line : List NormalSection → List ℕ → List ℕ
@@ -49,8 +39,8 @@ dropped_line pre name = verb_line (codes "dropped ") (function_of (section_named
 
 -- The lines of the second object's sections in its order, and then those of the functions that go, in the first's order;
 -- by what becomes of each section, and by an extract.
-unfoldable pub listing_by : (List ℕ → Option Verb) → List NormalSection → List NormalSection → List (List ℕ) → List ℕ
-listing_by verbs pre post dropped = flat_map (line_in verbs pre) post ++ flat_map (dropped_line pre) dropped
+unfoldable pub listing_by : (List ℕ → Option Role) → List NormalSection → List NormalSection → List (List ℕ) → List ℕ
+listing_by roles pre post dropped = flat_map (line_in roles pre) post ++ flat_map (dropped_line pre) dropped
 
 unfoldable pub listing : List NormalSection → List NormalSection → Extract → List ℕ
-listing pre post extract = listing_by (verb_of extract) pre post extract.dropped
+listing pre post extract = listing_by (role_of extract) pre post extract.dropped

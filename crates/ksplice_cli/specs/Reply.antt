@@ -2,11 +2,8 @@
 -- `match` which functions of an image an object's code is, to `run` those of a session; or why there are none.
 use Rattle.std.specs.Prelude.{◌≡◌, ℕ, Bool, if◌then◌else◌, List, [], Option, Some, None, Result, Ok, Err}
 use Rattle.ks_base.specs.declared.refusals.Refusal.{Refusal}
-use Rattle.elf32_object.specs.declared.types.ObjectFault.{ObjectFault}
-use Rattle.elf32_object.specs.Rules.{object_fault}
 use Rattle.i386_reloc.specs.declared.types.NormalSection.{NormalSection}
-use Rattle.i386_reloc.specs.Normal.{loaded_sections}
-use Rattle.i386_reloc.specs.Refused.{normal_fault, refusal_of_fault}
+use Rattle.object_sections.specs.Sections.{sections_of}
 use Rattle.extract_post.specs.declared.types.Extract.{Extract}
 use Rattle.extract_post.specs.Extract.{Extracts}
 use Rattle.image_file.specs.Reading.{Contents, image_of}
@@ -21,15 +18,6 @@ use Rattle.ksplice_session.specs.Session.{whole_output, lacking, session_played}
 use Rattle.ksplice_cli.specs.Answer.{Answer, refused_answer, answer_of, lost_status}
 use Rattle.ksplice_cli.specs.Difference.{listing}
 use Rattle.ksplice_cli.specs.Solution.{value_lines}
-
-abbrev pub sections_unless : Option ObjectFault → Option Refusal → List NormalSection → Result (List NormalSection) Refusal
-sections_unless (Some fault) refusal sections = Err (refusal_of_fault fault)
-sections_unless None (Some refusal) sections = Err refusal
-sections_unless None None sections = Ok sections
-
--- the loaded sections of an object file, or the first rule that it breaks: one of the file's form, else one of its sections
-unfoldable pub sections_of : List ℕ → Result (List NormalSection) Refusal
-sections_of bytes = sections_unless (object_fault bytes) (normal_fault bytes) (loaded_sections bytes)
 
 -- the sections of a second object beside those of the first
 abbrev pub beside : List NormalSection → Result (List NormalSection) Refusal → Result (List NormalSection × List NormalSection) Refusal

@@ -1,3 +1,2 @@
 -- What the code works with, said by contracts inside this crate alone.
 pub mod Asks
-pub mod Verbs

@@ -5,10 +5,10 @@ ghost use Rattle.extract_post.specs.Extract.{Extracts};
 ghost use Rattle.ksplice_cli.specs.Reply.{IsDifference, Listed, both_sections};
 
 use crate::listing::list_extract;
-use crate::object_file::read_sections;
 use extract_post::extract;
 use i386_reloc::Normal;
 use ks_base::{Line, Refusal};
+use object_sections::read_sections;
 use std::alloc::Global;
 
 /// The difference of two object files: the lines of what an update from `pre` to `post` is made of. Refuses what is

@@ -8,10 +8,10 @@ ghost use Rattle.ksplice_cli.specs.Reply.{IsReply};
 ghost use Rattle.ksplice_cli.specs.Words.{Diff};
 
 use crate::comparing::compare;
-use crate::limits::OBJECT_LIMIT;
 use crate::saying::{end_with_file, refuse, say};
 use crate::status::Status;
 use ks_io::{Files, Sink, Wanted, load_all};
+use ksplice_session::OBJECT_LIMIT;
 use std::alloc::Global;
 
 /// Loads both objects, and only then compares them.

@@ -1,7 +1,4 @@
-//! The most bytes that each kind of file may have.
-
-/// The most bytes that an object file may have.
-pub const OBJECT_LIMIT: u32 = 8_388_608;
+//! The most bytes that each kind of file may have, beside objects.
 
 /// The most bytes that an image file may have.
 pub const IMAGE_LIMIT: u32 = 33_554_432;

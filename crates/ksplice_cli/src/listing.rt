@@ -3,13 +3,12 @@ ghost use Rattle.std.specs.Prelude.{◌≡◌, ◌++◌, Some, IfOk, OnOk};
 ghost use Rattle.std.specs.Option.{option_copied};
 ghost use Rattle.std.specs.List.{flat_map};
 ghost use Rattle.ksplice_cli.specs.Difference.{function_in, function_of, verb_line, section_line, line_in, dropped_line, listing_by, listing};
-ghost use Rattle.ksplice_cli.specs.inside.Verbs.{verb_at};
+ghost use Rattle.section_roles.specs.Roles.{role_at};
 
-use crate::verb::Verb;
-use crate::verbs::verbs_of;
 use extract_post::Extract;
 use i386_reloc::{Normal, NormalSection};
 use ks_base::{Line, Name, Names};
+use section_roles::{Role, roles_of};
 use std::alloc::{AllocError, Global};
 use std::collections::BTreeMap;
 
@@ -24,22 +23,22 @@ pub fn list_extract(
 ) -> Result<Line, AllocError>
     ensures { IfOk result (λ lines. lines ≡ listing old.now new.now extract.now) }
 {
-    let verbs = verbs_of(alloc, extract)?;
-    list_by(alloc, &verbs, old, new, &extract.dropped)
+    let roles = roles_of(alloc, extract)?;
+    list_by(alloc, &roles, old, new, &extract.dropped)
 }
 
 #[tactic(auto, unfolding(crate::specs::Difference::listing_by))]
 fn list_by(
     alloc: Global,
-    verbs: &BTreeMap<&[u8], Verb>,
+    roles: &BTreeMap<&[u8], Role>,
     old: &Normal<'_>,
     new: &Normal<'_>,
     dropped: &Names,
 ) -> Result<Line, AllocError>
-    ensures { IfOk result (λ lines. lines ≡ listing_by (verb_at verbs.now) old.now new.now dropped.now) }
+    ensures { IfOk result (λ lines. lines ≡ listing_by (role_at roles.now) old.now new.now dropped.now) }
 {
     let mut lines = Line::new(alloc);
-    put_sections(alloc, &mut lines, verbs, old, new)?;
+    put_sections(alloc, &mut lines, roles, old, new)?;
     put_dropped(alloc, &mut lines, old, dropped)?;
     Ok(lines)
 }
@@ -47,14 +46,14 @@ fn list_by(
 fn put_sections(
     alloc: Global,
     lines: &mut Line,
-    verbs: &BTreeMap<&[u8], Verb>,
+    roles: &BTreeMap<&[u8], Role>,
     old: &Normal<'_>,
     new: &Normal<'_>,
 ) -> Result<(), AllocError>
-    ensures { OnOk result (lines.new ≡ lines.old ++ flat_map (line_in (verb_at verbs.now) old.now) new.now) }
+    ensures { OnOk result (lines.new ≡ lines.old ++ flat_map (line_in (role_at roles.now) old.now) new.now) }
 {
     for section in new.as_slice() {
-        put_section(alloc, lines, verbs, old, section)?;
+        put_section(alloc, lines, roles, old, section)?;
     }
     Ok(())
 }
@@ -62,33 +61,33 @@ fn put_sections(
 fn put_section(
     alloc: Global,
     lines: &mut Line,
-    verbs: &BTreeMap<&[u8], Verb>,
+    roles: &BTreeMap<&[u8], Role>,
     old: &Normal<'_>,
     section: &NormalSection<'_>,
 ) -> Result<(), AllocError>
-    ensures { OnOk result (lines.new ≡ lines.old ++ line_in (verb_at verbs.now) old.now section.now) }
+    ensures { OnOk result (lines.new ≡ lines.old ++ line_in (role_at roles.now) old.now section.now) }
 {
     let name = section.name.as_slice();
-    match verbs.get(name).copied() {
-        Some(verb) => put_verb(alloc, lines, verb, old.find(name), section),
+    match roles.get(name).copied() {
+        Some(role) => put_in_role(alloc, lines, role, old.find(name), section),
         None => Ok(()),
     }
 }
 
-fn put_verb(
+fn put_in_role(
     alloc: Global,
     lines: &mut Line,
-    verb: Verb,
+    role: Role,
     old: Option<&NormalSection<'_>>,
     section: &NormalSection<'_>,
 ) -> Result<(), AllocError>
-    ensures { OnOk result (lines.new ≡ lines.old ++ section_line (Some verb) (option_copied old.entry) section.now) }
+    ensures { OnOk result (lines.new ≡ lines.old ++ section_line (Some role) (option_copied old.entry) section.now) }
 {
-    match verb {
-        Verb::Changed => put_line(alloc, lines, "changed ", function_of(old)),
-        Verb::Added => put_line(alloc, lines, "added ", function_in(section)),
-        Verb::Carried => put_line(alloc, lines, "carried ", section.name.as_slice()),
-        Verb::Data => put_line(alloc, lines, "data ", section.name.as_slice()),
+    match role {
+        Role::Changed => put_line(alloc, lines, "changed ", function_of(old)),
+        Role::Added => put_line(alloc, lines, "added ", function_in(section)),
+        Role::Carried => put_line(alloc, lines, "carried ", section.name.as_slice()),
+        Role::NewData => put_line(alloc, lines, "data ", section.name.as_slice()),
     }
 }
 

@@ -10,14 +10,11 @@ pub mod laws;
 mod limits;
 mod listing;
 mod matching;
-mod object_file;
 pub mod real;
 mod saying;
 mod session_run;
 mod solution;
 pub mod status;
-mod verb;
-mod verbs;
 mod words;
 
 use crate::answering::ksplice;

@@ -7,11 +7,12 @@ ghost use Rattle.ksplice_cli.specs.Calls.{Answers, is_carried_out};
 ghost use Rattle.ksplice_cli.specs.Reply.{match_answer};
 ghost use Rattle.ksplice_cli.specs.Words.{Match};
 
-use crate::limits::{IMAGE_LIMIT, OBJECT_LIMIT};
+use crate::limits::IMAGE_LIMIT;
 use crate::saying::{end_with_file, refuse, say};
 use crate::solution::list_solution;
 use crate::status::Status;
 use ks_io::{Files, Sink, Wanted, load_all};
+use ksplice_session::OBJECT_LIMIT;
 use std::alloc::Global;
 
 /// Loads the image and the object, and only then matches the object's code against the image.

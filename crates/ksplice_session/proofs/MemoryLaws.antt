@@ -1,22 +1,23 @@
 -- Where a piece is put among pieces, and what holds of them then.
-use Rattle.std.proofs.Common.{◌≡◌, ℕ, suc, ◌+◌, ◌-◌, ◌≤◌, ◌<◌, ◌&&◌, ◌||◌, nat_lt, Bool, true, false, not, cond, if◌then◌else◌, IsTrue, List, [], ◌∷◌, take, drop, get_or, length, replicate, Some, None, unwrap_or, refl, sym, ◌∙◌, ap, subst, arith, ◌⊎◌, inr}
-use Rattle.std.specs.List.{position, position_or_len, insert, list_any, All}
+use Rattle.std.proofs.Common.{◌≡◌, ℕ, ◌+◌, ◌-◌, ◌≤◌, ◌<◌, ◌&&◌, ◌||◌, nat_lt, Bool, true, false, if◌then◌else◌, IsTrue, List, [], ◌∷◌, take, drop, get_or, length, replicate, refl, sym, ◌∙◌, ap, subst, arith}
+use Rattle.std.specs.List.{list_any, All}
 use Rattle.std.proofs.lemmas.Bool.Decides.{nat_tests}
 use Rattle.std.proofs.Math.Seq.{take-length}
 use Rattle.std.proofs.lemmas.List.{length-replicate}
-use Rattle.std.proofs.lemmas.List.Sums.{prefix_len-le-length}
 use Rattle.std.proofs.lemmas.List.Elements.{All-nil, All-cons, All-head, All-tail, All-weaker}
 use Rattle.ks_base.specs.declared.places.Range.{Range}
 use Rattle.image_memory.specs.declared.types.Piece.{Piece}
 use Rattle.image_memory.specs.Ranges.{Ascends, MeetsNone, meets}
 use Rattle.image_memory.specs.Changes.{IsPlaceable, with_piece}
-use Rattle.image_memory.specs.Contents.{ArePlaced, piece_range}
+use Rattle.image_memory.specs.Contents.{Contents, ArePlaced, piece_range}
 use Rattle.image_file.specs.Rules.{own_range, meets_a_piece}
-use Rattle.image_file.specs.Keeps.{Keeps, keeps_stack}
+use Rattle.image_file.specs.Keeps.{Keeps, keeps_arena, keeps_region, keeps_stack}
 use Rattle.image_file.specs.Reading.{Contents as Image}
 use Rattle.image_memory.specs.Ranges.{are_same}
 use Rattle.image_threads.specs.Spawning.{is_stack, AreStacks, is_writable}
+use Rattle.update_plan.specs.Sound.{AreGaps}
 use Rattle.update_stack.specs.CallTable.{stack_piece, all_pieces}
+use Rattle.update_stack.specs.Systems.{gaps_in}
 use Rattle.ksplice_session.specs.inside.Stacks.{FitsAmong, FitAmong}
 
 pub no_stacks : (regions : List Piece) (stacks : List Range) → length stacks < 1 → regions ≡ all_pieces regions stacks
@@ -94,18 +95,28 @@ any_with p piece (other ∷ others) =
 meets_not : (a b : Range) → a.high ≤ b.low → meets a b ≡ false
 meets_not a b h = grind (arith, nat_tests)
 
+-- a range meets no stack, which is one
+abbrev PassesBy : Range → Range → Type 0
+PassesBy range stack = (meets range stack ≡ false) × (stack.low ≤ stack.high)
+
+-- what meets no region and no stack meets none of all
+alone_among : (range : Range) (regions : List Piece) (stacks : List Range) → MeetsNone piece_range range regions
+    → All (PassesBy range) stacks → MeetsNone piece_range range (all_pieces regions stacks)
+unfolding all_pieces
+alone_among range regions [] alone apart = alone
+alone_among range regions (s ∷ ss) alone apart =
+    let here = All-head (PassesBy range) s ss apart in
+    any_with (λ piece. meets range (piece_range piece)) (stack_piece s) (all_pieces regions ss)
+    ∙ ap (λ (b : Bool). b || list_any (λ piece. meets range (piece_range piece)) (all_pieces regions ss))
+    (ap (meets range) (stack_range s here.1) ∙ here.0)
+    ∙ alone_among range regions ss alone (All-tail (PassesBy range) s ss apart)
+
 -- what meets no region and lies below stacks meets none of all
 all_alone : (range : Range) (regions : List Piece) (stacks : List Range) → MeetsNone piece_range range regions
     → All (λ stack. (range.high ≤ stack.low) × (stack.low ≤ stack.high)) stacks → MeetsNone piece_range range (all_pieces regions stacks)
-unfolding all_pieces
-all_alone range regions [] alone above = alone
-all_alone range regions (s ∷ ss) alone above =
+all_alone range regions stacks alone above =
     let P : Range → Type 0 = λ stack. (range.high ≤ stack.low) × (stack.low ≤ stack.high) in
-    let here = All-head P s ss above in
-    any_with (λ piece. meets range (piece_range piece)) (stack_piece s) (all_pieces regions ss)
-    ∙ ap (λ (b : Bool). b || list_any (λ piece. meets range (piece_range piece)) (all_pieces regions ss))
-    (ap (meets range) (stack_range s here.1) ∙ meets_not range s here.0)
-    ∙ all_alone range regions ss alone (All-tail P s ss above)
+    alone_among range regions stacks alone (All-weaker P (PassesBy range) (λ stack h. (meets_not range stack h.0, h.1)) stacks above)
 
 -- the law of pieces
 abbrev pub StayPlaced : Type 0
@@ -167,3 +178,46 @@ image_fits image keeps =
 -- each of them is one of all pieces
 pub image_stacks : (image : Image) → Keeps image → AreStacks (all_pieces image.pieces image.stacks) image.stacks
 image_stacks image keeps = stacks_there image.pieces image.stacks (image_fits image keeps).each
+
+-- an arena that isn't empty doesn't end above 0xFFFF0000
+arena_low : (arena : Range) → IsTrue (keeps_arena arena) → arena.low < arena.high → arena.high ≤ 0xFFFF_0000
+arena_low arena kept some = grind (arith, nat_tests)
+
+region_passed : (arena : Range) (piece : Piece) → IsTrue (keeps_region arena piece) → meets arena (piece_range piece) ≡ false
+region_passed arena piece kept = grind (arith, nat_tests)
+
+stack_passed : (arena : Range) (pieces : List Piece) (stack : Range) → IsTrue (keeps_stack arena pieces stack) → PassesBy arena stack
+stack_passed arena pieces stack kept = (grind (arith, nat_tests), grind (arith, nat_tests))
+
+-- regions of which a range meets none
+none_met : (range : Range) (pieces : List Piece) → All (λ piece. meets range (piece_range piece) ≡ false) pieces → MeetsNone piece_range range pieces
+none_met range [] apart = refl
+none_met range (piece ∷ pieces) apart =
+    let P : Piece → Type 0 = λ piece. meets range (piece_range piece) ≡ false in
+    ap (λ (b : Bool). b || list_any (λ other. meets range (piece_range other)) pieces) (All-head P piece pieces apart)
+    ∙ none_met range pieces (All-tail P piece pieces apart)
+
+-- the arena meets no region and no stack
+arena_alone : (image : Image) → Keeps image → MeetsNone piece_range image.arena (all_pieces image.pieces image.stacks)
+arena_alone image keeps =
+    alone_among image.arena image.pieces image.stacks
+    (none_met image.arena image.pieces
+    (All-weaker (λ (piece : Piece). IsTrue (keeps_region image.arena piece)) (λ (piece : Piece). meets image.arena (piece_range piece) ≡ false)
+    (region_passed image.arena) image.pieces keeps.regions_kept))
+    (All-weaker (λ (stack : Range). IsTrue (keeps_stack image.arena image.pieces stack)) (PassesBy image.arena)
+    (stack_passed image.arena image.pieces) image.stacks keeps.stacks_kept)
+
+-- the arena of an image is free beside its regions and stacks
+pub arena_gaps : (image : Image) (contents : Contents) → Keeps image → contents.pieces ≡ all_pieces image.pieces image.stacks → AreGaps contents (gaps_in image.arena)
+arena_gaps image contents keeps pieces = by (nat_lt image.arena.low image.arena.high) refl
+  where
+    by : (b : Bool) → nat_lt image.arena.low image.arena.high ≡ b → AreGaps contents (if b then image.arena ∷ [] else [])
+    by false none = record { ascend = tt; low = All-nil _; free = All-nil _ }
+    by true some =
+        let less : image.arena.low < image.arena.high = grind (arith, nat_tests) in
+        record {
+          ascend = (omega arith, less, tt);
+          low = All-cons (λ (gap : Range). gap.high ≤ 0xFFFF_0000) image.arena [] (arena_low image.arena keeps.arena_kept less) (All-nil _);
+          free = All-cons (λ (gap : Range). MeetsNone piece_range gap contents.pieces) image.arena []
+              (subst (λ (ps : List Piece). MeetsNone piece_range image.arena ps) (sym pieces) (arena_alone image keeps)) (All-nil _);
+        }

@@ -29,8 +29,7 @@ use Rattle.ksplice_session.specs.Replies.{Told, told_of, files_of}
 use Rattle.ksplice_session.specs.Session.{Ran, held_of, NoneBehind, Played, nothing_played, play_line, played, files_along, ran_by, lacking, file_line, lost_line, whole_output, At, Ends, AllDone, AllRun, FileStopped, SinkStopped, SinkAtFile, MemoryInLine, MemoryAfterLine, MemoryAtFile, SessionEnds}
 use Rattle.ksplice_session.specs.declared.types.Answer.{Answer}
 use Rattle.ksplice_session.specs.Answers.{answer_of}
-use Rattle.ksplice_session.specs.inside.LineEnds.{LineEnds, ToldEnds, FileEnds, written_end, file_end, CutAt, SinkCut, MemoryCut, EventsCut, LostAt, LineWritten, SinkLost, MemoryLost, Replied, WasRun, EndedBy, AtLine, AtFile}
-use Rattle.ksplice_session.proofs.AnswerLaws.{told_same}
+use Rattle.ksplice_session.specs.inside.LineEnds.{LineEnds, ToldEnds, FileEnds, written_end, file_end, CutAt, SinkCut, MemoryCut, EventsCut, LostAt, LineWritten, SinkLost, MemoryLost, WasRun, EndedBy, AtLine, AtFile}
 use Rattle.ksplice_session.specs.inside.ScriptEnds.{line_of, IsFiled, AreFiled, HaveRun}
 
 -- the line that has these files is run, and then the others
@@ -404,18 +403,14 @@ reply_written k now told answer old new (Err SinkMemory) is machine ok part =
 
 -- a line that has its files ends as what it tells does
 pub line_told : (files : ToldFiles) (k : CallTable) (line : Command) (held : List (List ℕ)) (before after : Counts) (old new : Option (List ℕ)) (now : CallTable) (r : Result Bool SessionEnd)
-    → length held ≡ length (files_of line) → CameTo files (files_of line) held None before after → ToldEnds k (told_of k line []) old new now r
+    → length held ≡ length (files_of line) → CameTo files (files_of line) held None before after → ToldEnds k (told_of k line held) old new now r
     → LineEnds files k line before after old new now r
-line_told files k line held before after old new now r all came ends =
-    with_files r (subst (λ (told : Told). ToldEnds k told old new now r) (told_same k line held) ends)
-  where
-    with_files : (r : Result Bool SessionEnd) → ToldEnds k (told_of k line held) old new now r → LineEnds files k line before after old new now r
-    with_files (Ok refused) ends = record { held = held; loads = came; all_held = all; replied = ends }
-    with_files (Err end) ends = AtLine held came all ends
+line_told files k line held before after old new now (Ok refused) all came ends = record { held = held; loads = came; all_held = all; replied = ends }
+line_told files k line held before after old new now (Err end) all came ends = AtLine held came all ends
 
 pub line_held : (files : ToldFiles) (k : CallTable) (line : Command) (needed : List Needed) (contents : List (Vec ℕ)) (before after : Counts) (old new : Option (List ℕ)) (now : CallTable) (r : Result Bool SessionEnd)
     → needed ≡ files_of line → (length contents ≡ length needed) × CameTo files needed (bytes_of contents) None before after
-    → ToldEnds k (told_of k line []) old new now r → LineEnds files k line before after old new now r
+    → ToldEnds k (told_of k line (bytes_of contents)) old new now r → LineEnds files k line before after old new now r
 line_held files k line needed contents before after old new now r is came ends =
     line_told files k line (bytes_of contents) before after old new now r (length-map contents (λ file. file.items) ∙ came.0 ∙ ap length is)
     (subst (λ (f : List Needed). CameTo files f (bytes_of contents) None before after) is came.1) ends

@@ -1,7 +1,10 @@
 -- The lines that a session replies.
 use Rattle.std.specs.Prelude.{ℕ, List, [], ◌∷◌, ◌++◌, codes, length, Option, Some, None}
 use Rattle.std.specs.List.{flat_map, range_with_len}
-use Rattle.ks_base.specs.Text.{hex_text, byte_text, number_text}
+use Rattle.ks_base.specs.Text.{hex_text, byte_text, number_text, shown_name}
+use Rattle.ks_base.specs.declared.reports.Replaced.{Replaced}
+use Rattle.ks_base.specs.declared.reports.Added.{Added}
+use Rattle.ks_base.specs.declared.reports.Report.{Report}
 use Rattle.image_memory.specs.declared.types.Kind.{Kind}
 use Rattle.image_memory.specs.declared.types.Piece.{Piece}
 use Rattle.image_memory.specs.Contents.{look_at}
@@ -48,3 +51,25 @@ peeked_at pieces address = peeked (look_at pieces address)
 unfoldable pub peek_line : List Piece → ℕ → ℕ → List ℕ
 peek_line pieces address count =
     hex_text address ++ codes ":" ++ flat_map (peeked_at pieces) (range_with_len address count) ++ 10 ∷ []
+
+-- a function that has a new version: where its first version begins, where the new one does, and the length of the version that ran
+unfoldable pub replaced_line : Replaced → List ℕ
+replaced_line r =
+    codes " replaced " ++ shown_name r.function ++ codes " " ++ hex_text r.home ++ codes " " ++ hex_text r.base ++ codes " " ++ number_text r.length ++ 10 ∷ []
+
+-- a function that is new, and where it begins
+unfoldable pub added_line : Added → List ℕ
+added_line a = codes " added " ++ shown_name a.function ++ codes " " ++ hex_text a.base ++ 10 ∷ []
+
+-- a function that is gone
+unfoldable pub dropped_line : List ℕ → List ℕ
+dropped_line function = codes " dropped " ++ shown_name function ++ 10 ∷ []
+
+-- an update was made, and at which try
+unfoldable pub applied_line : List ℕ → ℕ → List ℕ
+applied_line name tries = codes "applied " ++ shown_name name ++ codes " tries " ++ number_text tries ++ 10 ∷ []
+
+-- the same, and what it replaced, added and dropped
+unfoldable pub applied_lines : List ℕ → ℕ → Report → List ℕ
+applied_lines name tries report =
+    applied_line name tries ++ flat_map replaced_line report.replaced ++ flat_map added_line report.added ++ flat_map dropped_line report.dropped

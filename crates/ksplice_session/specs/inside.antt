@@ -1,4 +1,5 @@
 -- What the code has in the middle of a session, said by contracts inside this crate alone.
 pub mod LineEnds
+pub mod Loading
 pub mod ScriptEnds
 pub mod Stacks

@@ -3,24 +3,32 @@ ghost use Rattle.std.specs.Prelude.{◌≡◌, ◌≢◌, ℕ, ◌≤◌, ◌+�
 ghost use Rattle.ks_base.specs.declared.refusals.Refusal.TheVariants.{Memory};
 ghost use Rattle.ks_base.specs.Refusals.{refusal_line};
 ghost use Rattle.script_lines.specs.declared.types.Command.TheVariants.{Spawn, Step, RoundRobin, Threads, Peek};
+ghost use Rattle.update_stack.specs.Events.{Apply as ApplyEvent};
 ghost use Rattle.script_lines.specs.Allowed.{IsAllowed};
 ghost use Rattle.update_stack.specs.StandsFor.{patched};
-ghost use Rattle.ksplice_session.specs.Lines.{spawned_line, turns_line, threads_lines, peek_line};
-ghost use Rattle.ksplice_session.specs.Replies.{told_of, shown, stepped_line_of};
+ghost use Rattle.ks_io.specs.Loads.{bytes_of};
+ghost use Rattle.ksplice_session.specs.Lines.{spawned_line, turns_line, threads_lines, peek_line, applied_lines};
+ghost use Rattle.ksplice_session.specs.Replies.{told_of, apply_told, event_told, shown, stepped_line_of};
 ghost use Rattle.ksplice_session.specs.Answers.{Answers};
 
-use crate::lines::{put_peek, put_spawned, put_stepped, put_threads, put_turns};
+use crate::lines::{put_applied, put_peek, put_spawned, put_stepped, put_threads, put_turns};
 use crate::session::Session;
 use crate::types::Answer;
-use ks_base::{Line, Name, Refusal};
+use ks_base::{Line, Name, Refusal, Report};
 use script_lines::Command;
 use std::alloc::{AllocError, Global};
 
-/// Runs a line of a script that has its files, and answers it. `Err` comes for want of memory alone, when a front of the
-/// line's events was made.
-pub fn answer(alloc: Global, session: &mut Session, command: &Command) -> Result<Answer, AllocError>
+/// Runs a line of a script that has its files, given the bytes of each, and answers it. `Err` comes for want of memory
+/// alone, when a front of the line's events was made.
+#[tactic(auto, unfolding(crate::specs::Replies::told_of))]
+pub fn answer(
+    alloc: Global,
+    session: &mut Session,
+    command: &Command,
+    held: &[Vec<u8>],
+) -> Result<Answer, AllocError>
     requires { IsAllowed command.now }
-    ensures { Answers session.old (told_of session.old command.now []) session.new result }
+    ensures { Answers session.old (told_of session.old command.now (bytes_of held.now)) session.new result }
 {
     match command {
         Command::Spawn { name, argument } => answer_spawn(alloc, session, name, *argument),
@@ -28,6 +36,7 @@ pub fn answer(alloc: Global, session: &mut Session, command: &Command) -> Result
         Command::RoundRobin { quantum, steps } => answer_turns(alloc, session, *quantum, *steps),
         Command::Threads => answer_threads(alloc, session),
         Command::Peek { address, count } => answer_peek(alloc, session, *address, *count),
+        Command::Apply { name, .. } => answer_apply(alloc, session, name, held),
     }
 }
 
@@ -89,6 +98,35 @@ fn answer_peek(
     ensures { Answers session.now (told_of session.now (Peek address count) []) session.now result }
 {
     told(peek_reply(alloc, session, address, count))
+}
+
+fn answer_apply(
+    alloc: Global,
+    session: &mut Session,
+    name: &Name,
+    held: &[Vec<u8>],
+) -> Result<Answer, AllocError>
+    ensures { Answers session.old (apply_told session.old name.now (bytes_of held.now)) session.new result }
+{
+    if held.len() != 2 {
+        return told(Ok(Line::new(alloc)));
+    }
+    answer_update(alloc, session, name, held[0].as_slice(), held[1].as_slice())
+}
+
+fn answer_update(
+    alloc: Global,
+    session: &mut Session,
+    name: &Name,
+    pre: &[u8],
+    post: &[u8],
+) -> Result<Answer, AllocError>
+    ensures { Answers session.old (event_told session.old (ApplyEvent name.now pre.now post.now)) session.new result }
+{
+    match session.apply(name, pre, post) {
+        Ok(report) => told(applied_reply(alloc, name, &report)),
+        Err(cause) => refused(alloc, &cause),
+    }
 }
 
 // The answer to a line that isn't refused.
@@ -176,5 +214,13 @@ fn peek_reply(
 {
     let mut line = Line::new(alloc);
     put_peek(&mut line, session.system.machine().space(), address, count)?;
+    Ok(line)
+}
+
+fn applied_reply(alloc: Global, name: &Name, report: &Report) -> Result<Line, AllocError>
+    ensures { IfOk result (λ line. line ≡ applied_lines name.now 1 report.now) }
+{
+    let mut line = Line::new(alloc);
+    put_applied(&mut line, name, 1, report)?;
     Ok(line)
 }

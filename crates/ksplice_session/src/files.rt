@@ -1,27 +1,78 @@
 //! The files that the lines of a script load, and the line of one that can't be loaded.
-ghost use Rattle.std.specs.Prelude.{◌≡◌, ◌≢◌, IfOk, OnOk, OnErr, Err, IsErrOf, map};
+ghost use Rattle.std.specs.Prelude.{◌≡◌, ◌≢◌, [], ◌∷◌, IfOk, OnOk, OnErr, Err, IsErrOf, map};
+ghost use Rattle.script_lines.specs.Allowed.{IsAllowed};
+ghost use Rattle.script_lines.specs.Lines.{IsPrintable};
+ghost use Rattle.ksplice_session.specs.inside.Loading.{wanted_by};
 ghost use Rattle.ks_io.specs.Kept.{SinkKept};
 ghost use Rattle.ks_io.specs.Loads.{needed_by};
 ghost use Rattle.ks_io.specs.Outside.{Rose, TookPart, TookFront, grown};
-ghost use Rattle.ksplice_session.specs.Replies.{files_of};
+ghost use Rattle.ksplice_session.specs.Replies.{files_of, object_file};
 ghost use Rattle.ksplice_session.specs.Session.{fault_text, file_line};
 
+use crate::types::Loads;
 use ks_base::{Line, Name};
 use ks_io::{FileFault, Sink, SinkFault, Wanted, write_all};
-use script_lines::Command;
+use script_lines::{Command, text_of};
 use std::alloc::{AllocError, Global};
 
-/// The files that a line loads before it is run, in order. No line that is built so far loads one.
+/// The most bytes that an object file may have.
+pub const OBJECT_LIMIT: u32 = 8_388_608;
+
+impl<'a> Loads<'a> {
+    /// The files as a slice.
+    pub(crate) fn as_slice(&self) -> &[Wanted<'a>]
+        ensures { result.now ≡ wanted_by self.now }
+    {
+        &self.files[..self.count]
+    }
+}
+
+/// The files that a line loads before it is run, in order.
 #[tactic(auto, unfolding(crate::specs::Replies::files_of))]
-pub(crate) fn files_of(command: &Command) -> &'static [Wanted<'static>]
-    ensures { map needed_by result.now ≡ files_of command.now }
+pub(crate) fn files_of(command: &Command) -> Loads<'_>
+    requires { IsAllowed command.now }
+    ensures { map needed_by (wanted_by result) ≡ files_of command.now }
 {
     match command {
         Command::Spawn { .. }
         | Command::Step { .. }
         | Command::RoundRobin { .. }
         | Command::Threads
-        | Command::Peek { .. } => &[],
+        | Command::Peek { .. } => no_files(),
+        Command::Apply { pre, post, .. } => object_files(pre, post),
+    }
+}
+
+fn no_files() -> Loads<'static>
+    ensures { map needed_by (wanted_by result) ≡ [] }
+{
+    let none = Wanted { name: "", limit: 0 };
+    Loads {
+        files: [none, none],
+        count: 0,
+    }
+}
+
+// Two object files of names that a line writes.
+fn object_files<'a>(pre: &'a Name, post: &'a Name) -> Loads<'a>
+    requires pre { IsPrintable pre.now }
+    requires post { IsPrintable post.now }
+    ensures { map needed_by (wanted_by result) ≡ object_file pre.now ∷ object_file post.now ∷ [] }
+{
+    Loads {
+        files: [object_file(pre), object_file(post)],
+        count: 2,
+    }
+}
+
+// An object file of a name that a line writes.
+fn object_file(name: &Name) -> Wanted<'_>
+    requires { IsPrintable name.now }
+    ensures { needed_by result ≡ object_file name.now }
+{
+    Wanted {
+        name: text_of(name),
+        limit: OBJECT_LIMIT,
     }
 }
 

@@ -12,8 +12,8 @@ mod stepping;
 pub mod types;
 
 pub use answers::answer;
-pub use files::write_file_line;
-pub use lines::{put_peek, put_spawned, put_stepped, put_threads, put_turns};
+pub use files::{OBJECT_LIMIT, write_file_line};
+pub use lines::{put_applied, put_peek, put_spawned, put_stepped, put_threads, put_turns};
 pub use running::run_session;
 pub use session::Session;
 pub use types::{Answer, SessionEnd};

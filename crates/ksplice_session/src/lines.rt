@@ -2,11 +2,12 @@
 ghost use Rattle.std.specs.Prelude.{◌≡◌, ◌++◌, ◌+◌, ◌≤◌, ◌<◌, ◌^◌, OnOk};
 ghost use Rattle.std.specs.List.{flat_map, range_with_len};
 ghost use Rattle.ksplice_session.specs.Lines.{spawned_line, stepped_line, turns_line, thread_line, count_line, threads_lines, peeked, peeked_at, peek_line};
+ghost use Rattle.ksplice_session.specs.Lines.{replaced_line, added_line, dropped_line, applied_line, applied_lines};
 
 use crate::places::{put_place, put_state};
 use ia32_step::Thread;
 use image_memory::{Kind, Space};
-use ks_base::Line;
+use ks_base::{Added, Line, Name, Replaced, Report};
 use std::alloc::AllocError;
 use symbol_table::SymbolTable;
 
@@ -153,4 +154,95 @@ pub fn put_peek<S: Space>(
     line.put_text(":")?;
     put_each_byte(line, space, address, count)?;
     line.put_text("\n")
+}
+
+#[tactic(auto, unfolding(crate::specs::Lines::replaced_line))]
+fn put_replaced(line: &mut Line, replaced: &Replaced) -> Result<(), AllocError>
+    ensures { OnOk result (line.new ≡ line.old ++ replaced_line replaced.now) }
+{
+    line.put_text(" replaced ")?;
+    line.put_name(&replaced.function)?;
+    line.put_text(" ")?;
+    line.put_hex(replaced.home)?;
+    line.put_text(" ")?;
+    line.put_hex(replaced.base)?;
+    line.put_text(" ")?;
+    line.put_number(u64::from(replaced.length))?;
+    line.put_text("\n")
+}
+
+fn put_each_replaced(line: &mut Line, functions: &[Replaced]) -> Result<(), AllocError>
+    ensures { OnOk result (line.new ≡ line.old ++ flat_map replaced_line functions.now) }
+{
+    for function in functions {
+        put_replaced(line, function)?;
+    }
+    Ok(())
+}
+
+#[tactic(auto, unfolding(crate::specs::Lines::added_line))]
+fn put_added(line: &mut Line, added: &Added) -> Result<(), AllocError>
+    ensures { OnOk result (line.new ≡ line.old ++ added_line added.now) }
+{
+    line.put_text(" added ")?;
+    line.put_name(&added.function)?;
+    line.put_text(" ")?;
+    line.put_hex(added.base)?;
+    line.put_text("\n")
+}
+
+fn put_each_added(line: &mut Line, functions: &[Added]) -> Result<(), AllocError>
+    ensures { OnOk result (line.new ≡ line.old ++ flat_map added_line functions.now) }
+{
+    for function in functions {
+        put_added(line, function)?;
+    }
+    Ok(())
+}
+
+#[tactic(auto, unfolding(crate::specs::Lines::dropped_line))]
+fn put_dropped(line: &mut Line, function: &Name) -> Result<(), AllocError>
+    ensures { OnOk result (line.new ≡ line.old ++ dropped_line function.now) }
+{
+    line.put_text(" dropped ")?;
+    line.put_name(function)?;
+    line.put_text("\n")
+}
+
+fn put_each_dropped(line: &mut Line, functions: &[Name]) -> Result<(), AllocError>
+    ensures { OnOk result (line.new ≡ line.old ++ flat_map dropped_line functions.now) }
+{
+    for function in functions {
+        put_dropped(line, function)?;
+    }
+    Ok(())
+}
+
+#[tactic(auto, unfolding(crate::specs::Lines::applied_line))]
+fn put_update(line: &mut Line, name: &Name, tries: u32) -> Result<(), AllocError>
+    ensures { OnOk result (line.new ≡ line.old ++ applied_line name.now tries) }
+{
+    line.put_text("applied ")?;
+    line.put_name(name)?;
+    line.put_text(" tries ")?;
+    line.put_number(u64::from(tries))?;
+    line.put_text("\n")
+}
+
+/// An update was made: `applied`, its name, and at which try; then a line for each function that it replaced, added and
+/// dropped, in the report's order: `replaced` with the function's name, its home, its new base and the length of the
+/// version that ran until then, `added` with its name and base, `dropped` with its name.
+#[tactic(auto, unfolding(crate::specs::Lines::applied_lines))]
+pub fn put_applied(
+    line: &mut Line,
+    name: &Name,
+    tries: u32,
+    report: &Report,
+) -> Result<(), AllocError>
+    ensures { OnOk result (line.new ≡ line.old ++ applied_lines name.now tries report.now) }
+{
+    put_update(line, name, tries)?;
+    put_each_replaced(line, report.replaced.as_slice())?;
+    put_each_added(line, report.added.as_slice())?;
+    put_each_dropped(line, report.dropped.as_slice())
 }

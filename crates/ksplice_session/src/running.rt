@@ -1,7 +1,8 @@
 //! Running a script.
-ghost use Rattle.std.specs.Prelude.{◌≡◌, ◌≢◌, [], Err, IsErrOf};
+ghost use Rattle.std.specs.Prelude.{◌≡◌, ◌≢◌, Err, IsErrOf};
 ghost use Rattle.std.specs.List.{All};
 ghost use Rattle.ks_io.specs.Kept.{FilesKept, SinkKept};
+ghost use Rattle.ks_io.specs.Loads.{bytes_of};
 ghost use Rattle.ks_io.specs.Outside.{Rose};
 ghost use Rattle.script_lines.specs.Allowed.{IsAllowed};
 ghost use Rattle.ksplice_session.specs.inside.LineEnds.{LineEnds, ToldEnds, FileEnds, written_end, file_end};
@@ -84,29 +85,31 @@ fn run_line<F: Files, O: Sink>(
     ensures steady { result ≢ Err SessionEnd.SinkEnd → O.faults out.new ≡ O.faults out.old }
     ensures quiet { O.quiet out.old → result ≢ Err SessionEnd.SinkEnd }
 {
-    let wanted = files_of(command);
+    let loads = files_of(command);
+    let wanted = loads.as_slice();
     match load_all(alloc, files, wanted) {
-        Ok(_) => reply(alloc, session, command, out),
+        Ok(held) => reply(alloc, session, command, held.as_slice(), out),
         Err(lost) => Err(end_at_file(alloc, &wanted[lost.index], lost.fault, out)),
     }
 }
 
-// Runs a line and writes its reply.
+// Runs a line that has its files, and writes its reply.
 fn reply<O: Sink>(
     alloc: Global,
     session: &mut Session,
     command: &Command,
+    held: &[Vec<u8>],
     out: &mut O,
 ) -> Result<bool, SessionEnd>
     requires { IsAllowed command.now }
-    ensures ends { ToldEnds session.old (told_of session.old command.now [])
+    ensures ends { ToldEnds session.old (told_of session.old command.now (bytes_of held.now))
         (O.taken out.old) (O.taken out.new) session.new result }
     ensures out { SinkKept O.faults O.quiet out.old out.new }
     ensures sink { IsErrOf result SessionEnd.SinkEnd → Rose (O.faults out.old) (O.faults out.new) }
     ensures steady { result ≢ Err SessionEnd.SinkEnd → O.faults out.new ≡ O.faults out.old }
     ensures quiet { O.quiet out.old → result ≢ Err SessionEnd.SinkEnd }
 {
-    match answer(alloc, session, command) {
+    match answer(alloc, session, command, held) {
         Ok(answer) => written_end(write_all(out, answer.line.bytes()), answer.refused),
         Err(_) => Err(SessionEnd::MemoryEnd),
     }

@@ -5,7 +5,7 @@ ghost use Rattle.ks_base.specs.declared.refusals.Refusal.TheVariants.{Memory};
 ghost use Rattle.image_file.specs.Seen.{contents_of};
 ghost use Rattle.image_threads.specs.Program.{running_at};
 ghost use Rattle.update_stack.specs.CallTable.{first_machine};
-ghost use Rattle.update_stack.specs.Events.{Spawn, Spawned, happened, answered};
+ghost use Rattle.update_stack.specs.Events.{Apply, Applied, Spawn, Spawned, happened, answered};
 ghost use Rattle.update_stack.specs.StandsFor.{StandsFor};
 
 use crate::memory::all_pieces;
@@ -14,7 +14,7 @@ use image_file::Image;
 use image_file::laws::image_keeps_rules;
 use image_memory::{FlatSpace, pieces_stay_placed};
 use image_threads::Machine;
-use ks_base::{Name, Refusal};
+use ks_base::{Name, Refusal, Report};
 use std::alloc::{AllocError, Global};
 use std::marker::Model;
 use symbol_table::SymbolTable;
@@ -65,6 +65,16 @@ impl Session {
         ensures refused { OnErr result (self.new ≡ self.old) }
     {
         self.system.spawn(name, argument)
+    }
+
+    /// Replaces functions of the program, as the system does, and answers what the update did.
+    pub(crate) fn apply(&mut self, name: &Name, pre: &[u8], post: &[u8]) -> Result<Report, Refusal>
+        ensures answered { MatchResult result
+            (λ report. answered self.old (Apply name.now pre.now post.now) ≡ Ok (happened self.new (Applied report)))
+            (λ refusal. refusal ≢ Memory → answered self.old (Apply name.now pre.now post.now) ≡ Err refusal) }
+        ensures refused { OnErr result (self.new ≡ self.old) }
+    {
+        self.system.apply(name, pre, post)
     }
 
     /// The threads in the order of their numbers, from 0 on.

@@ -1,5 +1,8 @@
 //! What a line of a script comes to, and how a session ends.
+ghost use Rattle.std.specs.Prelude.{◌≤◌};
+
 use ks_base::Line;
+use ks_io::Wanted;
 
 /// The answer to a line.
 #[derive(Drop)]
@@ -23,4 +26,12 @@ pub enum SessionEnd {
     SinkEnd,
     /// Memory ran out.
     MemoryEnd,
+}
+
+/// The files that a line loads before it is run, in order: the first so many of two.
+#[derive(Clone, Copy)]
+pub(crate) struct Loads<'a> {
+    pub(crate) files: [Wanted<'a>; 2],
+    pub(crate) count: usize,
+    ghost few: { count ≤ 2 },
 }

@@ -5,8 +5,8 @@ use Rattle.symbol_table.specs.declared.symbols.Symbol.{Symbol}
 use Rattle.i386_reloc.specs.declared.types.ObjectSymbol.{ObjectSymbol}
 use Rattle.i386_reloc.specs.declared.types.NormalSection.{NormalSection}
 use Rattle.link_post.specs.declared.types.Placed.{Placed}
-use Rattle.new_code.specs.declared.roles.Role.{Role}
-use Rattle.new_code.specs.declared.roles.Role.TheVariants.{Changed, Added, Carried, NewData}
+use Rattle.section_roles.specs.declared.role.Role.{Role}
+use Rattle.section_roles.specs.declared.role.Role.TheVariants.{Changed, Added, Carried, NewData}
 use Rattle.new_code.specs.Parts.{NewPart, AtPlace, at_places, function_name}
 
 abbrev pub function_symbol : NormalSection → ℕ → Symbol

@@ -3,7 +3,7 @@ use Rattle.std.specs.Prelude.{ℕ, List, [], ◌∷◌, unwrap_or}
 use Rattle.i386_reloc.specs.declared.types.NormalSection.{NormalSection}
 use Rattle.link_post.specs.declared.types.SectionSize.{SectionSize}
 use Rattle.link_post.specs.declared.types.Placed.{Placed}
-use Rattle.new_code.specs.declared.roles.Role.{Role}
+use Rattle.section_roles.specs.declared.role.Role.{Role}
 
 -- a section of the new object, and what the update does with it
 pub record NewPart : Type 0 where

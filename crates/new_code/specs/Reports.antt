@@ -9,8 +9,8 @@ use Rattle.i386_reloc.specs.Normal.{same_bytes}
 use Rattle.link_post.specs.declared.types.Placed.{Placed}
 use Rattle.retired_code.specs.declared.types.OldFunction.{OldFunction}
 use Rattle.retired_code.specs.Retired.{is_dropped}
-use Rattle.new_code.specs.declared.roles.Role.{Role}
-use Rattle.new_code.specs.declared.roles.Role.TheVariants.{Changed, Added, Carried, NewData}
+use Rattle.section_roles.specs.declared.role.Role.{Role}
+use Rattle.section_roles.specs.declared.role.Role.TheVariants.{Changed, Added, Carried, NewData}
 use Rattle.new_code.specs.Parts.{NewPart, AtPlace, at_places, function_name}
 
 -- the function of the old object that is the section of a name

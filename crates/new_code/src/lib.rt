@@ -6,11 +6,10 @@ mod olds;
 mod parts;
 mod pieces;
 mod reporting;
-mod roles;
 mod symbols;
 
-pub use crate::parts::{Part, sizes};
+pub use crate::parts::{Part, function_name, sizes};
 pub use crate::pieces::new_pieces;
 pub use crate::reporting::report_of;
-pub use crate::roles::Role;
 pub use crate::symbols::{NewSymbols, new_symbols};
+pub use section_roles::Role;

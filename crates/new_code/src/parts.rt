@@ -2,10 +2,10 @@
 ghost use Rattle.std.specs.Prelude.{◌≡◌, map, IfOk};
 ghost use Rattle.new_code.specs.Parts.{at_places, function_name, new_part, placed_part, size_of};
 
-use crate::roles::Role;
 use i386_reloc::NormalSection;
 use ks_base::Name;
 use link_post::{Placement, SectionSize};
+use section_roles::Role;
 use std::alloc::{AllocError, Global};
 use std::marker::Model;
 
@@ -133,8 +133,8 @@ pub(crate) fn at_places<'p, 'a>(
     Ok(placed)
 }
 
-// The name of the function that a section is, without bytes where it is none.
-pub(crate) fn function_name(alloc: Global, section: &NormalSection<'_>) -> Result<Name, AllocError>
+/// The name of the function that a section is, without bytes where it is none. `Err` comes for want of memory alone.
+pub fn function_name(alloc: Global, section: &NormalSection<'_>) -> Result<Name, AllocError>
     ensures { IfOk result (λ name. name ≡ function_name section.now) }
 {
     match &section.function {

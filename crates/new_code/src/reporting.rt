@@ -8,10 +8,10 @@ ghost use Rattle.new_code.specs.inside.OldMaps.{AreFirst};
 
 use crate::olds::olds_by_section;
 use crate::parts::{Part, PlacedPart, at_places, function_name};
-use crate::roles::Role;
 use ks_base::{Added, AddedList, Name, Names, Replaced, ReplacedList, Report};
 use link_post::Placement;
 use retired_code::OldFunction;
+use section_roles::Role;
 use std::alloc::{AllocError, Global};
 use std::collections::BTreeMap;
 

@@ -3,10 +3,10 @@ ghost use Rattle.std.specs.Prelude.{◌≡◌, ◌++◌, map, IfOk, OnOk};
 ghost use Rattle.new_code.specs.NewSymbols.{function_symbol, new_symbols, symbols_of, variable_symbol};
 
 use crate::parts::{Part, PlacedPart, at_places, function_name};
-use crate::roles::Role;
 use i386_reloc::{NormalSection, ObjectSymbol};
 use ks_base::{ListOf, Name};
 use link_post::Placement;
+use section_roles::Role;
 use std::alloc::{AllocError, Global};
 use symbol_table::Symbol;
 

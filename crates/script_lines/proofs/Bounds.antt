@@ -5,10 +5,10 @@ use Rattle.std.proofs.lemmas.Bool.Decides.{nat_tests}
 use Rattle.std.proofs.lemmas.List.Elements.{All-nil, All-cons, All-append, All-same}
 use Rattle.ks_base.specs.declared.refusals.Refusal.TheVariants.{BadLine}
 use Rattle.script_lines.specs.declared.types.Command.{Command}
-use Rattle.script_lines.specs.declared.types.Command.TheVariants.{Peek}
+use Rattle.script_lines.specs.declared.types.Command.TheVariants.{Peek, Apply}
 use Rattle.script_lines.specs.Lines.{words_of, is_plain, lines_of, IsPrintable}
 use Rattle.script_lines.specs.Numbers.{when, number_of}
-use Rattle.script_lines.specs.Forms.{◌>>=◌, number_within, two, spawn_of, step_of, round_robin_of, threads_of, peek_of, command_of, is_comment, asked_by, asked_in}
+use Rattle.script_lines.specs.Forms.{◌>>=◌, number_within, two, three, spawn_of, step_of, round_robin_of, threads_of, peek_of, apply_of, command_of, is_comment, asked_by, asked_in}
 use Rattle.script_lines.specs.Script.{commands_of, lines_before_bad, script_of}
 use Rattle.script_lines.specs.Allowed.{IsAllowed}
 use Rattle.script_lines.proofs.Words.{Each, words_printable}
@@ -73,13 +73,26 @@ peek_allowed words =
     (λ address. made _ IsAllowed (number_within 1 4096 given.1) _ (within 1 4096 given.1)
     (λ count h. tested IsAllowed (nat_le (address + count) (2 ^ 32)) (Peek address count) (λ e. (h.0, h.1, grind (arith, nat_tests))))))
 
+-- each of three words is printable
+three_printable : (words : List (List ℕ)) → Each IsPrintable words → IfSome (three words) (λ given. IsPrintable given.0 × IsPrintable given.1 × IsPrintable given.2)
+three_printable [] each = tt
+three_printable (first ∷ []) each = tt
+three_printable (first ∷ second ∷ []) each = tt
+three_printable (first ∷ second ∷ third ∷ []) each = (each.0, each.1.0, each.1.1.0)
+three_printable (first ∷ second ∷ third ∷ fourth ∷ rest) each = tt
+
+apply_allowed : (words : List (List ℕ)) → Each IsPrintable words → IfSome (apply_of words) IsAllowed
+apply_allowed words each =
+    made _ IsAllowed (three words) _ (three_printable words each) (λ given printable. printable)
+
 command_allowed : (word : List ℕ) (words : List (List ℕ)) → Each IsPrintable words → IfSome (command_of word words) IsAllowed
 command_allowed word words each =
     chosen IsAllowed (bytes_eq word (codes "spawn")) _ _ (spawn_allowed words each)
     (chosen IsAllowed (bytes_eq word (codes "step")) _ _ (step_allowed words)
     (chosen IsAllowed (bytes_eq word (codes "rr")) _ _ (round_robin_allowed words)
     (chosen IsAllowed (bytes_eq word (codes "threads")) _ _ (threads_allowed words)
-    (chosen IsAllowed (bytes_eq word (codes "peek")) _ _ (peek_allowed words) tt))))
+    (chosen IsAllowed (bytes_eq word (codes "peek")) _ _ (peek_allowed words)
+    (chosen IsAllowed (bytes_eq word (codes "apply")) _ _ (apply_allowed words each) tt)))))
 
 -- of what a line asks for, the command, if there is one, keeps the bounds
 abbrev Keeps : Option Command → Type 0

@@ -1,9 +1,14 @@
--- Each word of a line that is plain is printable.
-use Rattle.std.proofs.Common.{◌≡◌, refl, sym, ℕ, suc, ◌≤◌, Bool, true, false, not, ◌&&◌, cond, List, [], ◌∷◌, length, arith}
+-- Each word of a line that is plain is printable, and each printable word is ASCII.
+use Rattle.std.proofs.Common.{◌≡◌, refl, sym, ℕ, suc, ◌≤◌, ◌<◌, Bool, true, false, not, ◌&&◌, cond, List, [], ◌∷◌, length, arith}
 use Rattle.std.specs.Prelude.{filter, nat_le}
 use Rattle.std.specs.List.{slice_split, onto_first, list_all}
 use Rattle.std.proofs.lemmas.Bool.{and_parts, and_from, false≢true, leb-true}
 use Rattle.std.proofs.lemmas.Bool.Decides.{nat_tests}
+use Rattle.std.specs.List.{All}
+use Rattle.std.specs.Str.{IsUtf8}
+use Rattle.std.proofs.lemmas.List.Elements.{All-nil, All-cons}
+use Rattle.std.proofs.lemmas.Str.{IsUtf8-from_ascii}
+use Rattle.std.proofs.lemmas.Str.Ascii.{IsAscii-from_all}
 use Rattle.script_lines.specs.Lines.{is_empty, is_space, is_printable, is_word_byte, is_plain, words_of, IsPrintable}
 
 -- each of some words
@@ -51,3 +56,15 @@ pub words_printable : (line : List ℕ) → is_plain line ≡ true → Each IsPr
 words_printable line plain =
     kept_printable (length line) (slice_split is_space line) (leb-true (length line) 4096 (and_parts (nat_le (length line) 4096) _ plain).0)
     (parts_printable line (and_parts (nat_le (length line) 4096) _ plain).1)
+
+byte_below : (byte : ℕ) → is_word_byte byte ≡ true → byte < 128
+byte_below byte printable = grind (arith, nat_tests)
+
+bytes_below : (word : List ℕ) → list_all is_word_byte word ≡ true → All (λ byte. byte < 128) word
+bytes_below [] printable = All-nil (λ (byte : ℕ). byte < 128)
+bytes_below (byte ∷ word) printable =
+    let both = and_parts (is_word_byte byte) _ printable in
+    All-cons (λ (byte : ℕ). byte < 128) byte word (byte_below byte both.0) (bytes_below word both.1)
+
+pub word_is_text : (word : List ℕ) → IsPrintable word → IsUtf8 word
+word_is_text word printable = IsUtf8-from_ascii word (IsAscii-from_all word (bytes_below word printable.bytes))

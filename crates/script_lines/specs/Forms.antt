@@ -2,7 +2,7 @@
 use Rattle.std.specs.Prelude.{ℕ, ◌+◌, ◌^◌, ◌==◌, nat_le, Bool, false, ◌&&◌, List, [], ◌∷◌, codes, bytes_eq, if◌then◌else◌}
 use Rattle.std.specs.Prelude.{Option, Some, None, option_map}
 use Rattle.script_lines.specs.declared.types.Command.{Command}
-use Rattle.script_lines.specs.declared.types.Command.TheVariants.{Spawn, Step, RoundRobin, Threads, Peek}
+use Rattle.script_lines.specs.declared.types.Command.TheVariants.{Spawn, Step, RoundRobin, Threads, Peek, Apply}
 use Rattle.script_lines.specs.Lines.{is_plain, words_of}
 use Rattle.script_lines.specs.Numbers.{when, number_of}
 
@@ -21,6 +21,11 @@ number_within low high word = do
 abbrev pub two : List (List ℕ) → Option (List ℕ × List ℕ)
 two (first ∷ second ∷ []) = Some (first, second)
 two _ = None
+
+-- words that are exactly three
+abbrev pub three : List (List ℕ) → Option (List ℕ × List ℕ × List ℕ)
+three (first ∷ second ∷ third ∷ []) = Some (first, second, third)
+three _ = None
 
 -- `spawn NAME ARG`
 abbrev pub spawn_of : List (List ℕ) → Option Command
@@ -58,6 +63,12 @@ peek_of words = do
   count ← number_within 1 4096 given.1
   when (nat_le (address + count) (2 ^ 32)) (Peek address count)
 
+-- `apply NAME PRE POST`
+abbrev pub apply_of : List (List ℕ) → Option Command
+apply_of words = do
+  given ← three words
+  Some (Apply given.0 given.1 given.2)
+
 -- the command of a first word and the words after it
 abbrev pub command_of : List ℕ → List (List ℕ) → Option Command
 command_of word words =
@@ -66,6 +77,7 @@ command_of word words =
     else if bytes_eq word (codes "rr") then round_robin_of words
     else if bytes_eq word (codes "threads") then threads_of words
     else if bytes_eq word (codes "peek") then peek_of words
+    else if bytes_eq word (codes "apply") then apply_of words
     else None
 
 -- whether a word begins with `#`

@@ -1,7 +1,7 @@
 //! The forms of a line.
 ghost use Rattle.std.specs.Prelude.{◌≡◌, IfOk, option_map, bytes_eq};
 ghost use Rattle.script_lines.specs.Lines.{words_of};
-ghost use Rattle.script_lines.specs.Forms.{two, spawn_of, step_of, round_robin_of, threads_of, peek_of, command_of, is_comment, asked_in};
+ghost use Rattle.script_lines.specs.Forms.{two, three, spawn_of, step_of, round_robin_of, threads_of, peek_of, apply_of, command_of, is_comment, asked_in};
 
 use crate::lines::{first_word, is_plain};
 use crate::numbers::{number_of, number_within};
@@ -63,6 +63,9 @@ fn command_of(alloc: Global, word: &[u8], text: &[u8]) -> Result<Option<Command>
     }
     if is(word, b"peek") {
         return Ok(peek_of(text));
+    }
+    if is(word, b"apply") {
+        return apply_of(alloc, text);
     }
     Ok(None)
 }
@@ -130,6 +133,19 @@ fn peek_of(text: &[u8]) -> Option<Command>
     Some(Command::Peek { address, count })
 }
 
+// `apply NAME PRE POST`
+fn apply_of(alloc: Global, text: &[u8]) -> Result<Option<Command>, AllocError>
+    ensures { IfOk result (λ command. command ≡ apply_of (words_of text.now)) }
+{
+    let Some((name, pre, post)) = three(text) else {
+        return Ok(None);
+    };
+    let name = Name::from_slice(alloc, name)?;
+    let pre = Name::from_slice(alloc, pre)?;
+    let post = Name::from_slice(alloc, post)?;
+    Ok(Some(Command::Apply { name, pre, post }))
+}
+
 // The two words of a text that has no more and no fewer.
 fn two(text: &[u8]) -> Option<(&[u8], &[u8])>
     ensures { option_map (λ words. (words.0.now, words.1.now)) result ≡ two (words_of text.now) }
@@ -140,4 +156,13 @@ fn two(text: &[u8]) -> Option<(&[u8], &[u8])>
         None => Some((first, second)),
         Some(_) => None,
     }
+}
+
+// The three words of a text that has no more and no fewer.
+fn three(text: &[u8]) -> Option<(&[u8], &[u8], &[u8])>
+    ensures { option_map (λ words. (words.0.now, words.1.now, words.2.now)) result ≡ three (words_of text.now) }
+{
+    let (first, rest) = first_word(text)?;
+    let (second, third) = two(rest)?;
+    Some((first, second, third))
 }

@@ -5,7 +5,9 @@ mod forms;
 mod lines;
 mod numbers;
 pub mod reading;
+pub mod texts;
 pub mod types;
 
 pub use reading::read_script;
+pub use texts::text_of;
 pub use types::{Command, Script};

@@ -34,6 +34,15 @@ pub enum Command {
         /// How many, from 1 to 4,096.
         count: u32,
     },
+    /// Replace functions of the program.
+    Apply {
+        /// The update's name.
+        name: Name,
+        /// The file of the object built before the change.
+        pre: Name,
+        /// The file of the object built after it.
+        post: Name,
+    },
 }
 
 /// Commands in order.

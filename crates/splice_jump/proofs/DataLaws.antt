@@ -3,6 +3,7 @@ use Rattle.std.proofs.Common.{◌≡◌, ℕ, ◌+◌, ◌-◌, ◌≤◌, ◌<�
 use Rattle.std.proofs.Common.{Option, Some, None, refl, sym, ap, ◌∙◌, arith, ◌⊎◌, inl, inr}
 use Rattle.std.specs.Option.{option_map, unwrap_or}
 use Rattle.std.specs.List.{All}
+use Rattle.std.proofs.lemmas.List.Elements.{All-cons}
 use Rattle.std.proofs.lemmas.Grind.{fold-append}
 use Rattle.image_memory.specs.declared.types.Kind.{Kind}
 use Rattle.image_memory.specs.declared.types.Kind.TheVariants.{Code, ReadOnly, Writable}
@@ -10,9 +11,10 @@ use Rattle.image_memory.specs.declared.types.Piece.{Piece}
 use Rattle.image_memory.specs.Ranges.{lies_in, Ascends}
 use Rattle.image_memory.specs.Contents.{Contents, IsValid, piece_range, holding, byte_in, kind_and_byte, look_at}
 use Rattle.image_memory.specs.Access.{kind_of, unwritable, write_fault, first_fault, new_byte, byte_at, written}
-use Rattle.image_memory.specs.Fetch.{is_code, code_in, code_from}
+use Rattle.image_memory.specs.Fetch.{is_code, code_in, code_from, HasCode}
 use Rattle.image_memory.proofs.RangeLaws.{found as found_at}
 use Rattle.image_memory.proofs.AccessLaws.{good_at, new_outside}
+use Rattle.splice_jump.specs.Jump.{with_old}
 use Rattle.splice_jump.specs.Jumps.{jumped, AreSpliced, with_old_row, unjumped}
 use Rattle.splice_jump.proofs.CodeLaws.{code_at, no_data}
 use Rattle.splice_jump.proofs.WriteLaws.{byte_after, piece_after, Misses, length-bytes_after, unjumped-is, jumps_of}
@@ -179,3 +181,34 @@ writes_past contents rows start bytes valid spliced good =
         let fine =
         rw e at (good_at (write_fault contents.pieces) start (length bytes) (a - start) good (omega arith)) in
         misses_jumps rows a (no_jump contents rows a valid spliced (no_code a (holding contents.pieces a) fine))
+
+-- old bytes of code are put back before data are written or after it
+pub one_write : (start : ℕ) (bytes : List ℕ) (ps : List Piece)
+    → written start bytes ps ≡ unjumped ((start, bytes) ∷ []) ps
+unfolding unjumped
+one_write start bytes ps = refl
+
+pub writes_past_old : (contents : Contents) (home start : ℕ) (old bytes : List ℕ) → IsValid contents
+    → HasCode contents.pieces home (length old)
+    → first_fault (write_fault contents.pieces) start (length bytes) ≡ None
+    → with_old home old (written start bytes contents.pieces) ≡ written start bytes (with_old home old contents.pieces)
+writes_past_old contents home start old bytes valid code good =
+    one_write home old (written start bytes contents.pieces)
+    ∙ (sym (swapped (start, bytes) ((home, old) ∷ []) contents.pieces valid.placed.ascend misses)
+    ∙ ap (written start bytes) (sym (one_write home old contents.pieces)))
+  where
+    apart : (a : ℕ) → code_in a (holding contents.pieces a) ≡ None → Misses a (home, old)
+    apart a none = elim (in_or_out home (home + length old) a) [
+      | inr out ↦ out
+      | inl among ↦
+          absurd (no_data contents.pieces a
+          (code_at contents home (length old) a valid code among.0 among.1) none)
+    ]
+
+    misses : (a : ℕ) → start ≤ a → a < start + length bytes → All (Misses a) ((home, old) ∷ [])
+    misses a low high =
+        let e : start + (a - start) ≡ a = omega arith in
+        let fine =
+        rw e at (good_at (write_fault contents.pieces) start (length bytes) (a - start) good (omega arith)) in
+        All-cons (Misses a) (home, old) [] (apart a (no_code a (holding contents.pieces a) fine))
+        (λ k d l. absurd (omega arith))

@@ -1,7 +1,7 @@
 -- What stays true of memory with jumps: it is a memory, and its homes stay spliced while it changes.
-use Rattle.std.proofs.Common.{◌≡◌, ◌≢◌, ℕ, zero, suc, ◌≤◌, ◌<◌, Bool, true, false, cond}
+use Rattle.std.proofs.Common.{◌≡◌, ◌≢◌, ℕ, zero, suc, ◌+◌, ◌≤◌, ◌<◌, Bool, true, false, cond}
 use Rattle.std.proofs.Common.{List, [], ◌∷◌, ◌++◌, map, length, get_or, nat_lt}
-use Rattle.std.proofs.Common.{Option, Some, None, refl, ◌∙◌, arith, inl, inr}
+use Rattle.std.proofs.Common.{Option, Some, None, refl, ap, ◌∙◌, arith, inl, inr}
 use Rattle.std.specs.Option.{option_map, unwrap_or}
 use Rattle.std.specs.List.{All, Any}
 use Rattle.std.proofs.lemmas.List.{length-map, get_or-map, length-append, get_or_append_left}
@@ -10,16 +10,17 @@ use Rattle.std.proofs.lemmas.List.Quantifiers.{all_pairs_push}
 use Rattle.image_memory.specs.declared.types.Fence.{Fence}
 use Rattle.image_memory.specs.declared.types.Piece.{Piece}
 use Rattle.image_memory.specs.Ranges.{lies_in, MeetsNone, Ascends}
-use Rattle.image_memory.specs.Contents.{Contents, ArePlaced, IsValid, piece_range, holding}
-use Rattle.image_memory.specs.Access.{written, after_write}
+use Rattle.image_memory.specs.Contents.{Contents, ArePlaced, IsValid, piece_range, holding, byte_in}
+use Rattle.image_memory.specs.Access.{byte_at, bytes_at, written, after_write}
 use Rattle.image_memory.specs.Fetch.{code_from, HasCode}
 use Rattle.image_memory.specs.Changes.{with_piece, with_fence, after_add, after_fence}
 use Rattle.image_memory.proofs.RangeLaws.{above, below}
-use Rattle.splice_jump.specs.Jumps.{jumped_memory, unjumped, IsFenced, IsSpliced, AreSpliced}
+use Rattle.splice_jump.specs.Jumps.{jumped_memory, IsFenced, IsSpliced, AreSpliced}
 use Rattle.splice_jump.proofs.CodeLaws.{code_at}
 use Rattle.splice_jump.proofs.WriteLaws.{bytes_after, piece_after, length-bytes_after, unjumped-is, jumps_of}
 use Rattle.splice_jump.proofs.WriteLaws.{jumped-is, code_from-after, in_or_out}
 use Rattle.splice_jump.proofs.ChangeLaws.{not_held_twice}
+use Rattle.splice_jump.proofs.DataLaws.{one_write}
 
 -- pieces stay in their places
 Ascends-after : (ws : List (ℕ × List ℕ)) (floor : ℕ) (ps : List Piece) → Ascends piece_range floor ps
@@ -71,11 +72,6 @@ spliced_jumped contents rows others spliced =
     (λ home code. rw (jumped-is others contents.pieces) (code_after (jumps_of others) contents.pieces home 5 code))
     (λ home fence. fence)
 
-one_write : (start : ℕ) (bytes : List ℕ) (ps : List Piece)
-    → written start bytes ps ≡ unjumped ((start, bytes) ∷ []) ps
-unfolding unjumped
-one_write start bytes ps = refl
-
 pub code_written : (ps : List Piece) (start : ℕ) (bytes : List ℕ) (home count : ℕ) → HasCode ps home count
     → HasCode (written start bytes ps) home count
 code_written ps start bytes home count code =
@@ -100,23 +96,50 @@ holding-put piece (p ∷ ps) a out = by_order (nat_lt piece.base p.base) (holdin
     by_order true rest = rw out refl
     by_order false rest = rw rest refl
 
+-- and none where code is
+not_added : (contents : Contents) (piece : Piece) (home count a : ℕ) → IsValid contents
+    → MeetsNone piece_range (piece_range piece) contents.pieces → HasCode contents.pieces home count
+    → home ≤ a → a < home + count → lies_in a (piece_range piece) ≡ false
+not_added contents piece home count a valid apart code from to =
+    elim (in_or_out piece.base (piece_range piece).high a) [
+      | inr (inl low) ↦ below a (piece_range piece) low
+      | inr (inr high) ↦ above a (piece_range piece) high
+      | inl among ↦
+          absurd (not_held_twice contents.pieces piece a apart
+          (code_at contents home count a valid code from to) among.0 among.1)
+    ]
+
+pub code_added : (contents : Contents) (piece : Piece) (home count : ℕ) → IsValid contents
+    → MeetsNone piece_range (piece_range piece) contents.pieces → HasCode contents.pieces home count
+    → HasCode (with_piece piece contents.pieces) home count
+code_added contents piece home zero valid apart code = omega arith
+code_added contents piece home (suc count) valid apart code =
+    rw (holding-put piece contents.pieces home
+    (not_added contents piece home (suc count) home valid apart code (omega arith) (omega arith))) code
+
+bytes_same : (ps qs : List Piece) (a n : ℕ)
+    → ((b : ℕ) → a ≤ b → b < a + n → byte_at ps b ≡ byte_at qs b) → bytes_at ps a n ≡ bytes_at qs a n
+unfolding bytes_at
+bytes_same ps qs a zero each = refl
+bytes_same ps qs a (suc n) each =
+    ap (λ (b : ℕ). b ∷ bytes_at ps (a + 1) n) (each a (omega arith) (omega arith))
+    ∙ ap (λ (rest : List ℕ). byte_at qs a ∷ rest)
+    (bytes_same ps qs (a + 1) n (λ b low high. each b (omega arith) (omega arith)))
+
+pub bytes_added : (contents : Contents) (piece : Piece) (home count : ℕ) → IsValid contents
+    → MeetsNone piece_range (piece_range piece) contents.pieces → HasCode contents.pieces home count
+    → bytes_at (with_piece piece contents.pieces) home count ≡ bytes_at contents.pieces home count
+bytes_added contents piece home count valid apart code =
+    bytes_same (with_piece piece contents.pieces) contents.pieces home count
+    (λ b low high. ap (λ (o : Option Piece). unwrap_or (option_map (byte_in b) o) 0)
+    (holding-put piece contents.pieces b (not_added contents piece home count b valid apart code low high)))
+
 pub spliced_added : (contents : Contents) (rows : List (ℕ × ℕ)) (piece : Piece) → IsValid contents
     → AreSpliced contents rows
     → MeetsNone piece_range (piece_range piece) contents.pieces → AreSpliced (after_add contents piece) rows
 spliced_added contents rows piece valid spliced apart =
-    still_spliced contents (after_add contents piece) rows spliced kept (λ home fence. fence)
-  where
-    out : (home : ℕ) → HasCode contents.pieces home 5 → lies_in home (piece_range piece) ≡ false
-    out home code = elim (in_or_out piece.base (piece_range piece).high home) [
-      | inr (inl low) ↦ below home (piece_range piece) low
-      | inr (inr high) ↦ above home (piece_range piece) high
-      | inl among ↦
-          absurd (not_held_twice contents.pieces piece home apart
-          (code_at contents home 5 home valid code (omega arith) (omega arith)) among.0 among.1)
-    ]
-
-    kept : (home : ℕ) → HasCode contents.pieces home 5 → HasCode (with_piece piece contents.pieces) home 5
-    kept home code = rw (holding-put piece contents.pieces home (out home code)) code
+    still_spliced contents (after_add contents piece) rows spliced
+    (λ home code. code_added contents piece home 5 valid apart code) (λ home fence. fence)
 
 -- a fence more
 any_put : (P : Fence → Type 0) (fence : Fence) (fences : List Fence) (k : ℕ) (y : Fence) → k < length fences

@@ -40,8 +40,9 @@ pub fn restore<S: Space>(space: &mut S, home: u32, old: [u8; 5])
     space.poke_code(home, &old);
 }
 
-// The five bytes of code at an address. Code is looked at, since it can't be read as data.
-fn five_at<S: Space>(space: &S, home: u32) -> [u8; 5]
+/// The five bytes that stand from an address on, 0 where there is none. They are looked at, since code can't be read as
+/// data.
+pub fn five_at<S: Space>(space: &S, home: u32) -> [u8; 5]
     requires { home + 5 ≤ 2 ^ 32 }
     ensures { result ≡ five_at (S.contents space.now).pieces home }
 {

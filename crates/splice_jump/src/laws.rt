@@ -7,7 +7,7 @@ ghost use Rattle.image_memory.specs.declared.types.Fence.{Fence};
 ghost use Rattle.image_memory.specs.declared.types.Piece.{Piece};
 ghost use Rattle.image_memory.specs.Ranges.{MeetsNone};
 ghost use Rattle.image_memory.specs.Contents.{Contents, IsValid, piece_range, holding, look_at};
-ghost use Rattle.image_memory.specs.Access.{kind_of, write_fault, first_fault, byte_at, written, after_write};
+ghost use Rattle.image_memory.specs.Access.{kind_of, write_fault, first_fault, byte_at, bytes_at, written, after_write};
 ghost use Rattle.image_memory.specs.Fetch.{HasCode, code_from, view_at, jump_at};
 ghost use Rattle.image_memory.specs.Changes.{with_piece, without_piece, after_add, after_fence};
 ghost use Rattle.splice_jump.specs.Jump.{jump_bytes, five_at, with_jump, with_old};
@@ -49,11 +49,17 @@ pub fn jumps_change_their_bytes_alone()
         byte_at (jumped rows contents.pieces) address ≡ byte_at contents.pieces address }
 {}
 
-/// Data that can be written are written in memory with jumps as in memory without them.
+/// Data that can be written are written in memory with jumps as in memory without them, and as well before as after old
+/// bytes are put back over code.
 pub fn data_are_written_past_jumps()
-    ensures { (contents : Contents) (rows : List (ℕ × ℕ)) (start : ℕ) (bytes : List ℕ) → IsValid contents →
+    ensures jumps { (contents : Contents) (rows : List (ℕ × ℕ)) (start : ℕ) (bytes : List ℕ) → IsValid contents →
         AreSpliced contents rows → first_fault (write_fault contents.pieces) start (length bytes) ≡ None →
         written start bytes (jumped rows contents.pieces) ≡ jumped rows (written start bytes contents.pieces) }
+    ensures old { (contents : Contents) (home start : ℕ) (old bytes : List ℕ) → IsValid contents →
+        HasCode contents.pieces home (length old) →
+        first_fault (write_fault contents.pieces) start (length bytes) ≡ None →
+        with_old home old (written start bytes contents.pieces)
+        ≡ written start bytes (with_old home old contents.pieces) }
 {}
 
 /// A piece that meets none is put among pieces with jumps, and any piece is taken out, as among and out of pieces
@@ -86,14 +92,23 @@ pub fn jumps_are_taken_back()
         unjumped (olds_at contents.pieces rows) (jumped rows contents.pieces) ≡ contents.pieces }
 {}
 
-/// Bytes that lie in one piece of code are code, each of them, and stay so whatever is written: after a jump was
-/// written at a home, old bytes can be put back.
+/// Bytes that lie in one piece of code are code, each of them, end at 0xFFFF0000 or below, and stay so whatever is
+/// written: after a jump was written at a home, old bytes can be put back. They stay so when a piece is added that meets
+/// none.
 pub fn code_stays_code()
     ensures held { (contents : Contents) (start count address : ℕ) → IsValid contents →
         HasCode contents.pieces start count → start ≤ address → address < start + count →
         option_map kind_of (holding contents.pieces address) ≡ Some Code }
+    ensures ends { (contents : Contents) (start count : ℕ) → IsValid contents → 0 < count →
+        HasCode contents.pieces start count → start + count ≤ 0xFFFF_0000 }
     ensures stays { (pieces : List Piece) (start : ℕ) (bytes : List ℕ) (address count : ℕ) →
         HasCode pieces address count → HasCode (written start bytes pieces) address count }
+    ensures added { (contents : Contents) (piece : Piece) (address count : ℕ) → IsValid contents →
+        MeetsNone piece_range (piece_range piece) contents.pieces → HasCode contents.pieces address count →
+        HasCode (with_piece piece contents.pieces) address count }
+    ensures bytes { (contents : Contents) (piece : Piece) (address count : ℕ) → IsValid contents →
+        MeetsNone piece_range (piece_range piece) contents.pieces → HasCode contents.pieces address count →
+        bytes_at (with_piece piece contents.pieces) address count ≡ bytes_at contents.pieces address count }
 {}
 
 /// Memory with jumps is a memory. Homes stay spliced when jumps or other bytes are written, when a piece is added that

@@ -5,4 +5,4 @@
 mod jumps;
 pub mod laws;
 
-pub use jumps::{jump_bytes, restore, splice};
+pub use jumps::{five_at, jump_bytes, restore, splice};

@@ -1,3 +1,5 @@
 pub mod TargetLaws
 pub mod WordLaws
 pub mod StackLaws
+pub mod CheckLaws
+pub mod OrderLaws

@@ -1,12 +1,14 @@
 -- Whether a thread stands in one of some ranges of code: the places in which it may have an address of them, and the first of
 -- these whose value lies in one.
 use Rattle.std.specs.Prelude.{◌≡◌, ℕ, zero, suc, ◌+◌, ◌-◌, ◌*◌, ◌/◌, ◌%◌, ◌≤◌, Bool, ◌||◌, nat_lt, if◌then◌else◌, List, [], ◌∷◌, ◌++◌, map, slice_index}
-use Rattle.std.specs.Prelude.{Option, None, Result, Ok, Err}
-use Rattle.std.specs.Option.{option_map}
+use Rattle.std.specs.Prelude.{Option, Some, None, Result, Ok, Err}
+use Rattle.std.specs.Option.{option_map, option_or}
 use Rattle.std.specs.List.{find, list_any, Any}
 use Rattle.ks_base.specs.declared.places.Range.{Range}
 use Rattle.ks_base.specs.declared.refusals.Place.{Place}
 use Rattle.ks_base.specs.declared.refusals.Place.TheVariants.{Pc, Register, Stack}
+use Rattle.ks_base.specs.declared.refusals.Refusal.{Refusal}
+use Rattle.ks_base.specs.declared.refusals.Refusal.TheVariants as refusal
 use Rattle.ks_base.specs.declared.refusals.Standing.{Standing}
 use Rattle.image_memory.specs.declared.types.Kind.TheVariants.{Writable}
 use Rattle.image_memory.specs.declared.types.Piece.{Piece}
@@ -89,3 +91,15 @@ stands_by (Stopped fault) pieces ranges thread = Ok None
 -- thread that has ended stands nowhere.
 abbrev pub stands : List Piece → List Range → Thread → Result (Option Standing) StackOut
 stands pieces ranges thread = stands_by thread.state pieces ranges thread
+
+-- why a change of the ranges is refused for what is found of one thread
+abbrev pub standing_refused : Result (Option Standing) StackOut → Option Refusal
+standing_refused (Err out) = Some (refusal.StackOut out.thread out.esp)
+standing_refused (Ok standing) = option_map (λ found. refusal.Busy found) standing
+
+-- Why it is refused for what is found of the first of some threads, in their order, that stands in one of the ranges or
+-- whose ESP is outside its stack.
+unfoldable pub thread_refusal : List Piece → List Range → List Thread → Option Refusal
+thread_refusal pieces ranges [] = None
+thread_refusal pieces ranges (thread ∷ threads) =
+    option_or (standing_refused (stands pieces ranges thread)) (thread_refusal pieces ranges threads)

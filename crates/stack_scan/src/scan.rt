@@ -30,8 +30,20 @@ pub fn stands<S: Space>(
     requires { HasStack (S.contents space.now).pieces thread.now }
     ensures { result ≡ stands (S.contents space.now).pieces ranges.now thread.now }
 {
+    stands_among(thread, space, &Targets::new(ranges))
+}
+
+/// The same of ranges after the one pass over them.
+pub(crate) fn stands_among<S: Space>(
+    thread: &Thread,
+    space: &S,
+    targets: &Targets<'_>,
+) -> Result<Option<Standing>, StackOut>
+    requires { HasStack (S.contents space.now).pieces thread.now }
+    ensures { result ≡ stands (S.contents space.now).pieces targets.now thread.now }
+{
     match thread.state {
-        State::Running => running_stands(thread, space, ranges),
+        State::Running => running_stands(thread, space, targets),
         State::Exited(_) | State::Stopped(_) => Ok(None),
     }
 }
@@ -40,11 +52,11 @@ pub fn stands<S: Space>(
 fn running_stands<S: Space>(
     thread: &Thread,
     space: &S,
-    ranges: &[Range],
+    targets: &Targets<'_>,
 ) -> Result<Option<Standing>, StackOut>
     requires runs { thread.now.state ≡ Running }
     requires stack { IsStack (S.contents space.now).pieces thread.now.stack }
-    ensures { result ≡ stands (S.contents space.now).pieces ranges.now thread.now }
+    ensures { result ≡ stands (S.contents space.now).pieces targets.now thread.now }
 {
     let esp = thread.registers[ESP];
     if esp < thread.stack.low || esp > thread.stack.high {
@@ -53,7 +65,7 @@ fn running_stands<S: Space>(
             esp,
         });
     }
-    match first_place(thread, space, &Targets::new(ranges)) {
+    match first_place(thread, space, targets) {
         None => Ok(None),
         Some((place, value)) => Ok(Some(Standing {
             thread: thread.number,

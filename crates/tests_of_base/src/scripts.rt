@@ -13,12 +13,13 @@ enum Wanted {
     RoundRobin(u32, u32),
     Threads,
     Peek(u32, u32),
+    Apply(&'static str, &'static str, &'static str),
 }
 
 const TOP: u32 = 0xFFFF_FFFF;
 
 // Scripts of one command.
-const COMMANDS: [(&str, Wanted); 27] = [
+const COMMANDS: [(&str, Wanted); 29] = [
     ("spawn main 7\n", Wanted::Spawn("main", 7)),
     ("spawn main 7", Wanted::Spawn("main", 7)),
     ("  spawn   main  7  \n", Wanted::Spawn("main", 7)),
@@ -49,6 +50,11 @@ const COMMANDS: [(&str, Wanted); 27] = [
     ("peek 0xFFFFFFFF 1", Wanted::Peek(TOP, 1)),
     ("peek 0xFFFFF000 4096", Wanted::Peek(0xFFFF_F000, 4096)),
     ("peek 4294963200 0x1000", Wanted::Peek(0xFFFF_F000, 4096)),
+    (
+        "apply fix old.o new.o\n",
+        Wanted::Apply("fix", "old.o", "new.o"),
+    ),
+    ("  apply  #  0x1 apply", Wanted::Apply("#", "0x1", "apply")),
 ];
 
 // Scripts that give no command.
@@ -65,7 +71,7 @@ const NOTHING: [&str; 9] = [
 ];
 
 // Scripts with a bad line, and its number.
-const BAD: [(&str, u32); 61] = [
+const BAD: [(&str, u32); 65] = [
     // words
     ("thread", 1),
     ("threadss", 1),
@@ -76,7 +82,7 @@ const BAD: [(&str, u32); 61] = [
     ("RR 1 1", 1),
     ("peeK 0 1", 1),
     ("step# 0 1", 1),
-    ("apply a b", 1),
+    ("Apply a b c", 1),
     ("0", 1),
     // a word too few, a word too many
     ("spawn", 1),
@@ -92,6 +98,10 @@ const BAD: [(&str, u32); 61] = [
     ("threads #", 1),
     ("peek 0", 1),
     ("peek 0 1 2", 1),
+    ("apply", 1),
+    ("apply a", 1),
+    ("apply a b", 1),
+    ("apply a b c d", 1),
     // numbers
     ("spawn main x", 1),
     ("spawn main -1", 1),
@@ -146,6 +156,11 @@ fn is_wanted(command: &Command, wanted: Wanted) -> bool {
         }
         (Command::Threads, Wanted::Threads) => true,
         (Command::Peek { address, count }, Wanted::Peek(a, b)) => *address == a && *count == b,
+        (Command::Apply { name, pre, post }, Wanted::Apply(a, b, c)) => {
+            name.as_slice() == a.as_bytes()
+                && pre.as_slice() == b.as_bytes()
+                && post.as_slice() == c.as_bytes()
+        }
         _ => false,
     }
 }

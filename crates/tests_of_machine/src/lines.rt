@@ -2,8 +2,8 @@
 use ia32_alu::Flags;
 use ia32_step::{State, Thread};
 use image_memory::{FlatSpace, Kind, Piece, are_placed};
-use ks_base::{Fault, Line, ListOf, Range};
-use ksplice_session::{put_peek, put_spawned, put_stepped, put_threads, put_turns};
+use ks_base::{Added, Fault, Line, ListOf, Range, Replaced, Report};
+use ksplice_session::{put_applied, put_peek, put_spawned, put_stepped, put_threads, put_turns};
 use std::alloc::Global;
 use std::test::Fail;
 use symbol_table::{Symbol, SymbolTable};
@@ -65,6 +65,39 @@ fn lines_of_threads(rt: HostRuntime) -> Result<(), Fail> {
         thread 2 stopped code-access 0x000fffff\n\
         thread 3 stopped bad-lock 0x0010ffff f.1\\x20x+0xffff\n\
         threads 4\n";
+    assert_eq!(rt; line.bytes(), text.as_bytes());
+    Ok(())
+}
+
+#[test]
+fn lines_of_an_update(rt: HostRuntime) -> Result<(), Fail> {
+    let alloc = rt.alloc();
+    let mut report = Report {
+        replaced: ListOf::new(alloc),
+        added: ListOf::new(alloc),
+        dropped: ListOf::new(alloc),
+    };
+    for (function, home) in [("f", 0x0010_0000), ("f g", 0x0010_0040)] {
+        report.replaced.push(Replaced {
+            function: ListOf::from_slice(alloc, function.as_bytes())?,
+            home,
+            base: 0x0080_0000,
+            length: 37,
+        })?;
+    }
+    report.added.push(Added {
+        function: ListOf::from_slice(alloc, b"new")?,
+        base: 0x0080_0030,
+    })?;
+    report.dropped.push(ListOf::from_slice(alloc, b"old")?)?;
+    let name = ListOf::from_slice(alloc, b"fix\\1")?;
+    let mut line = Line::new(alloc);
+    put_applied(&mut line, &name, 1, &report)?;
+    let text = "applied fix\\x5c1 tries 1\n \
+        replaced f 0x00100000 0x00800000 37\n \
+        replaced f\\x20g 0x00100040 0x00800000 37\n \
+        added new 0x00800030\n \
+        dropped old\n";
     assert_eq!(rt; line.bytes(), text.as_bytes());
     Ok(())
 }

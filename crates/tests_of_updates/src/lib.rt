@@ -1,6 +1,13 @@
-//! Tests of what an update does to a running program: `retired_code`.
-//! They stand apart so that it is proved once, and not once more for its tests.
+//! Tests of what an update adds to a running program, retires in it and changes in its memory: `new_code`,
+//! `retired_code`, `memory_changes`, and the threads in its way, of `stack_scan`.
+//! They stand apart so that those crates are proved once, and not once more for their tests.
 #![tactic(auto)]
 
 #[cfg(test)]
+mod adding;
+#[cfg(test)]
+mod changing;
+#[cfg(test)]
 mod retired;
+#[cfg(test)]
+mod standing;

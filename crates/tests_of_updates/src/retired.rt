@@ -12,10 +12,10 @@ use symbol_table::{Symbol, SymbolTable};
 const HOME: u32 = 0x0010_0000;
 
 /// A piece: its kind, base and bytes.
-type Part = (Kind, u32, &'static [u8]);
+pub(crate) type Part = (Kind, u32, &'static [u8]);
 
-/// A function: its section, home, base, length and fate.
-type Old = (&'static [u8], u32, u32, u32, Fate);
+/// A function: its section, which is named after it, home, base, length and fate.
+pub(crate) type Old = (&'static [u8], u32, u32, u32, Fate);
 
 /// What stands in the way.
 #[derive(Clone, Copy)]
@@ -183,7 +183,7 @@ static CASES: [Case; 25] = [
     ),
 ];
 
-fn pieces_of(alloc: Global, parts: &[Part]) -> Result<Pieces, AllocError> {
+pub(crate) fn pieces_of(alloc: Global, parts: &[Part]) -> Result<Pieces, AllocError> {
     let mut pieces = Pieces::new(alloc);
     for (kind, base, bytes) in parts {
         pieces.push(Piece {
@@ -208,7 +208,7 @@ fn table_of(alloc: Global, addresses: &[u32]) -> Result<SymbolTable, AllocError>
     SymbolTable::from_symbols(alloc, symbols)
 }
 
-fn ranges_of(alloc: Global, bounds: &[(u32, u32)]) -> Result<Ranges, AllocError> {
+pub(crate) fn ranges_of(alloc: Global, bounds: &[(u32, u32)]) -> Result<Ranges, AllocError> {
     let mut ranges = Ranges::new(alloc);
     for (low, high) in bounds {
         ranges.push(Range {
@@ -219,12 +219,12 @@ fn ranges_of(alloc: Global, bounds: &[(u32, u32)]) -> Result<Ranges, AllocError>
     Ok(ranges)
 }
 
-fn olds_of(alloc: Global, rows: &[Old]) -> Result<Vec<OldFunction>, AllocError> {
+pub(crate) fn olds_of(alloc: Global, rows: &[Old]) -> Result<Vec<OldFunction>, AllocError> {
     let mut olds = Vec::new(alloc);
     for (section, home, base, length, fate) in rows {
         olds.push(OldFunction {
             section: Name::from_slice(alloc, section)?,
-            function: Name::from_slice(alloc, b"f")?,
+            function: Name::from_slice(alloc, section.get(6..).unwrap_or(b"f"))?,
             home: *home,
             base: *base,
             length: *length,

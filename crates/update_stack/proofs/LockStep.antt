@@ -61,7 +61,7 @@ fetched_is : (bytes : List ℕ) → fetched (shown bytes) ≡ bytes
 fetched_is bytes = take-append_seam bytes (replicate (15 - length bytes) 0)
 
 -- a number of a width has as many bytes
-spelled_length : (width : Width) (n : ℕ) → length (spelled width n) ≡ byte_count width
+pub spelled_length : (width : Width) (n : ℕ) → length (spelled width n) ≡ byte_count width
 spelled_length Byte n = refl
 spelled_length Word n = refl
 spelled_length Dword n = refl

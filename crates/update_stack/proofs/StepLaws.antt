@@ -1,184 +1,204 @@
--- A program in which nothing was replaced does what the machine does that never patches code.
-use Rattle.std.proofs.Common.{◌≡◌, ◌≢◌, ℕ, ◌-◌, ◌==◌, Bool, true, false, if◌then◌else◌, List, [], length, take, replicate, Option, Some, None, Result, Ok, Err, MatchResult, OnErr, is_ok, is_some, refl, sym, ◌∙◌, ap}
-use Rattle.std.proofs.Math.Seq.{take-append_seam}
+-- A thread's step: the program does what the machine does.
+use Rattle.std.proofs.Common.{◌≡◌, ℕ, ◌==◌, Bool, true, false, if◌then◌else◌}
+use Rattle.std.proofs.Common.{List, map, length, Option, Some, None, Result, Ok, Err}
+use Rattle.std.proofs.Common.{MatchResult, OnErr, is_ok, is_some, refl, sym, ◌∙◌, ap, subst}
 use Rattle.ks_base.specs.declared.places.Range.{Range}
+use Rattle.ks_base.specs.declared.refusals.Fault.{Fault}
 use Rattle.ks_base.specs.declared.refusals.Refusal.{Refusal}
-use Rattle.ks_base.specs.declared.refusals.Refusal.TheVariants.{Memory}
 use Rattle.image_memory.specs.declared.types.Piece.{Piece}
-use Rattle.image_memory.specs.declared.types.Fence.{Fence}
-use Rattle.image_memory.specs.Contents.{Contents, spliced_at}
-use Rattle.image_memory.specs.Fetch.{code_from, view, seen_in, window_for, window_at, jump_at}
+use Rattle.image_memory.specs.Contents.{Contents, fence_range}
+use Rattle.image_memory.specs.Access.{first_fault, write_fault, after_write}
+use Rattle.image_memory.specs.Fetch.{View, Unmapped, AtHome, Stray, Bytes}
 use Rattle.ia32_decode.specs.Decode.{decoded_from}
 use Rattle.ia32_step.specs.declared.types.Thread.{Thread}
 use Rattle.ia32_step.specs.declared.types.Outcome.{Outcome}
-use Rattle.ia32_step.specs.Step.{Left, context_of, exits, done, change_by, change_in, next_change, stepped}
+use Rattle.ia32_step.specs.Operands.{spelled}
+use Rattle.ia32_step.specs.Step.{Left, context_of, exits, done, store_fault, after_store, unless_barred, change_by}
+use Rattle.ia32_step.specs.Step.{stepped}
 use Rattle.image_threads.specs.Program.{Program, running_at}
-use Rattle.image_threads.specs.Spawning.{Started, started, with_started, spawned as program_spawned}
+use Rattle.image_threads.specs.Spawning.{AreStacks}
 use Rattle.image_threads.specs.Stepping.{continued, moved_by as program_moved_by, moved as program_moved}
-use Rattle.splice_jump.specs.Jumps.{jumped}
-use Rattle.update_stack.specs.CallTable.{CallTable, is_home, view_in, machine_of}
-use Rattle.update_stack.specs.Steps.{step_at, step_in, after_step, moved_by, moved, after_start, spawned}
-use Rattle.update_stack.specs.StandsFor.{Seen, StandsFor, patched}
-use Rattle.update_stack.specs.Events.{Event, Spawn, Step, Answer, Spawned, Stepped, Happened, happened, spawn_answered, step_answered, answered, machine_after, after_event}
+use Rattle.update_stack.specs.declared.updates.Update.{Update as Shown}
+use Rattle.update_stack.specs.declared.updates.Kept.{Kept}
+use Rattle.update_stack.specs.CallTable.{CallTable, contents_of, view_in, base_of}
+use Rattle.update_stack.specs.Steps.{step_at, step_in, after_step, moved_by, moved}
+use Rattle.update_stack.specs.Jumps.{CanJump, StepsStand, jumped_left}
+use Rattle.update_stack.specs.StandsFor.{patched}
+use Rattle.update_stack.specs.Events.{Step, Stepped, happened}
+use Rattle.update_stack.specs.Events.{step_answered, answered, machine_after, after_event}
+use Rattle.update_stack.specs.Systems.{text_of, machine_of, Holds}
+use Rattle.update_stack.proofs.LockStep.{spelled_length}
+use Rattle.update_stack.proofs.TextLaws.{IsClear}
+use Rattle.update_stack.proofs.HoldsLaws.{Laws, Sound, KeepsPlaces, Follows, rows_in, machine_by, sound_of}
+use Rattle.update_stack.proofs.HoldsLaws.{follows_itself, follows_write, holds_again}
 
--- a memory with no retired range
-abbrev bare : List Piece → Contents
-bare pieces = record { pieces = pieces; fences = [] }
+-- What is so of memory as it was, and after each write that has no fault, is so of what a step leaves.
+module _ (Q : Contents → Type 0) (contents : Contents) (same : Q contents)
+    (writes : (start : ℕ) (bytes : List ℕ) → IsClear start (length bytes) contents.pieces
+    → Q (after_write contents start bytes)) where
+  by_store : (store : _) → store_fault contents store ≡ None → Q (after_store contents store)
+  by_store None clear = same
+  by_store (Some s) clear =
+      writes s.address (spelled s.width s.value)
+      (ap (first_fault (write_fault contents.pieces) s.address) (spelled_length s.width s.value) ∙ clear)
 
-is_bare : (contents : Contents) → contents.fences ≡ [] → contents ≡ bare contents.pieces
-is_bare contents none = ap (λ (fences : List Fence). let c : Contents = record { pieces = contents.pieces; fences = fences } in c) none
+  by_fault : (thread : Thread) (fault : Option Fault) (change : _) (left : Left)
+      → left ≡ unless_barred fault contents thread change → store_fault contents change.store ≡ fault → Q left.contents
+  by_fault thread None change left leaves is =
+      subst (λ (l : Left). Q l.contents) (sym leaves) (by_store change.store is)
+  by_fault thread (Some fault) change left leaves is = subst (λ (l : Left). Q l.contents) (sym leaves) same
 
--- the text that is met is what is fetched
-met_is_fetched : (pieces : List Piece) (thread : Thread) (jump : List ℕ) (text : Option (List ℕ))
-    → step_at (bare pieces) thread thread.pc (seen_in (is_home []) [] thread.pc text)
-    ≡ done (bare pieces) thread (change_in pieces (context_of thread) (window_for (seen_in (spliced_at []) [] thread.pc text) jump))
-met_is_fetched pieces thread jump None = refl
-met_is_fetched pieces thread jump (Some bytes) =
-    ap (λ (b : List ℕ). done (bare pieces) thread (change_by pieces (context_of thread) (decoded_from b)))
-    (sym (take-append_seam (take 15 bytes) (replicate (15 - length (take 15 bytes)) 0)))
+  by_change : (thread : Thread) (change : Result _ Fault) → Q (done contents thread change).contents
+  by_change thread (Err fault) = same
+  by_change thread (Ok change) =
+      by_fault thread (store_fault contents change.store) change (done contents thread (Ok change)) refl refl
 
-bare_step : (program : Program) (arena : Range) (thread : Thread) → step_in (machine_of program arena) thread ≡ stepped (bare program.contents.pieces) thread
-unfolding step_in stepped next_change window_at view_in view
-bare_step program arena thread =
-    let pieces = program.contents.pieces in
-    ap (λ (left : Left). if thread.pc == 0xFFFF_0000 then exits (bare program.contents.pieces) thread else left)
-    (met_is_fetched pieces thread (jump_at pieces thread.pc) (code_from pieces thread.pc))
+  by_view : (thread : Thread) (base : ℕ) (met : View) → Q (step_at contents thread base met).contents
+  by_view thread base Unmapped = same
+  by_view thread base AtHome = same
+  by_view thread base Stray = same
+  by_view thread base (Bytes code) =
+      by_change thread (change_by contents.pieces (context_of thread) (decoded_from code))
 
-same_step : (program : Program) (arena : Range) (thread : Thread) → program.contents.fences ≡ [] → step_in (machine_of program arena) thread ≡ stepped program.contents thread
-same_step program arena thread none =
-    bare_step program arena thread ∙ ap (λ (contents : Contents). stepped contents thread) (sym (is_bare program.contents none))
+  by_end : (thread : Thread) (base : ℕ) (met : View) (ends : Bool)
+      → Q (if ends then exits contents thread else step_at contents thread base met).contents
+  by_end thread base met true = same
+  by_end thread base met false = by_view thread base met
 
--- what a program's step leaves, as the machine
-abbrev seen_moved : Range → Result (Program × Outcome) Refusal → Result (CallTable × Outcome) Refusal
-seen_moved arena (Err refusal) = Err refusal
-seen_moved arena (Ok left) = Ok (machine_of left.0 arena, left.1)
+by_step : (Q : Contents → Type 0) (k : CallTable) → Q (contents_of k)
+    → ((start : ℕ) (bytes : List ℕ) → IsClear start (length bytes) k.pieces
+    → Q (after_write (contents_of k) start bytes))
+    → (thread : Thread) → Q (step_in k thread).contents
+unfolding step_in
+by_step Q k same writes thread =
+    by_end Q (contents_of k) same writes thread (base_of k thread.pc) (view_in k thread.pc) (thread.pc == 0xFFFF_0000)
 
-moved_alike : (program : Program) (arena : Range) (n : ℕ) → program.contents.fences ≡ [] → moved (machine_of program arena) n ≡ seen_moved arena (program_moved program n)
-unfolding moved program_moved
-moved_alike program arena n none =
-    elim (running_at program.threads n)
-    as (λ o. moved_by (machine_of program arena) n o ≡ seen_moved arena (program_moved_by program n o)) [
-      | None ↦ refl
-      | Some thread ↦
-          ap (λ (left : Left). let r : Result (CallTable × Outcome) Refusal = Ok (after_step (machine_of program arena) n left, left.outcome) in r)
-          (same_step program arena thread none)
-    ]
+-- the laws of steps
+abbrev pub AllSteps : Type 0
+AllSteps = (k : CallTable) (thread : Thread) → CanJump k → StepsStand k thread
 
--- what a started thread leaves, as the machine
-abbrev seen_started : Range → Result Program Refusal → Result CallTable Refusal
-seen_started arena (Err refusal) = Err refusal
-seen_started arena (Ok program) = Ok (machine_of program arena)
+module _ (arena : Range) (updates : List Shown) (kept : List Kept) where
+  -- a program as the machine
+  abbrev machine : Program → CallTable
+  machine program = machine_of program arena updates kept
 
-started_alike : (old : Program) (arena : Range) (after : Result Started Refusal) → after_start (machine_of old arena) after ≡ seen_started arena (with_started old after)
-started_alike old arena (Err refusal) = refl
-started_alike old arena (Ok after) = refl
+  -- what the program leaves and answers, and what the machine does
+  abbrev pub Goes : Program → Program → Outcome → Result (CallTable × Outcome) Refusal → Type 0
+  Goes old new outcome now =
+      (now ≡ Ok (machine new, outcome)) × Sound updates kept new.contents
+      × KeepsPlaces old.contents new.contents
 
-spawned_alike : (old : Program) (arena : Range) (name : List ℕ) (argument : ℕ)
-    → spawned (machine_of old arena) name argument ≡ seen_started arena (program_spawned old name argument)
-unfolding spawned program_spawned
-spawned_alike old arena name argument =
-    started_alike old arena (started old.table.symbols old.contents.pieces old.stacks old.threads name argument)
+  -- the memory after a step of the machine, with the jumps
+  goes_beside : (old : Program) (n : ℕ) (left : Left) → Follows updates kept old.contents left.contents
+      → Goes old (continued old n (jumped_left (rows_in updates) left)) left.outcome
+      (Ok (after_step (machine old) n left, left.outcome))
+  goes_beside old n left follows =
+      let new = continued old n (jumped_left (rows_in updates) left) in
+      let after : CallTable → Result (CallTable × Outcome) Refusal = λ k. Ok (k, left.outcome) in (
+        ap (λ (ps : List Piece). after (machine_by new arena updates kept ps (map fence_range old.contents.fences)))
+            (sym (ap (λ (c : Contents). c.pieces) follows.text))
+            ∙ ap (λ (rs : List Range). after (machine_by new arena updates kept (text_of kept new.contents.pieces) rs))
+            (sym (ap (map fence_range) follows.places.fences)),
+        follows.sound,
+        follows.places,
+      )
 
--- a step of the running thread of a number
-pub step_seen : (old new : Program) (arena : Range) (n : ℕ) (r : Result Outcome Refusal) → old.contents.fences ≡ []
-    → MatchResult r (λ outcome. program_moved old n ≡ Ok (new, outcome)) (λ refusal. program_moved old n ≡ Err refusal)
-    → MatchResult r (λ outcome. answered (machine_of old arena) (Step n) ≡ Ok (happened (machine_of new arena) (Stepped outcome)))
-    (λ refusal. answered (machine_of old arena) (Step n) ≡ Err refusal)
-unfolding answered
-step_seen old new arena n (Ok outcome) none is =
-    ap step_answered (moved_alike old arena n none ∙ ap (seen_moved arena) is)
-step_seen old new arena n (Err refusal) none is =
-    ap step_answered (moved_alike old arena n none ∙ ap (seen_moved arena) is)
+  step_goes : Laws → AllSteps → (old : Program) (n : ℕ) (thread : Thread) → Holds old arena updates kept
+      → Goes old (continued old n (stepped old.contents thread)) (stepped old.contents thread).outcome
+      (Ok (
+        after_step (machine old) n (step_in (machine old) thread),
+        (step_in (machine old) thread).outcome,
+      ))
+  unfolding patched
+  step_goes laws steps old n thread holds =
+      let k = machine old in
+      let sound = sound_of old arena updates kept holds in
+      let left = step_in k thread in
+      let same : stepped old.contents thread ≡ jumped_left (rows_in updates) left =
+      ap (λ (c : Contents). stepped c thread) sound.stands ∙ steps k thread holds.jumps in
+      let follows : Follows updates kept old.contents left.contents =
+      by_step (Follows updates kept old.contents) k (follows_itself updates kept old.contents sound)
+      (follows_write laws updates kept old.contents sound) thread in
+      let P : Left → Type 0 =
+      λ after. Goes old (continued old n after) after.outcome (Ok (after_step k n left, left.outcome)) in
+      subst P (sym same) (goes_beside old n left follows)
 
--- what an event that was answered leaves
-left_after : (k now : CallTable) (event : Event) (r : Result Outcome Refusal)
-    → MatchResult r (λ outcome. answered k event ≡ Ok (happened now (Stepped outcome))) (λ refusal. answered k event ≡ Err refusal)
-    → OnErr r (now ≡ k) → now ≡ after_event k event
-unfolding after_event
-left_after k now event (Ok outcome) is same = sym (ap (machine_after k) is)
-left_after k now event (Err refusal) is same = same ∙ sym (ap (machine_after k) is)
+  moved_goes : Laws → AllSteps → (old new : Program) (n : ℕ) (outcome : Outcome) → Holds old arena updates kept
+      → program_moved old n ≡ Ok (new, outcome) → Goes old new outcome (moved (machine old) n)
+  unfolding moved program_moved
+  moved_goes laws steps old new n outcome holds is = by_thread (running_at old.threads n) is
+    where
+      by_thread : (o : Option Thread) → program_moved_by old n o ≡ Ok (new, outcome)
+          → Goes old new outcome (moved_by (machine old) n o)
+      by_thread None is = cc
+      by_thread (Some thread) is =
+          let left = stepped old.contents thread in
+          let pair : Program × Outcome = (continued old n left, left.outcome) in
+          let same : pair ≡ (new, outcome) = cc in
+          subst (λ (p : Program × Outcome). Goes old p.0 p.1 (moved_by (machine old) n (Some thread)))
+          same (step_goes laws steps old n thread holds)
 
-pub stepped_after : (old new : Program) (arena : Range) (n : ℕ) (r : Result Outcome Refusal) → old.contents.fences ≡ []
-    → MatchResult r (λ outcome. program_moved old n ≡ Ok (new, outcome)) (λ refusal. program_moved old n ≡ Err refusal) → OnErr r (new ≡ old)
-    → machine_of new arena ≡ after_event (machine_of old arena) (Step n)
-stepped_after old new arena n (Ok outcome) none is same =
-    left_after (machine_of old arena) (machine_of new arena) (Step n) (Ok outcome) (step_seen old new arena n (Ok outcome) none is) tt
-stepped_after old new arena n (Err refusal) none is same =
-    left_after (machine_of old arena) (machine_of new arena) (Step n) (Err refusal) (step_seen old new arena n (Err refusal) none is)
-    (ap (λ (p : Program). machine_of p arena) same)
+  not_moved : (old : Program) (n : ℕ) (refusal : Refusal) → program_moved old n ≡ Err refusal
+      → moved (machine old) n ≡ Err refusal
+  unfolding moved program_moved
+  not_moved old n refusal is = by_thread (running_at old.threads n) is
+    where
+      by_thread : (o : Option Thread) → program_moved_by old n o ≡ Err refusal
+          → moved_by (machine old) n o ≡ Err refusal
+      by_thread None is = cc
+      by_thread (Some thread) is = cc
 
--- a start of a thread
-pub spawn_seen : (old new : Program) (arena : Range) (name : List ℕ) (argument : ℕ) (r : Result ℕ Refusal)
-    → MatchResult r (λ _. program_spawned old name argument ≡ Ok new) (λ refusal. refusal ≢ Memory → program_spawned old name argument ≡ Err refusal)
-    → MatchResult r (λ number. number ≡ length old.threads) (λ _. Unit {0})
-    → MatchResult r (λ number. answered (machine_of old arena) (Spawn name argument) ≡ Ok (happened (machine_of new arena) (Spawned number)))
-    (λ refusal. refusal ≢ Memory → answered (machine_of old arena) (Spawn name argument) ≡ Err refusal)
-unfolding answered
-spawn_seen old new arena name argument (Ok number) is count =
-    ap (spawn_answered (length old.threads)) (spawned_alike old arena name argument ∙ ap (seen_started arena) is)
-    ∙ ap (λ (n : ℕ). let r : Result Happened Refusal = Ok (happened (machine_of new arena) (Spawned n)) in r) (sym count)
-spawn_seen old new arena name argument (Err refusal) is count = λ other.
-    ap (spawn_answered (length old.threads)) (spawned_alike old arena name argument ∙ ap (seen_started arena) (is other))
+  -- what a call of the program gave
+  abbrev HasMoved : (old new : Program) (n : ℕ) → Result Outcome Refusal → Type 0
+  HasMoved old new n result =
+      MatchResult result (λ outcome. program_moved old n ≡ Ok (new, outcome))
+      (λ refusal. program_moved old n ≡ Err refusal)
 
--- a step retires nothing, by the law of steps
-pub moved_keeps : (old new : Program) (n : ℕ) (outcome : Outcome)
-    → ((contents : Contents) (thread : Thread) → (stepped contents thread).contents.fences ≡ contents.fences)
-    → program_moved old n ≡ Ok (new, outcome) → new.contents.fences ≡ old.contents.fences
-unfolding program_moved
-moved_keeps old new n outcome law is =
-    let P : Option Thread → Type 0 = λ o. program_moved_by old n o ≡ Ok (new, outcome) → new.contents.fences ≡ old.contents.fences in
-    let all : P (running_at old.threads n) = elim (running_at old.threads n) as P [
-      | None ↦ λ e. cc
-      | Some thread ↦ λ e. ap (fences_in old) (sym e) ∙ law old.contents thread
-    ] in
-    all is
-  where
-    fences_in : Program → Result (Program × Outcome) Refusal → List Fence
-    fences_in other (Ok left) = left.0.contents.fences
-    fences_in other (Err refusal) = other.contents.fences
+  pub step_holds : Laws → AllSteps → (old new : Program) (n : ℕ) (result : Result Outcome Refusal)
+      → Holds old arena updates kept → HasMoved old new n result → OnErr result (new ≡ old)
+      → AreStacks new.contents.pieces new.stacks → Holds new arena updates kept
+  step_holds laws steps old new n (Ok outcome) holds is same stacks =
+      let goes = moved_goes laws steps old new n outcome holds is in
+      holds_again old new arena updates kept holds goes.1 goes.2 stacks
+  step_holds laws steps old new n (Err refusal) holds is same stacks =
+      subst (λ (p : Program). Holds p arena updates kept) (sym same) holds
 
-pub step_bare : (old new : Program) (n : ℕ) (r : Result Outcome Refusal)
-    → ((contents : Contents) (thread : Thread) → (stepped contents thread).contents.fences ≡ contents.fences) → old.contents.fences ≡ []
-    → MatchResult r (λ outcome. program_moved old n ≡ Ok (new, outcome)) (λ refusal. program_moved old n ≡ Err refusal) → OnErr r (new ≡ old)
-    → new.contents.fences ≡ []
-step_bare old new n (Ok outcome) law none is same = moved_keeps old new n outcome law is ∙ none
-step_bare old new n (Err refusal) law none is same = ap (λ (p : Program). p.contents.fences) same ∙ none
+  pub step_seen : Laws → AllSteps → (old new : Program) (n : ℕ) (result : Result Outcome Refusal)
+      → Holds old arena updates kept → HasMoved old new n result
+      → MatchResult result
+      (λ outcome. answered (machine old) (Step n)
+      ≡ Ok (happened (machine new) (Stepped outcome)))
+      (λ refusal. answered (machine old) (Step n) ≡ Err refusal)
+  unfolding answered
+  step_seen laws steps old new n (Ok outcome) holds is =
+      ap step_answered (moved_goes laws steps old new n outcome holds is).0
+  step_seen laws steps old new n (Err refusal) holds is = ap step_answered (not_moved old n refusal is)
+
+  pub stepped_after : Laws → AllSteps → (old new : Program) (n : ℕ) (result : Result Outcome Refusal)
+      → Holds old arena updates kept → HasMoved old new n result → OnErr result (new ≡ old)
+      → machine new ≡ after_event (machine old) (Step n)
+  unfolding after_event
+  stepped_after laws steps old new n (Ok outcome) holds is same =
+      sym (ap (machine_after (machine old))
+      (step_seen laws steps old new n (Ok outcome) holds is))
+  stepped_after laws steps old new n (Err refusal) holds is same =
+      ap (λ (p : Program). machine p) same
+      ∙ sym (ap (machine_after (machine old))
+      (step_seen laws steps old new n (Err refusal) holds is))
 
 -- whether there is a running thread of the number
-pub step_runs : (old new : Program) (n : ℕ) (r : Result Outcome Refusal)
-    → MatchResult r (λ outcome. program_moved old n ≡ Ok (new, outcome)) (λ refusal. program_moved old n ≡ Err refusal)
-    → is_ok r ≡ is_some (running_at old.threads n)
+pub step_runs : (old new : Program) (n : ℕ) (result : Result Outcome Refusal)
+    → MatchResult result (λ outcome. program_moved old n ≡ Ok (new, outcome))
+    (λ refusal. program_moved old n ≡ Err refusal)
+    → is_ok result ≡ is_some (running_at old.threads n)
 unfolding program_moved
-step_runs old new n (Ok outcome) is =
-    let P : Option Thread → Type 0 = λ o. program_moved_by old n o ≡ Ok (new, outcome) → true ≡ is_some o in
-    let all : P (running_at old.threads n) = elim (running_at old.threads n) as P [ None ↦ λ e. cc | Some thread ↦ λ e. refl ] in
-    all is
-step_runs old new n (Err refusal) is =
-    let P : Option Thread → Type 0 = λ o. program_moved_by old n o ≡ Err refusal → false ≡ is_some o in
-    let all : P (running_at old.threads n) = elim (running_at old.threads n) as P [ None ↦ λ e. refl | Some thread ↦ λ e. cc ] in
-    all is
-
-abbrev StaysBare : Program → Result Program Refusal → Type 0
-StaysBare old (Ok new) = new.contents.fences ≡ old.contents.fences
-StaysBare old (Err refusal) = Unit {0}
-
-started_keeps : (old : Program) (after : Result Started Refusal) → StaysBare old (with_started old after)
-started_keeps old (Err refusal) = tt
-started_keeps old (Ok after) = refl
-
-spawn_keeps : (old new : Program) (name : List ℕ) (argument : ℕ) → program_spawned old name argument ≡ Ok new → new.contents.fences ≡ old.contents.fences
-unfolding program_spawned
-spawn_keeps old new name argument is = rw is at (started_keeps old (started old.table.symbols old.contents.pieces old.stacks old.threads name argument))
-
--- starting a thread retires nothing
-pub spawn_bare : (old new : Program) (name : List ℕ) (argument : ℕ) (r : Result ℕ Refusal) → old.contents.fences ≡ []
-    → MatchResult r (λ _. program_spawned old name argument ≡ Ok new) (λ refusal. refusal ≢ Memory → program_spawned old name argument ≡ Err refusal)
-    → OnErr r (new ≡ old) → new.contents.fences ≡ []
-spawn_bare old new name argument (Ok number) none h same = spawn_keeps old new name argument h ∙ none
-spawn_bare old new name argument (Err refusal) none h same = ap (λ (p : Program). p.contents.fences) same ∙ none
-
-pub stands : (program : Program) (arena : Range) → program.contents.fences ≡ [] → StandsFor program (machine_of program arena)
-unfolding patched jumped
-stands program arena none =
-    ap (λ (contents : Contents). let s : Seen = record { contents = contents; symbols = program.table.symbols; stacks = program.stacks; threads = program.threads } in s)
-    (is_bare program.contents none)
+step_runs old new n (Ok outcome) is = there (running_at old.threads n) is
+  where
+    there : (o : Option Thread) → program_moved_by old n o ≡ Ok (new, outcome) → true ≡ is_some o
+    there None is = cc
+    there (Some thread) is = refl
+step_runs old new n (Err refusal) is = none (running_at old.threads n) is
+  where
+    none : (o : Option Thread) → program_moved_by old n o ≡ Err refusal → false ≡ is_some o
+    none None is = refl
+    none (Some thread) is = cc

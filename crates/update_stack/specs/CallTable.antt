@@ -1,9 +1,10 @@
 -- The abstract machine that never patches code. A table says where the newest version of each replaced function begins, and a thread
 -- that comes to the function's home goes on there; the text of every version stays as it was placed.
-use Rattle.std.specs.Prelude.{ℕ, ◌-◌, Bool, ◌==◌, List, [], ◌∷◌, map, replicate, None, unwrap_or}
+use Rattle.std.specs.Prelude.{ℕ, ◌-◌, Bool, ◌==◌, if◌then◌else◌, List, [], ◌∷◌, ◌++◌, map, replicate, None, unwrap_or}
 use Rattle.std.specs.List.{list_any, last_or}
 use Rattle.ks_base.specs.declared.places.Range.{Range}
 use Rattle.ks_base.specs.declared.reports.Report.{Report}
+use Rattle.ks_base.specs.declared.reports.Replaced.{Replaced}
 use Rattle.image_file.specs.Reading.{Contents as Image}
 use Rattle.image_memory.specs.declared.types.Kind.TheVariants.{Writable}
 use Rattle.image_memory.specs.declared.types.Piece.{Piece}
@@ -14,7 +15,6 @@ use Rattle.image_memory.specs.Fetch.{View, view}
 use Rattle.symbol_table.specs.declared.symbols.Symbol.{Symbol}
 use Rattle.symbol_table.specs.Bodies.{newest}
 use Rattle.ia32_step.specs.declared.types.Thread.{Thread}
-use Rattle.image_threads.specs.Program.{Program}
 use Rattle.update_stack.specs.declared.updates.Update.{Update as Shown}
 
 -- a home, and the bases of its function's later versions, the newest last
@@ -91,18 +91,11 @@ first_machine image = record {
   updates = [];
 }
 
--- a program in which nothing was replaced, with an arena, as the machine
-abbrev pub machine_of : Program → Range → CallTable
-machine_of program arena = record {
-  pieces = program.contents.pieces;
-  table = [];
-  retired = [];
-  symbols = program.table.symbols;
-  stacks = program.stacks;
-  arena = arena;
-  threads = program.threads;
-  updates = [];
-}
+-- a new base appended to its home's row, which is made where there is none
+abbrev pub with_replaced : List Row → Replaced → List Row
+with_replaced [] new = record { home = new.home; bases = new.base ∷ [] } ∷ []
+with_replaced (row ∷ rows) new =
+    if row.home == new.home then record row { bases = row.bases ++ new.base ∷ [] } ∷ rows else row ∷ with_replaced rows new
 
 -- what is shown of an update
 abbrev pub shown_update : Update → Shown

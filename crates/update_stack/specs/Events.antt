@@ -2,20 +2,24 @@
 use Rattle.std.specs.Prelude.{ℕ, List, length, Result, Ok, Err}
 use Rattle.std.specs.List.{fold}
 use Rattle.ks_base.specs.declared.refusals.Refusal.{Refusal}
+use Rattle.ks_base.specs.declared.reports.Report.{Report}
 use Rattle.ia32_step.specs.declared.types.Outcome.{Outcome}
 use Rattle.update_stack.specs.CallTable.{CallTable}
 use Rattle.update_stack.specs.Steps.{moved, spawned}
+use Rattle.update_stack.specs.Apply.{applied}
 
--- One event: a thread is started, or a thread makes one step. What is refused changes nothing.
+-- One event: a thread is started, a thread makes one step, or an update is made as a whole. What is refused changes nothing.
 pub data Event : Type 0 where
   Spawn : (name : List ℕ) (argument : ℕ) → Event
   Step : (thread : ℕ) → Event
+  Apply : (name pre post : List ℕ) → Event
 
 -- what an event answers
 pub data Answer : Type 0 where
   -- the thread's number
   Spawned : (thread : ℕ) → Answer
   Stepped : (outcome : Outcome) → Answer
+  Applied : (report : Report) → Answer
 
 -- the machine after an event, and its answer
 pub record Happened : Type 0 where
@@ -34,9 +38,14 @@ abbrev pub step_answered : Result (CallTable × Outcome) Refusal → Result Happ
 step_answered (Err refusal) = Err refusal
 step_answered (Ok left) = Ok (happened left.0 (Stepped left.1))
 
+abbrev pub apply_answered : Result (CallTable × Report) Refusal → Result Happened Refusal
+apply_answered (Err refusal) = Err refusal
+apply_answered (Ok left) = Ok (happened left.0 (Applied left.1))
+
 unfoldable pub answered : CallTable → Event → Result Happened Refusal
 answered k (Spawn name argument) = spawn_answered (length k.threads) (spawned k name argument)
 answered k (Step thread) = step_answered (moved k thread)
+answered k (Apply name pre post) = apply_answered (applied k name pre post)
 
 abbrev pub machine_after : CallTable → Result Happened Refusal → CallTable
 machine_after k (Err refusal) = k

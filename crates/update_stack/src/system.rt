@@ -1,41 +1,60 @@
 //! A running program with its updates.
-ghost use Rattle.std.specs.Prelude.{◌≡◌, ◌≢◌, [], map, IfOk, OnErr, MatchResult, Ok, Err, is_some};
+ghost use Rattle.std.specs.Prelude.{◌≡◌, ◌≢◌, [], map, IfOk, OnOk, OnErr, MatchResult, Ok, Err, is_some};
 ghost use Rattle.std.specs.Result.{is_ok};
 ghost use Rattle.ks_base.specs.declared.refusals.Refusal.TheVariants.{Memory};
 ghost use Rattle.image_threads.specs.Program.{running_at};
 ghost use Rattle.image_threads.specs.Spawning.{AreStacks};
-ghost use Rattle.update_stack.specs.CallTable.{machine_of, shown_update};
-ghost use Rattle.update_stack.specs.Events.{Spawn, Step, Spawned, Stepped, happened, answered, after_event};
+ghost use Rattle.update_stack.specs.CallTable.{contents_of, shown_update};
+ghost use Rattle.update_stack.specs.Systems.{gaps_in, machine_of};
+ghost use Rattle.ks_base.specs.Gives.{Gives};
+ghost use Rattle.elf32_object.specs.Rule.{Finds};
+ghost use Rattle.stack_scan.specs.Standing.{thread_refusal};
+ghost use Rattle.update_plan.specs.Plan.{planned};
+ghost use Rattle.update_plan.specs.Sound.{AreGaps, CanBeMade};
+ghost use Rattle.update_stack.specs.Apply.{committed, gaps_of, planned_in, retired_of, running_of};
+ghost use Rattle.update_stack.specs.Events.{Apply, Spawn, Step, Applied, Spawned, Stepped, happened, answered, after_event};
 ghost use Rattle.update_stack.specs.StandsFor.{StandsFor};
 
-use crate::updates::Updates;
-use ia32_step::{Outcome, steps_keep};
+use crate::carrying::{
+    change, jumps_of, kept_of, plans_are_carried_out, push_both, reserve, shown_as,
+};
+use crate::laws::steps_stand;
+use crate::updates::{KeptList, Updates};
+use ia32_step::Outcome;
 use image_memory::Space;
 use image_threads::Machine;
-use ks_base::{Name, Range, Refusal};
+use ks_base::{Name, Range, Ranges, Refusal, Report};
+use splice_jump::laws::{code_stays_code, data_are_written_past_jumps, homes_stay_spliced};
+use stack_scan::{check_threads, order_has_no_say, sorted};
 use std::alloc::{AllocError, Global};
 use std::marker::Model;
+use update_plan::laws::plans_can_be_made;
+use update_plan::{Plan, plan};
+
+// So many updates may be live.
+const MOST_UPDATES: usize = 1;
 
 /// A program that runs over a memory, with the arena that new versions of its functions are placed in, and its live
 /// updates. A clause sees it as the machine that never patches code: its text stays as it is, and a table says where the
 /// newest version of a function begins.
 #[derive(Drop)]
 pub struct System<S: Space> {
+    alloc: Global,
     machine: Machine<S>,
     arena: Range,
     updates: Updates,
+    kept: KeptList,
 }
 
 impl<S: Space> Model for System<S> {
-    ghost use Rattle.std.specs.Prelude.{◌≡◌, []};
-    ghost use Rattle.image_threads.specs.Spawning.{AreStacks};
-    ghost use Rattle.update_stack.specs.CallTable.{CallTable, machine_of};
+    ghost use Rattle.update_stack.specs.CallTable.{CallTable};
+    ghost use Rattle.update_stack.specs.Systems.{Holds, machine_of};
 
     ghost Value = { CallTable };
 
-    ghost view = { λ s. machine_of s.machine s.arena };
+    ghost view = { λ s. machine_of s.machine s.arena s.updates s.kept };
 
-    ghost invariant = { λ s. (s.machine.contents.fences ≡ []) × AreStacks s.machine.contents.pieces s.machine.stacks × (s.updates ≡ []) };
+    ghost invariant = { λ s. Holds s.machine s.arena s.updates s.kept };
 }
 
 impl<S: Space> System<S> {
@@ -45,12 +64,17 @@ impl<S: Space> System<S> {
         S: Drop,
         requires none_retired { machine.contents.fences ≡ [] }
         requires stacks { AreStacks machine.contents.pieces machine.stacks }
-        ensures { IfOk result (λ system. system ≡ machine_of machine arena) }
+        requires gaps { AreGaps machine.contents (gaps_in arena) }
+        ensures { IfOk result (λ system. system ≡ machine_of machine arena [] []) }
     {
+        // It runs over a memory.
+        let _space = machine.space();
         Ok(System {
+            alloc,
             machine,
             arena,
             updates: Updates::new(alloc),
+            kept: KeptList::new(alloc),
         })
     }
 
@@ -78,6 +102,11 @@ impl<S: Space> System<S> {
             (λ refusal. refusal ≢ Memory → answered self.old (Spawn name.now argument) ≡ Err refusal) }
         ensures refused { OnErr result (self.new ≡ self.old) }
     {
+        data_are_written_past_jumps();
+        code_stays_code();
+        homes_stay_spliced();
+        // Each stack has room for a thread's first frame.
+        let _threads = self.machine.threads();
         self.machine.spawn(name, argument)
     }
 
@@ -91,8 +120,122 @@ impl<S: Space> System<S> {
         ensures after { self.new ≡ after_event self.old (Step thread) }
         ensures runs { is_ok result ≡ is_some (running_at self.old.threads thread) }
     {
-        // A step keeps the retired ranges, and of the pieces all but their bytes.
-        steps_keep();
+        steps_stand();
+        data_are_written_past_jumps();
+        code_stays_code();
+        homes_stay_spliced();
         self.machine.step(thread)
     }
+
+    /// Replaces the functions of the program that differ between two object files, built before and after a change of
+    /// its source, while its threads stand anywhere but in them. Answers what was replaced, added and dropped.
+    ///
+    /// It is refused by the first of these that holds, and all is then as before:
+    ///
+    /// - as many updates are live as may be ([`Refusal::TooMany`]);
+    /// - `pre` isn't an object that can be matched, or `post` isn't (the refusals of an object file);
+    /// - what differs between them can't be changed ([`Refusal::DataChanged`], [`Refusal::Interior`],
+    ///   [`Refusal::NoChange`]);
+    /// - the functions of `pre` aren't those that run, in one way alone ([`Refusal::PreUndecoded`],
+    ///   [`Refusal::NoCandidate`], [`Refusal::Mismatch`], [`Refusal::Conflict`], [`Refusal::Ambiguous`]);
+    /// - new code refers to a name or data without one address ([`Refusal::Unresolved`], [`Refusal::TwoNames`]);
+    /// - the jump to a new version has no room, or code overlaps ([`Refusal::TooSmall`], [`Refusal::Overlap`]);
+    /// - the arena has no room ([`Refusal::NoRoom`]);
+    /// - a running thread stands in what would be retired, or its ESP is outside its stack ([`Refusal::Busy`],
+    ///   [`Refusal::StackOut`]).
+    ///
+    /// [`Refusal::Memory`] may come in place of any answer, for want of memory alone; all is then as before.
+    pub fn apply(&mut self, name: &Name, pre: &[u8], post: &[u8]) -> Result<Report, Refusal>
+        ensures answered { MatchResult result
+            (λ report. answered self.old (Apply name.now pre.now post.now) ≡ Ok (happened self.new (Applied report)))
+            (λ refusal. refusal ≢ Memory → answered self.old (Apply name.now pre.now post.now) ≡ Err refusal) }
+        ensures refused { OnErr result (self.new ≡ self.old) }
+    {
+        let plan = self.plan(name, pre, post)?;
+        self.check_threads(&plan)?;
+        Ok(self.carry_out(name, plan)?)
+    }
+
+    // What an update would do, or the first refusal but those of the threads.
+    fn plan(&self, name: &Name, pre: &[u8], post: &[u8]) -> Result<Plan, Refusal>
+        ensures planned { Gives (λ plan. plan) result (planned_in self.now name.now pre.now post.now) }
+        ensures none { IfOk result (λ _. self.now.updates ≡ []) }
+        ensures sound { IfOk result (λ plan. CanBeMade (contents_of self.now) plan) }
+    {
+        if self.updates.len() >= MOST_UPDATES {
+            return Err(Refusal::TooMany);
+        }
+        self.plan_first(pre, post)
+    }
+
+    // The same where no update is live.
+    fn plan_first(&self, pre: &[u8], post: &[u8]) -> Result<Plan, Refusal>
+        requires { self.now.updates ≡ [] }
+        ensures planned { Gives (λ plan. plan) result
+            (planned (running_of self.now) (retired_of self.now) (gaps_of self.now) pre.now post.now) }
+        ensures sound { IfOk result (λ plan. CanBeMade (contents_of self.now) plan) }
+    {
+        // The law says that what is planned can be carried out.
+        plans_can_be_made();
+        let gaps = gaps_in(self.alloc, self.arena)?;
+        let space = self.machine.space();
+        plan(self.alloc, space, self.machine.symbols(), &gaps, pre, post)
+    }
+
+    // Whether no thread stands in the way of a plan.
+    fn check_threads(&self, plan: &Plan) -> Result<(), Refusal>
+        requires { self.now.updates ≡ [] }
+        ensures { Finds Refusal.Memory result (thread_refusal self.now.pieces plan.now.guarded self.now.threads) }
+    {
+        // The law says that the answer is the same when the ranges are sorted.
+        order_has_no_say();
+        let ranges = sorted(self.alloc, plan.guarded.as_slice())?;
+        let threads = self.machine.threads().as_slice();
+        check_threads(threads, self.machine.space(), ranges.as_slice())
+    }
+
+    // Carries a plan out, and answers its report. `Err` comes for want of memory alone, and all is then as before.
+    fn carry_out(&mut self, name: &Name, plan: Plan) -> Result<Report, AllocError>
+        requires none { self.old.updates ≡ [] }
+        requires sound { CanBeMade (contents_of self.old) plan }
+        ensures report { IfOk result (λ report. report ≡ plan.report) }
+        ensures committed { OnOk result (self.new ≡ committed self.old name.now plan) }
+        ensures refused { OnErr result (self.new ≡ self.old) }
+    {
+        // The laws say that the plan fits, and what comes of it.
+        plans_are_carried_out();
+        code_stays_code();
+        let update = shown_as(self.alloc, name, &plan.report)?;
+        let replaced = plan.report.replaced.as_slice();
+        let jumps = jumps_of(self.alloc, self.machine.space(), replaced)?;
+        let kept = kept_of(self.alloc, &plan, &jumps)?;
+        reserve(&mut self.machine, &plan)?;
+        push_both(&mut self.updates, &mut self.kept, update, kept)?;
+        let Plan {
+            report,
+            pieces,
+            symbols,
+            fences,
+            guarded: _,
+        } = plan;
+        change(
+            &mut self.machine,
+            pieces,
+            fences.as_slice(),
+            jumps.as_slice(),
+            symbols,
+        );
+        Ok(report)
+    }
+}
+
+// What is free of an arena in which nothing was placed.
+fn gaps_in(alloc: Global, arena: Range) -> Result<Ranges, AllocError>
+    ensures { IfOk result (λ gaps. gaps ≡ gaps_in arena) }
+{
+    let mut gaps = Ranges::new(alloc);
+    if arena.low < arena.high {
+        gaps.push(arena)?;
+    }
+    Ok(gaps)
 }

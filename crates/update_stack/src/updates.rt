@@ -1,5 +1,8 @@
 //! The updates of a running system.
-use ks_base::{ListOf, Name, Report};
+use ks_base::{ListOf, Name, Ranges, Report};
+use memory_changes::Jumps;
+use new_code::NewSymbols;
+use symbol_table::Addresses;
 
 /// An update that is live.
 #[derive(Clone, PartialEq, Eq, Debug, Drop)]
@@ -12,3 +15,19 @@ pub struct Update {
 
 /// Updates in order.
 pub type Updates = ListOf<Update>;
+
+/// What a system keeps of a live update beside its name and report.
+#[derive(Debug, Drop)]
+pub(crate) struct Kept {
+    /// Where the pieces begin that it added.
+    pub(crate) pieces: Addresses,
+    /// The ranges that it retired.
+    pub(crate) retired: Ranges,
+    /// The symbols that it added.
+    pub(crate) symbols: NewSymbols,
+    /// The jumps that it wrote, with the code that stood there before.
+    pub(crate) jumps: Jumps,
+}
+
+/// What is kept of updates in order.
+pub(crate) type KeptList = ListOf<Kept>;

@@ -10,7 +10,7 @@ use Rattle.script_lines.specs.declared.types.Command.{Command}
 use Rattle.update_stack.specs.CallTable.{CallTable}
 use Rattle.update_stack.specs.Events.{after_events}
 use Rattle.ksplice_session.specs.declared.types.SessionEnd.{SessionEnd}
-use Rattle.ksplice_session.specs.declared.types.SessionEnd.TheVariants.{Done, SomeRefused, FileEnd, SinkEnd, MemoryEnd}
+use Rattle.ksplice_session.specs.declared.types.SessionEnd.TheVariants.{FileEnd, SinkEnd, MemoryEnd}
 use Rattle.ksplice_session.specs.Replies.{Told, told_of, files_of}
 use Rattle.ksplice_session.specs.Answers.{MadeFront}
 use Rattle.ksplice_session.specs.Session.{file_line, lost_line}

@@ -1,6 +1,6 @@
 use Rattle.std.proofs.Common.{[], ◌∷◌, refl}
 use Rattle.ks_io.specs.Loads.{bytes_of}
-use Rattle.ksplice_cli.specs.Calls.{object_limit}
+use Rattle.ksplice_session.specs.Replies.{object_limit}
 use Rattle.ksplice_cli.specs.Words.{Diff}
 use Rattle.ksplice_cli.proofs.CallAnswers.{lost_answers, two_held, diff_answers}
 use Rattle.ksplice_cli.proofs.diffing.diff.Goals as goal

@@ -1,10 +1,10 @@
 use Rattle.std.proofs.Common.{◌≡◌, ◌++◌, drop}
 use Rattle.std.specs.List.{flat_map}
 use Rattle.ksplice_cli.specs.Difference.{line_in}
-use Rattle.ksplice_cli.specs.inside.Verbs.{verb_at}
+use Rattle.section_roles.specs.Roles.{role_at}
 use Rattle.ksplice_cli.proofs.listing.put_sections.Given as goal
 
 -- the lines so far, and then those of the other sections, are those of all
 abbrev pub invariant-loop-section : goal.invariant-loop-section
 invariant-loop-section l =
-    l.lines ++ flat_map (line_in (verb_at l.verbs) l.old) (drop l.section-index l.section-items) ≡ l.fn.lines ++ flat_map (line_in (verb_at l.verbs) l.old) l.new
+    l.lines ++ flat_map (line_in (role_at l.roles) l.old) (drop l.section-index l.section-items) ≡ l.fn.lines ++ flat_map (line_in (role_at l.roles) l.old) l.new

@@ -1,6 +1,7 @@
 use Rattle.std.proofs.Common.{[], ◌∷◌, refl}
 use Rattle.ks_io.specs.Loads.{bytes_of}
-use Rattle.ksplice_cli.specs.Calls.{image_limit, object_limit}
+use Rattle.ksplice_session.specs.Replies.{object_limit}
+use Rattle.ksplice_cli.specs.Calls.{image_limit}
 use Rattle.ksplice_cli.specs.Words.{Match}
 use Rattle.ksplice_cli.proofs.CallAnswers.{lost_answers, two_held, match_answers}
 use Rattle.ksplice_cli.proofs.matching.match_object.Goals as goal

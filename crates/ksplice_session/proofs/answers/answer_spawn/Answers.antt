@@ -1,4 +1,4 @@
-use Rattle.std.proofs.Common.{[], ◌∷◌, ◌∙◌, refl, sym, subst, ap}
+use Rattle.std.proofs.Common.{[], ◌∷◌, refl, sym, subst}
 use Rattle.script_lines.specs.declared.types.Command.TheVariants.{Spawn}
 use Rattle.update_stack.specs.Events.{Spawn as SpawnEvent, Spawned, happened}
 use Rattle.ksplice_session.specs.Lines.{spawned_line}

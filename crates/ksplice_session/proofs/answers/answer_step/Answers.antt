@@ -1,9 +1,8 @@
-use Rattle.std.proofs.Common.{[], ◌∙◌, refl, sym, subst, ap, length}
+use Rattle.std.proofs.Common.{[], ◌∙◌, refl, sym, subst}
 use Rattle.ks_base.specs.declared.refusals.Refusal.TheVariants.{NoThread}
 use Rattle.script_lines.specs.declared.types.Command.TheVariants.{Step}
-use Rattle.update_stack.specs.CallTable.{CallTable}
 use Rattle.ksplice_session.specs.Running.{thread_steps}
-use Rattle.ksplice_session.specs.Replies.{Told, told_of, step_told, shown, stepped_line_of}
+use Rattle.ksplice_session.specs.Replies.{Told, told_of, step_told}
 use Rattle.ksplice_session.specs.Answers.{Answers}
 use Rattle.ksplice_session.proofs.AnswerLaws.{told_answers, refused_answers, told_stepped, told_step_refused}
 use Rattle.ksplice_session.proofs.answers.answer_step.Goals as goal

@@ -1,4 +1,4 @@
-use Rattle.std.proofs.Common.{[], refl, sym, subst}
+use Rattle.std.proofs.Common.{refl, sym, subst}
 use Rattle.ksplice_session.specs.Running.{round_robin}
 use Rattle.ksplice_session.specs.Replies.{Told, turns_told}
 use Rattle.ksplice_session.specs.Answers.{Answers}

@@ -1,6 +1,6 @@
 use Rattle.ks_io.specs.Fronts.{nothing_taken}
 use Rattle.ks_io.specs.Loads.{needed_by}
-use Rattle.ksplice_session.specs.inside.LineEnds.{FileEnds, MemoryLost}
+use Rattle.ksplice_session.specs.inside.LineEnds.{MemoryLost}
 use Rattle.ksplice_session.proofs.SessionLaws.{file_exit}
 use Rattle.ksplice_session.proofs.running.end_at_file.Goals as goal
 

@@ -1,22 +1,27 @@
-use Rattle.std.proofs.Common.{map}
-use Rattle.ks_io.specs.Loads.{needed_by}
+use Rattle.std.proofs.Common.{◌≡◌, ℕ, List, map, ◌∙◌, ap, subst}
+use Rattle.std.specs.Global.{Vec}
+use Rattle.ks_io.specs.Loads.{needed_by, bytes_of}
+use Rattle.ksplice_session.specs.Replies.{told_of, files_of}
+use Rattle.ksplice_session.specs.inside.LineEnds.{ToldEnds}
 use Rattle.ksplice_session.proofs.SessionLaws.{line_held, line_lost}
-use Rattle.ksplice_session.proofs.running.run_line.Goals.{in-Ok, in-Err}
 use Rattle.ksplice_session.proofs.running.run_line.Goals as goal
 
-pub returns-clause-ends : goal.returns-clause-ends
-returns-clause-ends g c =
-    let told = g.F.Files.told c.args.files.now in
-    let before = g.F.Files.counts c.args.files.now in
-    let after = g.F.Files.counts c.load_all.new.files in
+pub returns-in-Ok-clause-ends : goal.returns-in-Ok-clause-ends
+returns-in-Ok-clause-ends g c =
+    let k = c.args.session.now in
+    let line = c.args.command.now in
+    let needed : map needed_by c.as_slice-wanted.result.now ≡ files_of line =
+    ap (map needed_by) c.as_slice-wanted.ensures ∙ c.files_of-loads.ensures in
     let old = g.O.Sink.taken c.args.out.now in
-    elim c.match-load_all.branch [
-      | in-Ok w ↦
-          rw (w.session-is, w.out-is, w.result-is)
-          (line_held told c.args.session.now c.args.command.now (map needed_by c.files_of-wanted.result.now) w.in-Ok.field-0.items before after old (g.O.Sink.taken w.reply.new.out) w.reply.new.session
-          w.reply.result c.files_of-wanted.ensures w.in-Ok.ensures.loads w.reply.ensures.ends)
-      | in-Err w ↦
-          rw (w.session-is, w.out-is, w.result-is)
-          (line_lost told c.args.session.now c.args.command.now c.files_of-wanted.result.now _ w.in-Err.lost before after old (g.O.Sink.taken w.end_at_file.new.out) w.end_at_file.result
-          c.files_of-wanted.ensures w.in-Err.ensures.loads w.end_at_file.ensures.ends)
-    ]
+    let new = g.O.Sink.taken c.reply.new.out in
+    line_held (g.F.Files.told c.args.files.now) k line (map needed_by c.as_slice-wanted.result.now) c.in-Ok.held.items (g.F.Files.counts c.args.files.now) (g.F.Files.counts c.load_all.new.files) old new
+    c.reply.new.session c.reply.result needed c.in-Ok.ensures.loads
+    (subst (λ (held : List (Vec ℕ)). ToldEnds k (told_of k line (bytes_of held)) old new c.reply.new.session c.reply.result) c.as_slice.ensures.value c.reply.ensures.ends)
+
+pub returns-in-Err-clause-ends : goal.returns-in-Err-clause-ends
+returns-in-Err-clause-ends g c =
+    let needed : map needed_by c.as_slice-wanted.result.now ≡ files_of c.args.command.now =
+    ap (map needed_by) c.as_slice-wanted.ensures ∙ c.files_of-loads.ensures in
+    line_lost (g.F.Files.told c.args.files.now) c.args.session.now c.args.command.now c.as_slice-wanted.result.now _ c.in-Err.lost (g.F.Files.counts c.args.files.now) (g.F.Files.counts c.load_all.new.files)
+    (g.O.Sink.taken c.args.out.now) (g.O.Sink.taken c.end_at_file.new.out) c.end_at_file.result needed c.in-Err.ensures.loads
+    c.end_at_file.ensures.ends

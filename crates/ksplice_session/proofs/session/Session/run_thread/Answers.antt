@@ -1,4 +1,4 @@
-use Rattle.std.proofs.Common.{◌≡◌, ◌+◌, ◌-◌, suc, false, sym, ◌∙◌, arith}
+use Rattle.std.proofs.Common.{◌≡◌, ◌+◌, ◌-◌, sym, ◌∙◌, arith}
 use Rattle.update_stack.specs.Events.{Step}
 use Rattle.ksplice_session.specs.Running.{thread_steps}
 use Rattle.ksplice_session.proofs.RunLaws.{begins, goes_on, has_gone, thread_goes_on, thread_ends, thread_done}

@@ -1,4 +1,4 @@
-use Rattle.std.proofs.Common.{◌≡◌, ◌+◌, ◌-◌, suc, false, sym, ◌∙◌, arith}
+use Rattle.std.proofs.Common.{◌≡◌, ◌+◌, ◌-◌, sym, ◌∙◌, arith}
 use Rattle.ksplice_session.specs.Running.{turn_steps, round_robin}
 use Rattle.ksplice_session.proofs.RunLaws.{begins, has_gone, turns_on, turns_stop, turn_done}
 use Rattle.ksplice_session.proofs.session.Session.run_turns.Goals as goal

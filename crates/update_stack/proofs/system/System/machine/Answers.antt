@@ -1,10 +1,9 @@
 use Rattle.std.proofs.Common.{subst}
 use Rattle.update_stack.specs.CallTable.{CallTable}
 use Rattle.update_stack.specs.StandsFor.{StandsFor}
-use Rattle.update_stack.proofs.StepLaws.{stands}
 use Rattle.update_stack.proofs.system.System.machine.Goals as goal
 
 pub returns : goal.returns
 returns g c =
     let P : CallTable → Type 0 = λ k. StandsFor c.self.inside.machine k in
-    subst P c.self.view_is (stands c.self.inside.machine c.self.inside.arena c.self.invariant.0)
+    subst P c.self.view_is c.self.invariant.stands

@@ -1,5 +1,0 @@
-use Rattle.std.proofs.lemmas.Map.Text.{btree_map_updates_str}
-use Rattle.ksplice_cli.proofs.verbs.put_verb.Goals as goal
-
-pub returns-in-Ok : goal.returns-in-Ok
-returns-in-Ok c = btree_map_updates_str c.args.name.now c.args.verbs.now c.insert.new.self _ c.in-Ok.ensures.updates

@@ -1,0 +1,4 @@
+pub mod PutLaws
+pub mod PieceLaws
+pub mod FenceLaws
+pub mod JumpLaws

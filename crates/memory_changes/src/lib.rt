@@ -1,0 +1,9 @@
+//! What an update does to the memory of a running program: it adds pieces, retires ranges of code and writes jumps.
+#![tactic(auto)]
+
+pub mod changes;
+pub mod laws;
+mod types;
+
+pub use changes::{add_pieces, note_old_code, retire, write_jumps};
+pub use types::{Jump, Jumps};

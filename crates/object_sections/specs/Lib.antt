@@ -1,0 +1,2 @@
+-- Public clauses cite Sections: what an object file has.
+pub mod Sections

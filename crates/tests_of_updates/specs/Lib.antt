@@ -1,0 +1,2 @@
+-- Small is a memory, and what an update does to it.
+pub mod Small

@@ -1,0 +1,16 @@
+mod Answered
+mod Choices
+mod Found
+mod Nothing
+mod Orders
+mod Planned
+mod Steps
+pub mod SoundFences
+pub mod SoundFile
+pub mod SoundJumps
+pub mod SoundLists
+pub mod SoundOlds
+pub mod SoundParts
+pub mod SoundPieces
+pub mod SoundPlan
+pub mod SoundSteps

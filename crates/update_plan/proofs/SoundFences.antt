@@ -1,0 +1,89 @@
+-- What is retired of functions that lie apart, as fences: none is empty, no two meet, and each begins at a home of its
+-- own.
+use Rattle.std.proofs.Common.{◌≡◌, inl, inr, ◌+◌, ◌<◌, true, false, cond, List, [], map, max}
+use Rattle.std.proofs.Common.{refl, sym, ap, subst, arith}
+use Rattle.std.specs.List.{All, AllPairs, filter}
+use Rattle.ks_base.specs.declared.places.Range.{Range}
+use Rattle.image_memory.specs.declared.types.Fence.{Fence}
+use Rattle.image_memory.specs.Ranges.{meets}
+use Rattle.splice_jump.specs.Jumps.{IsFenced}
+use Rattle.retired_code.specs.declared.types.OldFunction.{OldFunction}
+use Rattle.retired_code.specs.Retired.{body_range, is_retired, range_of, retired_by, retired_range, takes_jump}
+use Rattle.retired_code.specs.Overlaps.{LieApart}
+use Rattle.retired_code.proofs.CountLaws.{meet_where}
+use Rattle.update_plan.specs.Plan.{fence_of, fences_of}
+use Rattle.update_plan.proofs.SoundLists.{Has, Pairs, all_has, all_of, all_pairs, has_filter, has_map, map_has}
+use Rattle.update_plan.proofs.SoundLists.{map_pairs, pairs_map, pairs_of, two_of}
+
+abbrev retired_of : List OldFunction → List OldFunction
+retired_of olds = filter (λ old. is_retired old.fate) olds
+
+abbrev with_jump : OldFunction → Range
+with_jump old = range_of old.home (old.home + max old.length 5)
+
+-- a first version's range begins at its home, and has the jump's bytes where it takes one
+pub low_is_home : (old : OldFunction) → old.base ≡ old.home → (retired_range old).low ≡ old.home
+low_is_home old first =
+    elim (takes_jump old) as (λ b. (cond b (with_jump old) (body_range old)).low ≡ old.home) [
+      | true ↦ refl
+      | false ↦ first
+    ]
+
+pub jump_is_fenced : (old : OldFunction) → takes_jump old ≡ true → IsFenced old.home (fence_of old)
+jump_is_fenced old takes =
+    let is : retired_range old ≡ with_jump old = ap (λ b. cond b (with_jump old) (body_range old)) takes in
+    record {
+      jump = takes;
+      low = ap (λ (r : Range). r.low) is;
+      long = (let high = ap (λ (r : Range). r.high) is in omega (arith, high));
+    }
+
+module _ (olds : List OldFunction) (lies : LieApart (retired_by olds) []) where
+  range_full : (old : OldFunction) → Has (retired_of olds) old → (retired_range old).low < (retired_range old).high
+  unfolding retired_by
+  range_full old has =
+      all_has (λ (r : Range). r.low < r.high) (map retired_range (retired_of olds)) (retired_range old) lies.full
+      (has_map retired_range (retired_of olds) old has)
+
+  ranges_apart : Pairs (λ (a b : OldFunction). meets (retired_range a) (retired_range b) ≡ false) (retired_of olds)
+  unfolding retired_by
+  ranges_apart =
+      map_pairs retired_range (λ a b. meets a b ≡ false) (retired_of olds)
+      (pairs_of (λ a b. meets a b ≡ false) (map retired_range (retired_of olds)) lies.apart)
+
+  pub full : All (λ (fence : Fence). fence.range.low < fence.range.high) (fences_of olds)
+  full =
+      all_of (λ (fence : Fence). fence.range.low < fence.range.high) (fences_of olds)
+      (λ fence has.
+      let (old, has_old, is) = map_has fence_of (retired_of olds) fence has in
+      subst (λ (f : Fence). f.range.low < f.range.high) is (range_full old has_old))
+
+  pub fences_apart : AllPairs (λ (a b : Fence). meets a.range b.range ≡ false) (fences_of olds)
+  fences_apart =
+      all_pairs (λ (a b : Fence). meets a.range b.range ≡ false) (fences_of olds)
+      (pairs_map fence_of (λ (a b : Fence). meets a.range b.range ≡ false) (retired_of olds) ranges_apart)
+
+  -- no two that are retired have one home
+  met : (a b : OldFunction) → Has (retired_of olds) a → Has (retired_of olds) b → a.base ≡ a.home → b.base ≡ b.home →
+      a.home ≡ b.home → meets (retired_range a) (retired_range b) ≡ true
+  met a b has_a has_b first_a first_b same =
+      let low_a = low_is_home a first_a in
+      let low_b = low_is_home b first_b in
+      let full_a = range_full a has_a in
+      let full_b = range_full b has_b in
+      meet_where (retired_range a) (retired_range b) (omega (arith, low_a, low_b, same, full_b))
+      (omega (arith, low_a, low_b, same, full_a)) full_a full_b
+
+  pub one_home : (a b : OldFunction) → Has olds a → Has olds b → is_retired a.fate ≡ true → is_retired b.fate ≡ true →
+      a.base ≡ a.home → b.base ≡ b.home → a.home ≡ b.home → a ≡ b
+  one_home a b has_a has_b gone_a gone_b first_a first_b same =
+      let in_a = has_filter (λ (old : OldFunction). is_retired old.fate) olds a has_a gone_a in
+      let in_b = has_filter (λ (old : OldFunction). is_retired old.fate) olds b has_b gone_b in
+      elim (two_of (λ (x y : OldFunction). meets (retired_range x) (retired_range y) ≡ false) (retired_of olds) a b
+      ranges_apart in_a in_b) [
+        | inl is ↦ is
+        | inr apart ↦ elim apart [
+          | inl ab ↦ let hit = met a b in_a in_b first_a first_b same in absurd cc
+          | inr ba ↦ let hit = met b a in_b in_a first_b first_a (sym same) in absurd cc
+        ]
+      ]

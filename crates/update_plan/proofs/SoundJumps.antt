@@ -1,0 +1,247 @@
+-- The replaced functions of a plan: each is a first version with a home of its own, at which a jump fits; and the
+-- ranges that are marked are those that begin at one.
+use Rattle.std.proofs.Common.{◌≡◌, ◌≢◌, inl, inr, ℕ, ◌^◌, ◌<◌, ◌≤◌, Bool, true, false, ◌&&◌, List, []}
+use Rattle.std.proofs.Common.{Option, Some, None, option_map, refl, sym, ap, subst, ◌∙◌}
+use Rattle.std.specs.Prelude.{◌==◌, nat_lt, if◌then◌else◌}
+use Rattle.std.specs.List.{All, AllPairs, Any, filter, filter_map}
+use Rattle.std.specs.Cmp.Lexicographic.{bytes_decides}
+use Rattle.std.proofs.lemmas.Bool.{both_ways, cases_Bool, eq-eqb, eqb-true, false_from_ne_true, ltb-false}
+use Rattle.std.proofs.lemmas.Option.{same_Some}
+use Rattle.ks_base.specs.declared.places.Range.{Range}
+use Rattle.ks_base.specs.declared.refusals.Refusal.{Refusal}
+use Rattle.ks_base.specs.declared.refusals.Refusal.TheVariants.{TooSmall}
+use Rattle.ks_base.specs.declared.reports.Replaced.{Replaced}
+use Rattle.symbol_table.specs.declared.symbols.Symbol.{Symbol}
+use Rattle.image_memory.specs.declared.types.Fence.{Fence}
+use Rattle.image_memory.specs.Contents.{Contents}
+use Rattle.image_memory.specs.Fetch.{HasCode}
+use Rattle.splice_jump.specs.Jumps.{IsFenced}
+use Rattle.i386_reloc.specs.Normal.{same_bytes}
+use Rattle.i386_reloc.specs.Refused.{first_among, refused_where}
+use Rattle.extract_post.specs.declared.types.Extract.{Extract}
+use Rattle.section_roles.specs.declared.role.Role.{Role}
+use Rattle.section_roles.specs.declared.role.Role.TheVariants.{Changed, Added, Carried, NewData}
+use Rattle.section_roles.specs.Roles.{is_among, role_of}
+use Rattle.retired_code.specs.declared.types.Fate.{Fate}
+use Rattle.retired_code.specs.declared.types.Fate.TheVariants.{Kept, Replaced as WasReplaced, Dropped}
+use Rattle.retired_code.specs.declared.types.OldFunction.{OldFunction}
+use Rattle.retired_code.specs.Room.{room}
+use Rattle.retired_code.specs.Retired.{is_first, is_replaced, is_retired, retired_by, retired_range, takes_jump}
+use Rattle.retired_code.specs.Overlaps.{LieApart, code_refusal, overlap_refusal, room_refusal}
+use Rattle.new_code.specs.Parts.{AtPlace}
+use Rattle.new_code.specs.Reports.{replaced_as, replaced_by, replaced_of}
+use Rattle.update_plan.specs.Olds.{fate_of}
+use Rattle.update_plan.specs.Plan.{fence_of, fences_of}
+use Rattle.update_plan.specs.Sound.{IsJumpTo, is_replaced_at}
+use Rattle.update_plan.proofs.SoundLists.{Has, Pairs, all_of, all_pairs, any_has, any_none, has_filter}
+use Rattle.update_plan.proofs.SoundLists.{filter_has, found_has, has_found, has_kept, has_map, kept_has, map_has}
+use Rattle.update_plan.proofs.SoundLists.{none_first, none_has, pairs_kept, some_of, two_of}
+use Rattle.update_plan.proofs.SoundParts.{changed_where}
+use Rattle.update_plan.proofs.SoundFences.{jump_is_fenced, low_is_home, one_home}
+use Rattle.update_plan.proofs.SoundOlds.{IsOldOf}
+
+-- ---- fates
+fate_changed : (extract : Extract) (name : List ℕ) → is_among extract.changed name ≡ true →
+    fate_of extract name ≡ WasReplaced
+fate_changed extract name is =
+    ap (λ b. if b then WasReplaced else (if is_among extract.dropped name then Dropped else Kept)) is
+
+changed_fate : (extract : Extract) (name : List ℕ) → is_replaced (fate_of extract name) ≡ true →
+    is_among extract.changed name ≡ true
+changed_fate extract name is = by (is_among extract.changed name) (is_among extract.dropped name) is
+  where
+    by : (a b : Bool) → is_replaced (if a then WasReplaced else (if b then Dropped else Kept)) ≡ true → a ≡ true
+    by true b is = refl
+    by false true is = absurd cc
+    by false false is = absurd cc
+
+replaced_is : (fate : Fate) → is_replaced fate ≡ true → is_retired fate ≡ true
+replaced_is Kept is = absurd cc
+replaced_is WasReplaced is = refl
+replaced_is Dropped is = absurd cc
+
+takes : (old : OldFunction) → is_replaced old.fate ≡ true → old.base ≡ old.home → takes_jump old ≡ true
+takes old is first =
+    ap (λ b. b && is_first old) is ∙ eq-eqb old.base old.home first
+
+-- ---- the function that a section takes the place of
+record IsReplacing (olds : List OldFunction) (part : AtPlace) (one : Replaced) : Type 0 where
+  old : OldFunction
+  among : Has olds old
+  named : old.section ≡ part.section.name
+  changed : part.role ≡ Changed
+  home : one.home ≡ old.home
+  base : one.base ≡ part.base
+
+abbrev named_as : List ℕ → OldFunction → Bool
+named_as name old = same_bytes old.section name
+
+replaced_none : (base : ℕ) (o : Option OldFunction) (one : Replaced) → None ≡ o →
+    option_map (replaced_as base) o ≡ Some one → ⊥
+replaced_none base o one none made =
+    let e : None ≡ Some one = ap (option_map (replaced_as base)) none ∙ made in absurd cc
+
+replacing : (olds : List OldFunction) (x : AtPlace) (one : Replaced) (role : Role) (o : Option OldFunction) →
+    x.role ≡ role → replaced_by role olds x.section.name ≡ o → option_map (replaced_as x.base) o ≡ Some one →
+    IsReplacing olds x one
+replacing olds x one Added o at is made = absurd (replaced_none x.base o one is made)
+replacing olds x one Carried o at is made = absurd (replaced_none x.base o one is made)
+replacing olds x one NewData o at is made = absurd (replaced_none x.base o one is made)
+replacing olds x one Changed None at is made = absurd cc
+replacing olds x one Changed (Some old) at is made =
+    let same : replaced_as x.base old ≡ one = same_Some (replaced_as x.base old) one made in
+    let both = found_has (named_as x.section.name) olds old is in
+    record {
+      old = old;
+      among = both.0;
+      named = (bytes_decides old.section x.section.name).0 both.1;
+      changed = at;
+      home = ap (λ (r : Replaced). r.home) (sym same);
+      base = ap (λ (r : Replaced). r.base) (sym same);
+    }
+
+is_replacing : (olds : List OldFunction) (x : AtPlace) (one : Replaced) → replaced_of olds x ≡ Some one →
+    IsReplacing olds x one
+is_replacing olds x one made =
+    replacing olds x one x.role (replaced_by x.role olds x.section.name) refl refl made
+
+-- a section that is changed takes the place of the one of its name, where there is one
+has_replaced : (olds : List OldFunction) (x : AtPlace) (old : OldFunction) → x.role ≡ Changed → Has olds old →
+    old.section ≡ x.section.name → (one : Replaced) × (replaced_of olds x ≡ Some one)
+has_replaced olds x old role among named =
+    let (other, is) = has_found (named_as x.section.name) olds old among
+    ((bytes_decides old.section x.section.name).1 named) in (
+      replaced_as x.base other,
+      ap (λ r. option_map (replaced_as x.base) (replaced_by r olds x.section.name)) role
+          ∙ ap (option_map (replaced_as x.base)) is,
+    )
+
+-- ---- room for the jump
+no_less : (jump less : Bool) (why : Refusal) → jump ≡ true → refused_where (jump && less) why ≡ None → less ≡ false
+no_less true true why is none = absurd cc
+no_less true false why is none = refl
+no_less false less why is none = absurd cc
+
+jump_fits : (contents : Contents) (symbols : List Symbol) (old : OldFunction) → takes_jump old ≡ true →
+    room_refusal contents symbols old ≡ None → 5 ≤ room contents symbols old.home old.length
+jump_fits contents symbols old is none =
+    ltb-false (room contents symbols old.home old.length) 5
+    (no_less (takes_jump old) (nat_lt (room contents symbols old.home old.length) 5)
+    (TooSmall old.section (room contents symbols old.home old.length)) is none)
+
+room_clear : (contents : Contents) (symbols : List Symbol) (retired : List Range) (olds : List OldFunction) →
+    code_refusal contents symbols retired olds ≡ None → first_among (room_refusal contents symbols) olds ≡ None
+unfolding code_refusal
+room_clear contents symbols retired olds clear =
+    none_first (first_among (room_refusal contents symbols) olds)
+    (first_among (overlap_refusal retired olds) olds) clear
+
+-- ---- all of them
+module _ (extract : Extract) (olds : List OldFunction) (places : List AtPlace) (lies : LieApart (retired_by olds) [])
+    (is_old : (old : OldFunction) → Has olds old → IsOldOf extract old)
+    (listed : (x : AtPlace) → Has places x → role_of extract x.section.name ≡ Some x.role) where
+  old_gone : (x : AtPlace) (one : Replaced) (r : IsReplacing olds x one) → Has places x →
+      is_replaced r.old.fate ≡ true
+  old_gone x one r has =
+      let role : role_of extract x.section.name ≡ Some Changed = listed x has ∙ ap (λ y. Some y) r.changed in
+      let among = changed_where extract x.section.name role in
+      let fate = (is_old r.old r.among).fate in
+      ap is_replaced (fate ∙ ap (fate_of extract) r.named ∙ fate_changed extract x.section.name among)
+
+  pub all_fit : (contents : Contents) (symbols : List Symbol) (retired : List Range) →
+      code_refusal contents symbols retired olds ≡ None →
+      ((home length n : ℕ) → n ≤ room contents symbols home length → HasCode contents.pieces home n) →
+      ((x : AtPlace) → Has places x → x.base < 2 ^ 32) →
+      All (IsJumpTo contents (fences_of olds)) (filter_map (replaced_of olds) places)
+  all_fit contents symbols retired clear coded low =
+      all_of (IsJumpTo contents (fences_of olds)) (filter_map (replaced_of olds) places)
+      (λ one has.
+      let (x, in_places, made) = kept_has (replaced_of olds) places one has in
+      let r = is_replacing olds x one made in
+      let gone = old_gone x one r in_places in
+      let jump = takes r.old gone (is_old r.old r.among).first in
+      let clear_here = none_has (room_refusal contents symbols) olds r.old
+      (room_clear contents symbols retired olds clear) r.among in
+      let fits = jump_fits contents symbols r.old jump clear_here in
+      let fenced : Any (IsFenced r.old.home) (fences_of olds) =
+      some_of (IsFenced r.old.home) (fences_of olds) (fence_of r.old)
+      (has_map fence_of (filter (λ old. is_retired old.fate) olds) r.old
+      (has_filter (λ old. is_retired old.fate) olds r.old r.among (replaced_is r.old.fate gone)))
+      (jump_is_fenced r.old jump) in
+      record {
+        code = subst (λ home. HasCode contents.pieces home 5) (sym r.home) (coded r.old.home r.old.length 5 fits);
+        fence = subst (λ home. Any (IsFenced home) (fences_of olds)) (sym r.home) fenced;
+        base = subst (λ base. base < 2 ^ 32) (sym r.base) (low x in_places);
+      })
+
+  homes_apart : (a b : AtPlace) (one other : Replaced) → Has places a → Has places b → replaced_of olds a ≡ Some one →
+      replaced_of olds b ≡ Some other → a.section.name ≢ b.section.name → one.home ≢ other.home
+  homes_apart a b one other in_a in_b made_a made_b apart same =
+      let r = is_replacing olds a one made_a in
+      let s = is_replacing olds b other made_b in
+      let e : r.old ≡ s.old = one_home olds lies r.old s.old r.among s.among
+      (replaced_is r.old.fate (old_gone a one r in_a)) (replaced_is s.old.fate (old_gone b other s in_b))
+      (is_old r.old r.among).first (is_old s.old s.among).first (sym r.home ∙ same ∙ s.home) in
+      apart (sym r.named ∙ ap (λ (o : OldFunction). o.section) e ∙ s.named)
+
+  pub each_once : Pairs (λ (a b : AtPlace). a.section.name ≢ b.section.name) places →
+      AllPairs (λ (a b : Replaced). a.home ≢ b.home) (filter_map (replaced_of olds) places)
+  each_once differ =
+      all_pairs (λ (a b : Replaced). a.home ≢ b.home) (filter_map (replaced_of olds) places)
+      (pairs_kept (λ (a b : AtPlace). a.section.name ≢ b.section.name) (λ (a b : Replaced). a.home ≢ b.home)
+      (replaced_of olds) places homes_apart differ)
+
+  module _ (sections_apart : Pairs (λ (a b : OldFunction). a.section ≢ b.section) olds)
+      (placed : (name : List ℕ) → is_among extract.changed name ≡ true →
+      (x : AtPlace) × Has places x × (x.role ≡ Changed) × (x.section.name ≡ name)) where
+    one_section : (a b : OldFunction) → Has olds a → Has olds b → a.section ≡ b.section → a ≡ b
+    one_section a b in_a in_b same =
+        elim (two_of (λ (x y : OldFunction). x.section ≢ y.section) olds a b sections_apart in_a in_b) [
+          | inl is ↦ is
+          | inr apart ↦ elim apart [ inl ab ↦ absurd (ab same) | inr ba ↦ absurd (ba (sym same)) ]
+        ]
+
+    marked_by : (old : OldFunction) → Has olds old → is_replaced old.fate ≡ true →
+        is_replaced_at (filter_map (replaced_of olds) places) (retired_range old).low ≡ true
+    marked_by old in_olds gone =
+        let it = is_old old in_olds in
+        let (x, in_places, role, name) = placed old.section (changed_fate extract old.section
+        (ap is_replaced (sym it.fate) ∙ gone)) in
+        let (one, made) = has_replaced olds x old role in_olds (sym name) in
+        let r = is_replacing olds x one made in
+        let e : r.old ≡ old = one_section r.old old r.among in_olds (r.named ∙ name) in
+        any_has (λ (o : Replaced). o.home == (retired_range old).low) (filter_map (replaced_of olds) places) one
+        (has_kept (replaced_of olds) places x one in_places made)
+        (eq-eqb one.home (retired_range old).low
+        (r.home ∙ ap (λ (o : OldFunction). o.home) e ∙ sym (low_is_home old it.first)))
+
+    unmarked_by : (old : OldFunction) → Has olds old → is_retired old.fate ≡ true → is_replaced old.fate ≡ false →
+        is_replaced_at (filter_map (replaced_of olds) places) (retired_range old).low ≡ false
+    unmarked_by old in_olds retired kept =
+        any_none (λ (o : Replaced). o.home == (retired_range old).low) (filter_map (replaced_of olds) places)
+        (λ one has.
+        false_from_ne_true (one.home == (retired_range old).low)
+        (λ eq.
+        let home : one.home ≡ (retired_range old).low = eqb-true one.home (retired_range old).low eq in
+        let (x, in_places, made) = kept_has (replaced_of olds) places one has in
+        let r = is_replacing olds x one made in
+        let first = (is_old old in_olds).first in
+        let gone = old_gone x one r in_places in
+        let e : old ≡ r.old = one_home olds lies old r.old in_olds r.among retired (replaced_is r.old.fate gone) first
+        (is_old r.old r.among).first (sym (low_is_home old first) ∙ sym home ∙ r.home) in
+        let also : is_replaced old.fate ≡ true = ap (λ (o : OldFunction). is_replaced o.fate) e ∙ gone in
+        absurd (both_ways (is_replaced old.fate) kept also)))
+
+    pub all_marked : All (λ (fence : Fence). fence.jump ≡ is_replaced_at (filter_map (replaced_of olds) places)
+        fence.range.low) (fences_of olds)
+    all_marked =
+        all_of (λ (fence : Fence). fence.jump ≡ is_replaced_at (filter_map (replaced_of olds) places) fence.range.low)
+        (fences_of olds)
+        (λ fence has.
+        let (old, in_retired, is) = map_has fence_of (filter (λ old. is_retired old.fate) olds) fence has in
+        let both = filter_has (λ (o : OldFunction). is_retired o.fate) olds old in_retired in
+        subst (λ (f : Fence). f.jump ≡ is_replaced_at (filter_map (replaced_of olds) places) f.range.low) is
+        (elim (cases_Bool (is_replaced old.fate)) [
+          | inl gone ↦ takes old gone (is_old old both.0).first ∙ sym (marked_by old both.0 gone)
+          | inr kept ↦ ap (λ b. b && is_first old) kept ∙ sym (unmarked_by old both.0 both.1 kept)
+        ]))

@@ -1,0 +1,186 @@
+-- A plan for a program in which nothing was replaced can be carried out.
+use Rattle.std.proofs.Common.{◌≡◌, ◌≢◌, ℕ, ◌^◌, ◌<◌, ◌≤◌, true, List, [], map, None, refl, sym, ap, subst, ◌∙◌}
+use Rattle.std.proofs.Common.{arith}
+use Rattle.std.specs.Prelude.{Ok}
+use Rattle.std.specs.List.{All, IsDistinct, filter}
+use Rattle.std.specs.Cmp.Lexicographic.{bytes_decides}
+use Rattle.ks_base.specs.declared.places.Range.{Range}
+use Rattle.symbol_table.specs.declared.symbols.Symbol.{Symbol}
+use Rattle.elf32_object.specs.Rules.{object_fault}
+use Rattle.i386_reloc.specs.declared.types.NormalSection.{NormalSection}
+use Rattle.i386_reloc.specs.Normal.{loaded_sections, name_of, same_bytes}
+use Rattle.image_memory.specs.declared.types.Fence.{Fence}
+use Rattle.image_memory.specs.declared.types.Piece.{Piece}
+use Rattle.image_memory.specs.Ranges.{Ascends, MeetsNone}
+use Rattle.image_memory.specs.Contents.{Contents, IsValid, fence_range, piece_range}
+use Rattle.image_memory.specs.Changes.{IsPlaceable}
+use Rattle.image_memory.specs.Fetch.{HasCode}
+use Rattle.extract_post.specs.declared.types.Extract.{Extract}
+use Rattle.extract_post.specs.Extracted.{is_changed, lists_of}
+use Rattle.section_roles.specs.declared.role.Role.TheVariants.{Changed}
+use Rattle.section_roles.specs.Roles.{is_among}
+use Rattle.match_candidates.specs.Candidates.{Running, code_sections}
+use Rattle.symbol_solve.specs.Solve.{Value, solved}
+use Rattle.symbol_solve.specs.Answered.{IsAnswered}
+use Rattle.link_post.specs.declared.types.Placed.{Placed}
+use Rattle.link_post.specs.declared.types.SectionSize.{SectionSize}
+use Rattle.link_post.specs.Values.{ValueList}
+use Rattle.link_post.specs.Places.{ArePlaces, placed}
+use Rattle.retired_code.specs.declared.types.OldFunction.{OldFunction}
+use Rattle.retired_code.specs.Room.{room}
+use Rattle.retired_code.specs.Retired.{retired_by, section_of}
+use Rattle.retired_code.specs.Overlaps.{LieApart, code_refusal}
+use Rattle.new_code.specs.Parts.{AtPlace, NewPart, at_places, new_part, placed_part, size_of}
+use Rattle.new_code.specs.Pieces.{new_piece, new_pieces}
+use Rattle.new_code.specs.Apart.{AreNewPieces, ArePartsOf, AreWhole}
+use Rattle.update_plan.specs.declared.types.Plan.{Plan}
+use Rattle.update_plan.specs.Olds.{olds_of}
+use Rattle.update_plan.specs.Placing.{parts_of}
+use Rattle.update_plan.specs.Plan.{fences_of, plan_of, planned}
+use Rattle.update_plan.specs.Sound.{AreGaps, CanBeMade}
+use Rattle.update_plan.proofs.SoundLists.{Has, Pairs, all_has, all_of, filter_has, has_any, has_map, map_has}
+use Rattle.update_plan.proofs.SoundFile.{distinct_in, is_file, named_itself, names_differ}
+use Rattle.update_plan.proofs.SoundOlds.{IsOldOf, is_old, olds_distinct, sections_differ}
+use Rattle.update_plan.proofs.SoundParts.{has_part, has_place, is_changed_role, parts_are_of, parts_differ}
+use Rattle.update_plan.proofs.SoundParts.{place_role, places_differ}
+use Rattle.update_plan.proofs.SoundPieces.{alone, apart, placeable}
+use Rattle.update_plan.proofs.SoundFences.{fences_apart, full}
+use Rattle.update_plan.proofs.SoundJumps.{all_fit, all_marked, each_once}
+use Rattle.update_plan.proofs.SoundSteps.{IsPlanned, is_planned, lists_are}
+
+-- what the crates below say of all objects, memories and places
+abbrev pub BodiesAreTold : Type 0
+BodiesAreTold = (running : Running) (object : List NormalSection) (values : List Value) → IsValid running.contents →
+    IsDistinct same_bytes (map name_of object) →
+    solved object running.bodies running.contents running.symbols ≡ Ok values →
+    All (IsAnswered running values) (code_sections object)
+
+abbrev pub PlacesLieApart : Type 0
+PlacesLieApart = (sizes : List SectionSize) (gaps : List Range) (places : List Placed) →
+    Ascends (λ range. range) 0 gaps → placed sizes gaps ≡ Ok places → ArePlaces gaps sizes places
+
+abbrev pub SectionsAreWhole : Type 0
+SectionsAreWhole = (bytes : List ℕ) → object_fault bytes ≡ None → AreWhole (loaded_sections bytes)
+
+abbrev pub PiecesLieApart : Type 0
+PiecesLieApart = (post : List NormalSection) (parts : List NewPart) (gaps : List Range) (placement : List Placed)
+    (values : ValueList) → Ascends (λ range. range) 0 gaps → ArePartsOf post parts →
+    placed (map size_of parts) gaps ≡ Ok placement →
+    AreNewPieces gaps parts placement (new_pieces post parts placement values)
+
+abbrev pub RetiredLieApart : Type 0
+RetiredLieApart = (contents : Contents) (symbols : List Symbol) (retired : List Range) (olds : List OldFunction) →
+    IsDistinct same_bytes (map section_of olds) → All (λ (old : OldFunction). 0 < old.length) olds →
+    code_refusal contents symbols retired olds ≡ None → LieApart (retired_by olds) retired
+
+abbrev pub RoomIsCode : Type 0
+RoomIsCode = (contents : Contents) (symbols : List Symbol) (home length n : ℕ) → n ≤ room contents symbols home length →
+    HasCode contents.pieces home n
+
+-- a section that is changed is one of the new object
+changed_has : (pre post : List NormalSection) (extract : Extract) (name : List ℕ) → lists_of pre post ≡ extract →
+    is_among extract.changed name ≡ true → (section : NormalSection) × Has post section × (section.name ≡ name)
+changed_has pre post extract name is among =
+    let (other, in_changed, same) = has_any (λ (n : List ℕ). same_bytes n name) extract.changed among in
+    let in_picked : Has (map name_of (filter (λ (s : NormalSection). is_changed pre post s.name) post)) other =
+    subst (λ (names : List (List ℕ)). Has names other) (sym (ap (λ (e : Extract). e.changed) is)) in_changed in
+    let (section, in_filter, named) = map_has name_of
+    (filter (λ (s : NormalSection). is_changed pre post s.name) post) other in_picked in (
+      section,
+      (filter_has (λ (s : NormalSection). is_changed pre post s.name) post section in_filter).0,
+      named ∙ (bytes_decides other name).0 same,
+    )
+
+module _ (running : Running) (gaps : List Range) (pre_file post_file : List ℕ) (plan : Plan)
+    (valid : IsValid running.contents) (unfenced : running.contents.fences ≡ []) (empty : running.bodies ≡ [])
+    (are_gaps : AreGaps running.contents gaps) (it : IsPlanned running [] gaps pre_file post_file plan) where
+  abbrev olds : List OldFunction
+  olds = olds_of it.extract it.found it.pre
+
+  abbrev parts : List NewPart
+  parts = parts_of it.extract it.post
+
+  abbrev at_all : List AtPlace
+  at_all = at_places parts it.placement
+
+  abbrev pieces : List Piece
+  pieces = new_pieces it.post parts it.placement it.values
+
+  pre_differ : Pairs (λ (a b : NormalSection). a.name ≢ b.name) it.pre
+  pre_differ = names_differ pre_file it.pre (is_file pre_file it.pre it.pre_is)
+
+  post_differ : Pairs (λ (a b : NormalSection). a.name ≢ b.name) it.post
+  post_differ = names_differ post_file it.post (is_file post_file it.post it.post_is)
+
+  each_old : BodiesAreTold → (old : OldFunction) → Has olds old → IsOldOf it.extract old
+  each_old told =
+      is_old running it.extract it.found it.pre empty
+      (told running it.pre it.found valid (distinct_in pre_file it.pre (is_file pre_file it.pre it.pre_is)) it.found_is)
+
+  lies : BodiesAreTold → RetiredLieApart → LieApart (retired_by olds) []
+  lies told retired =
+      retired running.contents running.symbols [] olds (olds_distinct it.extract it.found it.pre pre_differ)
+      (all_of (λ (old : OldFunction). 0 < old.length) olds (λ old has. (each_old told old has).some)) it.clear
+
+  are_pieces : SectionsAreWhole → PiecesLieApart → AreNewPieces gaps parts it.placement pieces
+  are_pieces whole lie =
+      let file = is_file post_file it.post it.post_is in
+      lie it.post parts gaps it.placement it.values are_gaps.ascend
+      (parts_are_of it.extract it.post (named_itself post_file it.post file)
+      (subst AreWhole file.is (whole post_file file.object))) it.placement_is
+
+  low_places : SectionsAreWhole → PiecesLieApart → (x : AtPlace) → Has at_all x → x.base < 2 ^ 32
+  low_places whole lie x has =
+      let piece = new_piece it.post it.placement it.values x in
+      let fits : IsPlaceable (piece_range piece) =
+      all_has (λ (p : Piece). IsPlaceable (piece_range p)) pieces piece
+      (placeable running.contents gaps parts it.placement pieces are_gaps (are_pieces whole lie))
+      (has_map (new_piece it.post it.placement it.values) at_all x has) in
+      let full = fits.0 in
+      let below = fits.1 in
+      omega (arith, full, below)
+
+  changed_place : PlacesLieApart → (name : List ℕ) → is_among it.extract.changed name ≡ true →
+      (x : AtPlace) × Has at_all x × (x.role ≡ Changed) × (x.section.name ≡ name)
+  changed_place places name among =
+      let (section, in_post, named) = changed_has it.pre it.post it.extract name
+      (lists_are it.pre it.post it.extract it.extract_is) among in
+      let role = is_changed_role it.extract section.name
+      (ap (is_among it.extract.changed) named ∙ among) in
+      let part = has_part it.extract it.post section Changed in_post role in
+      let (base, has) = has_place gaps parts it.placement (new_part section Changed)
+      (places (map size_of parts) gaps it.placement are_gaps.ascend it.placement_is).each part in
+      (placed_part section Changed base, has, refl, named)
+
+  pub made : BodiesAreTold → PlacesLieApart → SectionsAreWhole → PiecesLieApart → RetiredLieApart → RoomIsCode →
+      CanBeMade running.contents plan
+  made told places whole lie retired coded =
+      let are = are_pieces whole lie in
+      let apart_olds = lies told retired in
+      let old_is = each_old told in
+      let listed = place_role it.extract it.post it.placement in
+      let here : CanBeMade running.contents (plan_of running it.post it.values olds parts it.placement) = record {
+        placeable = placeable running.contents gaps parts it.placement pieces are_gaps are;
+        apart = apart running.contents gaps parts it.placement pieces are_gaps are;
+        alone = alone running.contents gaps parts it.placement pieces are_gaps are;
+        full = full olds apart_olds;
+        retired_apart = fences_apart olds apart_olds;
+        in_use = all_of (λ (fence : Fence). MeetsNone fence_range fence.range running.contents.fences) (fences_of olds)
+            (λ fence has.
+            subst (λ (fences : List Fence). MeetsNone fence_range fence.range fences) (sym unfenced) refl);
+        jumps = all_fit it.extract olds at_all apart_olds old_is listed running.contents running.symbols [] it.clear
+            (coded running.contents running.symbols) (low_places whole lie);
+        once = each_once it.extract olds at_all apart_olds old_is listed
+            (places_differ parts it.placement (parts_differ it.extract it.post post_differ));
+        marked = all_marked it.extract olds at_all apart_olds old_is listed
+            (sections_differ it.extract it.found it.pre pre_differ) (changed_place places);
+      } in
+      subst (CanBeMade running.contents) it.plan_is here
+
+pub all_made : BodiesAreTold → PlacesLieApart → SectionsAreWhole → PiecesLieApart → RetiredLieApart → RoomIsCode →
+    (running : Running) (gaps : List Range) (pre_file post_file : List ℕ) (plan : Plan) → IsValid running.contents →
+    running.contents.fences ≡ [] → running.bodies ≡ [] → AreGaps running.contents gaps →
+    planned running [] gaps pre_file post_file ≡ Ok plan → CanBeMade running.contents plan
+all_made told places whole lie retired coded running gaps pre_file post_file plan valid unfenced empty are_gaps is =
+    made running gaps pre_file post_file plan valid unfenced empty are_gaps
+    (is_planned running [] gaps pre_file post_file plan is) told places whole lie retired coded

@@ -1,0 +1,30 @@
+use Rattle.std.proofs.Common.{◌≡◌, [], ◌∙◌, sym, subst}
+use Rattle.match_candidates.specs.Candidates.{Running}
+use Rattle.retired_code.specs.Retired.{AreBodies, AreInUse}
+use Rattle.update_plan.proofs.Answered.{are_bodies, are_in_use}
+use Rattle.update_plan.proofs.planning.free_olds.Goals as goal
+
+pub code_refusal-requires-clause-bodies : goal.code_refusal-requires-clause-bodies
+code_refusal-requires-clause-bodies g c =
+    let contents = g.S.Space.contents c.args.space.now in
+    let symbols = c.args.symbols.now.symbols in
+    let pre = c.args.pre.now in
+    let values = c.args.found.now.entries in
+    let running : Running = record { contents = contents; symbols = symbols; bodies = [] } in
+    let each = c.answers_tell_each_body.ensures running pre values (g.met.S.Space.valid c.args.space.now) c.as_slice-sections.ensures.distinct c.requires.solved in
+    subst AreBodies (sym (c.as_slice.ensures.value ∙ c.in_ok-olds.ensures))
+    (are_bodies c.args.extract.now contents symbols values pre each)
+
+pub code_refusal-requires-clause-in_use : goal.code_refusal-requires-clause-in_use
+code_refusal-requires-clause-in_use g c =
+    are_in_use (g.S.Space.contents c.args.space.now) c.as_slice.result.now c.requires.none_retired
+
+pub returns-clause-bodies : goal.returns-clause-bodies
+returns-clause-bodies g c =
+    let contents = g.S.Space.contents c.args.space.now in
+    let symbols = c.args.symbols.now.symbols in
+    let pre = c.args.pre.now in
+    let values = c.args.found.now.entries in
+    let running : Running = record { contents = contents; symbols = symbols; bodies = [] } in
+    let each = c.answers_tell_each_body.ensures running pre values (g.met.S.Space.valid c.args.space.now) c.as_slice-sections.ensures.distinct c.requires.solved in
+    subst AreBodies (sym c.in_ok-olds.ensures) (are_bodies c.args.extract.now contents symbols values pre each)

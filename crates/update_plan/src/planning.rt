@@ -1,0 +1,252 @@
+//! Plans an update from two objects and a running program.
+ghost use Rattle.std.specs.Prelude.{◌≡◌, List, [], map, Ok, IfOk};
+ghost use Rattle.ks_base.specs.Gives.{Gives};
+ghost use Rattle.image_memory.specs.Contents.{Contents, spliced_at};
+ghost use Rattle.image_memory.specs.Ranges.{Ascends};
+ghost use Rattle.symbol_table.specs.declared.symbols.Symbol.{Symbol};
+ghost use Rattle.extract_post.specs.Extracted.{extracted};
+ghost use Rattle.symbol_solve.specs.Solve.{solved};
+ghost use Rattle.link_post.specs.Linked.{AreInOrder, AreNamesInOrder};
+ghost use Rattle.link_post.specs.Places.{placed};
+ghost use Rattle.link_post.specs.Values.{resolved};
+ghost use Rattle.new_code.specs.Parts.{size_of};
+ghost use Rattle.retired_code.specs.Overlaps.{code_refusal};
+ghost use Rattle.retired_code.specs.Retired.{AreBodies};
+ghost use Rattle.update_plan.specs.Olds.{olds_of};
+ghost use Rattle.update_plan.specs.Placing.{names_of};
+ghost use Rattle.update_plan.specs.Plan.{fences_of, plan_of, planned, unless};
+ghost use Rattle.update_plan.specs.inside.Rests.{planned_at, planned_between, planned_with};
+
+use crate::olds::olds_of;
+use crate::parts::{names_of, parts_of};
+use crate::types::{Fences, Plan};
+use extract_post::{Extract, extract, extract_is_computed};
+use i386_reloc::Normal;
+use image_memory::{Fence, Space};
+use ks_base::{Ranges, Refusal};
+use link_post::laws::places_keep_the_order;
+use link_post::{Placement, place, resolve_post};
+use new_code::{Part, new_pieces, new_symbols, report_of, sizes};
+use object_sections::read_sections;
+use retired_code::{OldFunction, code_refusal, guarded_ranges};
+use std::alloc::{AllocError, Global};
+use symbol_solve::{answers_tell_each_body, solve};
+use symbol_table::{Bodies, SymbolTable, Values};
+
+/// What an update from the object file `pre` to the object file `post` would do to a running program in which nothing was
+/// replaced yet; its new sections are placed in the gaps, which lie apart and ascend.
+///
+/// The first refusal comes of these, in this order: what is wrong with `pre`, then with `post`, as of
+/// [`read_sections`]; what can't be changed between them, as of [`extract`]; why `pre` has no one reading in the program,
+/// as of [`solve`]; a name or data that the new sections refer to and that has no one address, as of [`resolve_post`]; a
+/// home without room for the jump, or code that overlaps, as of [`code_refusal`]; a new section that fits in no gap, as of
+/// [`place`]. [`Refusal::Memory`] comes for want of memory alone.
+pub fn plan<'a, S: Space>(
+    alloc: Global,
+    space: &S,
+    symbols: &SymbolTable,
+    gaps: &Ranges,
+    pre: &'a [u8],
+    post: &'a [u8],
+) -> Result<Plan, Refusal>
+    requires none_retired { (S.contents space.now).fences ≡ [] }
+    requires gaps { Ascends (λ range. range) 0 gaps.now }
+    ensures { Gives (λ plan. plan) result (planned
+        (record { contents = S.contents space.now; symbols = symbols.now.symbols; bodies = [] }) []
+        gaps.now pre.now post.now) }
+{
+    let old = read_sections(alloc, pre)?;
+    let new = read_sections(alloc, post)?;
+    plan_between(alloc, space, symbols, gaps, &old, &new)
+}
+
+// The same of the sections of both objects.
+fn plan_between<'a, S: Space>(
+    alloc: Global,
+    space: &S,
+    symbols: &SymbolTable,
+    gaps: &Ranges,
+    pre: &Normal<'a>,
+    post: &Normal<'a>,
+) -> Result<Plan, Refusal>
+    requires none_retired { (S.contents space.now).fences ≡ [] }
+    requires gaps { Ascends (λ range. range) 0 gaps.now }
+    ensures { Gives (λ plan. plan) result (planned_between
+        (record { contents = S.contents space.now; symbols = symbols.now.symbols; bodies = [] }) []
+        gaps.now pre.now post.now) }
+{
+    let extract = extract_of(alloc, pre, post)?;
+    let found = solve(alloc, pre, &no_bodies(alloc), space, symbols)?;
+    plan_with(alloc, space, symbols, gaps, pre, post, &extract, &found)
+}
+
+// The same where the difference and the old object's values are known.
+fn plan_with<S: Space>(
+    alloc: Global,
+    space: &S,
+    symbols: &SymbolTable,
+    gaps: &Ranges,
+    pre: &Normal<'_>,
+    post: &Normal<'_>,
+    extract: &Extract,
+    found: &Values,
+) -> Result<Plan, Refusal>
+    requires none_retired { (S.contents space.now).fences ≡ [] }
+    requires gaps { Ascends (λ range. range) 0 gaps.now }
+    requires solved { solved pre.now [] (S.contents space.now) symbols.now.symbols ≡ Ok found.now.entries }
+    ensures { Gives (λ plan. plan) result (planned_with
+        (record { contents = S.contents space.now; symbols = symbols.now.symbols; bodies = [] }) []
+        gaps.now pre.now post.now extract.now found.now.entries) }
+{
+    let parts = parts_of(alloc, post, extract)?;
+    let values = values_for(alloc, pre, post, symbols, parts.as_slice(), found)?;
+    let olds = free_olds(alloc, space, symbols, pre, found, extract)?;
+    plan_at(
+        alloc,
+        space,
+        gaps,
+        post,
+        parts.as_slice(),
+        &values,
+        olds.as_slice(),
+    )
+}
+
+// The same where the sections to place, their values and the old functions are known.
+#[tactic(auto, unfolding(crate::specs::inside::Rests::planned_at))]
+fn plan_at<S: Space>(
+    alloc: Global,
+    space: &S,
+    gaps: &Ranges,
+    post: &Normal<'_>,
+    parts: &[Part<'_, '_>],
+    values: &Values,
+    olds: &[OldFunction],
+) -> Result<Plan, Refusal>
+    requires gaps { Ascends (λ range. range) 0 gaps.now }
+    requires order { AreNamesInOrder post.now (names_of parts.now) }
+    requires bodies { AreBodies olds.now }
+    ensures { (symbols : List Symbol) → Gives (λ plan. plan) result (planned_at
+        (record { contents = S.contents space.now; symbols = symbols; bodies = [] })
+        gaps.now post.now parts.now values.now.entries olds.now) }
+{
+    let placement = places_of(alloc, post, parts, gaps)?;
+    Ok(plan_of(alloc, space, post, values, olds, parts, &placement)?)
+}
+
+// The values with those that the references of the sections to place need besides.
+fn values_for(
+    alloc: Global,
+    pre: &Normal<'_>,
+    post: &Normal<'_>,
+    symbols: &SymbolTable,
+    parts: &[Part<'_, '_>],
+    found: &Values,
+) -> Result<Values, Refusal>
+    ensures { Gives (λ values. values.entries) result
+        (resolved pre.now post.now symbols.now.symbols (names_of parts.now) found.now.entries) }
+{
+    let names = names_of(alloc, parts)?;
+    resolve_post(alloc, pre, post, &names, found, symbols)
+}
+
+// The newest bases where nothing was replaced.
+fn no_bodies(alloc: Global) -> Bodies
+    ensures { result ≡ [] }
+{
+    Bodies::new(Vec::new(alloc))
+}
+
+// The lists of sections that an update is about.
+fn extract_of<'a>(alloc: Global, pre: &Normal<'a>, post: &Normal<'a>) -> Result<Extract, Refusal>
+    ensures { Gives (λ extract. extract) result (extracted pre.now post.now) }
+{
+    // Nothing is done here: the law says that the answer is the one that is computed.
+    extract_is_computed();
+    extract(alloc, pre, post)
+}
+
+// The functions of the old object as they run, where nothing of the code stands in the update's way.
+fn free_olds<S: Space>(
+    alloc: Global,
+    space: &S,
+    symbols: &SymbolTable,
+    pre: &Normal<'_>,
+    found: &Values,
+    extract: &Extract,
+) -> Result<Vec<OldFunction>, Refusal>
+    requires none_retired { (S.contents space.now).fences ≡ [] }
+    requires solved { solved pre.now [] (S.contents space.now) symbols.now.symbols ≡ Ok found.now.entries }
+    ensures olds { Gives (λ olds. olds.items) result (unless
+        (code_refusal (S.contents space.now) symbols.now.symbols []
+        (olds_of extract.now found.now.entries pre.now))
+        (olds_of extract.now found.now.entries pre.now)) }
+    ensures bodies { IfOk result (λ olds. AreBodies olds.items) }
+{
+    let olds = olds_of(alloc, pre, found, extract)?;
+    // What a Normal tells of its sections: no two have one name. By the law each has its body below the limit.
+    let _sections = pre.as_slice();
+    answers_tell_each_body();
+    let none = Ranges::new(alloc);
+    code_refusal(alloc, space, symbols, &none, olds.as_slice())?;
+    Ok(olds)
+}
+
+// The places of sections that stand in the order of the object, which keep that order.
+fn places_of(
+    alloc: Global,
+    post: &Normal<'_>,
+    parts: &[Part<'_, '_>],
+    gaps: &Ranges,
+) -> Result<Placement, Refusal>
+    requires order { AreNamesInOrder post.now (names_of parts.now) }
+    requires gaps { Ascends (λ range. range) 0 gaps.now }
+    ensures places { Gives (λ placement. placement) result (placed (map size_of parts.now) gaps.now) }
+    ensures order { IfOk result (λ placement. AreInOrder post.now placement) }
+{
+    let sizes = sizes(alloc, parts)?;
+    places_keep_the_order();
+    place(alloc, sizes.as_slice(), gaps)
+}
+
+// The plan of new sections at their places, and of the functions of the old object.
+fn plan_of<S: Space>(
+    alloc: Global,
+    space: &S,
+    post: &Normal<'_>,
+    values: &Values,
+    olds: &[OldFunction],
+    parts: &[Part<'_, '_>],
+    placement: &Placement,
+) -> Result<Plan, AllocError>
+    requires bodies { AreBodies olds.now }
+    requires order { AreInOrder post.now placement.now }
+    ensures { IfOk result (λ plan. (symbols : List Symbol) → plan ≡ plan_of
+        (record { contents = S.contents space.now; symbols = symbols; bodies = [] })
+        post.now values.now.entries olds.now parts.now placement.now) }
+{
+    Ok(Plan {
+        report: report_of(alloc, parts, placement, olds)?,
+        pieces: new_pieces(alloc, post, parts, placement, values)?,
+        symbols: new_symbols(alloc, parts, placement)?,
+        fences: fences_of(alloc, olds)?,
+        guarded: guarded_ranges(alloc, space, olds)?,
+    })
+}
+
+// What is retired of the functions, each with whether the jump is written at its low.
+fn fences_of(alloc: Global, olds: &[OldFunction]) -> Result<Fences, AllocError>
+    requires { AreBodies olds.now }
+    ensures { IfOk result (λ fences. fences ≡ fences_of olds.now) }
+{
+    let mut fences = Fences::new(alloc);
+    for old in olds {
+        if old.fate.is_retired() {
+            fences.push(Fence {
+                range: old.retired_range(),
+                jump: old.takes_jump(),
+            })?;
+        }
+    }
+    Ok(fences)
+}

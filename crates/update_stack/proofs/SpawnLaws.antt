@@ -1,0 +1,131 @@
+-- A thread's start: the program does what the machine does.
+use Rattle.std.proofs.Common.{◌≡◌, ◌≢◌, ℕ, Bool, true, false, if◌then◌else◌, nat_le, List, [], ◌∷◌, ◌++◌, length}
+use Rattle.std.proofs.Common.{Contains, Option, Some, None, Result, Ok, Err, MatchResult, OnErr, IfSome, IsTrue}
+use Rattle.std.proofs.Common.{refl, sym, ◌∙◌, ap, subst, arith}
+use Rattle.std.specs.List.{All}
+use Rattle.std.proofs.lemmas.List.Elements.{All-contains}
+use Rattle.ks_base.specs.declared.places.Range.{Range}
+use Rattle.ks_base.specs.declared.refusals.Refusal.{Refusal}
+use Rattle.ks_base.specs.declared.refusals.Refusal.TheVariants.{Memory, TooManyThreads}
+use Rattle.image_memory.specs.declared.types.Piece.{Piece}
+use Rattle.image_memory.specs.Contents.{Contents, IsValid}
+use Rattle.image_threads.specs.Program.{Program, IsStackRange}
+use Rattle.image_threads.specs.Spawning.{Started, started, started_at, started_on, with_started, free_stack}
+use Rattle.image_threads.specs.Spawning.{first_bytes, is_stack, AreStacks, first_thread, spawned as program_spawned}
+use Rattle.image_threads.proofs.StackLaws.{stack_written, length-first_bytes, stack_listed}
+use Rattle.symbol_table.specs.Symbols.{function_named}
+use Rattle.update_stack.specs.declared.updates.Update.{Update as Shown}
+use Rattle.update_stack.specs.declared.updates.Kept.{Kept}
+use Rattle.update_stack.specs.CallTable.{CallTable}
+use Rattle.update_stack.specs.Steps.{after_start, spawned}
+use Rattle.update_stack.specs.Events.{Spawn, Spawned, Happened, happened, spawn_answered, answered}
+use Rattle.update_stack.specs.Systems.{text_of, machine_of, Holds}
+use Rattle.update_stack.proofs.TextLaws.{IsClear, gaps_stay}
+use Rattle.update_stack.proofs.HoldsLaws.{Laws, Sound, KeepsPlaces, sound_of, valid_of, writes_beside, holds_again}
+
+-- the bytes of a stack can be written
+stack_clear : (contents : Contents) (stacks : List Range) (stack : Range) (argument : ℕ) → IsValid contents
+    → All IsStackRange stacks → AreStacks contents.pieces stacks → Contains stacks stack
+    → IsClear stack.low (length (first_bytes stack argument)) contents.pieces
+stack_clear contents stacks stack argument valid bounds are listed =
+    let tall = (All-contains IsStackRange stacks stack bounds listed).tall in
+    stack_written contents stack (length (first_bytes stack argument)) valid
+    (All-contains (λ (range : Range). IsTrue (is_stack contents.pieces range)) stacks stack are listed)
+    (length-first_bytes stack argument (omega arith))
+
+module _ (arena : Range) (updates : List Shown) (kept : List Kept) where
+  -- a program as the machine
+  abbrev machine : Program → CallTable
+  machine program = machine_of program arena updates kept
+
+  -- what the program leaves, and what the machine does
+  abbrev pub Starts : Program → Result Program Refusal → Result CallTable Refusal → Type 0
+  Starts old (Err refusal) now = now ≡ Err refusal
+  Starts old (Ok new) now =
+      (now ≡ Ok (machine new)) × Sound updates kept new.contents
+      × KeepsPlaces old.contents new.contents
+
+  starts_on : Laws → (old : Program) (pc argument : ℕ) → Holds old arena updates kept → All IsStackRange old.stacks
+      → (o : Option Range) → IfSome o (Contains old.stacks)
+      → Starts old (with_started old (started_on old.contents.pieces old.threads pc argument o))
+      (after_start (machine old)
+      (started_on (text_of kept old.contents.pieces) old.threads pc argument o))
+  starts_on laws old pc argument holds bounds None listed = refl
+  starts_on laws old pc argument holds bounds (Some stack) listed =
+      let sound = sound_of old arena updates kept holds in
+      let bytes = first_bytes stack argument in
+      let clear = stack_clear old.contents old.stacks stack argument (valid_of laws updates kept old.contents sound)
+      bounds holds.stacks listed in
+      let beside = writes_beside laws updates kept old.contents stack.low bytes sound clear in
+      let start : List Piece → Started = λ ps. record {
+        pieces = ps;
+        threads = old.threads ++ first_thread (length old.threads) stack pc ∷ [];
+      } in (
+        ap (λ (ps : List Piece). after_start (machine old) (Ok (start ps)))
+            (sym (ap (λ (c : Contents). c.pieces) beside.text)),
+        beside.sound,
+        record { fences = refl; gaps = gaps_stay old.contents stack.low bytes },
+      )
+
+  starts_at : Laws → (old : Program) (argument : ℕ) → Holds old arena updates kept → All IsStackRange old.stacks
+      → (pc : Result ℕ Refusal)
+      → Starts old (with_started old (started_at old.contents.pieces old.stacks old.threads argument pc))
+      (after_start (machine old)
+      (started_at (text_of kept old.contents.pieces) old.stacks old.threads argument pc))
+  starts_at laws old argument holds bounds (Err refusal) = refl
+  starts_at laws old argument holds bounds (Ok pc) = by_count (nat_le 4096 (length old.threads))
+    where
+      by_count : (full : Bool)
+          → Starts old (with_started old (if full then Err TooManyThreads
+          else started_on old.contents.pieces old.threads pc argument (free_stack old.stacks old.threads)))
+          (after_start (machine old) (if full then Err TooManyThreads
+          else started_on (text_of kept old.contents.pieces) old.threads pc argument
+          (free_stack old.stacks old.threads)))
+      by_count true = refl
+      by_count false =
+          starts_on laws old pc argument holds bounds (free_stack old.stacks old.threads)
+          (stack_listed old.stacks old.threads (free_stack old.stacks old.threads) refl)
+
+  starts : Laws → (old : Program) (name : List ℕ) (argument : ℕ) → Holds old arena updates kept
+      → All IsStackRange old.stacks
+      → Starts old (program_spawned old name argument) (spawned (machine old) name argument)
+  unfolding program_spawned spawned started
+  starts laws old name argument holds bounds =
+      starts_at laws old argument holds bounds (function_named old.table.symbols name)
+
+  -- what a call of the program gave
+  abbrev pub HasSpawned : (old new : Program) (name : List ℕ) (argument : ℕ) → Result ℕ Refusal → Type 0
+  HasSpawned old new name argument result =
+      MatchResult result (λ _. program_spawned old name argument ≡ Ok new)
+      (λ refusal. refusal ≢ Memory → program_spawned old name argument ≡ Err refusal)
+
+  spawn_goes : Laws → (old : Program) (name : List ℕ) (argument : ℕ) (given : Result Program Refusal)
+      → Holds old arena updates kept → All IsStackRange old.stacks → program_spawned old name argument ≡ given
+      → Starts old given (spawned (machine old) name argument)
+  spawn_goes laws old name argument given holds bounds is =
+      subst (λ (r : Result Program Refusal). Starts old r (spawned (machine old) name argument)) is
+      (starts laws old name argument holds bounds)
+
+  pub spawn_holds : Laws → (old new : Program) (name : List ℕ) (argument : ℕ) (result : Result ℕ Refusal)
+      → Holds old arena updates kept → All IsStackRange old.stacks → HasSpawned old new name argument result
+      → OnErr result (new ≡ old) → AreStacks new.contents.pieces new.stacks → Holds new arena updates kept
+  spawn_holds laws old new name argument (Ok number) holds bounds is same stacks =
+      let goes = spawn_goes laws old name argument (Ok new) holds bounds is in
+      holds_again old new arena updates kept holds goes.1 goes.2 stacks
+  spawn_holds laws old new name argument (Err refusal) holds bounds is same stacks =
+      subst (λ (p : Program). Holds p arena updates kept) (sym same) holds
+
+  pub spawn_seen : Laws → (old new : Program) (name : List ℕ) (argument : ℕ) (result : Result ℕ Refusal)
+      → Holds old arena updates kept → All IsStackRange old.stacks → HasSpawned old new name argument result
+      → MatchResult result (λ number. number ≡ length old.threads) (λ _. Unit {0})
+      → MatchResult result
+      (λ number. answered (machine old) (Spawn name argument)
+      ≡ Ok (happened (machine new) (Spawned number)))
+      (λ refusal. refusal ≢ Memory → answered (machine old) (Spawn name argument) ≡ Err refusal)
+  unfolding answered
+  spawn_seen laws old new name argument (Ok number) holds bounds is count =
+      ap (spawn_answered (length old.threads)) (spawn_goes laws old name argument (Ok new) holds bounds is).0
+      ∙ ap (λ (n : ℕ). let r : Result Happened Refusal =
+      Ok (happened (machine new) (Spawned n)) in r) (sym count)
+  spawn_seen laws old new name argument (Err refusal) holds bounds is count = λ other.
+      ap (spawn_answered (length old.threads)) (spawn_goes laws old name argument (Err refusal) holds bounds (is other))

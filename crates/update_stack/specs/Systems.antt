@@ -1,0 +1,87 @@
+-- A running system, seen as the machine that never patches code: the old code is put back over the jumps that its live updates
+-- wrote, and what they replaced makes the table.
+use Rattle.std.specs.Prelude.{◌≡◌, ◌≤◌, List, [], ◌∷◌, map, length}
+use Rattle.std.specs.List.{fold, flat_map, All}
+use Rattle.ks_base.specs.declared.places.Range.{Range}
+use Rattle.ks_base.specs.declared.reports.Replaced.{Replaced}
+use Rattle.image_memory.specs.declared.types.Piece.{Piece}
+use Rattle.image_memory.specs.Contents.{fence_range}
+use Rattle.image_memory.specs.Fetch.{HasCode}
+use Rattle.splice_jump.specs.Jumps.{unjumped}
+use Rattle.memory_changes.specs.declared.types.Jump.{Jump}
+use Rattle.memory_changes.specs.Rows.{olds_of}
+use Rattle.link_post.specs.Places.{unless_empty}
+use Rattle.image_threads.specs.Program.{Program}
+use Rattle.image_threads.specs.Spawning.{AreStacks}
+use Rattle.update_plan.specs.Sound.{AreGaps}
+use Rattle.update_stack.specs.declared.updates.Update.{Update as Shown}
+use Rattle.update_stack.specs.declared.updates.Kept.{Kept}
+use Rattle.update_stack.specs.CallTable.{CallTable, Row, Update, with_replaced}
+use Rattle.update_stack.specs.Jumps.{CanJump}
+use Rattle.update_stack.specs.StandsFor.{StandsFor}
+
+-- pieces with the old code of updates put back, that of the newest update first
+abbrev pub text_of : List Kept → List Piece → List Piece
+text_of [] pieces = pieces
+text_of (kept ∷ later) pieces = unjumped (olds_of kept.jumps) (text_of later pieces)
+
+-- the table that updates make
+abbrev pub replaced_by : List Shown → List Replaced
+replaced_by updates = flat_map (λ update. update.report.replaced) updates
+
+abbrev pub table_of : List Shown → List Row
+table_of updates = fold with_replaced [] (replaced_by updates)
+
+-- an update with what is kept of it
+abbrev pub live_update : Shown → Kept → Update
+live_update update kept =
+    record {
+      name = update.name;
+      report = update.report;
+      pieces = kept.pieces;
+      retired = kept.retired;
+      symbols = kept.symbols;
+    }
+
+abbrev pub live_updates : List Shown → List Kept → List Update
+live_updates [] kept = []
+live_updates (update ∷ updates) [] = []
+live_updates (update ∷ updates) (one ∷ kept) = live_update update one ∷ live_updates updates kept
+
+-- a program with its arena and its live updates, as the machine
+abbrev pub machine_of : Program → Range → List Shown → List Kept → CallTable
+machine_of program arena updates kept =
+    record {
+      pieces = text_of kept program.contents.pieces;
+      table = table_of updates;
+      retired = map fence_range program.contents.fences;
+      symbols = program.table.symbols;
+      stacks = program.stacks;
+      arena = arena;
+      threads = program.threads;
+      updates = live_updates updates kept;
+    }
+
+-- what is free of an arena in which nothing was placed
+abbrev pub gaps_in : Range → List Range
+gaps_in arena = unless_empty arena
+
+-- the old bytes of a jump have their place in one piece of code
+abbrev pub HasJumpCode : List Piece → Jump → Type 0
+HasJumpCode pieces jump = HasCode pieces jump.home (length jump.old)
+
+-- a program in which nothing was replaced: nothing is retired, and the arena is free
+pub record IsUntouched (program : Program) (arena : Range) : Type 0 where
+  pub none_retired : program.contents.fences ≡ []
+  pub gaps : AreGaps program.contents (gaps_in arena)
+
+-- What holds of a system at every moment: its program stands for the machine, whose jumps can stand in memory; each stack is
+-- a piece; and where no update is live, nothing was replaced.
+pub record Holds (program : Program) (arena : Range) (updates : List Shown) (kept : List Kept) : Type 0 where
+  pub stands : StandsFor program (machine_of program arena updates kept)
+  pub jumps : CanJump (machine_of program arena updates kept)
+  pub stacks : AreStacks program.contents.pieces program.stacks
+  pub code : All (λ one. All (HasJumpCode program.contents.pieces) one.jumps) kept
+  pub few : length updates ≤ 1
+  pub paired : length kept ≡ length updates
+  pub untouched : updates ≡ [] → IsUntouched program arena

@@ -1,0 +1,216 @@
+//! What carrying out a plan takes and does, piece by piece.
+ghost use Rattle.std.specs.Prelude.{◌≡◌, ℕ, List, ◌≤◌, ◌+◌, ◌^◌, ◌++◌, [], ◌∷◌, length, map, IfOk, OnOk, OnErr};
+ghost use Rattle.std.specs.List.{All};
+ghost use Rattle.image_memory.specs.Contents.{Contents, IsValid, piece_range, fence_range};
+ghost use Rattle.image_memory.specs.Changes.{ArePlaceable};
+ghost use Rattle.splice_jump.specs.Jumps.{jumped_memory, olds_at};
+ghost use Rattle.memory_changes.specs.Added.{AreAddable, with_pieces};
+ghost use Rattle.memory_changes.specs.Retired.{AreRetirable, with_fences};
+ghost use Rattle.memory_changes.specs.Rows.{olds_of, rows_of};
+ghost use Rattle.update_stack.specs.StandsFor.{seen};
+ghost use Rattle.update_stack.specs.Systems.{Holds};
+ghost use Rattle.update_stack.specs.inside.Carrying.{bare_jump, base_of_piece, jump_rows, EndsLow, FitsIn, HasHomeCode};
+ghost use Rattle.update_stack.specs.inside.Carrying.{HoldsAfter, IsCarriedOut, IsKeptOf, shown_as};
+ghost use Rattle.update_stack.specs.declared.updates.Kept.{Kept as KeptOf};
+ghost use Rattle.ks_base.specs.declared.places.Range.{Range};
+ghost use Rattle.image_threads.specs.Program.{Program};
+ghost use Rattle.memory_changes.specs.declared.types.Jump.{Jump as Jumped};
+ghost use Rattle.update_plan.specs.declared.types.Plan.{Plan as Planned};
+ghost use Rattle.update_plan.specs.Sound.{CanBeMade};
+
+use crate::updates::{Kept, KeptList, Update, Updates};
+use image_memory::{Fence, Piece, Pieces, Space};
+use image_threads::Machine;
+use ks_base::{Name, Ranges, Replaced, Report};
+use memory_changes::laws::{pieces_are_added, ranges_are_retired};
+use memory_changes::{Jump, Jumps, add_pieces, note_old_code, retire, write_jumps};
+use new_code::NewSymbols;
+use splice_jump::laws::{homes_stay_spliced, jumps_are_taken_back, jumps_change_their_bytes_alone};
+use std::alloc::{AllocError, Global};
+use symbol_table::{Addresses, SymbolTable};
+use update_plan::Plan;
+
+// Makes room in a program for pieces, retired ranges and symbols to come. What is seen of the program stays.
+pub(crate) fn reserve<S: Space>(machine: &mut Machine<S>, plan: &Plan) -> Result<(), AllocError>
+    requires { ArePlaceable plan.now.pieces }
+    ensures seen { seen machine.new ≡ seen machine.old }
+    ensures ranges { OnOk result (machine.new.room.ranges ≡ map piece_range plan.now.pieces) }
+    ensures fences { OnOk result (length plan.now.fences ≤ machine.new.room.fences) }
+    ensures symbols { OnOk result (length plan.now.symbols ≤ machine.new.table.spare) }
+{
+    let fences = counted(plan.fences.len())?;
+    let symbols = counted(plan.symbols.len())?;
+    machine.space_mut().reserve(&plan.pieces, fences)?;
+    machine.symbols_mut().reserve(symbols)
+}
+
+// A number of items as 32 bits; there is no room for more.
+fn counted(count: usize) -> Result<u32, AllocError>
+    ensures { IfOk result (λ n. n ≡ count) }
+{
+    match u32::try_from(count) {
+        Ok(n) => Ok(n),
+        Err(_) => Err(AllocError),
+    }
+}
+
+// Adds pieces, retires ranges, writes jumps and adds symbols, for which there is room. It takes no memory.
+pub(crate) fn change<S: Space>(
+    machine: &mut Machine<S>,
+    pieces: Pieces,
+    fences: &[Fence],
+    jumps: &[Jump],
+    symbols: NewSymbols,
+)
+    requires ranges { machine.old.room.ranges ≡ map piece_range pieces }
+    requires fences { length fences.now ≤ machine.old.room.fences }
+    requires spare { length symbols ≤ machine.old.table.spare }
+    requires addable { AreAddable machine.old.contents pieces }
+    requires retirable { AreRetirable (with_pieces machine.old.contents pieces) fences.now }
+    requires code { All (HasHomeCode (with_fences (with_pieces machine.old.contents pieces) fences.now).pieces) jumps.now }
+    ensures { seen machine.new ≡ record (seen machine.old) {
+      contents = jumped_memory (rows_of jumps.now) (with_fences (with_pieces machine.old.contents pieces) fences.now);
+      symbols = machine.old.table.symbols ++ symbols;
+    } }
+{
+    let space = machine.space_mut();
+    add_pieces(space, pieces);
+    retire(space, fences);
+    write_jumps(space, jumps);
+    add_symbols(machine.symbols_mut(), symbols);
+}
+
+// Adds symbols, for which there is room.
+fn add_symbols(table: &mut SymbolTable, symbols: NewSymbols)
+    requires { length symbols ≤ table.old.spare }
+    ensures { table.new.symbols ≡ table.old.symbols ++ symbols }
+{
+    for symbol in symbols.into_vec() {
+        table.add(symbol);
+    }
+}
+
+// The jumps of replaced functions, each with the code that stands at its home.
+#[tactic(auto, using(crate::proofs::CarryLaws::rows_bare, crate::proofs::CarryLaws::homes_low))]
+pub(crate) fn jumps_of<S: Space>(
+    alloc: Global,
+    space: &S,
+    replaced: &[Replaced],
+) -> Result<Jumps, AllocError>
+    requires { All EndsLow replaced.now }
+    ensures rows { IfOk result (λ jumps. rows_of jumps ≡ jump_rows replaced.now) }
+    ensures olds { IfOk result (λ jumps. olds_of jumps ≡ olds_at (S.contents space.now).pieces (jump_rows replaced.now)) }
+{
+    let jumps = bare_jumps(alloc, replaced)?;
+    Ok(Jumps::from_vec(with_old_code(space, jumps)))
+}
+
+// Jumps, each with the code that stands at its home.
+fn with_old_code<S: Space>(space: &S, mut jumps: Vec<Jump>) -> Vec<Jump>
+    requires { All (λ jump. jump.home + 5 ≤ 2 ^ 32) jumps.items }
+    ensures rows { rows_of result.items ≡ rows_of jumps.items }
+    ensures olds { olds_of result.items ≡ olds_at (S.contents space.now).pieces (rows_of jumps.items) }
+{
+    note_old_code(space, jumps.as_mut_slice());
+    jumps
+}
+
+// The jumps of replaced functions, before the code at their homes is noted.
+fn bare_jumps(alloc: Global, replaced: &[Replaced]) -> Result<Vec<Jump>, AllocError>
+    ensures { IfOk result (λ jumps. jumps.items ≡ map bare_jump replaced.now) }
+{
+    let mut jumps = Vec::new(alloc);
+    for one in replaced {
+        jumps.push(bare_jump(one))?;
+    }
+    Ok(jumps)
+}
+
+fn bare_jump(one: &Replaced) -> Jump
+    ensures { result ≡ bare_jump one.now }
+{
+    Jump {
+        home: one.home,
+        base: one.base,
+        old: [0; 5],
+    }
+}
+
+// What is kept of a plan that is carried out with these jumps.
+pub(crate) fn kept_of(alloc: Global, plan: &Plan, jumps: &Jumps) -> Result<Kept, AllocError>
+    ensures { IfOk result (λ kept. IsKeptOf plan.now jumps.now kept) }
+{
+    Ok(Kept {
+        pieces: bases_of(alloc, plan.pieces.as_slice())?,
+        retired: ranges_of(alloc, plan.fences.as_slice())?,
+        symbols: plan.symbols.clone()?,
+        jumps: jumps.clone()?,
+    })
+}
+
+fn bases_of(alloc: Global, pieces: &[Piece]) -> Result<Addresses, AllocError>
+    ensures { IfOk result (λ bases. bases ≡ map base_of_piece pieces.now) }
+{
+    let mut bases = Addresses::new(alloc);
+    for piece in pieces {
+        bases.push(piece.base)?;
+    }
+    Ok(bases)
+}
+
+fn ranges_of(alloc: Global, fences: &[Fence]) -> Result<Ranges, AllocError>
+    ensures { IfOk result (λ ranges. ranges ≡ map fence_range fences.now) }
+{
+    let mut ranges = Ranges::new(alloc);
+    for fence in fences {
+        ranges.push(fence.range)?;
+    }
+    Ok(ranges)
+}
+
+// The update of a name, as it is shown.
+pub(crate) fn shown_as(alloc: Global, name: &Name, report: &Report) -> Result<Update, AllocError>
+    ensures { IfOk result (λ update. update ≡ shown_as name.now report.now) }
+{
+    Ok(Update {
+        name: Name::from_slice(alloc, name.as_slice())?,
+        report: report.clone()?,
+    })
+}
+
+// Puts an update, and what is kept of it, behind the others. For want of memory both lists are as before.
+pub(crate) fn push_both(
+    updates: &mut Updates,
+    kept: &mut KeptList,
+    update: Update,
+    one: Kept,
+) -> Result<(), AllocError>
+    ensures updates { OnOk result (updates.new ≡ updates.old ++ update ∷ []) }
+    ensures kept { OnOk result (kept.new ≡ kept.old ++ one ∷ []) }
+    ensures refused_updates { OnErr result (updates.new ≡ updates.old) }
+    ensures refused_kept { OnErr result (kept.new ≡ kept.old) }
+{
+    updates.push(update)?;
+    if let Err(fault) = kept.push(one) {
+        let _ = updates.pop();
+        return Err(fault);
+    }
+    Ok(())
+}
+
+// A plan that can be made fits in the program, and when it is carried out where no update is live, the system holds, as
+// the machine after the update.
+pub(crate) fn plans_are_carried_out()
+    ensures fits { (contents : Contents) (plan : Planned) (jumps : List Jumped) → IsValid contents
+        → CanBeMade contents plan → rows_of jumps ≡ jump_rows plan.report.replaced → FitsIn contents plan jumps }
+    ensures holds { (before after : Program) (arena : Range) (name : List ℕ) (plan : Planned) (jumps : List Jumped)
+        (kept : KeptOf) → IsValid before.contents → Holds before arena [] [] → CanBeMade before.contents plan
+        → IsCarriedOut before after plan jumps → IsKeptOf plan jumps kept
+        → HoldsAfter before after arena name plan kept }
+{
+    pieces_are_added();
+    ranges_are_retired();
+    jumps_are_taken_back();
+    jumps_change_their_bytes_alone();
+    homes_stay_spliced();
+}
