@@ -1,21 +1,20 @@
 -- Why each line is answered as it is to be.
-use Rattle.std.proofs.Common.{◌≡◌, ◌≢◌, ℕ, Bool, true, false, List, [], ◌∷◌, length, is_some, arith, Result, Ok, Err, IfOk, refl, sym, ◌∙◌, ap, append-nil}
+use Rattle.std.proofs.Common.{◌≡◌, ◌≢◌, ℕ, Bool, true, false, List, [], ◌∷◌, length, map, is_some, arith, Result, Ok, Err, IfOk, refl, sym, ◌∙◌, ap, append-nil}
 use Rattle.std.specs.declared.alloc.AllocError.{AllocError}
 use Rattle.std.specs.Global.{Vec}
-use Rattle.ks_base.specs.declared.reports.Report.{Report}
 use Rattle.ks_io.specs.Loads.{bytes_of}
 use Rattle.ks_base.specs.declared.refusals.Refusal.{Refusal}
 use Rattle.ks_base.specs.declared.refusals.Refusal.TheVariants.{NoThread, Memory}
 use Rattle.ks_base.specs.Refusals.{refusal_line}
 use Rattle.image_threads.specs.Program.{running_at}
-use Rattle.script_lines.specs.declared.types.Command.TheVariants.{Spawn, Step, RoundRobin, Threads, Peek}
-use Rattle.update_stack.specs.CallTable.{CallTable}
-use Rattle.update_stack.specs.Events.{Event, Spawn as SpawnEvent, Apply as ApplyEvent, Spawned, Applied, Happened, happened, answered, machine_after, after_event, after_events}
+use Rattle.script_lines.specs.declared.types.Command.TheVariants.{Spawn, Step, RoundRobin, Threads, Peek, Undo, ListUpdates}
+use Rattle.update_stack.specs.CallTable.{CallTable, shown_update}
+use Rattle.update_stack.specs.Events.{Event, Spawn as SpawnEvent, Undo as UndoEvent, Spawned, Undone, Happened, happened, answered, machine_after, after_event, after_events}
 use Rattle.update_stack.specs.StandsFor.{patched}
 use Rattle.ksplice_session.specs.declared.types.Answer.{Answer}
-use Rattle.ksplice_session.specs.Lines.{spawned_line, threads_lines, peek_line, applied_lines}
+use Rattle.ksplice_session.specs.Lines.{spawned_line, threads_lines, peek_line, undone_line, list_lines}
 use Rattle.ksplice_session.specs.Running.{thread_steps, round_robin}
-use Rattle.ksplice_session.specs.Replies.{Told, told_of, apply_told, event_told, told_by, replied, refused_after, shown, step_told, turns_told}
+use Rattle.ksplice_session.specs.Replies.{Told, told_of, apply_told, told_by, replied, refused_after, shown, step_told, turns_told}
 use Rattle.ksplice_session.specs.Answers.{Answers, answer_of}
 
 nothing_made : (k now : CallTable) (events : List Event) → now ≡ k → now ≡ after_events k []
@@ -86,17 +85,24 @@ pub nothing_done : (k : CallTable) → k ≡ after_events k []
 unfolding after_events
 nothing_done k = refl
 
-pub told_applied : (k now : CallTable) (name pre post : List ℕ) (report : Report) → answered k (ApplyEvent name pre post) ≡ Ok (happened now (Applied report))
-    → event_told k (ApplyEvent name pre post) ≡ replied (ApplyEvent name pre post ∷ []) (applied_lines name 1 report)
-told_applied k now name pre post report is = ap (told_by (ApplyEvent name pre post)) is
+pub told_undone : (k now : CallTable) (name : List ℕ) → answered k UndoEvent ≡ Ok (happened now (Undone name))
+    → told_of k Undo [] ≡ replied (UndoEvent ∷ []) (undone_line name)
+unfolding told_of
+told_undone k now name is = ap (told_by UndoEvent) is
 
-pub told_apply_refused : (k : CallTable) (name pre post : List ℕ) (refusal : Refusal) → answered k (ApplyEvent name pre post) ≡ Err refusal
-    → event_told k (ApplyEvent name pre post) ≡ refused_after [] refusal
-told_apply_refused k name pre post refusal is = ap (told_by (ApplyEvent name pre post)) is
+pub told_undo_refused : (k : CallTable) (refusal : Refusal) → answered k UndoEvent ≡ Err refusal
+    → told_of k Undo [] ≡ refused_after [] refusal
+unfolding told_of
+told_undo_refused k refusal is = ap (told_by UndoEvent) is
+
+pub told_list : (k : CallTable) → told_of k ListUpdates [] ≡ replied [] (list_lines (map shown_update k.updates))
+unfolding told_of
+told_list k = refl
 
 -- any other number of files than two
-pub not_two_files : (k : CallTable) (name : List ℕ) (held : List (Vec ℕ)) → length held ≢ 2 → apply_told k name (bytes_of held) ≡ replied [] []
-not_two_files k name [] other = refl
-not_two_files k name (pre ∷ []) other = refl
-not_two_files k name (pre ∷ post ∷ []) other = absurd (other (omega arith))
-not_two_files k name (pre ∷ post ∷ more ∷ rest) other = refl
+pub not_two_files : (k : CallTable) (name : List ℕ) (tries gap : ℕ) (held : List (Vec ℕ)) → length held ≢ 2
+    → apply_told k name tries gap (bytes_of held) ≡ replied [] []
+not_two_files k name tries gap [] other = refl
+not_two_files k name tries gap (pre ∷ []) other = refl
+not_two_files k name tries gap (pre ∷ post ∷ []) other = absurd (other (omega arith))
+not_two_files k name tries gap (pre ∷ post ∷ more ∷ rest) other = refl

@@ -10,6 +10,7 @@ use Rattle.image_memory.specs.declared.types.Piece.{Piece}
 use Rattle.image_memory.specs.Contents.{look_at}
 use Rattle.symbol_table.specs.declared.symbols.Symbol.{Symbol}
 use Rattle.ia32_step.specs.declared.types.Thread.{Thread}
+use Rattle.update_stack.specs.declared.updates.Update.{Update}
 use Rattle.ksplice_session.specs.Places.{place_text, state_text}
 
 -- a thread was started: its number, and where it stands
@@ -20,7 +21,8 @@ spawned_line symbols thread =
 -- a thread made so many steps, and this is its state now
 unfoldable pub stepped_line : List Symbol → Thread → ℕ → List ℕ
 stepped_line symbols thread steps =
-    codes "stepped " ++ number_text thread.number ++ codes " " ++ number_text steps ++ codes " " ++ state_text symbols thread ++ 10 ∷ []
+    codes "stepped " ++ number_text thread.number ++ codes " " ++ number_text steps
+    ++ codes " " ++ state_text symbols thread ++ 10 ∷ []
 
 -- the threads made so many steps in turn
 unfoldable pub turns_line : ℕ → List ℕ
@@ -52,10 +54,12 @@ unfoldable pub peek_line : List Piece → ℕ → ℕ → List ℕ
 peek_line pieces address count =
     hex_text address ++ codes ":" ++ flat_map (peeked_at pieces) (range_with_len address count) ++ 10 ∷ []
 
--- a function that has a new version: where its first version begins, where the new one does, and the length of the version that ran
+-- a function that has a new version: where its first version begins, where the new one does, and the length of the
+-- version that ran
 unfoldable pub replaced_line : Replaced → List ℕ
 replaced_line r =
-    codes " replaced " ++ shown_name r.function ++ codes " " ++ hex_text r.home ++ codes " " ++ hex_text r.base ++ codes " " ++ number_text r.length ++ 10 ∷ []
+    codes " replaced " ++ shown_name r.function ++ codes " " ++ hex_text r.home
+    ++ codes " " ++ hex_text r.base ++ codes " " ++ number_text r.length ++ 10 ∷ []
 
 -- a function that is new, and where it begins
 unfoldable pub added_line : Added → List ℕ
@@ -72,4 +76,24 @@ applied_line name tries = codes "applied " ++ shown_name name ++ codes " tries "
 -- the same, and what it replaced, added and dropped
 unfoldable pub applied_lines : List ℕ → ℕ → Report → List ℕ
 applied_lines name tries report =
-    applied_line name tries ++ flat_map replaced_line report.replaced ++ flat_map added_line report.added ++ flat_map dropped_line report.dropped
+    applied_line name tries
+    ++ flat_map replaced_line report.replaced
+    ++ flat_map added_line report.added
+    ++ flat_map dropped_line report.dropped
+
+-- the newest update was taken back
+unfoldable pub undone_line : List ℕ → List ℕ
+undone_line name = codes "undone " ++ shown_name name ++ 10 ∷ []
+
+-- an update that is live, and how many functions it replaced
+unfoldable pub update_line : Update → List ℕ
+update_line update =
+    codes "update " ++ shown_name update.name ++ codes " " ++ number_text (length update.report.replaced) ++ 10 ∷ []
+
+-- how many updates are live
+unfoldable pub updates_line : ℕ → List ℕ
+updates_line count = codes "updates " ++ number_text count ++ 10 ∷ []
+
+-- all live updates, the oldest first, and how many they are
+unfoldable pub list_lines : List Update → List ℕ
+list_lines updates = flat_map update_line updates ++ updates_line (length updates)

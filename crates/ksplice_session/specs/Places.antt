@@ -2,7 +2,8 @@
 use Rattle.std.specs.Prelude.{ℕ, List, [], ◌++◌, codes, Option, Some, None}
 use Rattle.ks_base.specs.Text.{hex_text, offset_text, shown_name}
 use Rattle.ks_base.specs.declared.refusals.Fault.{Fault}
-use Rattle.ks_base.specs.declared.refusals.Fault.TheVariants.{Stray, Unmapped, CodeAccess, ReadOnlyWrite, Undecoded, Unsupported, Divide, Trap, BadLock}
+use Rattle.ks_base.specs.declared.refusals.Fault.TheVariants.{Stray, Unmapped, CodeAccess, ReadOnlyWrite}
+use Rattle.ks_base.specs.declared.refusals.Fault.TheVariants.{Undecoded, Unsupported, Divide, Trap, BadLock}
 use Rattle.symbol_table.specs.declared.symbols.Symbol.{Symbol}
 use Rattle.symbol_table.specs.Symbols.{name_below}
 use Rattle.ia32_step.specs.declared.types.State.{State}

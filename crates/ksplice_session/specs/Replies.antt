@@ -1,19 +1,23 @@
 -- What each line of a script does, as the list of its events, and what it replies.
-use Rattle.std.specs.Prelude.{ℕ, Bool, true, false, if◌then◌else◌, List, [], ◌∷◌, length, is_some, Option, Some, None, Result, Ok, Err}
+use Rattle.std.specs.Prelude.{ℕ, zero, suc, ◌+◌, ◌-◌, Bool, true, false, if◌then◌else◌, List, [], ◌∷◌, ◌++◌, length}
+use Rattle.std.specs.Prelude.{map, is_some, Option, Some, None, Result, Ok, Err}
 use Rattle.std.specs.List.{slice_get}
 use Rattle.ks_base.specs.declared.refusals.Refusal.{Refusal}
-use Rattle.ks_base.specs.declared.refusals.Refusal.TheVariants.{NoThread}
+use Rattle.ks_base.specs.declared.refusals.Refusal.TheVariants.{NoThread, Busy}
 use Rattle.ks_base.specs.Refusals.{refusal_line}
 use Rattle.ks_io.specs.Loads.{Needed}
 use Rattle.symbol_table.specs.declared.symbols.Symbol.{Symbol}
 use Rattle.ia32_step.specs.declared.types.Thread.{Thread}
 use Rattle.image_threads.specs.Program.{running_at}
 use Rattle.script_lines.specs.declared.types.Command.{Command}
-use Rattle.script_lines.specs.declared.types.Command.TheVariants.{Spawn, Step, RoundRobin, Threads, Peek, Apply}
-use Rattle.update_stack.specs.CallTable.{CallTable}
-use Rattle.update_stack.specs.Events.{Event, Spawn as SpawnEvent, Apply as ApplyEvent, Answer, Spawned, Stepped, Applied, Happened, answered, after_events}
+use Rattle.script_lines.specs.declared.types.Command.TheVariants.{Spawn, Step, RoundRobin, Threads, Peek}
+use Rattle.script_lines.specs.declared.types.Command.TheVariants.{Apply, Undo, ListUpdates}
+use Rattle.update_stack.specs.CallTable.{CallTable, shown_update}
+use Rattle.update_stack.specs.Events.{Event, Spawn as SpawnEvent, Apply as ApplyEvent, Undo as UndoEvent}
+use Rattle.update_stack.specs.Events.{Answer, Spawned, Stepped, Applied, Undone, Happened, answered, after_events}
 use Rattle.update_stack.specs.StandsFor.{patched}
-use Rattle.ksplice_session.specs.Lines.{spawned_line, stepped_line, turns_line, threads_lines, peek_line, applied_lines}
+use Rattle.ksplice_session.specs.Lines.{spawned_line, stepped_line, turns_line, threads_lines, peek_line}
+use Rattle.ksplice_session.specs.Lines.{applied_lines, undone_line, list_lines}
 use Rattle.ksplice_session.specs.Running.{thread_steps, round_robin}
 
 -- a line's events in order, its reply, and whether that is a refusal
@@ -36,21 +40,18 @@ shown_by k line (Some thread) = line k.symbols thread
 abbrev pub shown : CallTable → ℕ → (List Symbol → Thread → List ℕ) → List ℕ
 shown k number line = shown_by k line (slice_get k.threads number)
 
--- the name of the update that an event makes
-abbrev pub update_name : Event → List ℕ
-update_name (ApplyEvent name pre post) = name
-update_name _ = []
-
--- the reply to an event, by its answer
-abbrev pub reply_to : Event → CallTable → Answer → List ℕ
-reply_to event now (Spawned thread) = shown now thread spawned_line
-reply_to event now (Stepped outcome) = []
-reply_to event now (Applied report) = applied_lines (update_name event) 1 report
+-- The reply to an event, by its answer. The replies to a step and to an update aren't made here, and so they are empty:
+-- a step's line tells how many were made, and an update's which try it was.
+abbrev pub reply_to : CallTable → Answer → List ℕ
+reply_to now (Spawned thread) = shown now thread spawned_line
+reply_to now (Undone name) = undone_line name
+reply_to now (Stepped outcome) = []
+reply_to now (Applied report) = []
 
 -- a line that is one event; where it is refused, nothing happened
 abbrev pub told_by : Event → Result Happened Refusal → Told
 told_by event (Err refusal) = refused_after [] refusal
-told_by event (Ok now) = replied (event ∷ []) (reply_to event now.machine now.answer)
+told_by event (Ok now) = replied (event ∷ []) (reply_to now.machine now.answer)
 
 abbrev pub stepped_line_of : ℕ → List Symbol → Thread → List ℕ
 stepped_line_of made symbols thread = stepped_line symbols thread made
@@ -65,20 +66,64 @@ turns_told events = replied events (turns_line (length events))
 abbrev pub event_told : CallTable → Event → Told
 event_told k event = told_by event (answered k event)
 
--- an update from the first of two files to the second; with another number of files there is none
-abbrev pub apply_told : CallTable → List ℕ → List (List ℕ) → Told
-apply_told k name (pre ∷ post ∷ []) = event_told k (ApplyEvent name pre post)
-apply_told k name _ = replied [] []
+-- an update that a line tries to make: its name, and its two files
+pub record Trial : Type 0 where
+  pub name : List ℕ
+  pub pre : List ℕ
+  pub post : List ℕ
+
+abbrev pub event_of : Trial → Event
+event_of trial = ApplyEvent trial.name trial.pre trial.post
+
+-- the reply to a try, by its number from 1 on; an answer of another kind doesn't come
+abbrev pub try_reply : Trial → (try : ℕ) → Answer → List ℕ
+try_reply trial try (Applied report) = applied_lines trial.name try report
+try_reply trial try _ = []
+
+-- what a try does, and its reply
+abbrev pub try_told : Trial → (try : ℕ) → Result Happened Refusal → Told
+try_told trial try (Err refusal) = refused_after [] refusal
+try_told trial try (Ok now) = replied (event_of trial ∷ []) (try_reply trial try now.answer)
+
+-- whether a thread stands in the way; no other refusal is that
+abbrev pub is_busy : {A : Type 0} → Result A Refusal → Bool
+is_busy (Err (Busy standing)) = true
+is_busy _ = false
+
+-- steps, and then what a line does
+abbrev pub after_gap : List Event → Told → Told
+after_gap gap told = record { events = gap ++ told.events; reply = told.reply; refused = told.refused }
+
+-- The tries of an update from the one numbered `try` on, with `left` more allowed behind it. Where a thread stands in
+-- the way and another try is allowed, the threads make at most `gap` steps in turn, one at a time, and the update is
+-- tried again. Every other refusal ends the line, and after the last try no step is made.
+unfoldable pub tried : Trial → (gap try left : ℕ) → CallTable → Told
+tried trial gap try zero k = try_told trial try (answered k (event_of trial))
+tried trial gap try (suc left) k =
+    if is_busy (answered k (event_of trial))
+    then after_gap (round_robin k 1 gap) (tried trial gap (try + 1) left (after_events k (round_robin k 1 gap)))
+    else try_told trial try (answered k (event_of trial))
+
+-- an update from the first of two files to the second, in at most so many tries; a line has both its files when it is
+-- run, so the last case doesn't come
+abbrev pub apply_told : CallTable → (name : List ℕ) (tries gap : ℕ) → List (List ℕ) → Told
+apply_told k name tries gap (pre ∷ post ∷ []) =
+    tried (record { name = name; pre = pre; post = post }) gap 1 (tries - 1) k
+apply_told k name tries gap _ = replied [] []
 
 -- what a line does and replies, once its files are held with these bytes
 unfoldable pub told_of : CallTable → Command → List (List ℕ) → Told
 told_of k (Spawn name argument) held = event_told k (SpawnEvent name argument)
 told_of k (Step thread n) held =
-    if is_some (running_at k.threads thread) then step_told k thread (thread_steps k thread n) else refused_after [] (NoThread thread)
+    if is_some (running_at k.threads thread)
+    then step_told k thread (thread_steps k thread n)
+    else refused_after [] (NoThread thread)
 told_of k (RoundRobin quantum n) held = turns_told (round_robin k quantum n)
 told_of k Threads held = replied [] (threads_lines k.symbols k.threads)
 told_of k (Peek address count) held = replied [] (peek_line (patched k).pieces address count)
-told_of k (Apply name pre post) held = apply_told k name held
+told_of k (Apply name pre post tries gap) held = apply_told k name tries gap held
+told_of k Undo held = event_told k UndoEvent
+told_of k ListUpdates held = replied [] (list_lines (map shown_update k.updates))
 
 -- the most bytes that an object file may have
 abbrev pub object_limit : ℕ
@@ -94,4 +139,6 @@ files_of (Step thread n) = []
 files_of (RoundRobin quantum n) = []
 files_of Threads = []
 files_of (Peek address count) = []
-files_of (Apply name pre post) = object_file pre ∷ object_file post ∷ []
+files_of (Apply name pre post tries gap) = object_file pre ∷ object_file post ∷ []
+files_of Undo = []
+files_of ListUpdates = []

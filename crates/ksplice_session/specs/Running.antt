@@ -10,15 +10,17 @@ use Rattle.update_stack.specs.Events.{Event, Step, after_event}
 unfoldable pub thread_steps : CallTable → (thread n : ℕ) → List Event
 thread_steps k thread zero = []
 thread_steps k thread (suc n) =
-    if is_some (running_at k.threads thread) then Step thread ∷ thread_steps (after_event k (Step thread)) thread n else []
+    if is_some (running_at k.threads thread)
+    then Step thread ∷ thread_steps (after_event k (Step thread)) thread n
+    else []
 
 -- the step of a turn, and the turns after it; there is none where no thread runs
 abbrev pub taken : CallTable → (Option Turn → CallTable → List Event) → Option Turn → List Event
 taken k rest None = []
 taken k rest (Some turn) = Step turn.thread ∷ rest (Some turn) (after_event k (Step turn.thread))
 
--- At most n steps in turn, after the turn of the step before: each running thread makes at most so many as the quantum, and then the next
--- one by number does.
+-- At most n steps in turn, after the turn of the step before: each running thread makes at most so many as the quantum,
+-- and then the next one by number does.
 unfoldable pub turn_steps : (quantum n : ℕ) → Option Turn → CallTable → List Event
 turn_steps quantum zero before k = []
 turn_steps quantum (suc n) before k = taken k (turn_steps quantum n) (turn_from k.threads quantum before)

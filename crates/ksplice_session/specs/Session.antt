@@ -1,5 +1,6 @@
 -- What a session does: the lines of a script one after another, and how it ends.
-use Rattle.std.specs.Prelude.{◌≡◌, ℕ, Bool, false, true, ◌||◌, nat_le, if◌then◌else◌, List, [], ◌∷◌, ◌++◌, codes, length, take, drop, Option, Some, None}
+use Rattle.std.specs.Prelude.{◌≡◌, ℕ, Bool, false, true, ◌||◌, nat_le, if◌then◌else◌}
+use Rattle.std.specs.Prelude.{List, [], ◌∷◌, ◌++◌, codes, length, take, drop, Option, Some, None}
 use Rattle.std.specs.List.{fold, flat_map}
 use Rattle.ks_base.specs.Text.{shown_name}
 use Rattle.ks_io.specs.Outside.{Counts, grown, TookFront, TookPart}
@@ -19,7 +20,8 @@ pub record Ran : Type 0 where
   pub line : Command
   pub held : List (List ℕ)
 
--- What was done of a script: the machine that the lines leave, their events, their replies together, and whether one was refused.
+-- What was done of a script: the machine that the lines leave, their events, their replies together, and whether one
+-- was refused.
 pub record Played : Type 0 where
   pub machine : CallTable
   pub events : List Event
@@ -55,12 +57,15 @@ played k ran = fold play_line (nothing_played k) ran
 unfoldable pub files_along : List Command → List Needed
 files_along script = flat_map files_of script
 
--- The lines of a script that are run where so many of its files are held: those before the first line that lacks a file.
+-- The lines of a script that are run where so many of its files are held: those before the first line that lacks a
+-- file.
 unfoldable pub ran_by : List Command → List (List ℕ) → List Ran
 ran_by [] held = []
 ran_by (line ∷ lines) held =
     let count = length (files_of line) in
-    if nat_le count (length held) then record { line = line; held = take count held } ∷ ran_by lines (drop count held) else []
+    if nat_le count (length held)
+    then record { line = line; held = take count held } ∷ ran_by lines (drop count held)
+    else []
 
 abbrev pub lacking : List Command → List (List ℕ) → Option Needed
 lacking script held = first_lacking (files_along script) held
@@ -106,39 +111,77 @@ pub record NoneBehind (held : List (List ℕ)) (lost : Option FileFault) {ran : 
   pub through : held ≡ held_along at.before ++ at.line.held
   pub none_lost : lost ≡ None
 
--- How a session ends that began at k, given the files that were held and the fault for which the next was not: what came out, and the
--- machine that it leaves.
-pub data Ends (k : CallTable) (script : List Command) (held : List (List ℕ)) (lost : Option FileFault) (old new : Option (List ℕ)) (now : CallTable) : SessionEnd → Type 0 where
+-- How a session ends that began at k, given the files that were held and the fault for which the next was not: what
+-- came out, and the machine that it leaves.
+pub data Ends
+    (k : CallTable)
+    (script : List Command)
+    (held : List (List ℕ))
+    (lost : Option FileFault)
+    (old new : Option (List ℕ))
+    (now : CallTable)
+    : SessionEnd → Type 0 where
   -- all lines were run, and none was refused
-  AllDone : lacking script held ≡ None → (session_played k script held).refused ≡ false →
-      new ≡ grown old (session_played k script held).output → now ≡ (session_played k script held).machine → Ends k script held lost old new now Done
+  AllDone : lacking script held ≡ None →
+      (session_played k script held).refused ≡ false →
+      new ≡ grown old (session_played k script held).output →
+      now ≡ (session_played k script held).machine →
+      Ends k script held lost old new now Done
   -- all were run, and at least one was refused
-  AllRun : lacking script held ≡ None → (session_played k script held).refused ≡ true →
-      new ≡ grown old (session_played k script held).output → now ≡ (session_played k script held).machine → Ends k script held lost old new now SomeRefused
+  AllRun : lacking script held ≡ None →
+      (session_played k script held).refused ≡ true →
+      new ≡ grown old (session_played k script held).output →
+      now ≡ (session_played k script held).machine →
+      Ends k script held lost old new now SomeRefused
   -- a load failed; the lines before it were run, and the file's line was written
-  FileStopped : (file : Needed) (fault : FileFault) → lacking script held ≡ Some file → lost ≡ Some fault →
-      new ≡ grown old ((session_played k script held).output ++ file_line file.name fault) → now ≡ (session_played k script held).machine →
+  FileStopped : (file : Needed) (fault : FileFault) →
+      lacking script held ≡ Some file →
+      lost ≡ Some fault →
+      new ≡ grown old ((session_played k script held).output ++ file_line file.name fault) →
+      now ≡ (session_played k script held).machine →
       Ends k script held lost old new now FileEnd
   -- the sink failed at a line's reply; the line was run
-  SinkStopped : (at : At (ran_by script held)) → NoneBehind held lost at → TookPart (grown old (before_line k at).output) (told_at k at).reply new →
-      now ≡ after_events (before_line k at).machine (told_at k at).events → Ends k script held lost old new now SinkEnd
+  SinkStopped : (at : At (ran_by script held)) →
+      NoneBehind held lost at →
+      TookPart (grown old (before_line k at).output) (told_at k at).reply new →
+      now ≡ after_events (before_line k at).machine (told_at k at).events →
+      Ends k script held lost old new now SinkEnd
   -- or at the line of a file; the lines before it were run
-  SinkAtFile : (file : Needed) (fault : FileFault) → lacking script held ≡ Some file → lost ≡ Some fault →
-      TookPart (grown old (session_played k script held).output) (file_line file.name fault) new → now ≡ (session_played k script held).machine →
+  SinkAtFile : (file : Needed) (fault : FileFault) →
+      lacking script held ≡ Some file →
+      lost ≡ Some fault →
+      TookPart (grown old (session_played k script held).output) (file_line file.name fault) new →
+      now ≡ (session_played k script held).machine →
       Ends k script held lost old new now SinkEnd
   -- Memory ran out in a line: a front of its events was made, and nothing of its reply came out.
-  MemoryInLine : (at : At (ran_by script held)) → NoneBehind held lost at → new ≡ grown old (before_line k at).output →
-      MadeFront (before_line k at).machine (told_at k at).events now → Ends k script held lost old new now MemoryEnd
+  MemoryInLine : (at : At (ran_by script held)) →
+      NoneBehind held lost at →
+      new ≡ grown old (before_line k at).output →
+      MadeFront (before_line k at).machine (told_at k at).events now →
+      Ends k script held lost old new now MemoryEnd
   -- Or when it had been run, before its reply was wholly written.
-  MemoryAfterLine : (at : At (ran_by script held)) → NoneBehind held lost at → TookPart (grown old (before_line k at).output) (told_at k at).reply new →
-      now ≡ after_events (before_line k at).machine (told_at k at).events → Ends k script held lost old new now MemoryEnd
+  MemoryAfterLine : (at : At (ran_by script held)) →
+      NoneBehind held lost at →
+      TookPart (grown old (before_line k at).output) (told_at k at).reply new →
+      now ≡ after_events (before_line k at).machine (told_at k at).events →
+      Ends k script held lost old new now MemoryEnd
   -- Or at a load, or in the line of the file that wasn't loaded; the lines before it were run.
-  MemoryAtFile : (file : Needed) → lacking script held ≡ Some file →
-      TookFront (grown old (session_played k script held).output) (lost_line (Some file) lost) new → now ≡ (session_played k script held).machine →
+  MemoryAtFile : (file : Needed) →
+      lacking script held ≡ Some file →
+      TookFront (grown old (session_played k script held).output) (lost_line (Some file) lost) new →
+      now ≡ (session_played k script held).machine →
       Ends k script held lost old new now MemoryEnd
 
 -- What a session's loads came to, and how it ends.
-pub record SessionEnds (told : ToldFiles) (k : CallTable) (script : List Command) (before after : Counts) (old new : Option (List ℕ)) (now : CallTable) (end : SessionEnd) : Type 0 where
+pub record SessionEnds
+    (told : ToldFiles)
+    (k : CallTable)
+    (script : List Command)
+    (before after : Counts)
+    (old new : Option (List ℕ))
+    (now : CallTable)
+    (end : SessionEnd)
+    : Type 0 where
   pub held : List (List ℕ)
   pub lost : Option FileFault
   pub loads : CameTo told (files_along script) held lost before after

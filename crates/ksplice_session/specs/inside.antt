@@ -3,3 +3,4 @@ pub mod LineEnds
 pub mod Loading
 pub mod ScriptEnds
 pub mod Stacks
+pub mod Trying

@@ -1,19 +1,26 @@
 //! What the lines of a script do to a session, and their replies.
-ghost use Rattle.std.specs.Prelude.{◌≡◌, ◌≢◌, ℕ, ◌≤◌, ◌+◌, ◌^◌, List, [], ◌∷◌, length, Ok, Err, true, false, IfOk, MatchResult};
+ghost use Rattle.std.specs.Prelude.{◌≡◌, ◌≢◌, ℕ, ◌≤◌, ◌+◌, ◌-◌, ◌^◌, List, [], ◌∷◌, length, map};
+ghost use Rattle.std.specs.Prelude.{Ok, Err, true, false, IfOk, MatchResult};
 ghost use Rattle.ks_base.specs.declared.refusals.Refusal.TheVariants.{Memory};
 ghost use Rattle.ks_base.specs.Refusals.{refusal_line};
 ghost use Rattle.script_lines.specs.declared.types.Command.TheVariants.{Spawn, Step, RoundRobin, Threads, Peek};
-ghost use Rattle.update_stack.specs.Events.{Apply as ApplyEvent};
+ghost use Rattle.script_lines.specs.declared.types.Command.TheVariants.{Undo, ListUpdates};
+ghost use Rattle.update_stack.specs.CallTable.{shown_update};
 ghost use Rattle.script_lines.specs.Allowed.{IsAllowed};
 ghost use Rattle.update_stack.specs.StandsFor.{patched};
 ghost use Rattle.ks_io.specs.Loads.{bytes_of};
-ghost use Rattle.ksplice_session.specs.Lines.{spawned_line, turns_line, threads_lines, peek_line, applied_lines};
-ghost use Rattle.ksplice_session.specs.Replies.{told_of, apply_told, event_told, shown, stepped_line_of};
+ghost use Rattle.ksplice_session.specs.Lines.{spawned_line, turns_line, threads_lines, peek_line};
+ghost use Rattle.ksplice_session.specs.Lines.{applied_lines, undone_line, list_lines};
+ghost use Rattle.ksplice_session.specs.Replies.{told_of, apply_told, tried, is_busy, shown, stepped_line_of};
 ghost use Rattle.ksplice_session.specs.Answers.{Answers};
+ghost use Rattle.ksplice_session.specs.inside.Trying.{trial_of, IsTryAnswer};
 
-use crate::lines::{put_applied, put_peek, put_spawned, put_stepped, put_threads, put_turns};
+use crate::lines::{
+    put_applied, put_peek, put_spawned, put_stepped, put_threads, put_turns, put_undone,
+    put_updates,
+};
 use crate::session::Session;
-use crate::types::Answer;
+use crate::types::{Answer, Trial};
 use ks_base::{Line, Name, Refusal, Report};
 use script_lines::Command;
 use std::alloc::{AllocError, Global};
@@ -36,7 +43,14 @@ pub fn answer(
         Command::RoundRobin { quantum, steps } => answer_turns(alloc, session, *quantum, *steps),
         Command::Threads => answer_threads(alloc, session),
         Command::Peek { address, count } => answer_peek(alloc, session, *address, *count),
-        Command::Apply { name, .. } => answer_apply(alloc, session, name, held),
+        Command::Apply {
+            name,
+            tries,
+            gap,
+            ..
+        } => answer_apply(alloc, session, name, *tries, *gap, held),
+        Command::Undo => answer_undo(alloc, session),
+        Command::ListUpdates => answer_list(alloc, session),
     }
 }
 
@@ -100,32 +114,84 @@ fn answer_peek(
     told(peek_reply(alloc, session, address, count))
 }
 
+fn answer_undo(alloc: Global, session: &mut Session) -> Result<Answer, AllocError>
+    ensures { Answers session.old (told_of session.old Undo []) session.new result }
+{
+    match session.undo() {
+        Ok(name) => told(undone_reply(alloc, &name)),
+        Err(refusal) => refused(alloc, &refusal),
+    }
+}
+
+fn answer_list(alloc: Global, session: &Session) -> Result<Answer, AllocError>
+    ensures { Answers session.now (told_of session.now ListUpdates []) session.now result }
+{
+    told(list_reply(alloc, session))
+}
+
 fn answer_apply(
     alloc: Global,
     session: &mut Session,
     name: &Name,
+    tries: u32,
+    gap: u32,
     held: &[Vec<u8>],
 ) -> Result<Answer, AllocError>
-    ensures { Answers session.old (apply_told session.old name.now (bytes_of held.now)) session.new result }
+    requires { 1 ≤ tries }
+    ensures { Answers session.old (apply_told session.old name.now tries gap (bytes_of held.now)) session.new result }
 {
     if held.len() != 2 {
         return told(Ok(Line::new(alloc)));
     }
-    answer_update(alloc, session, name, held[0].as_slice(), held[1].as_slice())
+    let trial = Trial {
+        name,
+        pre: held[0].as_slice(),
+        post: held[1].as_slice(),
+    };
+    answer_trial(alloc, session, &trial, tries, gap)
 }
 
-fn answer_update(
+// Tries an update, and again, with steps of the threads in turn between two tries, while a thread stands in its way.
+fn answer_trial(
     alloc: Global,
     session: &mut Session,
-    name: &Name,
-    pre: &[u8],
-    post: &[u8],
+    trial: &Trial<'_>,
+    tries: u32,
+    gap: u32,
 ) -> Result<Answer, AllocError>
-    ensures { Answers session.old (event_told session.old (ApplyEvent name.now pre.now post.now)) session.new result }
+    requires { 1 ≤ tries }
+    ensures { Answers session.old (tried (trial_of trial.now) gap 1 (tries - 1) session.old) session.new result }
 {
-    match session.apply(name, pre, post) {
-        Ok(report) => told(applied_reply(alloc, name, &report)),
-        Err(cause) => refused(alloc, &cause),
+    for number in 1..tries {
+        let outcome = session.apply(trial.name, trial.pre, trial.post);
+        if !is_busy(&outcome) {
+            return answer_outcome(alloc, trial.name, number, outcome);
+        }
+        session.run_turns(1, gap);
+    }
+    let outcome = session.apply(trial.name, trial.pre, trial.post);
+    answer_outcome(alloc, trial.name, tries, outcome)
+}
+
+// Whether a thread stood in the way.
+fn is_busy(outcome: &Result<Report, Refusal>) -> bool
+    ensures { result ≡ is_busy outcome.now }
+{
+    matches!(outcome, Err(Refusal::Busy(_)))
+}
+
+// The answer to a try of a number, by what came of it.
+fn answer_outcome(
+    alloc: Global,
+    name: &Name,
+    number: u32,
+    outcome: Result<Report, Refusal>,
+) -> Result<Answer, AllocError>
+    ensures { IfOk result (IsTryAnswer name.now number outcome) }
+{
+    match outcome {
+        Ok(report) => told(applied_reply(alloc, name, number, &report)),
+        Err(refusal) => refused(alloc, &refusal),
     }
 }
 
@@ -142,7 +208,8 @@ fn told(line: Result<Line, AllocError>) -> Result<Answer, AllocError>
 
 // The answer to a line that is refused. Want of memory has none.
 fn refused(alloc: Global, refusal: &Refusal) -> Result<Answer, AllocError>
-    ensures { IfOk result (λ answer. (answer ≡ record { line = refusal_line refusal.now; refused = true }) × (refusal.now ≢ Memory)) }
+    ensures { IfOk result (λ answer. (answer ≡ record { line = refusal_line refusal.now; refused = true })
+        × (refusal.now ≢ Memory)) }
 {
     if is_memory(refusal) {
         return Err(AllocError);
@@ -217,10 +284,31 @@ fn peek_reply(
     Ok(line)
 }
 
-fn applied_reply(alloc: Global, name: &Name, report: &Report) -> Result<Line, AllocError>
-    ensures { IfOk result (λ line. line ≡ applied_lines name.now 1 report.now) }
+fn applied_reply(
+    alloc: Global,
+    name: &Name,
+    number: u32,
+    report: &Report,
+) -> Result<Line, AllocError>
+    ensures { IfOk result (λ line. line ≡ applied_lines name.now number report.now) }
 {
     let mut line = Line::new(alloc);
-    put_applied(&mut line, name, 1, report)?;
+    put_applied(&mut line, name, number, report)?;
+    Ok(line)
+}
+
+fn undone_reply(alloc: Global, name: &Name) -> Result<Line, AllocError>
+    ensures { IfOk result (λ line. line ≡ undone_line name.now) }
+{
+    let mut line = Line::new(alloc);
+    put_undone(&mut line, name)?;
+    Ok(line)
+}
+
+fn list_reply(alloc: Global, session: &Session) -> Result<Line, AllocError>
+    ensures { IfOk result (λ line. line ≡ list_lines (map shown_update session.now.updates)) }
+{
+    let mut line = Line::new(alloc);
+    put_updates(&mut line, session.updates())?;
     Ok(line)
 }

@@ -38,7 +38,9 @@ pub(crate) fn files_of(command: &Command) -> Loads<'_>
         | Command::Step { .. }
         | Command::RoundRobin { .. }
         | Command::Threads
-        | Command::Peek { .. } => no_files(),
+        | Command::Peek { .. }
+        | Command::Undo
+        | Command::ListUpdates => no_files(),
         Command::Apply { pre, post, .. } => object_files(pre, post),
     }
 }

@@ -1,8 +1,10 @@
 //! The lines.
 ghost use Rattle.std.specs.Prelude.{◌≡◌, ◌++◌, ◌+◌, ◌≤◌, ◌<◌, ◌^◌, OnOk};
 ghost use Rattle.std.specs.List.{flat_map, range_with_len};
-ghost use Rattle.ksplice_session.specs.Lines.{spawned_line, stepped_line, turns_line, thread_line, count_line, threads_lines, peeked, peeked_at, peek_line};
+ghost use Rattle.ksplice_session.specs.Lines.{spawned_line, stepped_line, turns_line};
+ghost use Rattle.ksplice_session.specs.Lines.{thread_line, count_line, threads_lines, peeked, peeked_at, peek_line};
 ghost use Rattle.ksplice_session.specs.Lines.{replaced_line, added_line, dropped_line, applied_line, applied_lines};
+ghost use Rattle.ksplice_session.specs.Lines.{undone_line, update_line, updates_line, list_lines};
 
 use crate::places::{put_place, put_state};
 use ia32_step::Thread;
@@ -10,6 +12,7 @@ use image_memory::{Kind, Space};
 use ks_base::{Added, Line, Name, Replaced, Report};
 use std::alloc::AllocError;
 use symbol_table::SymbolTable;
+use update_stack::Update;
 
 /// A thread was started: `spawned`, its number, and where it stands.
 #[tactic(auto, unfolding(crate::specs::Lines::spawned_line))]
@@ -219,7 +222,7 @@ fn put_each_dropped(line: &mut Line, functions: &[Name]) -> Result<(), AllocErro
 }
 
 #[tactic(auto, unfolding(crate::specs::Lines::applied_line))]
-fn put_update(line: &mut Line, name: &Name, tries: u32) -> Result<(), AllocError>
+fn put_accepted(line: &mut Line, name: &Name, tries: u32) -> Result<(), AllocError>
     ensures { OnOk result (line.new ≡ line.old ++ applied_line name.now tries) }
 {
     line.put_text("applied ")?;
@@ -241,8 +244,57 @@ pub fn put_applied(
 ) -> Result<(), AllocError>
     ensures { OnOk result (line.new ≡ line.old ++ applied_lines name.now tries report.now) }
 {
-    put_update(line, name, tries)?;
+    put_accepted(line, name, tries)?;
     put_each_replaced(line, report.replaced.as_slice())?;
     put_each_added(line, report.added.as_slice())?;
     put_each_dropped(line, report.dropped.as_slice())
+}
+
+/// The newest update was taken back: `undone` and its name.
+#[tactic(auto, unfolding(crate::specs::Lines::undone_line))]
+pub fn put_undone(line: &mut Line, name: &Name) -> Result<(), AllocError>
+    ensures { OnOk result (line.new ≡ line.old ++ undone_line name.now) }
+{
+    line.put_text("undone ")?;
+    line.put_name(name)?;
+    line.put_text("\n")
+}
+
+#[tactic(auto, unfolding(crate::specs::Lines::update_line))]
+fn put_update(line: &mut Line, update: &Update) -> Result<(), AllocError>
+    ensures { OnOk result (line.new ≡ line.old ++ update_line update.now) }
+{
+    line.put_text("update ")?;
+    line.put_name(&update.name)?;
+    line.put_text(" ")?;
+    line.put_number(update.report.replaced.len() as u64)?;
+    line.put_text("\n")
+}
+
+fn put_each_update(line: &mut Line, updates: &[Update]) -> Result<(), AllocError>
+    ensures { OnOk result (line.new ≡ line.old ++ flat_map update_line updates.now) }
+{
+    for update in updates {
+        put_update(line, update)?;
+    }
+    Ok(())
+}
+
+#[tactic(auto, unfolding(crate::specs::Lines::updates_line))]
+fn put_update_count(line: &mut Line, count: usize) -> Result<(), AllocError>
+    ensures { OnOk result (line.new ≡ line.old ++ updates_line count) }
+{
+    line.put_text("updates ")?;
+    line.put_number(count as u64)?;
+    line.put_text("\n")
+}
+
+/// Each live update, the oldest first: `update`, its name, and how many functions it replaced; then `updates` and how
+/// many they are.
+#[tactic(auto, unfolding(crate::specs::Lines::list_lines))]
+pub fn put_updates(line: &mut Line, updates: &[Update]) -> Result<(), AllocError>
+    ensures { OnOk result (line.new ≡ line.old ++ list_lines updates.now) }
+{
+    put_each_update(line, updates)?;
+    put_update_count(line, updates.len())
 }

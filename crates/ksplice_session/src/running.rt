@@ -19,8 +19,9 @@ use script_lines::{Command, Script};
 use std::alloc::Global;
 
 /// Runs the lines of a script one after another. A line's files are loaded before it is run, and its reply is written
-/// when it was run; a refused line changes nothing, and the next is run. The session ends at a file that can't be loaded,
-/// when that file's line was written, at a fault of the sink, or for want of memory.
+/// when it was run; a refused line changes nothing but by the steps between its tries, and the next is run. The session
+/// ends at a file that can't be loaded, when that file's line was written, at a fault of the sink, or for want of
+/// memory.
 pub fn run_session<F: Files, O: Sink>(
     alloc: Global,
     session: &mut Session,

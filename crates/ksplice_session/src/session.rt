@@ -1,11 +1,11 @@
 //! What a session holds.
-ghost use Rattle.std.specs.Prelude.{◌≡◌, ◌≢◌, Ok, Err, IfOk, OnErr, MatchResult, is_some};
+ghost use Rattle.std.specs.Prelude.{◌≡◌, ◌≢◌, Ok, Err, IfOk, OnErr, MatchResult, is_some, map};
 ghost use Rattle.std.specs.List.{slice_get};
 ghost use Rattle.ks_base.specs.declared.refusals.Refusal.TheVariants.{Memory};
 ghost use Rattle.image_file.specs.Seen.{contents_of};
 ghost use Rattle.image_threads.specs.Program.{running_at};
-ghost use Rattle.update_stack.specs.CallTable.{first_machine};
-ghost use Rattle.update_stack.specs.Events.{Apply, Applied, Spawn, Spawned, happened, answered};
+ghost use Rattle.update_stack.specs.CallTable.{first_machine, shown_update};
+ghost use Rattle.update_stack.specs.Events.{Apply, Applied, Spawn, Spawned, Undo, Undone, happened, answered};
 ghost use Rattle.update_stack.specs.StandsFor.{StandsFor};
 
 use crate::memory::all_pieces;
@@ -18,7 +18,7 @@ use ks_base::{Name, Refusal, Report};
 use std::alloc::{AllocError, Global};
 use std::marker::Model;
 use symbol_table::SymbolTable;
-use update_stack::System;
+use update_stack::{System, Update};
 
 /// A program that runs. A clause sees it as the machine that never patches code.
 #[derive(Drop)]
@@ -75,6 +75,23 @@ impl Session {
         ensures refused { OnErr result (self.new ≡ self.old) }
     {
         self.system.apply(name, pre, post)
+    }
+
+    /// Takes the newest update back, as the system does, and answers its name.
+    pub(crate) fn undo(&mut self) -> Result<Name, Refusal>
+        ensures answered { MatchResult result
+            (λ name. answered self.old Undo ≡ Ok (happened self.new (Undone name)))
+            (λ refusal. answered self.old Undo ≡ Err refusal) }
+        ensures refused { OnErr result (self.new ≡ self.old) }
+    {
+        self.system.undo()
+    }
+
+    /// The live updates, the oldest first.
+    pub(crate) fn updates(&self) -> &[Update]
+        ensures { result.now ≡ map shown_update self.now.updates }
+    {
+        self.system.updates().as_slice()
     }
 
     /// The threads in the order of their numbers, from 0 on.

@@ -1,7 +1,7 @@
 //! What a line of a script comes to, and how a session ends.
 ghost use Rattle.std.specs.Prelude.{◌≤◌};
 
-use ks_base::Line;
+use ks_base::{Line, Name};
 use ks_io::Wanted;
 
 /// The answer to a line.
@@ -34,4 +34,13 @@ pub(crate) struct Loads<'a> {
     pub(crate) files: [Wanted<'a>; 2],
     pub(crate) count: usize,
     ghost few: { count ≤ 2 },
+}
+
+/// An update that a line tries to make.
+#[derive(Clone, Copy)]
+pub(crate) struct Trial<'a> {
+    pub(crate) name: &'a Name,
+    /// The bytes of the object built before the change, and of that built after it.
+    pub(crate) pre: &'a [u8],
+    pub(crate) post: &'a [u8],
 }

@@ -1,14 +1,15 @@
 -- Each command of a script keeps the bounds of its line's form.
-use Rattle.std.proofs.Common.{◌≡◌, refl, ℕ, ◌+◌, ◌^◌, ◌≤◌, Bool, true, false, ◌&&◌, List, [], ◌∷◌, length, Option, Some, None, cond, arith}
+use Rattle.std.proofs.Common.{◌≡◌, refl, ℕ, ◌+◌, ◌*◌, ◌^◌, ◌≤◌, Bool, true, false, ◌&&◌, List, [], ◌∷◌, length, Option, Some, None, cond, arith}
 use Rattle.std.specs.Prelude.{nat_le, nat_lt, codes, bytes_eq, IfSome, All, flat_map, option_map, option_to_list, unwrap_or, Ok, Err}
+use Rattle.std.proofs.lemmas.Bool.{and_parts, leb-true}
 use Rattle.std.proofs.lemmas.Bool.Decides.{nat_tests}
 use Rattle.std.proofs.lemmas.List.Elements.{All-nil, All-cons, All-append, All-same}
 use Rattle.ks_base.specs.declared.refusals.Refusal.TheVariants.{BadLine}
 use Rattle.script_lines.specs.declared.types.Command.{Command}
-use Rattle.script_lines.specs.declared.types.Command.TheVariants.{Peek, Apply}
+use Rattle.script_lines.specs.declared.types.Command.TheVariants.{Threads, Peek, Undo, ListUpdates}
 use Rattle.script_lines.specs.Lines.{words_of, is_plain, lines_of, IsPrintable}
 use Rattle.script_lines.specs.Numbers.{when, number_of}
-use Rattle.script_lines.specs.Forms.{◌>>=◌, number_within, two, three, spawn_of, step_of, round_robin_of, threads_of, peek_of, apply_of, command_of, is_comment, asked_by, asked_in}
+use Rattle.script_lines.specs.Forms.{◌>>=◌, number_within, only, two, first_three, alone, spawn_of, step_of, round_robin_of, peek_of, are_tries_words, tries_of, tries_or_one, apply_of, command_of, is_comment, asked_by, asked_in}
 use Rattle.script_lines.specs.Script.{commands_of, lines_before_bad, script_of}
 use Rattle.script_lines.specs.Allowed.{IsAllowed}
 use Rattle.script_lines.proofs.Words.{Each, words_printable}
@@ -62,9 +63,9 @@ round_robin_allowed words =
     (λ given. made _ IsAllowed (number_within 1 4294967295 given.0) _ (within 1 4294967295 given.0)
     (λ quantum some. made _ IsAllowed (number_within 0 16777216 given.1) _ (within 0 16777216 given.1) (λ steps h. (some.0, h.1))))
 
-threads_allowed : (words : List (List ℕ)) → IfSome (threads_of words) IsAllowed
-threads_allowed [] = tt
-threads_allowed (word ∷ words) = tt
+alone_allowed : (command : Command) (words : List (List ℕ)) → IsAllowed command → IfSome (alone command words) IsAllowed
+alone_allowed command [] allowed = allowed
+alone_allowed command (word ∷ words) allowed = tt
 
 peek_allowed : (words : List (List ℕ)) → IfSome (peek_of words) IsAllowed
 peek_allowed words =
@@ -73,26 +74,47 @@ peek_allowed words =
     (λ address. made _ IsAllowed (number_within 1 4096 given.1) _ (within 1 4096 given.1)
     (λ count h. tested IsAllowed (nat_le (address + count) (2 ^ 32)) (Peek address count) (λ e. (h.0, h.1, grind (arith, nat_tests))))))
 
--- each of three words is printable
-three_printable : (words : List (List ℕ)) → Each IsPrintable words → IfSome (three words) (λ given. IsPrintable given.0 × IsPrintable given.1 × IsPrintable given.2)
+-- each of the first three words is printable
+three_printable : (words : List (List ℕ)) → Each IsPrintable words
+    → IfSome (first_three words) (λ given. IsPrintable given.0 × IsPrintable given.1 × IsPrintable given.2)
 three_printable [] each = tt
 three_printable (first ∷ []) each = tt
 three_printable (first ∷ second ∷ []) each = tt
-three_printable (first ∷ second ∷ third ∷ []) each = (each.0, each.1.0, each.1.1.0)
-three_printable (first ∷ second ∷ third ∷ fourth ∷ rest) each = tt
+three_printable (first ∷ second ∷ third ∷ rest) each = (each.0, each.1.0, each.1.1.0)
+
+-- the bounds of tries and of the steps between them
+abbrev AreBounded : ℕ × ℕ → Type 0
+AreBounded given = (1 ≤ given.0) × (given.0 ≤ 1000) × (given.0 * given.1 ≤ 16777216)
+
+tries_bounded : (words : List (List ℕ)) → IfSome (tries_of words) AreBounded
+tries_bounded words =
+    made_of_any AreBounded (first_three words) _
+    (λ given. made_of_any AreBounded (only given.3) _
+    (λ gap. made _ AreBounded (number_within 1 1000 given.1) _ (within 1 1000 given.1)
+    (λ tries h. made_of_any AreBounded (number_of gap) _
+    (λ steps. tested AreBounded (are_tries_words given.0 given.2 && nat_le (tries * steps) 16777216) (tries, steps)
+    (λ e. (h.0, h.1, leb-true (tries * steps) 16777216 (and_parts (are_tries_words given.0 given.2) _ e).1))))))
+
+tries_or_one_bounded : (words : List (List ℕ)) → IfSome (tries_or_one words) AreBounded
+tries_or_one_bounded [] = (omega arith, omega arith, omega arith)
+tries_or_one_bounded (word ∷ words) = tries_bounded (word ∷ words)
 
 apply_allowed : (words : List (List ℕ)) → Each IsPrintable words → IfSome (apply_of words) IsAllowed
 apply_allowed words each =
-    made _ IsAllowed (three words) _ (three_printable words each) (λ given printable. printable)
+    made _ IsAllowed (first_three words) _ (three_printable words each)
+    (λ given printable. made AreBounded IsAllowed (tries_or_one given.3) _ (tries_or_one_bounded given.3)
+    (λ tries bounded. (printable.0, printable.1, printable.2, bounded.0, bounded.1, bounded.2)))
 
 command_allowed : (word : List ℕ) (words : List (List ℕ)) → Each IsPrintable words → IfSome (command_of word words) IsAllowed
 command_allowed word words each =
     chosen IsAllowed (bytes_eq word (codes "spawn")) _ _ (spawn_allowed words each)
     (chosen IsAllowed (bytes_eq word (codes "step")) _ _ (step_allowed words)
     (chosen IsAllowed (bytes_eq word (codes "rr")) _ _ (round_robin_allowed words)
-    (chosen IsAllowed (bytes_eq word (codes "threads")) _ _ (threads_allowed words)
+    (chosen IsAllowed (bytes_eq word (codes "threads")) _ _ (alone_allowed Threads words tt)
     (chosen IsAllowed (bytes_eq word (codes "peek")) _ _ (peek_allowed words)
-    (chosen IsAllowed (bytes_eq word (codes "apply")) _ _ (apply_allowed words each) tt)))))
+    (chosen IsAllowed (bytes_eq word (codes "apply")) _ _ (apply_allowed words each)
+    (chosen IsAllowed (bytes_eq word (codes "undo")) _ _ (alone_allowed Undo words tt)
+    (chosen IsAllowed (bytes_eq word (codes "list")) _ _ (alone_allowed ListUpdates words tt) tt)))))))
 
 -- of what a line asks for, the command, if there is one, keeps the bounds
 abbrev Keeps : Option Command → Type 0

@@ -1,8 +1,8 @@
 -- The forms of a line, each with what it asks for. None is an answer for words that have no form.
-use Rattle.std.specs.Prelude.{ℕ, ◌+◌, ◌^◌, ◌==◌, nat_le, Bool, false, ◌&&◌, List, [], ◌∷◌, codes, bytes_eq, if◌then◌else◌}
+use Rattle.std.specs.Prelude.{ℕ, ◌+◌, ◌*◌, ◌^◌, ◌==◌, nat_le, Bool, false, ◌&&◌, List, [], ◌∷◌, codes, bytes_eq, if◌then◌else◌}
 use Rattle.std.specs.Prelude.{Option, Some, None, option_map}
 use Rattle.script_lines.specs.declared.types.Command.{Command}
-use Rattle.script_lines.specs.declared.types.Command.TheVariants.{Spawn, Step, RoundRobin, Threads, Peek, Apply}
+use Rattle.script_lines.specs.declared.types.Command.TheVariants.{Spawn, Step, RoundRobin, Threads, Peek, Apply, Undo, ListUpdates}
 use Rattle.script_lines.specs.Lines.{is_plain, words_of}
 use Rattle.script_lines.specs.Numbers.{when, number_of}
 
@@ -17,15 +17,25 @@ number_within low high word = do
   n ← number_of word
   when (nat_le low n && nat_le n high) n
 
+-- the one word
+abbrev pub only : List (List ℕ) → Option (List ℕ)
+only (word ∷ []) = Some word
+only _ = None
+
 -- words that are exactly two
 abbrev pub two : List (List ℕ) → Option (List ℕ × List ℕ)
 two (first ∷ second ∷ []) = Some (first, second)
 two _ = None
 
--- words that are exactly three
-abbrev pub three : List (List ℕ) → Option (List ℕ × List ℕ × List ℕ)
-three (first ∷ second ∷ third ∷ []) = Some (first, second, third)
-three _ = None
+-- the first three words, and those after them
+abbrev pub first_three : List (List ℕ) → Option (List ℕ × List ℕ × List ℕ × List (List ℕ))
+first_three (first ∷ second ∷ third ∷ rest) = Some (first, second, third, rest)
+first_three _ = None
+
+-- a command that takes no word
+abbrev pub alone : Command → List (List ℕ) → Option Command
+alone command [] = Some command
+alone command _ = None
 
 -- `spawn NAME ARG`
 abbrev pub spawn_of : List (List ℕ) → Option Command
@@ -50,11 +60,6 @@ round_robin_of words = do
   steps ← number_within 0 16777216 given.1
   Some (RoundRobin quantum steps)
 
--- `threads`
-abbrev pub threads_of : List (List ℕ) → Option Command
-threads_of [] = Some Threads
-threads_of _ = None
-
 -- `peek ADDRESS N`
 abbrev pub peek_of : List (List ℕ) → Option Command
 peek_of words = do
@@ -63,11 +68,29 @@ peek_of words = do
   count ← number_within 1 4096 given.1
   when (nat_le (address + count) (2 ^ 32)) (Peek address count)
 
--- `apply NAME PRE POST`
+abbrev pub are_tries_words : (first second : List ℕ) → Bool
+are_tries_words first second = bytes_eq first (codes "tries") && bytes_eq second (codes "gap")
+
+-- `tries K gap N`: how often an update is tried at most, and how many steps are made between two tries
+abbrev pub tries_of : List (List ℕ) → Option (ℕ × ℕ)
+tries_of words = do
+  given ← first_three words
+  gap ← only given.3
+  tries ← number_within 1 1000 given.1
+  steps ← number_of gap
+  when (are_tries_words given.0 given.2 && nat_le (tries * steps) 16777216) (tries, steps)
+
+-- the same, or one try where there are no words
+abbrev pub tries_or_one : List (List ℕ) → Option (ℕ × ℕ)
+tries_or_one [] = Some (1, 0)
+tries_or_one (word ∷ words) = tries_of (word ∷ words)
+
+-- `apply NAME PRE POST`, or `apply NAME PRE POST tries K gap N`
 abbrev pub apply_of : List (List ℕ) → Option Command
 apply_of words = do
-  given ← three words
-  Some (Apply given.0 given.1 given.2)
+  given ← first_three words
+  tries ← tries_or_one given.3
+  Some (Apply given.0 given.1 given.2 tries.0 tries.1)
 
 -- the command of a first word and the words after it
 abbrev pub command_of : List ℕ → List (List ℕ) → Option Command
@@ -75,9 +98,11 @@ command_of word words =
     if bytes_eq word (codes "spawn") then spawn_of words
     else if bytes_eq word (codes "step") then step_of words
     else if bytes_eq word (codes "rr") then round_robin_of words
-    else if bytes_eq word (codes "threads") then threads_of words
+    else if bytes_eq word (codes "threads") then alone Threads words
     else if bytes_eq word (codes "peek") then peek_of words
     else if bytes_eq word (codes "apply") then apply_of words
+    else if bytes_eq word (codes "undo") then alone Undo words
+    else if bytes_eq word (codes "list") then alone ListUpdates words
     else None
 
 -- whether a word begins with `#`

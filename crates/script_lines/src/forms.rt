@@ -1,7 +1,7 @@
 //! The forms of a line.
 ghost use Rattle.std.specs.Prelude.{◌≡◌, IfOk, option_map, bytes_eq};
 ghost use Rattle.script_lines.specs.Lines.{words_of};
-ghost use Rattle.script_lines.specs.Forms.{two, three, spawn_of, step_of, round_robin_of, threads_of, peek_of, apply_of, command_of, is_comment, asked_in};
+ghost use Rattle.script_lines.specs.Forms.{only, two, first_three, alone, spawn_of, step_of, round_robin_of, peek_of, tries_of, tries_or_one, apply_of, command_of, is_comment, asked_in};
 
 use crate::lines::{first_word, is_plain};
 use crate::numbers::{number_of, number_within};
@@ -11,6 +11,9 @@ use std::alloc::{AllocError, Global};
 
 // A command runs at most so many instructions.
 const MOST_STEPS: u32 = 16_777_216;
+
+// An update is tried at most so often.
+const MOST_TRIES: u32 = 1000;
 
 // A command shows at most so many bytes.
 const MOST_BYTES: u32 = 4096;
@@ -59,13 +62,19 @@ fn command_of(alloc: Global, word: &[u8], text: &[u8]) -> Result<Option<Command>
         return Ok(round_robin_of(text));
     }
     if is(word, b"threads") {
-        return Ok(threads_of(text));
+        return Ok(alone(Command::Threads, text));
     }
     if is(word, b"peek") {
         return Ok(peek_of(text));
     }
     if is(word, b"apply") {
         return apply_of(alloc, text);
+    }
+    if is(word, b"undo") {
+        return Ok(alone(Command::Undo, text));
+    }
+    if is(word, b"list") {
+        return Ok(alone(Command::ListUpdates, text));
     }
     Ok(None)
 }
@@ -110,12 +119,12 @@ fn round_robin_of(text: &[u8]) -> Option<Command>
     Some(Command::RoundRobin { quantum, steps })
 }
 
-// `threads`
-fn threads_of(text: &[u8]) -> Option<Command>
-    ensures { result ≡ threads_of (words_of text.now) }
+// A command that takes no word.
+fn alone(command: Command, text: &[u8]) -> Option<Command>
+    ensures { result ≡ alone command (words_of text.now) }
 {
     match first_word(text) {
-        None => Some(Command::Threads),
+        None => Some(command),
         Some(_) => None,
     }
 }
@@ -133,17 +142,62 @@ fn peek_of(text: &[u8]) -> Option<Command>
     Some(Command::Peek { address, count })
 }
 
-// `apply NAME PRE POST`
+// `apply NAME PRE POST`, or `apply NAME PRE POST tries K gap N`
 fn apply_of(alloc: Global, text: &[u8]) -> Result<Option<Command>, AllocError>
     ensures { IfOk result (λ command. command ≡ apply_of (words_of text.now)) }
 {
-    let Some((name, pre, post)) = three(text) else {
+    let Some((name, pre, post, rest)) = first_three(text) else {
+        return Ok(None);
+    };
+    let Some((tries, gap)) = tries_or_one(rest) else {
         return Ok(None);
     };
     let name = Name::from_slice(alloc, name)?;
     let pre = Name::from_slice(alloc, pre)?;
     let post = Name::from_slice(alloc, post)?;
-    Ok(Some(Command::Apply { name, pre, post }))
+    Ok(Some(Command::Apply {
+        name,
+        pre,
+        post,
+        tries,
+        gap,
+    }))
+}
+
+// How often an update is tried, and how many steps are made between two tries: once where there are no words.
+fn tries_or_one(text: &[u8]) -> Option<(u32, u32)>
+    ensures { result ≡ tries_or_one (words_of text.now) }
+{
+    match first_word(text) {
+        None => Some((1, 0)),
+        Some(_) => tries_of(text),
+    }
+}
+
+// `tries K gap N`
+fn tries_of(text: &[u8]) -> Option<(u32, u32)>
+    ensures { result ≡ tries_of (words_of text.now) }
+{
+    let (first, tries, second, rest) = first_three(text)?;
+    let gap = only(rest)?;
+    let tries = number_within(tries, 1, MOST_TRIES)?;
+    let gap = number_of(gap)?;
+    let steps = u64::from(tries) * u64::from(gap);
+    if !is(first, b"tries") || !is(second, b"gap") || steps > u64::from(MOST_STEPS) {
+        return None;
+    }
+    Some((tries, gap))
+}
+
+// The one word of a text that has no more and no fewer.
+fn only(text: &[u8]) -> Option<&[u8]>
+    ensures { option_map (λ word. word.now) result ≡ only (words_of text.now) }
+{
+    let (word, rest) = first_word(text)?;
+    match first_word(rest) {
+        None => Some(word),
+        Some(_) => None,
+    }
 }
 
 // The two words of a text that has no more and no fewer.
@@ -151,18 +205,17 @@ fn two(text: &[u8]) -> Option<(&[u8], &[u8])>
     ensures { option_map (λ words. (words.0.now, words.1.now)) result ≡ two (words_of text.now) }
 {
     let (first, rest) = first_word(text)?;
-    let (second, rest) = first_word(rest)?;
-    match first_word(rest) {
-        None => Some((first, second)),
-        Some(_) => None,
-    }
+    let second = only(rest)?;
+    Some((first, second))
 }
 
-// The three words of a text that has no more and no fewer.
-fn three(text: &[u8]) -> Option<(&[u8], &[u8], &[u8])>
-    ensures { option_map (λ words. (words.0.now, words.1.now, words.2.now)) result ≡ three (words_of text.now) }
+// The first three words of a text, and what stands behind them.
+fn first_three(text: &[u8]) -> Option<(&[u8], &[u8], &[u8], &[u8])>
+    ensures { option_map (λ words. (words.0.now, words.1.now, words.2.now, words_of words.3.now)) result
+        ≡ first_three (words_of text.now) }
 {
     let (first, rest) = first_word(text)?;
-    let (second, third) = two(rest)?;
-    Some((first, second, third))
+    let (second, rest) = first_word(rest)?;
+    let (third, rest) = first_word(rest)?;
+    Some((first, second, third, rest))
 }

@@ -42,7 +42,15 @@ pub enum Command {
         pre: Name,
         /// The file of the object built after it.
         post: Name,
+        /// How often it is tried at most while a thread stands in the way, from 1 to 1,000.
+        tries: u32,
+        /// How many instructions the threads run in turn between two tries; with `tries` at most 16,777,216 in all.
+        gap: u32,
     },
+    /// Take the newest update back.
+    Undo,
+    /// Show the live updates.
+    ListUpdates,
 }
 
 /// Commands in order.

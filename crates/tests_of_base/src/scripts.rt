@@ -13,13 +13,16 @@ enum Wanted {
     RoundRobin(u32, u32),
     Threads,
     Peek(u32, u32),
-    Apply(&'static str, &'static str, &'static str),
+    // with the tries and the gap
+    Apply(&'static str, &'static str, &'static str, u32, u32),
+    Undo,
+    ListUpdates,
 }
 
 const TOP: u32 = 0xFFFF_FFFF;
 
 // Scripts of one command.
-const COMMANDS: [(&str, Wanted); 29] = [
+const COMMANDS: [(&str, Wanted); 37] = [
     ("spawn main 7\n", Wanted::Spawn("main", 7)),
     ("spawn main 7", Wanted::Spawn("main", 7)),
     ("  spawn   main  7  \n", Wanted::Spawn("main", 7)),
@@ -52,9 +55,32 @@ const COMMANDS: [(&str, Wanted); 29] = [
     ("peek 4294963200 0x1000", Wanted::Peek(0xFFFF_F000, 4096)),
     (
         "apply fix old.o new.o\n",
-        Wanted::Apply("fix", "old.o", "new.o"),
+        Wanted::Apply("fix", "old.o", "new.o", 1, 0),
     ),
-    ("  apply  #  0x1 apply", Wanted::Apply("#", "0x1", "apply")),
+    (
+        "  apply  #  0x1 apply",
+        Wanted::Apply("#", "0x1", "apply", 1, 0),
+    ),
+    (
+        "apply fix a b tries 1 gap 0",
+        Wanted::Apply("fix", "a", "b", 1, 0),
+    ),
+    (
+        "apply fix a b tries 1 gap 16777216",
+        Wanted::Apply("fix", "a", "b", 1, 16_777_216),
+    ),
+    (
+        "apply fix a b  tries 0x3E8  gap 16777",
+        Wanted::Apply("fix", "a", "b", 1000, 16_777),
+    ),
+    (
+        "apply tries gap tries tries 512 gap 0x8000 ",
+        Wanted::Apply("tries", "gap", "tries", 512, 32_768),
+    ),
+    ("undo", Wanted::Undo),
+    ("  undo  \n", Wanted::Undo),
+    ("list", Wanted::ListUpdates),
+    ("list \n", Wanted::ListUpdates),
 ];
 
 // Scripts that give no command.
@@ -71,7 +97,7 @@ const NOTHING: [&str; 9] = [
 ];
 
 // Scripts with a bad line, and its number.
-const BAD: [(&str, u32); 65] = [
+const BAD: [(&str, u32); 85] = [
     // words
     ("thread", 1),
     ("threadss", 1),
@@ -102,6 +128,19 @@ const BAD: [(&str, u32); 65] = [
     ("apply a", 1),
     ("apply a b", 1),
     ("apply a b c d", 1),
+    ("apply a b c tries", 1),
+    ("apply a b c tries 2", 1),
+    ("apply a b c tries 2 gap", 1),
+    ("apply a b c tries 2 gap 3 4", 1),
+    ("apply a b c gap 3 tries 2", 1),
+    ("apply a b c Tries 2 gap 3", 1),
+    ("apply a b c tries 2 GAP 3", 1),
+    ("undo x", 1),
+    ("undo #", 1),
+    ("Undo", 1),
+    ("list x", 1),
+    ("lists", 1),
+    ("watch", 1),
     // numbers
     ("spawn main x", 1),
     ("spawn main -1", 1),
@@ -124,6 +163,13 @@ const BAD: [(&str, u32); 65] = [
     ("step 4294967296 1", 1),
     ("rr 0 1", 1),
     ("rr 1 16777217", 1),
+    ("apply a b c tries 0 gap 3", 1),
+    ("apply a b c tries 1001 gap 0", 1),
+    ("apply a b c tries 1 gap 16777217", 1),
+    ("apply a b c tries 1000 gap 16778", 1),
+    ("apply a b c tries 512 gap 32769", 1),
+    ("apply a b c tries 2 gap 4294967295", 1),
+    ("apply a b c tries x gap 1", 1),
     ("peek 0 0", 1),
     ("peek 0 4097", 1),
     ("peek 0xFFFFFFFF 2", 1),
@@ -156,11 +202,24 @@ fn is_wanted(command: &Command, wanted: Wanted) -> bool {
         }
         (Command::Threads, Wanted::Threads) => true,
         (Command::Peek { address, count }, Wanted::Peek(a, b)) => *address == a && *count == b,
-        (Command::Apply { name, pre, post }, Wanted::Apply(a, b, c)) => {
+        (
+            Command::Apply {
+                name,
+                pre,
+                post,
+                tries,
+                gap,
+            },
+            Wanted::Apply(a, b, c, times, steps),
+        ) => {
             name.as_slice() == a.as_bytes()
                 && pre.as_slice() == b.as_bytes()
                 && post.as_slice() == c.as_bytes()
+                && *tries == times
+                && *gap == steps
         }
+        (Command::Undo, Wanted::Undo) => true,
+        (Command::ListUpdates, Wanted::ListUpdates) => true,
         _ => false,
     }
 }

@@ -1,6 +1,5 @@
-//! Tests of instructions, steps, threads and sessions: `ia32_alu`, `ia32_decode`, `ia32_step`, `image_threads`,
-//! `stack_scan`, `update_stack`, `ksplice_session`.
-//! They stand apart so that those crates are proved once, and not once more for their tests.
+//! Tests of instructions, steps and threads: `ia32_alu`, `ia32_decode`, `ia32_step`, `image_threads`, `stack_scan`. They
+//! stand apart so that those crates are proved once, and not once more for their tests.
 #![tactic(auto)]
 
 #[cfg(test)]
@@ -10,11 +9,7 @@ mod decoding;
 #[cfg(test)]
 mod flags;
 #[cfg(test)]
-mod lines;
-#[cfg(test)]
 mod scanning;
-#[cfg(test)]
-mod sessions;
 #[cfg(test)]
 mod steps;
 #[cfg(test)]

@@ -1,7 +1,10 @@
 mod Answered
 mod Choices
+pub mod Fields
 mod Found
-mod Nothing
+pub mod InUse
+pub mod InUseOlds
+pub mod OnePlan
 mod Orders
 mod Planned
 mod Steps

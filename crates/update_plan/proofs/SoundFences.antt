@@ -1,19 +1,23 @@
--- What is retired of functions that lie apart, as fences: none is empty, no two meet, and each begins at a home of its
--- own.
-use Rattle.std.proofs.Common.{◌≡◌, inl, inr, ◌+◌, ◌<◌, true, false, cond, List, [], map, max}
+-- What is retired of functions that lie apart, as fences: none is empty, no two meet, none meets one that is retired
+-- already, and each begins at a base of its own.
+use Rattle.std.proofs.Common.{◌≡◌, inl, inr, ◌+◌, ◌<◌, Bool, true, false, cond, List, map, max}
 use Rattle.std.proofs.Common.{refl, sym, ap, subst, arith}
-use Rattle.std.specs.List.{All, AllPairs, filter}
+use Rattle.std.specs.List.{All, AllPairs, Contains, filter}
+use Rattle.std.proofs.lemmas.Bool.{and_parts, eqb-true}
 use Rattle.ks_base.specs.declared.places.Range.{Range}
 use Rattle.image_memory.specs.declared.types.Fence.{Fence}
-use Rattle.image_memory.specs.Ranges.{meets}
+use Rattle.image_memory.specs.Ranges.{meets, MeetsNone}
+use Rattle.image_memory.specs.Contents.{Contents, fence_range}
 use Rattle.splice_jump.specs.Jumps.{IsFenced}
 use Rattle.retired_code.specs.declared.types.OldFunction.{OldFunction}
-use Rattle.retired_code.specs.Retired.{body_range, is_retired, range_of, retired_by, retired_range, takes_jump}
+use Rattle.retired_code.specs.Retired.{body_range, is_first, is_replaced, is_retired, range_of, retired_by}
+use Rattle.retired_code.specs.Retired.{retired_range, takes_jump}
 use Rattle.retired_code.specs.Overlaps.{LieApart}
 use Rattle.retired_code.proofs.CountLaws.{meet_where}
 use Rattle.update_plan.specs.Plan.{fence_of, fences_of}
-use Rattle.update_plan.proofs.SoundLists.{Has, Pairs, all_has, all_of, all_pairs, has_filter, has_map, map_has}
-use Rattle.update_plan.proofs.SoundLists.{map_pairs, pairs_map, pairs_of, two_of}
+use Rattle.update_plan.specs.Sound.{AreListed}
+use Rattle.update_plan.proofs.SoundLists.{Has, Pairs, all_has, all_of, all_pairs, any_false, any_none, has_filter}
+use Rattle.update_plan.proofs.SoundLists.{has_map, has_of, map_has, map_pairs, pairs_map, pairs_of, two_of}
 
 abbrev retired_of : List OldFunction → List OldFunction
 retired_of olds = filter (λ old. is_retired old.fate) olds
@@ -21,13 +25,14 @@ retired_of olds = filter (λ old. is_retired old.fate) olds
 abbrev with_jump : OldFunction → Range
 with_jump old = range_of old.home (old.home + max old.length 5)
 
--- a first version's range begins at its home, and has the jump's bytes where it takes one
-pub low_is_home : (old : OldFunction) → old.base ≡ old.home → (retired_range old).low ≡ old.home
-low_is_home old first =
-    elim (takes_jump old) as (λ b. (cond b (with_jump old) (body_range old)).low ≡ old.home) [
-      | true ↦ refl
-      | false ↦ first
-    ]
+low_by : (old : OldFunction) (b : Bool) → takes_jump old ≡ b →
+    (cond b (with_jump old) (body_range old)).low ≡ old.base
+low_by old true takes = sym (eqb-true old.base old.home (and_parts (is_replaced old.fate) (is_first old) takes).1)
+low_by old false takes = refl
+
+-- what is retired begins at the newest version's base
+pub low_is_base : (old : OldFunction) → (retired_range old).low ≡ old.base
+low_is_base old = low_by old (takes_jump old) refl
 
 pub jump_is_fenced : (old : OldFunction) → takes_jump old ≡ true → IsFenced old.home (fence_of old)
 jump_is_fenced old takes =
@@ -38,7 +43,7 @@ jump_is_fenced old takes =
       long = (let high = ap (λ (r : Range). r.high) is in omega (arith, high));
     }
 
-module _ (olds : List OldFunction) (lies : LieApart (retired_by olds) []) where
+module _ (olds : List OldFunction) (retired : List Range) (lies : LieApart (retired_by olds) retired) where
   range_full : (old : OldFunction) → Has (retired_of olds) old → (retired_range old).low < (retired_range old).high
   unfolding retired_by
   range_full old has =
@@ -63,27 +68,44 @@ module _ (olds : List OldFunction) (lies : LieApart (retired_by olds) []) where
       all_pairs (λ (a b : Fence). meets a.range b.range ≡ false) (fences_of olds)
       (pairs_map fence_of (λ (a b : Fence). meets a.range b.range ≡ false) (retired_of olds) ranges_apart)
 
-  -- no two that are retired have one home
-  met : (a b : OldFunction) → Has (retired_of olds) a → Has (retired_of olds) b → a.base ≡ a.home → b.base ≡ b.home →
-      a.home ≡ b.home → meets (retired_range a) (retired_range b) ≡ true
-  met a b has_a has_b first_a first_b same =
-      let low_a = low_is_home a first_a in
-      let low_b = low_is_home b first_b in
+  -- none meets a range that is retired already, where each of these is listed
+  pub from_fences : (contents : Contents) → AreListed contents retired →
+      All (λ (fence : Fence). MeetsNone fence_range fence.range contents.fences) (fences_of olds)
+  unfolding retired_by
+  from_fences contents listed =
+      all_of (λ (fence : Fence). MeetsNone fence_range fence.range contents.fences) (fences_of olds)
+      (λ fence has.
+      let (old, has_old, is) = map_has fence_of (retired_of olds) fence has in
+      let apart = all_has (λ (r : Range). MeetsNone (λ (other : Range). other) r retired)
+      (map retired_range (retired_of olds)) (retired_range old) lies.from_retired
+      (has_map retired_range (retired_of olds) old has_old) in
+      subst (λ (f : Fence). MeetsNone fence_range f.range contents.fences) is
+      (any_none (λ (f : Fence). meets (retired_range old) f.range) contents.fences (λ f there.
+      any_false (λ (r : Range). meets (retired_range old) r) retired f.range apart
+      (has_of retired f.range
+      (all_has (λ (f : Fence). Contains retired f.range) contents.fences f listed there)))))
+
+  -- no two that are retired have one base
+  met : (a b : OldFunction) → Has (retired_of olds) a → Has (retired_of olds) b → a.base ≡ b.base →
+      meets (retired_range a) (retired_range b) ≡ true
+  met a b has_a has_b same =
+      let low_a = low_is_base a in
+      let low_b = low_is_base b in
       let full_a = range_full a has_a in
       let full_b = range_full b has_b in
       meet_where (retired_range a) (retired_range b) (omega (arith, low_a, low_b, same, full_b))
       (omega (arith, low_a, low_b, same, full_a)) full_a full_b
 
-  pub one_home : (a b : OldFunction) → Has olds a → Has olds b → is_retired a.fate ≡ true → is_retired b.fate ≡ true →
-      a.base ≡ a.home → b.base ≡ b.home → a.home ≡ b.home → a ≡ b
-  one_home a b has_a has_b gone_a gone_b first_a first_b same =
+  pub one_base : (a b : OldFunction) → Has olds a → Has olds b → is_retired a.fate ≡ true → is_retired b.fate ≡ true →
+      a.base ≡ b.base → a ≡ b
+  one_base a b has_a has_b gone_a gone_b same =
       let in_a = has_filter (λ (old : OldFunction). is_retired old.fate) olds a has_a gone_a in
       let in_b = has_filter (λ (old : OldFunction). is_retired old.fate) olds b has_b gone_b in
       elim (two_of (λ (x y : OldFunction). meets (retired_range x) (retired_range y) ≡ false) (retired_of olds) a b
       ranges_apart in_a in_b) [
         | inl is ↦ is
         | inr apart ↦ elim apart [
-          | inl ab ↦ let hit = met a b in_a in_b first_a first_b same in absurd cc
-          | inr ba ↦ let hit = met b a in_b in_a first_b first_a (sym same) in absurd cc
+          | inl ab ↦ let hit = met a b in_a in_b same in absurd cc
+          | inr ba ↦ let hit = met b a in_b in_a (sym same) in absurd cc
         ]
       ]

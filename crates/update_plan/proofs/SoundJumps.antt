@@ -1,11 +1,12 @@
--- The replaced functions of a plan: each is a first version with a home of its own, at which a jump fits; and the
--- ranges that are marked are those that begin at one.
-use Rattle.std.proofs.Common.{◌≡◌, ◌≢◌, inl, inr, ℕ, ◌^◌, ◌<◌, ◌≤◌, Bool, true, false, ◌&&◌, List, []}
-use Rattle.std.proofs.Common.{Option, Some, None, option_map, refl, sym, ap, subst, ◌∙◌}
+-- The replaced functions of a plan: each has a home of its own, at which a jump fits or stands already; and the ranges
+-- that are marked are those that begin at one.
+use Rattle.std.proofs.Common.{◌≡◌, ◌≢◌, ◌⊎◌, inl, inr, ℕ, ◌^◌, ◌<◌, ◌≤◌, Bool, true, false, ◌&&◌, List}
+use Rattle.std.proofs.Common.{◌++◌, Option, Some, None, option_map, refl, sym, ap, subst, ◌∙◌, arith}
 use Rattle.std.specs.Prelude.{◌==◌, nat_lt, if◌then◌else◌}
 use Rattle.std.specs.List.{All, AllPairs, Any, filter, filter_map}
 use Rattle.std.specs.Cmp.Lexicographic.{bytes_decides}
-use Rattle.std.proofs.lemmas.Bool.{both_ways, cases_Bool, eq-eqb, eqb-true, false_from_ne_true, ltb-false}
+use Rattle.std.proofs.lemmas.Bool.{and_parts, both_ways, cases_Bool, eq-eqb, eqb-true, false_from_ne_true}
+use Rattle.std.proofs.lemmas.Bool.{ltb-false}
 use Rattle.std.proofs.lemmas.Option.{same_Some}
 use Rattle.ks_base.specs.declared.places.Range.{Range}
 use Rattle.ks_base.specs.declared.refusals.Refusal.{Refusal}
@@ -13,9 +14,11 @@ use Rattle.ks_base.specs.declared.refusals.Refusal.TheVariants.{TooSmall}
 use Rattle.ks_base.specs.declared.reports.Replaced.{Replaced}
 use Rattle.symbol_table.specs.declared.symbols.Symbol.{Symbol}
 use Rattle.image_memory.specs.declared.types.Fence.{Fence}
-use Rattle.image_memory.specs.Contents.{Contents}
+use Rattle.symbol_table.specs.Bodies.{newest}
+use Rattle.image_memory.specs.Ranges.{MeetsNone, meets}
+use Rattle.image_memory.specs.Contents.{Contents, fence_range}
 use Rattle.image_memory.specs.Fetch.{HasCode}
-use Rattle.splice_jump.specs.Jumps.{IsFenced}
+use Rattle.splice_jump.specs.Jumps.{AreSpliced, IsFenced, IsSpliced}
 use Rattle.i386_reloc.specs.Normal.{same_bytes}
 use Rattle.i386_reloc.specs.Refused.{first_among, refused_where}
 use Rattle.extract_post.specs.declared.types.Extract.{Extract}
@@ -26,19 +29,22 @@ use Rattle.retired_code.specs.declared.types.Fate.{Fate}
 use Rattle.retired_code.specs.declared.types.Fate.TheVariants.{Kept, Replaced as WasReplaced, Dropped}
 use Rattle.retired_code.specs.declared.types.OldFunction.{OldFunction}
 use Rattle.retired_code.specs.Room.{room}
-use Rattle.retired_code.specs.Retired.{is_first, is_replaced, is_retired, retired_by, retired_range, takes_jump}
+use Rattle.retired_code.specs.Retired.{AreInUse, body_range, is_first, is_replaced, is_retired, retired_by}
+use Rattle.retired_code.specs.Retired.{retired_range, takes_jump}
 use Rattle.retired_code.specs.Overlaps.{LieApart, code_refusal, overlap_refusal, room_refusal}
+use Rattle.retired_code.proofs.CountLaws.{meet_where}
 use Rattle.new_code.specs.Parts.{AtPlace}
 use Rattle.new_code.specs.Reports.{replaced_as, replaced_by, replaced_of}
 use Rattle.update_plan.specs.Olds.{fate_of}
 use Rattle.update_plan.specs.Plan.{fence_of, fences_of}
 use Rattle.update_plan.specs.Sound.{IsJumpTo, is_replaced_at}
-use Rattle.update_plan.proofs.SoundLists.{Has, Pairs, all_of, all_pairs, any_has, any_none, has_filter}
-use Rattle.update_plan.proofs.SoundLists.{filter_has, found_has, has_found, has_kept, has_map, kept_has, map_has}
-use Rattle.update_plan.proofs.SoundLists.{none_first, none_has, pairs_kept, some_of, two_of}
+use Rattle.update_plan.proofs.SoundLists.{Has, Pairs, all_has, all_of, all_pairs, any_false, any_has, any_none}
+use Rattle.update_plan.proofs.SoundLists.{filter_has, found_has, has_filter, has_found, has_kept, has_left, has_map}
+use Rattle.update_plan.proofs.SoundLists.{has_right, kept_has, map_has, none_first, none_has, pairs_kept, some_has}
+use Rattle.update_plan.proofs.SoundLists.{some_of, two_of}
 use Rattle.update_plan.proofs.SoundParts.{changed_where}
-use Rattle.update_plan.proofs.SoundFences.{jump_is_fenced, low_is_home, one_home}
-use Rattle.update_plan.proofs.SoundOlds.{IsOldOf}
+use Rattle.update_plan.proofs.SoundFences.{jump_is_fenced, low_is_base, one_base}
+use Rattle.update_plan.proofs.SoundOlds.{IsOldOf, first_or_spliced}
 
 -- ---- fates
 fate_changed : (extract : Extract) (name : List ℕ) → is_among extract.changed name ≡ true →
@@ -137,8 +143,10 @@ room_clear contents symbols retired olds clear =
     (first_among (overlap_refusal retired olds) olds) clear
 
 -- ---- all of them
-module _ (extract : Extract) (olds : List OldFunction) (places : List AtPlace) (lies : LieApart (retired_by olds) [])
-    (is_old : (old : OldFunction) → Has olds old → IsOldOf extract old)
+module _ (contents : Contents) (bodies : List (ℕ × ℕ)) (retired : List Range) (spliced : AreSpliced contents bodies)
+    (extract : Extract) (olds : List OldFunction) (places : List AtPlace)
+    (lies : LieApart (retired_by olds) retired)
+    (is_old : (old : OldFunction) → Has olds old → IsOldOf bodies extract old)
     (listed : (x : AtPlace) → Has places x → role_of extract x.section.name ≡ Some x.role) where
   old_gone : (x : AtPlace) (one : Replaced) (r : IsReplacing olds x one) → Has places x →
       is_replaced r.old.fate ≡ true
@@ -148,29 +156,53 @@ module _ (extract : Extract) (olds : List OldFunction) (places : List AtPlace) (
       let fate = (is_old r.old r.among).fate in
       ap is_replaced (fate ∙ ap (fate_of extract) r.named ∙ fate_changed extract x.section.name among)
 
-  pub all_fit : (contents : Contents) (symbols : List Symbol) (retired : List Range) →
-      code_refusal contents symbols retired olds ≡ None →
+  first_or_later : (old : OldFunction) → Has olds old → (old.base ≡ old.home) ⊎ IsSpliced contents old.home
+  first_or_later old has = first_or_spliced contents bodies old.home old.base spliced (is_old old has).base
+
+  fit_first : (symbols : List Symbol) (old : OldFunction) → code_refusal contents symbols retired olds ≡ None →
+      ((home length n : ℕ) → n ≤ room contents symbols home length → HasCode contents.pieces home n) → Has olds old →
+      is_replaced old.fate ≡ true → old.base ≡ old.home →
+      HasCode contents.pieces old.home 5 × Any (IsFenced old.home) (fences_of olds ++ contents.fences)
+  fit_first symbols old clear coded among gone first =
+      let jump = takes old gone first in
+      let clear_here = none_has (room_refusal contents symbols) olds old
+      (room_clear contents symbols retired olds clear) among in
+      let fits = jump_fits contents symbols old jump clear_here in (
+        coded old.home old.length 5 fits,
+        some_of (IsFenced old.home) (fences_of olds ++ contents.fences) (fence_of old)
+            (has_left (fences_of olds) contents.fences (fence_of old)
+            (has_map fence_of (filter (λ old. is_retired old.fate) olds) old
+            (has_filter (λ old. is_retired old.fate) olds old among (replaced_is old.fate gone))))
+            (jump_is_fenced old jump),
+      )
+
+  fit_later : (old : OldFunction) → IsSpliced contents old.home →
+      HasCode contents.pieces old.home 5 × Any (IsFenced old.home) (fences_of olds ++ contents.fences)
+  fit_later old at =
+      let (fence, has, fenced) = some_has (IsFenced old.home) contents.fences at.fence in (
+        at.code,
+        some_of (IsFenced old.home) (fences_of olds ++ contents.fences) fence
+            (has_right (fences_of olds) contents.fences fence has) fenced,
+      )
+
+  pub all_fit : (symbols : List Symbol) → code_refusal contents symbols retired olds ≡ None →
       ((home length n : ℕ) → n ≤ room contents symbols home length → HasCode contents.pieces home n) →
       ((x : AtPlace) → Has places x → x.base < 2 ^ 32) →
       All (IsJumpTo contents (fences_of olds)) (filter_map (replaced_of olds) places)
-  all_fit contents symbols retired clear coded low =
+  all_fit symbols clear coded low =
       all_of (IsJumpTo contents (fences_of olds)) (filter_map (replaced_of olds) places)
       (λ one has.
       let (x, in_places, made) = kept_has (replaced_of olds) places one has in
       let r = is_replacing olds x one made in
       let gone = old_gone x one r in_places in
-      let jump = takes r.old gone (is_old r.old r.among).first in
-      let clear_here = none_has (room_refusal contents symbols) olds r.old
-      (room_clear contents symbols retired olds clear) r.among in
-      let fits = jump_fits contents symbols r.old jump clear_here in
-      let fenced : Any (IsFenced r.old.home) (fences_of olds) =
-      some_of (IsFenced r.old.home) (fences_of olds) (fence_of r.old)
-      (has_map fence_of (filter (λ old. is_retired old.fate) olds) r.old
-      (has_filter (λ old. is_retired old.fate) olds r.old r.among (replaced_is r.old.fate gone)))
-      (jump_is_fenced r.old jump) in
+      let fits : HasCode contents.pieces r.old.home 5 × Any (IsFenced r.old.home) (fences_of olds ++ contents.fences) =
+      elim (first_or_later r.old r.among) [
+        | inl first ↦ fit_first symbols r.old clear coded r.among gone first
+        | inr at ↦ fit_later r.old at
+      ] in
       record {
-        code = subst (λ home. HasCode contents.pieces home 5) (sym r.home) (coded r.old.home r.old.length 5 fits);
-        fence = subst (λ home. Any (IsFenced home) (fences_of olds)) (sym r.home) fenced;
+        code = subst (λ home. HasCode contents.pieces home 5) (sym r.home) fits.0;
+        fence = subst (λ home. Any (IsFenced home) (fences_of olds ++ contents.fences)) (sym r.home) fits.1;
         base = subst (λ base. base < 2 ^ 32) (sym r.base) (low x in_places);
       })
 
@@ -179,9 +211,10 @@ module _ (extract : Extract) (olds : List OldFunction) (places : List AtPlace) (
   homes_apart a b one other in_a in_b made_a made_b apart same =
       let r = is_replacing olds a one made_a in
       let s = is_replacing olds b other made_b in
-      let e : r.old ≡ s.old = one_home olds lies r.old s.old r.among s.among
-      (replaced_is r.old.fate (old_gone a one r in_a)) (replaced_is s.old.fate (old_gone b other s in_b))
-      (is_old r.old r.among).first (is_old s.old s.among).first (sym r.home ∙ same ∙ s.home) in
+      let bases : r.old.base ≡ s.old.base = (is_old r.old r.among).base
+      ∙ ap (newest bodies) (sym r.home ∙ same ∙ s.home) ∙ sym (is_old s.old s.among).base in
+      let e : r.old ≡ s.old = one_base olds retired lies r.old s.old r.among s.among
+      (replaced_is r.old.fate (old_gone a one r in_a)) (replaced_is s.old.fate (old_gone b other s in_b)) bases in
       apart (sym r.named ∙ ap (λ (o : OldFunction). o.section) e ∙ s.named)
 
   pub each_once : Pairs (λ (a b : AtPlace). a.section.name ≢ b.section.name) places →
@@ -191,7 +224,8 @@ module _ (extract : Extract) (olds : List OldFunction) (places : List AtPlace) (
       (pairs_kept (λ (a b : AtPlace). a.section.name ≢ b.section.name) (λ (a b : Replaced). a.home ≢ b.home)
       (replaced_of olds) places homes_apart differ)
 
-  module _ (sections_apart : Pairs (λ (a b : OldFunction). a.section ≢ b.section) olds)
+  module _ (in_use : AreInUse contents olds)
+      (sections_apart : Pairs (λ (a b : OldFunction). a.section ≢ b.section) olds)
       (placed : (name : List ℕ) → is_among extract.changed name ≡ true →
       (x : AtPlace) × Has places x × (x.role ≡ Changed) × (x.section.name ≡ name)) where
     one_section : (a b : OldFunction) → Has olds a → Has olds b → a.section ≡ b.section → a ≡ b
@@ -201,9 +235,9 @@ module _ (extract : Extract) (olds : List OldFunction) (places : List AtPlace) (
           | inr apart ↦ elim apart [ inl ab ↦ absurd (ab same) | inr ba ↦ absurd (ba (sym same)) ]
         ]
 
-    marked_by : (old : OldFunction) → Has olds old → is_replaced old.fate ≡ true →
+    marked_by : (old : OldFunction) → Has olds old → is_replaced old.fate ≡ true → old.base ≡ old.home →
         is_replaced_at (filter_map (replaced_of olds) places) (retired_range old).low ≡ true
-    marked_by old in_olds gone =
+    marked_by old in_olds gone first =
         let it = is_old old in_olds in
         let (x, in_places, role, name) = placed old.section (changed_fate extract old.section
         (ap is_replaced (sym it.fate) ∙ gone)) in
@@ -213,11 +247,26 @@ module _ (extract : Extract) (olds : List OldFunction) (places : List AtPlace) (
         any_has (λ (o : Replaced). o.home == (retired_range old).low) (filter_map (replaced_of olds) places) one
         (has_kept (replaced_of olds) places x one in_places made)
         (eq-eqb one.home (retired_range old).low
-        (r.home ∙ ap (λ (o : OldFunction). o.home) e ∙ sym (low_is_home old it.first)))
+        (r.home ∙ ap (λ (o : OldFunction). o.home) e ∙ sym first ∙ sym (low_is_base old)))
 
-    unmarked_by : (old : OldFunction) → Has olds old → is_retired old.fate ≡ true → is_replaced old.fate ≡ false →
+    -- no spliced home is the base of a body that is in use
+    no_home : (old : OldFunction) (home : ℕ) → Has olds old → IsSpliced contents home → home ≡ old.base → ⊥
+    no_home old home in_olds at same =
+        let (fence, has, fenced) = some_has (IsFenced home) contents.fences at.fence in
+        let apart : meets (body_range old) fence.range ≡ false =
+        any_false (λ (f : Fence). meets (body_range old) f.range) contents.fences fence
+        (all_has (λ (o : OldFunction). MeetsNone fence_range (body_range o) contents.fences) olds old in_use in_olds)
+        has in
+        let some = (is_old old in_olds).some in
+        let low = fenced.low in
+        let long = fenced.long in
+        let hit = meet_where (body_range old) fence.range (omega (arith, same, long)) (omega (arith, same, low, some))
+        (omega (arith, some)) (omega (arith, low, long)) in
+        cc
+
+    unmarked_by : (old : OldFunction) → Has olds old → is_retired old.fate ≡ true → takes_jump old ≡ false →
         is_replaced_at (filter_map (replaced_of olds) places) (retired_range old).low ≡ false
-    unmarked_by old in_olds retired kept =
+    unmarked_by old in_olds goes kept =
         any_none (λ (o : Replaced). o.home == (retired_range old).low) (filter_map (replaced_of olds) places)
         (λ one has.
         false_from_ne_true (one.home == (retired_range old).low)
@@ -225,12 +274,16 @@ module _ (extract : Extract) (olds : List OldFunction) (places : List AtPlace) (
         let home : one.home ≡ (retired_range old).low = eqb-true one.home (retired_range old).low eq in
         let (x, in_places, made) = kept_has (replaced_of olds) places one has in
         let r = is_replacing olds x one made in
-        let first = (is_old old in_olds).first in
         let gone = old_gone x one r in_places in
-        let e : old ≡ r.old = one_home olds lies old r.old in_olds r.among retired (replaced_is r.old.fate gone) first
-        (is_old r.old r.among).first (sym (low_is_home old first) ∙ sym home ∙ r.home) in
-        let also : is_replaced old.fate ≡ true = ap (λ (o : OldFunction). is_replaced o.fate) e ∙ gone in
-        absurd (both_ways (is_replaced old.fate) kept also)))
+        let at : r.old.home ≡ old.base = sym r.home ∙ home ∙ low_is_base old in
+        elim (first_or_later r.old r.among) [
+          | inl first ↦
+              let e : old ≡ r.old = one_base olds retired lies old r.old in_olds r.among goes
+              (replaced_is r.old.fate gone) (sym at ∙ sym first) in
+              let also : takes_jump old ≡ true = ap takes_jump e ∙ takes r.old gone first in
+              absurd (both_ways (takes_jump old) kept also)
+          | inr later ↦ absurd (no_home old r.old.home in_olds later at)
+        ]))
 
     pub all_marked : All (λ (fence : Fence). fence.jump ≡ is_replaced_at (filter_map (replaced_of olds) places)
         fence.range.low) (fences_of olds)
@@ -241,7 +294,9 @@ module _ (extract : Extract) (olds : List OldFunction) (places : List AtPlace) (
         let (old, in_retired, is) = map_has fence_of (filter (λ old. is_retired old.fate) olds) fence has in
         let both = filter_has (λ (o : OldFunction). is_retired o.fate) olds old in_retired in
         subst (λ (f : Fence). f.jump ≡ is_replaced_at (filter_map (replaced_of olds) places) f.range.low) is
-        (elim (cases_Bool (is_replaced old.fate)) [
-          | inl gone ↦ takes old gone (is_old old both.0).first ∙ sym (marked_by old both.0 gone)
-          | inr kept ↦ ap (λ b. b && is_first old) kept ∙ sym (unmarked_by old both.0 both.1 kept)
+        (elim (cases_Bool (takes_jump old)) [
+          | inl jumps ↦
+              let parts = and_parts (is_replaced old.fate) (is_first old) jumps in
+              jumps ∙ sym (marked_by old both.0 parts.0 (eqb-true old.base old.home parts.1))
+          | inr kept ↦ kept ∙ sym (unmarked_by old both.0 both.1 kept)
         ]))

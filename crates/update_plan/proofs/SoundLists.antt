@@ -20,6 +20,14 @@ contained (a ∷ xs) x (inr rest) =
     let (k, within, is) = contained xs x rest in
     (suc k, omega (arith, within), is)
 
+pub has_of : {X : Type 0} (xs : List X) (x : X) → Contains xs x → Has xs x
+has_of [] x (k, within, is) = absurd (omega (arith, within))
+has_of (a ∷ xs) x (zero, within, is) = inl is
+has_of (a ∷ xs) x (suc k, within, is) = inr (has_of xs x (k, omega (arith, within), is))
+
+pub some_has : {X : Type 0} (P : X → Type 0) (xs : List X) → Any P xs → (x : X) × Has xs x × P x
+some_has P xs (k, x, within, is, here) = (x, has_of xs x (k, within, is), here)
+
 pub some_of : {X : Type 0} (P : X → Type 0) (xs : List X) (x : X) → Has xs x → P x → Any P xs
 some_of P xs x has here =
     let (k, within, is) = contained xs x has in
@@ -137,16 +145,16 @@ filter_has {X} p (a ∷ xs) x has = by (p a) refl (filter_has p xs x) has
     by true is later (inr rest) = let both = later rest in (inr both.0, both.1)
     by false is later rest = let both = later rest in (inr both.0, both.1)
 
-has_left : {X : Type 0} (xs ys : List X) (x : X) → Has xs x → Has (xs ++ ys) x
+pub has_left : {X : Type 0} (xs ys : List X) (x : X) → Has xs x → Has (xs ++ ys) x
 has_left [] ys x has = absurd has
 has_left (a ∷ xs) ys x (inl is) = inl is
 has_left (a ∷ xs) ys x (inr rest) = inr (has_left xs ys x rest)
 
-has_right : {X : Type 0} (xs ys : List X) (x : X) → Has ys x → Has (xs ++ ys) x
+pub has_right : {X : Type 0} (xs ys : List X) (x : X) → Has ys x → Has (xs ++ ys) x
 has_right [] ys x has = has
 has_right (a ∷ xs) ys x has = inr (has_right xs ys x has)
 
-has_either : {X : Type 0} (xs ys : List X) (x : X) → Has (xs ++ ys) x → Has xs x ⊎ Has ys x
+pub has_either : {X : Type 0} (xs ys : List X) (x : X) → Has (xs ++ ys) x → Has xs x ⊎ Has ys x
 has_either [] ys x has = inr has
 has_either (a ∷ xs) ys x (inl is) = inl (inl is)
 has_either (a ∷ xs) ys x (inr rest) = elim (has_either xs ys x rest) [ inl h ↦ inl (inr h) | inr h ↦ inr h ]

@@ -1,8 +1,10 @@
--- What is known of the functions of the old object in a program in which nothing was replaced: each is a first version,
--- has some bytes and a name of its own.
-use Rattle.std.proofs.Common.{◌≡◌, ◌≢◌, inl, inr, ℕ, suc, ◌<◌, Bool, true, false, cond, List, [], ◌∷◌, map, Option}
+-- What is known of the functions of the old object as they run: each is the newest version of its home, has some bytes
+-- and a name of its own.
+use Rattle.std.proofs.Common.{◌≡◌, ◌≢◌, ◌⊎◌, inl, inr, ℕ, suc, ◌<◌, Bool, true, false, cond, List, [], ◌∷◌, map, Option}
 use Rattle.std.proofs.Common.{Some, None, refl, sym, ap, subst, ◌∙◌}
+use Rattle.std.specs.Prelude.{◌==◌}
 use Rattle.std.specs.List.{All, IsDistinct, filter}
+use Rattle.std.proofs.lemmas.Bool.{eqb-true}
 use Rattle.std.specs.Cmp.Lexicographic.{bytes_decides}
 use Rattle.std.proofs.lemmas.Map.Made.{IsDistinct-from_AllPairs}
 use Rattle.symbol_table.specs.declared.values.Unknown.{Unknown}
@@ -18,6 +20,8 @@ use Rattle.run_pre_match.specs.Matched.{PreSection}
 use Rattle.match_candidates.specs.Candidates.{Running, code_from, code_sections}
 use Rattle.symbol_solve.specs.Solve.{Value}
 use Rattle.symbol_solve.specs.Answered.{IsAnswered, is_about}
+use Rattle.image_memory.specs.Contents.{Contents}
+use Rattle.splice_jump.specs.Jumps.{AreSpliced, IsSpliced}
 use Rattle.extract_post.specs.declared.types.Extract.{Extract}
 use Rattle.link_post.specs.Values.{ValueList, solved_as}
 use Rattle.retired_code.specs.declared.types.OldFunction.{OldFunction}
@@ -26,10 +30,34 @@ use Rattle.update_plan.specs.Olds.{fate_of, is_function, old_as, old_in, olds_of
 use Rattle.update_plan.proofs.SoundLists.{Has, IsShort, Pairs, all_has, all_pairs, filter_has, flat_has}
 use Rattle.update_plan.proofs.SoundLists.{pairs_filter, pairs_flat, pairs_map}
 
-pub record IsOldOf (extract : Extract) (old : OldFunction) : Type 0 where
-  pub first : old.base ≡ old.home
+pub record IsOldOf (bodies : List (ℕ × ℕ)) (extract : Extract) (old : OldFunction) : Type 0 where
+  pub base : old.base ≡ newest bodies old.home
   pub some : 0 < old.length
   pub fate : old.fate ≡ fate_of extract old.section
+
+-- ---- the newest version of a home is the first one, or the home has a row
+pub row_of : (bodies : List (ℕ × ℕ)) (home base : ℕ) → base ≡ newest bodies home →
+    (base ≡ home) ⊎ ((row : ℕ × ℕ) × Has bodies row × (row.0 ≡ home))
+row_of [] home base is = inl is
+row_of (row ∷ rows) home base is = by (row.0 == home) refl (row_of rows home base) is
+  where
+    by : (b : Bool) → (row.0 == home) ≡ b →
+        (base ≡ newest rows home → (base ≡ home) ⊎ ((r : ℕ × ℕ) × Has rows r × (r.0 ≡ home))) →
+        base ≡ cond b row.1 (newest rows home) →
+        (base ≡ home) ⊎ ((r : ℕ × ℕ) × Has (row ∷ rows) r × (r.0 ≡ home))
+    by true at later is = inr (row, inl refl, eqb-true row.0 home at)
+    by false at later is =
+        elim (later is) [ inl same ↦ inl same | inr it ↦ inr (it.0, inr it.1, it.2) ]
+
+-- and there its jump stands
+pub first_or_spliced : (contents : Contents) (bodies : List (ℕ × ℕ)) (home base : ℕ) → AreSpliced contents bodies →
+    base ≡ newest bodies home → (base ≡ home) ⊎ IsSpliced contents home
+first_or_spliced contents bodies home base spliced is =
+    elim (row_of bodies home base is) [
+      | inl first ↦ inl first
+      | inr it ↦ inr (subst (IsSpliced contents) it.2
+          (all_has (λ (row : ℕ × ℕ). IsSpliced contents row.0) bodies it.0 spliced.each it.1))
+    ]
 
 -- ---- the value of a code section
 told_in : (values : ValueList) (which : Unknown) (value : Value) → filter (is_about which) values ≡ value ∷ [] →
@@ -67,13 +95,14 @@ code_has object (s ∷ sections) place section (inr rest) code =
     by p false later = later
 
 -- ---- the functions one by one
-old_from : (extract : Extract) (section : NormalSection) (home base size : ℕ) (o : Option Solved) (old : OldFunction) →
-    o ≡ Some (Body home base size) → base ≡ home → 0 < size → Has (old_as extract section o) old → IsOldOf extract old
-old_from extract section home base size o old is first some has =
+old_from : (bodies : List (ℕ × ℕ)) (extract : Extract) (section : NormalSection) (home base size : ℕ)
+    (o : Option Solved) (old : OldFunction) → o ≡ Some (Body home base size) → base ≡ newest bodies home → 0 < size →
+    Has (old_as extract section o) old → IsOldOf bodies extract old
+old_from bodies extract section home base size o old is newest_is some has =
     by (subst (λ (x : Option Solved). Has (old_as extract section x) old) is has)
   where
-    by : Has (old_as extract section (Some (Body home base size))) old → IsOldOf extract old
-    by (inl here) = subst (IsOldOf extract) here (record { first = first; some = some; fate = refl })
+    by : Has (old_as extract section (Some (Body home base size))) old → IsOldOf bodies extract old
+    by (inl here) = subst (IsOldOf bodies extract) here (record { base = newest_is; some = some; fate = refl })
     by (inr none) = absurd none
 
 old_section : (extract : Extract) (section : NormalSection) (o : Option Solved) (old : OldFunction) →
@@ -90,17 +119,16 @@ old_short extract section (Some (Address address)) = tt
 old_short extract section None = tt
 
 module _ (running : Running) (extract : Extract) (found : ValueList) (pre : List NormalSection)
-    (empty : running.bodies ≡ []) (answered : All (IsAnswered running found) (code_sections pre)) where
-  pub is_old : (old : OldFunction) → Has (olds_of extract found pre) old → IsOldOf extract old
+    (answered : All (IsAnswered running found) (code_sections pre)) where
+  pub is_old : (old : OldFunction) → Has (olds_of extract found pre) old → IsOldOf running.bodies extract old
   unfolding olds_of
   is_old old has =
       let (section, has_section, has_old) = flat_has (old_in extract found) (filter is_function pre) old has in
       let (in_pre, code) = filter_has is_function pre section has_section in
       let (place, has_code) = code_has pre pre 0 section in_pre code in
       let it = all_has (IsAnswered running found) (code_sections pre) (as_pre pre place section) answered has_code in
-      let first : it.base ≡ it.home = it.is_base ∙ ap (λ rows. newest rows it.home) empty in
-      old_from extract section it.home it.base it.size (solved_as found (Code section.name)) old
-      (told_in found (Code section.name) (Code section.name, Body it.home it.base it.size) it.told) first it.some
+      old_from running.bodies extract section it.home it.base it.size (solved_as found (Code section.name)) old
+      (told_in found (Code section.name) (Code section.name, Body it.home it.base it.size) it.told) it.is_base it.some
       has_old
 
 module _ (extract : Extract) (found : ValueList) (pre : List NormalSection)

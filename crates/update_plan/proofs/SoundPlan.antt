@@ -1,5 +1,5 @@
--- A plan for a program in which nothing was replaced can be carried out.
-use Rattle.std.proofs.Common.{◌≡◌, ◌≢◌, ℕ, ◌^◌, ◌<◌, ◌≤◌, true, List, [], map, None, refl, sym, ap, subst, ◌∙◌}
+-- A plan can be carried out.
+use Rattle.std.proofs.Common.{◌≡◌, ◌≢◌, ℕ, ◌^◌, ◌<◌, ◌≤◌, true, List, map, None, refl, sym, ap, subst, ◌∙◌}
 use Rattle.std.proofs.Common.{arith}
 use Rattle.std.specs.Prelude.{Ok}
 use Rattle.std.specs.List.{All, IsDistinct, filter}
@@ -9,12 +9,12 @@ use Rattle.symbol_table.specs.declared.symbols.Symbol.{Symbol}
 use Rattle.elf32_object.specs.Rules.{object_fault}
 use Rattle.i386_reloc.specs.declared.types.NormalSection.{NormalSection}
 use Rattle.i386_reloc.specs.Normal.{loaded_sections, name_of, same_bytes}
-use Rattle.image_memory.specs.declared.types.Fence.{Fence}
 use Rattle.image_memory.specs.declared.types.Piece.{Piece}
-use Rattle.image_memory.specs.Ranges.{Ascends, MeetsNone}
-use Rattle.image_memory.specs.Contents.{Contents, IsValid, fence_range, piece_range}
+use Rattle.image_memory.specs.Ranges.{Ascends}
+use Rattle.image_memory.specs.Contents.{Contents, IsValid, piece_range}
 use Rattle.image_memory.specs.Changes.{IsPlaceable}
 use Rattle.image_memory.specs.Fetch.{HasCode}
+use Rattle.splice_jump.specs.Jumps.{AreSpliced}
 use Rattle.extract_post.specs.declared.types.Extract.{Extract}
 use Rattle.extract_post.specs.Extracted.{is_changed, lists_of}
 use Rattle.section_roles.specs.declared.role.Role.TheVariants.{Changed}
@@ -28,7 +28,7 @@ use Rattle.link_post.specs.Values.{ValueList}
 use Rattle.link_post.specs.Places.{ArePlaces, placed}
 use Rattle.retired_code.specs.declared.types.OldFunction.{OldFunction}
 use Rattle.retired_code.specs.Room.{room}
-use Rattle.retired_code.specs.Retired.{retired_by, section_of}
+use Rattle.retired_code.specs.Retired.{AreInUse, retired_by, section_of}
 use Rattle.retired_code.specs.Overlaps.{LieApart, code_refusal}
 use Rattle.new_code.specs.Parts.{AtPlace, NewPart, at_places, new_part, placed_part, size_of}
 use Rattle.new_code.specs.Pieces.{new_piece, new_pieces}
@@ -36,15 +36,15 @@ use Rattle.new_code.specs.Apart.{AreNewPieces, ArePartsOf, AreWhole}
 use Rattle.update_plan.specs.declared.types.Plan.{Plan}
 use Rattle.update_plan.specs.Olds.{olds_of}
 use Rattle.update_plan.specs.Placing.{parts_of}
-use Rattle.update_plan.specs.Plan.{fences_of, plan_of, planned}
-use Rattle.update_plan.specs.Sound.{AreGaps, CanBeMade}
+use Rattle.update_plan.specs.Plan.{plan_of, planned}
+use Rattle.update_plan.specs.Sound.{AreGaps, AreListed, CanBeMade}
 use Rattle.update_plan.proofs.SoundLists.{Has, Pairs, all_has, all_of, filter_has, has_any, has_map, map_has}
 use Rattle.update_plan.proofs.SoundFile.{distinct_in, is_file, named_itself, names_differ}
 use Rattle.update_plan.proofs.SoundOlds.{IsOldOf, is_old, olds_distinct, sections_differ}
 use Rattle.update_plan.proofs.SoundParts.{has_part, has_place, is_changed_role, parts_are_of, parts_differ}
 use Rattle.update_plan.proofs.SoundParts.{place_role, places_differ}
 use Rattle.update_plan.proofs.SoundPieces.{alone, apart, placeable}
-use Rattle.update_plan.proofs.SoundFences.{fences_apart, full}
+use Rattle.update_plan.proofs.SoundFences.{fences_apart, from_fences, full}
 use Rattle.update_plan.proofs.SoundJumps.{all_fit, all_marked, each_once}
 use Rattle.update_plan.proofs.SoundSteps.{IsPlanned, is_planned, lists_are}
 
@@ -54,6 +54,11 @@ BodiesAreTold = (running : Running) (object : List NormalSection) (values : List
     IsDistinct same_bytes (map name_of object) →
     solved object running.bodies running.contents running.symbols ≡ Ok values →
     All (IsAnswered running values) (code_sections object)
+
+abbrev pub BodiesAreInUse : Type 0
+BodiesAreInUse = (running : Running) (object : List NormalSection) (values : ValueList) (extract : Extract) →
+    IsValid running.contents → solved object running.bodies running.contents running.symbols ≡ Ok values →
+    AreInUse running.contents (olds_of extract values object)
 
 abbrev pub PlacesLieApart : Type 0
 PlacesLieApart = (sizes : List SectionSize) (gaps : List Range) (places : List Placed) →
@@ -91,9 +96,10 @@ changed_has pre post extract name is among =
       named ∙ (bytes_decides other name).0 same,
     )
 
-module _ (running : Running) (gaps : List Range) (pre_file post_file : List ℕ) (plan : Plan)
-    (valid : IsValid running.contents) (unfenced : running.contents.fences ≡ []) (empty : running.bodies ≡ [])
-    (are_gaps : AreGaps running.contents gaps) (it : IsPlanned running [] gaps pre_file post_file plan) where
+module _ (running : Running) (retired gaps : List Range) (pre_file post_file : List ℕ) (plan : Plan)
+    (valid : IsValid running.contents) (spliced : AreSpliced running.contents running.bodies)
+    (all_listed : AreListed running.contents retired) (are_gaps : AreGaps running.contents gaps)
+    (it : IsPlanned running retired gaps pre_file post_file plan) where
   abbrev olds : List OldFunction
   olds = olds_of it.extract it.found it.pre
 
@@ -112,14 +118,14 @@ module _ (running : Running) (gaps : List Range) (pre_file post_file : List ℕ)
   post_differ : Pairs (λ (a b : NormalSection). a.name ≢ b.name) it.post
   post_differ = names_differ post_file it.post (is_file post_file it.post it.post_is)
 
-  each_old : BodiesAreTold → (old : OldFunction) → Has olds old → IsOldOf it.extract old
+  each_old : BodiesAreTold → (old : OldFunction) → Has olds old → IsOldOf running.bodies it.extract old
   each_old told =
-      is_old running it.extract it.found it.pre empty
+      is_old running it.extract it.found it.pre
       (told running it.pre it.found valid (distinct_in pre_file it.pre (is_file pre_file it.pre it.pre_is)) it.found_is)
 
-  lies : BodiesAreTold → RetiredLieApart → LieApart (retired_by olds) []
-  lies told retired =
-      retired running.contents running.symbols [] olds (olds_distinct it.extract it.found it.pre pre_differ)
+  lies : BodiesAreTold → RetiredLieApart → LieApart (retired_by olds) retired
+  lies told law =
+      law running.contents running.symbols retired olds (olds_distinct it.extract it.found it.pre pre_differ)
       (all_of (λ (old : OldFunction). 0 < old.length) olds (λ old has. (each_old told old has).some)) it.clear
 
   are_pieces : SectionsAreWhole → PiecesLieApart → AreNewPieces gaps parts it.placement pieces
@@ -152,35 +158,36 @@ module _ (running : Running) (gaps : List Range) (pre_file post_file : List ℕ)
       (places (map size_of parts) gaps it.placement are_gaps.ascend it.placement_is).each part in
       (placed_part section Changed base, has, refl, named)
 
-  pub made : BodiesAreTold → PlacesLieApart → SectionsAreWhole → PiecesLieApart → RetiredLieApart → RoomIsCode →
-      CanBeMade running.contents plan
-  made told places whole lie retired coded =
+  pub made : BodiesAreTold → BodiesAreInUse → PlacesLieApart → SectionsAreWhole → PiecesLieApart → RetiredLieApart →
+      RoomIsCode → CanBeMade running.contents plan
+  made told used places whole lie law coded =
       let are = are_pieces whole lie in
-      let apart_olds = lies told retired in
+      let apart_olds = lies told law in
       let old_is = each_old told in
       let listed = place_role it.extract it.post it.placement in
       let here : CanBeMade running.contents (plan_of running it.post it.values olds parts it.placement) = record {
         placeable = placeable running.contents gaps parts it.placement pieces are_gaps are;
         apart = apart running.contents gaps parts it.placement pieces are_gaps are;
         alone = alone running.contents gaps parts it.placement pieces are_gaps are;
-        full = full olds apart_olds;
-        retired_apart = fences_apart olds apart_olds;
-        in_use = all_of (λ (fence : Fence). MeetsNone fence_range fence.range running.contents.fences) (fences_of olds)
-            (λ fence has.
-            subst (λ (fences : List Fence). MeetsNone fence_range fence.range fences) (sym unfenced) refl);
-        jumps = all_fit it.extract olds at_all apart_olds old_is listed running.contents running.symbols [] it.clear
-            (coded running.contents running.symbols) (low_places whole lie);
-        once = each_once it.extract olds at_all apart_olds old_is listed
+        full = full olds retired apart_olds;
+        retired_apart = fences_apart olds retired apart_olds;
+        in_use = from_fences olds retired apart_olds running.contents all_listed;
+        jumps = all_fit running.contents running.bodies retired spliced it.extract olds at_all apart_olds old_is listed
+            running.symbols it.clear (coded running.contents running.symbols) (low_places whole lie);
+        once = each_once running.contents running.bodies retired spliced it.extract olds at_all apart_olds old_is listed
             (places_differ parts it.placement (parts_differ it.extract it.post post_differ));
-        marked = all_marked it.extract olds at_all apart_olds old_is listed
+        marked = all_marked running.contents running.bodies retired spliced it.extract olds at_all apart_olds old_is
+            listed (used running it.pre it.found it.extract valid it.found_is)
             (sections_differ it.extract it.found it.pre pre_differ) (changed_place places);
       } in
       subst (CanBeMade running.contents) it.plan_is here
 
-pub all_made : BodiesAreTold → PlacesLieApart → SectionsAreWhole → PiecesLieApart → RetiredLieApart → RoomIsCode →
-    (running : Running) (gaps : List Range) (pre_file post_file : List ℕ) (plan : Plan) → IsValid running.contents →
-    running.contents.fences ≡ [] → running.bodies ≡ [] → AreGaps running.contents gaps →
-    planned running [] gaps pre_file post_file ≡ Ok plan → CanBeMade running.contents plan
-all_made told places whole lie retired coded running gaps pre_file post_file plan valid unfenced empty are_gaps is =
-    made running gaps pre_file post_file plan valid unfenced empty are_gaps
-    (is_planned running [] gaps pre_file post_file plan is) told places whole lie retired coded
+pub all_made : BodiesAreTold → BodiesAreInUse → PlacesLieApart → SectionsAreWhole → PiecesLieApart → RetiredLieApart →
+    RoomIsCode → (running : Running) (retired gaps : List Range) (pre_file post_file : List ℕ) (plan : Plan) →
+    IsValid running.contents → AreSpliced running.contents running.bodies → AreListed running.contents retired →
+    AreGaps running.contents gaps → planned running retired gaps pre_file post_file ≡ Ok plan →
+    CanBeMade running.contents plan
+all_made told used places whole lie law coded running retired gaps pre_file post_file plan valid spliced listed are_gaps
+    is =
+    made running retired gaps pre_file post_file plan valid spliced listed are_gaps
+    (is_planned running retired gaps pre_file post_file plan is) told used places whole lie law coded

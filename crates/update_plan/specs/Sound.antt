@@ -1,7 +1,7 @@
 -- A plan can be carried out: its pieces fit beside those that are there, what it retires lies apart, and each jump has
 -- its five bytes of code.
-use Rattle.std.specs.Prelude.{◌≡◌, ◌≢◌, ◌≤◌, ◌<◌, ℕ, ◌^◌, ◌==◌, Bool, false, List}
-use Rattle.std.specs.List.{All, Any, AllPairs, list_any}
+use Rattle.std.specs.Prelude.{◌≡◌, ◌≢◌, ◌≤◌, ◌<◌, ℕ, ◌^◌, ◌==◌, Bool, false, List, ◌++◌}
+use Rattle.std.specs.List.{All, Any, AllPairs, Contains, list_any}
 use Rattle.ks_base.specs.declared.places.Range.{Range}
 use Rattle.ks_base.specs.declared.reports.Replaced.{Replaced}
 use Rattle.image_memory.specs.declared.types.Fence.{Fence}
@@ -18,10 +18,15 @@ pub record AreGaps (contents : Contents) (gaps : List Range) : Type 0 where
   pub low : All (λ gap. gap.high ≤ 0xFFFF_0000) gaps
   pub free : All (λ gap. MeetsNone piece_range gap contents.pieces) gaps
 
--- a function that is replaced: a jump fits at its home, which a range that is retired begins with
+-- each range that is retired is listed
+abbrev pub AreListed : Contents → List Range → Type 0
+AreListed contents retired = All (λ (fence : Fence). Contains retired fence.range) contents.fences
+
+-- A function that is replaced: a jump fits at its home, which a range that is retired begins with, one of these or one
+-- that is retired already.
 pub record IsJumpTo (contents : Contents) (fences : List Fence) (replaced : Replaced) : Type 0 where
   pub code : HasCode contents.pieces replaced.home 5
-  pub fence : Any (IsFenced replaced.home) fences
+  pub fence : Any (IsFenced replaced.home) (fences ++ contents.fences)
   pub base : replaced.base < 2 ^ 32
 
 -- whether a function is replaced that has its home at an address

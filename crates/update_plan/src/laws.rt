@@ -1,30 +1,85 @@
 //! What holds of every plan.
-ghost use Rattle.std.specs.Prelude.{◌≡◌, ℕ, List, [], Ok};
+ghost use Rattle.std.specs.Prelude.{◌≡◌, ℕ, List, Ok};
+ghost use Rattle.std.specs.List.{All, Contains};
 ghost use Rattle.ks_base.specs.declared.places.Range.{Range};
-ghost use Rattle.image_memory.specs.Contents.{IsValid};
+ghost use Rattle.i386_reloc.specs.declared.types.NormalSection.{NormalSection};
+ghost use Rattle.object_sections.specs.Sections.{sections_of};
+ghost use Rattle.image_memory.specs.Contents.{IsValid, spliced_at};
+ghost use Rattle.run_pre_match.specs.Alike.{HasFieldsInside};
+ghost use Rattle.match_candidates.specs.Alike.{RunAlike};
 ghost use Rattle.match_candidates.specs.Candidates.{Running};
+ghost use Rattle.symbol_solve.specs.Solve.{solved};
+ghost use Rattle.link_post.specs.Values.{ValueList};
+ghost use Rattle.extract_post.specs.declared.types.Extract.{Extract as Lists};
+ghost use Rattle.splice_jump.specs.Jumps.{AreSpliced};
+ghost use Rattle.retired_code.specs.Retired.{AreInUse};
+ghost use Rattle.retired_code.specs.Room.{HaveOneShape};
 ghost use Rattle.update_plan.specs.declared.types.Plan.{Plan};
+ghost use Rattle.update_plan.specs.Olds.{olds_of};
 ghost use Rattle.update_plan.specs.Plan.{planned};
-ghost use Rattle.update_plan.specs.Sound.{AreGaps, CanBeMade};
+ghost use Rattle.update_plan.specs.Sound.{AreGaps, AreListed, CanBeMade};
 
+use ia32_decode::instructions_have_bytes;
 use link_post::laws::places_lie_apart;
 use new_code::laws::{new_pieces_lie_apart, sections_are_whole};
-use retired_code::{retired_code_lies_apart, room_is_code};
-use symbol_solve::laws::answers_tell_each_body;
+use retired_code::{retired_code_lies_apart, room_is_code, room_is_met};
+use symbol_solve::{
+    alike_programs_have_one_answer, answer_is_only_solution, answers_tell_each_body,
+};
 
-/// A plan for a program in which nothing was replaced can be carried out: its pieces fit beside those that are there,
-/// and what it retires lies apart. Each replaced function has a home of its own, at which a jump fits and where a range
-/// begins that is retired; and no other of these ranges is marked as having a jump.
-pub fn plans_can_be_made()
-    ensures { (running : Running) (gaps : List Range) (pre_file post_file : List ℕ) (plan : Plan)
-        → IsValid running.contents → running.contents.fences ≡ [] → running.bodies ≡ []
-        → AreGaps running.contents gaps → planned running [] gaps pre_file post_file ≡ Ok plan
-        → CanBeMade running.contents plan }
+/// The functions of an old object as they run are in use: no address of a body that was matched is retired, since each
+/// instruction of it was met.
+pub fn matched_bodies_are_in_use()
+    ensures { (running : Running) (object : List NormalSection) (values : ValueList) (extract : Lists)
+        → IsValid running.contents
+        → solved object running.bodies running.contents running.symbols ≡ Ok values
+        → AreInUse running.contents (olds_of extract values object) }
 {
+    // Nothing is done here: the laws say that an instruction has no more bytes than are met, and that each value is one
+    // of a match.
+    instructions_have_bytes();
+    answer_is_only_solution();
+}
+
+/// A plan can be carried out, for a program whose homes with newer versions are spliced and of whose retired ranges
+/// none is left out: its pieces fit beside those that are there, and what it retires lies apart. Each replaced function
+/// has a home of its own, at which a jump fits and where a range begins that is retired, by the plan or already; and no
+/// other of the plan's ranges is marked as having a jump.
+pub fn plans_can_be_made()
+    ensures { (running : Running) (retired gaps : List Range) (pre_file post_file : List ℕ) (plan : Plan)
+        → IsValid running.contents → AreSpliced running.contents running.bodies
+        → AreListed running.contents retired → AreGaps running.contents gaps
+        → planned running retired gaps pre_file post_file ≡ Ok plan → CanBeMade running.contents plan }
+{
+    // Nothing is done here: the laws say what holds of each step of a plan.
     answers_tell_each_body();
+    matched_bodies_are_in_use();
     places_lie_apart();
     sections_are_whole();
     new_pieces_lie_apart();
     retired_code_lies_apart();
     room_is_code();
+}
+
+/// Each field of a section of an object file that isn't refused stands whole in the section's bytes.
+pub fn fields_stand_inside()
+    ensures { (file : List ℕ) (sections : List NormalSection) → sections_of file ≡ Ok sections
+        → All HasFieldsInside sections }
+{
+    // Nothing is done here: the law says that each section has its bytes.
+    sections_are_whole();
+}
+
+/// In running programs that are alike, whose pieces differ in their bytes alone and in which the same homes are
+/// spliced, an update has one plan, or one refusal.
+pub fn alike_programs_have_one_plan()
+    ensures { (one other : Running) (retired gaps : List Range) (pre_file post_file : List ℕ)
+        → RunAlike one other → HaveOneShape one.contents other.contents
+        → ((address : ℕ) → spliced_at one.contents.fences address ≡ spliced_at other.contents.fences address)
+        → planned one retired gaps pre_file post_file ≡ planned other retired gaps pre_file post_file }
+{
+    // Nothing is done here: the laws say that the old object's answer and the room for a jump are the same.
+    alike_programs_have_one_answer();
+    room_is_met();
+    fields_stand_inside();
 }

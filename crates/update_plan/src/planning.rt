@@ -1,9 +1,10 @@
 //! Plans an update from two objects and a running program.
-ghost use Rattle.std.specs.Prelude.{◌≡◌, List, [], map, Ok, IfOk};
+ghost use Rattle.std.specs.Prelude.{◌≡◌, ℕ, List, map, Ok, IfOk};
 ghost use Rattle.ks_base.specs.Gives.{Gives};
 ghost use Rattle.image_memory.specs.Contents.{Contents, spliced_at};
 ghost use Rattle.image_memory.specs.Ranges.{Ascends};
 ghost use Rattle.symbol_table.specs.declared.symbols.Symbol.{Symbol};
+ghost use Rattle.splice_jump.specs.Jumps.{AreSpliced};
 ghost use Rattle.extract_post.specs.Extracted.{extracted};
 ghost use Rattle.symbol_solve.specs.Solve.{solved};
 ghost use Rattle.link_post.specs.Linked.{AreInOrder, AreNamesInOrder};
@@ -17,6 +18,7 @@ ghost use Rattle.update_plan.specs.Placing.{names_of};
 ghost use Rattle.update_plan.specs.Plan.{fences_of, plan_of, planned, unless};
 ghost use Rattle.update_plan.specs.inside.Rests.{planned_at, planned_between, planned_with};
 
+use crate::laws::matched_bodies_are_in_use;
 use crate::olds::olds_of;
 use crate::parts::{names_of, parts_of};
 use crate::types::{Fences, Plan};
@@ -33,74 +35,83 @@ use std::alloc::{AllocError, Global};
 use symbol_solve::{answers_tell_each_body, solve};
 use symbol_table::{Bodies, SymbolTable, Values};
 
-/// What an update from the object file `pre` to the object file `post` would do to a running program in which nothing was
-/// replaced yet; its new sections are placed in the gaps, which lie apart and ascend.
+/// What an update from the object file `pre` to the object file `post` would do to a running program. The bodies are
+/// the newest bases of homes at which a jump stands, and the retired ranges come the oldest first; the new sections are
+/// placed in the gaps, which lie apart and ascend.
 ///
 /// The first refusal comes of these, in this order: what is wrong with `pre`, then with `post`, as of
-/// [`read_sections`]; what can't be changed between them, as of [`extract`]; why `pre` has no one reading in the program,
-/// as of [`solve`]; a name or data that the new sections refer to and that has no one address, as of [`resolve_post`]; a
-/// home without room for the jump, or code that overlaps, as of [`code_refusal`]; a new section that fits in no gap, as of
-/// [`place`]. [`Refusal::Memory`] comes for want of memory alone.
+/// [`read_sections`]; what can't be changed between them, as of [`extract`]; why `pre` has no one reading in the
+/// program, as of [`solve`]; a name or data that the new sections refer to and that has no one address, as of
+/// [`resolve_post`]; a home without room for the jump, or code that overlaps, as of [`code_refusal`]; a new section that
+/// fits in no gap, as of [`place`]. [`Refusal::Memory`] comes for want of memory alone.
 pub fn plan<'a, S: Space>(
     alloc: Global,
     space: &S,
+    bodies: &Bodies,
     symbols: &SymbolTable,
+    retired: &Ranges,
     gaps: &Ranges,
     pre: &'a [u8],
     post: &'a [u8],
 ) -> Result<Plan, Refusal>
-    requires none_retired { (S.contents space.now).fences ≡ [] }
+    requires spliced { AreSpliced (S.contents space.now) bodies.now }
     requires gaps { Ascends (λ range. range) 0 gaps.now }
     ensures { Gives (λ plan. plan) result (planned
-        (record { contents = S.contents space.now; symbols = symbols.now.symbols; bodies = [] }) []
-        gaps.now pre.now post.now) }
+        (record { contents = S.contents space.now; symbols = symbols.now.symbols; bodies = bodies.now })
+        retired.now gaps.now pre.now post.now) }
 {
     let old = read_sections(alloc, pre)?;
     let new = read_sections(alloc, post)?;
-    plan_between(alloc, space, symbols, gaps, &old, &new)
+    plan_between(alloc, space, bodies, symbols, retired, gaps, &old, &new)
 }
 
 // The same of the sections of both objects.
 fn plan_between<'a, S: Space>(
     alloc: Global,
     space: &S,
+    bodies: &Bodies,
     symbols: &SymbolTable,
+    retired: &Ranges,
     gaps: &Ranges,
     pre: &Normal<'a>,
     post: &Normal<'a>,
 ) -> Result<Plan, Refusal>
-    requires none_retired { (S.contents space.now).fences ≡ [] }
+    requires spliced { AreSpliced (S.contents space.now) bodies.now }
     requires gaps { Ascends (λ range. range) 0 gaps.now }
     ensures { Gives (λ plan. plan) result (planned_between
-        (record { contents = S.contents space.now; symbols = symbols.now.symbols; bodies = [] }) []
-        gaps.now pre.now post.now) }
+        (record { contents = S.contents space.now; symbols = symbols.now.symbols; bodies = bodies.now })
+        retired.now gaps.now pre.now post.now) }
 {
     let extract = extract_of(alloc, pre, post)?;
-    let found = solve(alloc, pre, &no_bodies(alloc), space, symbols)?;
-    plan_with(alloc, space, symbols, gaps, pre, post, &extract, &found)
+    let found = solve(alloc, pre, bodies, space, symbols)?;
+    plan_with(
+        alloc, space, bodies, symbols, retired, gaps, pre, post, &extract, &found,
+    )
 }
 
 // The same where the difference and the old object's values are known.
 fn plan_with<S: Space>(
     alloc: Global,
     space: &S,
+    bodies: &Bodies,
     symbols: &SymbolTable,
+    retired: &Ranges,
     gaps: &Ranges,
     pre: &Normal<'_>,
     post: &Normal<'_>,
     extract: &Extract,
     found: &Values,
 ) -> Result<Plan, Refusal>
-    requires none_retired { (S.contents space.now).fences ≡ [] }
+    requires spliced { AreSpliced (S.contents space.now) bodies.now }
     requires gaps { Ascends (λ range. range) 0 gaps.now }
-    requires solved { solved pre.now [] (S.contents space.now) symbols.now.symbols ≡ Ok found.now.entries }
+    requires solved { solved pre.now bodies.now (S.contents space.now) symbols.now.symbols ≡ Ok found.now.entries }
     ensures { Gives (λ plan. plan) result (planned_with
-        (record { contents = S.contents space.now; symbols = symbols.now.symbols; bodies = [] }) []
-        gaps.now pre.now post.now extract.now found.now.entries) }
+        (record { contents = S.contents space.now; symbols = symbols.now.symbols; bodies = bodies.now })
+        retired.now gaps.now pre.now post.now extract.now found.now.entries) }
 {
     let parts = parts_of(alloc, post, extract)?;
     let values = values_for(alloc, pre, post, symbols, parts.as_slice(), found)?;
-    let olds = free_olds(alloc, space, symbols, pre, found, extract)?;
+    let olds = free_olds(alloc, space, bodies, symbols, retired, pre, found, extract)?;
     plan_at(
         alloc,
         space,
@@ -126,8 +137,8 @@ fn plan_at<S: Space>(
     requires gaps { Ascends (λ range. range) 0 gaps.now }
     requires order { AreNamesInOrder post.now (names_of parts.now) }
     requires bodies { AreBodies olds.now }
-    ensures { (symbols : List Symbol) → Gives (λ plan. plan) result (planned_at
-        (record { contents = S.contents space.now; symbols = symbols; bodies = [] })
+    ensures { (symbols : List Symbol) (bodies : List (ℕ × ℕ)) → Gives (λ plan. plan) result (planned_at
+        (record { contents = S.contents space.now; symbols = symbols; bodies = bodies })
         gaps.now post.now parts.now values.now.entries olds.now) }
 {
     let placement = places_of(alloc, post, parts, gaps)?;
@@ -150,13 +161,6 @@ fn values_for(
     resolve_post(alloc, pre, post, &names, found, symbols)
 }
 
-// The newest bases where nothing was replaced.
-fn no_bodies(alloc: Global) -> Bodies
-    ensures { result ≡ [] }
-{
-    Bodies::new(Vec::new(alloc))
-}
-
 // The lists of sections that an update is about.
 fn extract_of<'a>(alloc: Global, pre: &Normal<'a>, post: &Normal<'a>) -> Result<Extract, Refusal>
     ensures { Gives (λ extract. extract) result (extracted pre.now post.now) }
@@ -170,25 +174,28 @@ fn extract_of<'a>(alloc: Global, pre: &Normal<'a>, post: &Normal<'a>) -> Result<
 fn free_olds<S: Space>(
     alloc: Global,
     space: &S,
+    bodies: &Bodies,
     symbols: &SymbolTable,
+    retired: &Ranges,
     pre: &Normal<'_>,
     found: &Values,
     extract: &Extract,
 ) -> Result<Vec<OldFunction>, Refusal>
-    requires none_retired { (S.contents space.now).fences ≡ [] }
-    requires solved { solved pre.now [] (S.contents space.now) symbols.now.symbols ≡ Ok found.now.entries }
+    requires spliced { AreSpliced (S.contents space.now) bodies.now }
+    requires solved { solved pre.now bodies.now (S.contents space.now) symbols.now.symbols ≡ Ok found.now.entries }
     ensures olds { Gives (λ olds. olds.items) result (unless
-        (code_refusal (S.contents space.now) symbols.now.symbols []
+        (code_refusal (S.contents space.now) symbols.now.symbols retired.now
         (olds_of extract.now found.now.entries pre.now))
         (olds_of extract.now found.now.entries pre.now)) }
     ensures bodies { IfOk result (λ olds. AreBodies olds.items) }
 {
     let olds = olds_of(alloc, pre, found, extract)?;
-    // What a Normal tells of its sections: no two have one name. By the law each has its body below the limit.
+    // What a Normal tells of its sections: no two have one name. By the laws each has its body below the limit, and
+    // what is matched is in use.
     let _sections = pre.as_slice();
     answers_tell_each_body();
-    let none = Ranges::new(alloc);
-    code_refusal(alloc, space, symbols, &none, olds.as_slice())?;
+    matched_bodies_are_in_use();
+    code_refusal(alloc, space, symbols, retired, olds.as_slice())?;
     Ok(olds)
 }
 
@@ -221,8 +228,8 @@ fn plan_of<S: Space>(
 ) -> Result<Plan, AllocError>
     requires bodies { AreBodies olds.now }
     requires order { AreInOrder post.now placement.now }
-    ensures { IfOk result (λ plan. (symbols : List Symbol) → plan ≡ plan_of
-        (record { contents = S.contents space.now; symbols = symbols; bodies = [] })
+    ensures { IfOk result (λ plan. (symbols : List Symbol) (bodies : List (ℕ × ℕ)) → plan ≡ plan_of
+        (record { contents = S.contents space.now; symbols = symbols; bodies = bodies })
         post.now values.now.entries olds.now parts.now placement.now) }
 {
     Ok(Plan {

@@ -1,49 +1,55 @@
--- What comes of a plan that is carried out where no update is live.
-use Rattle.std.proofs.Common.{◌≡◌, ◌≢◌, ℕ, suc, ◌+◌, ◌-◌, ◌^◌, ◌<◌, ◌≤◌, ◌==◌, ◌&&◌, ◌||◌, Bool, true, false, cond, nat_lt}
-use Rattle.std.proofs.Common.{List, [], ◌∷◌, ◌++◌, map, length, get_or, Option, Some, None, refl, sym, ◌∙◌, ap, arith, subst, IsTrue, ne_eqb, append_assoc, append-nil}
-use Rattle.std.specs.Option.{option_map}
-use Rattle.std.specs.List.{All, Any, AllPairs, Contains, fold, list_any}
-use Rattle.std.proofs.lemmas.List.{length-map, get_or-map}
-use Rattle.std.proofs.lemmas.List.Elements.{All-head, All-tail, All-cons, All-map}
-use Rattle.std.proofs.lemmas.Bool.{false≢true}
-use Rattle.std.proofs.lemmas.List.Folds.{list_any-append}
+-- What comes of a plan that is carried out.
+use Rattle.std.proofs.Common.{◌≡◌, ◌≢◌, ℕ, ◌+◌, ◌^◌, ◌<◌, ◌≤◌, Bool, false, List, [], ◌∷◌, ◌++◌, map, length, get_or}
+use Rattle.std.proofs.Common.{Some}
+use Rattle.std.proofs.Common.{refl, sym, ◌∙◌, ap, arith, subst}
+use Rattle.std.specs.List.{All, Any, AllPairs, fold, last_or, list_any}
+use Rattle.std.specs.List.Sorted.{IsPermutation}
+use Rattle.std.proofs.lemmas.List.{length-map, get_or-map, length-append}
+use Rattle.std.proofs.lemmas.List.Elements.{All-head, All-tail, All-map, All-weaker}
+use Rattle.std.proofs.lemmas.List.Sorted.{IsPermutation-sym, IsPermutation-trans}
 use Rattle.ks_base.specs.declared.places.Range.{Range}
 use Rattle.ks_base.specs.declared.reports.Replaced.{Replaced}
-use Rattle.image_memory.specs.declared.types.Kind.{Kind}
 use Rattle.image_memory.specs.declared.types.Piece.{Piece}
 use Rattle.image_memory.specs.declared.types.Fence.{Fence}
-use Rattle.image_memory.specs.Ranges.{meets, MeetsNone, are_same}
+use Rattle.image_memory.specs.Ranges.{meets, MeetsNone}
 use Rattle.image_memory.specs.Contents.{Contents, IsValid, piece_range, fence_range}
-use Rattle.image_memory.specs.Access.{bytes_at, kind_of}
-use Rattle.image_memory.specs.Changes.{ArePlaceable, with_piece, with_fence, after_add, after_fence}
+use Rattle.image_memory.specs.Access.{bytes_at, written}
+use Rattle.image_memory.specs.Changes.{ArePlaceable, with_piece, after_fence}
 use Rattle.image_memory.specs.Fetch.{HasCode}
+use Rattle.image_memory.proofs.WindowLaws.{list_any-map}
 use Rattle.symbol_table.specs.declared.symbols.Symbol.{Symbol}
+use Rattle.link_post.specs.Places.{unless_empty, without}
 use Rattle.splice_jump.specs.Jump.{five_at}
-use Rattle.splice_jump.specs.Jumps.{jumped, jumped_memory, old_at, olds_at, unjumped, IsFenced, IsSpliced, AreSpliced}
+use Rattle.splice_jump.specs.Jumps.{jumped, jumped_memory, olds_at, unjumped, IsFenced, AreSpliced}
 use Rattle.memory_changes.specs.declared.types.Jump.{Jump}
 use Rattle.memory_changes.specs.Added.{AreAddable, with_pieces}
-use Rattle.memory_changes.specs.Retired.{AreRetirable, with_fences, with_ranges}
+use Rattle.memory_changes.specs.Retired.{AreRetirable, with_fences}
 use Rattle.memory_changes.specs.Rows.{row_of, rows_of, old_of, olds_of}
+use Rattle.memory_changes.specs.Withdrawn.{without_pieces}
 use Rattle.image_threads.specs.Program.{Program}
 use Rattle.update_plan.specs.declared.types.Plan.{Plan}
-use Rattle.update_plan.specs.Sound.{IsJumpTo, is_replaced_at, CanBeMade}
+use Rattle.update_plan.specs.Sound.{IsJumpTo, CanBeMade}
 use Rattle.update_stack.specs.declared.updates.Update.{Update as Shown}
 use Rattle.update_stack.specs.declared.updates.Kept.{Kept}
-use Rattle.update_stack.specs.CallTable.{CallTable, Row, Update, is_home, bodies_in, fence_in, with_replaced, contents_of}
+use Rattle.update_stack.specs.CallTable.{CallTable, Row, Update, bodies_in, fence_in, with_replaced, contents_of}
+use Rattle.update_stack.specs.CallTable.{jump_row, jump_rows}
 use Rattle.update_stack.specs.StandsFor.{Seen, seen, seen_of, patched}
-use Rattle.update_stack.specs.Jumps.{CanJump}
-use Rattle.image_threads.specs.Spawning.{is_writable, is_stack, AreStacks}
-use Rattle.update_stack.specs.Apply.{with_new_piece, with_range, update_as, committed}
-use Rattle.update_stack.specs.Systems.{HasJumpCode, Holds, live_update, machine_of}
-use Rattle.update_stack.specs.inside.Carrying.{bare_jump, jump_row, jump_rows, shown_as, EndsLow, HasHomeCode, FitsIn, IsKeptOf, IsCarriedOut, HoldsAfter}
-
--- pairs of what is read off the items of a list
-pairs_map : {X Y : Type 0} (f : X → Y) (R : Y → Y → Type 0) (xs : List X) → AllPairs (λ a b. R (f a) (f b)) xs
-    → AllPairs R (map f xs)
-pairs_map f R [] pairs i j d less within = absurd (omega arith)
-pairs_map f R (x ∷ xs) pairs i j d less within =
-    let short : j < length (x ∷ xs) = rw (sym (length-map (x ∷ xs) f)) within in
-    rw (get_or-map f (x ∷ xs) i x d (omega arith), get_or-map f (x ∷ xs) j x d short) (pairs i j x less short)
+use Rattle.update_stack.specs.Apply.{with_new_piece, update_as, committed, gaps_of}
+use Rattle.update_stack.specs.Undo.{withdrawn, ranges_in, newest_update}
+use Rattle.update_stack.specs.Systems.{text_of, table_of, HasJumpCode, Holds, live_update, live_updates, machine_of}
+use Rattle.update_stack.specs.Stacked.{IsBuilt, IsKept, AreKept, OneKept}
+use Rattle.update_stack.specs.inside.Carrying.{bare_jump, shown_as, EndsLow, HasHomeCode, FitsIn, IsKeptOf}
+use Rattle.update_stack.specs.inside.Carrying.{IsCarriedOut, gaps_after, HoldsAfter}
+use Rattle.update_stack.proofs.LastLaws.{last_more, text_more, table_more, live_more}
+use Rattle.update_stack.proofs.TableLaws.{JumpsAdded, JumpsReplaced, spliced_new, jumps_stacked}
+use Rattle.update_stack.proofs.BuiltLaws.{MemoryLaws, machine_is, pieces_made, pieces_fit, ranges_fit, built_sound}
+use Rattle.update_stack.proofs.BuiltLaws.{committed_back, contents_after, built_commit}
+use Rattle.update_stack.proofs.KeptLaws.{CodeWasThere, kept_free}
+use Rattle.update_stack.proofs.BesideLaws.{ranges_stay}
+use Rattle.update_stack.proofs.TextLaws.{HasOldCode, placed_stays, kept_by_text}
+use Rattle.update_stack.proofs.UndoLaws.{ValidJumped, StaySpliced, TakenBack, CodeStays, PlacesStay, jump_code}
+use Rattle.update_stack.proofs.UndoLaws.{code_jumped, kept_code}
+use Rattle.update_stack.proofs.AddedLaws.{added_ranges}
 
 -- the rows of jumps before their code is noted
 pub rows_bare : (replaced : List Replaced) → map row_of (map bare_jump replaced) ≡ jump_rows replaced
@@ -54,373 +60,119 @@ pub homes_low : (replaced : List Replaced) → All EndsLow replaced
     → All (λ (jump : Jump). jump.home + 5 ≤ 2 ^ 32) (map bare_jump replaced)
 homes_low replaced low = All-map (λ (jump : Jump). jump.home + 5 ≤ 2 ^ 32) bare_jump replaced low
 
--- the code that was noted has five bytes a jump
-five_long : (pieces : List Piece) (home : ℕ) → length (five_at pieces home) ≡ 5
-unfolding bytes_at
-five_long pieces home = refl
-
-old_lengths : (pieces : List Piece) (rows : List (ℕ × ℕ)) (jumps : List Jump) → olds_of jumps ≡ olds_at pieces rows
-    → All (λ (jump : Jump). length jump.old ≡ 5) jumps
-old_lengths pieces rows jumps same i d l =
-    let all : All (λ (old : ℕ × List ℕ). length old.1 ≡ 5) (olds_of jumps) =
-    subst (All (λ (old : ℕ × List ℕ). length old.1 ≡ 5)) (sym same)
-    (All-map (λ (old : ℕ × List ℕ). length old.1 ≡ 5) (old_at pieces) rows
-    (λ j e m. five_long pieces (get_or rows j e).0)) in
-    subst (λ (old : ℕ × List ℕ). length old.1 ≡ 5) (get_or-map old_of jumps i d (old_of d) l)
-    (all i (old_of d) (rw (length-map jumps old_of) l))
-
 -- the laws of other crates that are used here
-abbrev PiecesAdded : Type 0
-PiecesAdded = (contents : Contents) (pieces : List Piece) (address count : ℕ) → IsValid contents
+abbrev pub BytesAdded : Type 0
+BytesAdded = (contents : Contents) (pieces : List Piece) (address count : ℕ) → IsValid contents
     → ArePlaceable pieces → AreAddable contents pieces → HasCode contents.pieces address count
-    → HasCode (with_pieces contents pieces).pieces address count
+    → bytes_at (with_pieces contents pieces).pieces address count ≡ bytes_at contents.pieces address count
 
-abbrev PiecesValid : Type 0
-PiecesValid = (contents : Contents) (pieces : List Piece) → IsValid contents → ArePlaceable pieces
-    → AreAddable contents pieces → IsValid (with_pieces contents pieces)
+abbrev pub OldsAdded : Type 0
+OldsAdded = (contents : Contents) (pieces : List Piece) (olds : List (ℕ × List ℕ)) → IsValid contents
+    → ArePlaceable pieces → AreAddable contents pieces
+    → All (λ (old : ℕ × List ℕ). HasCode contents.pieces old.0 (length old.1)) olds
+    → (with_pieces (record contents { pieces = unjumped olds contents.pieces }) pieces).pieces
+    ≡ unjumped olds (with_pieces contents pieces).pieces
 
-abbrev FencesStay : Type 0
-FencesStay = (contents : Contents) (pieces : List Piece) → (with_pieces contents pieces).fences ≡ contents.fences
+abbrev pub JumpedAdded : Type 0
+JumpedAdded = (contents : Contents) (pieces : List Piece) (rows : List (ℕ × ℕ)) → IsValid contents
+    → ArePlaceable pieces → AreAddable contents pieces → AreSpliced contents rows
+    → (with_pieces (jumped_memory rows contents) pieces).pieces ≡ jumped rows (with_pieces contents pieces).pieces
 
-abbrev PiecesStay : Type 0
-PiecesStay = (contents : Contents) (fences : List Fence) → (with_fences contents fences).pieces ≡ contents.pieces
+abbrev pub GapsOfPieces : Type 0
+GapsOfPieces = (free : List Range) (pieces more : List Piece)
+    → fold without free (map piece_range (fold with_new_piece pieces more))
+    ≡ fold without (fold without free (map piece_range pieces)) (map piece_range more)
 
--- a plan that can be made fits
-pub pieces_fit : (contents : Contents) (plan : Plan) → CanBeMade contents plan → AreAddable contents plan.pieces
-pieces_fit contents plan can = record {
-  apart = pairs_map piece_range (λ a b. meets a b ≡ false) plan.pieces can.apart;
-  clear = All-map (λ range. MeetsNone piece_range range contents.pieces) piece_range plan.pieces can.alone;
-}
+pub record Laws : Type 0 where
+  pub memory : MemoryLaws
+  pub added : JumpsAdded
+  pub over : JumpsReplaced
+  pub valid : ValidJumped
+  pub spliced : StaySpliced
+  pub taken_back : TakenBack
+  pub stays : CodeStays
+  pub places : PlacesStay
+  pub bytes : BytesAdded
+  pub past_olds : OldsAdded
+  pub past_jumps : JumpedAdded
+  pub was_there : CodeWasThere
+  pub gaps : GapsOfPieces
 
-pub ranges_fit : FencesStay → (contents : Contents) (plan : Plan) → CanBeMade contents plan
-    → AreRetirable (with_pieces contents plan.pieces) plan.fences
-ranges_fit stay contents plan can = record {
-  full = All-map (λ (range : Range). range.low < range.high) fence_range plan.fences can.full;
-  apart = pairs_map fence_range (λ a b. meets a b ≡ false) plan.fences can.retired_apart;
-  clear =
-      subst (λ (fences : List Fence). All (λ range. MeetsNone fence_range range fences) (map fence_range plan.fences))
-      (sym (stay contents plan.pieces))
-      (All-map (λ range. MeetsNone fence_range range contents.fences) fence_range plan.fences can.in_use);
-}
-
--- the code at the homes of replaced functions, and at those of rows and jumps
-abbrev CodeAt : List Piece → ℕ × ℕ → Type 0
-CodeAt pieces row = HasCode pieces row.0 5
-
-replaced_code : (contents : Contents) (plan : Plan) → CanBeMade contents plan
-    → All (CodeAt contents.pieces) (jump_rows plan.report.replaced)
-replaced_code contents plan can =
-    All-map (CodeAt contents.pieces) jump_row plan.report.replaced (λ i d l. (can.jumps i d l).code)
-
-jump_code : (pieces : List Piece) (jumps : List Jump) → All (CodeAt pieces) (rows_of jumps)
-    → All (HasHomeCode pieces) jumps
-jump_code pieces jumps code i d l =
-    subst (CodeAt pieces) (get_or-map row_of jumps i d (row_of d) l)
-    (code i (row_of d) (rw (length-map jumps row_of) l))
-
-pub code_after : PiecesAdded → PiecesStay → (contents : Contents) (plan : Plan) → IsValid contents
-    → CanBeMade contents plan
-    → All (CodeAt (with_fences (with_pieces contents plan.pieces) plan.fences).pieces) (jump_rows plan.report.replaced)
-code_after added stay contents plan valid can i d l =
-    subst (λ (pieces : List Piece). HasCode pieces (get_or (jump_rows plan.report.replaced) i d).0 5)
-    (sym (stay (with_pieces contents plan.pieces) plan.fences))
-    (added contents plan.pieces (get_or (jump_rows plan.report.replaced) i d).0 5 valid can.placeable
-    (pieces_fit contents plan can) (replaced_code contents plan can i d l))
-
-pub plan_fits : PiecesAdded → FencesStay → PiecesStay → (contents : Contents) (plan : Plan) (jumps : List Jump)
-    → IsValid contents → CanBeMade contents plan → rows_of jumps ≡ jump_rows plan.report.replaced
-    → FitsIn contents plan jumps
-plan_fits added fences pieces contents plan jumps valid can rows = record {
-  addable = pieces_fit contents plan can;
-  retirable = ranges_fit fences contents plan can;
-  code =
-      let after = (with_fences (with_pieces contents plan.pieces) plan.fences).pieces in
-      jump_code after jumps
-      (subst (All (CodeAt after)) (sym rows) (code_after added pieces contents plan valid can));
-}
-
--- a home with one later version
-abbrev first_row : Replaced → Row
-first_row new = record { home = new.home; bases = new.base ∷ [] }
-
--- the table that replaced functions make, none of whose homes stands twice
-fresh_row : (table : List Row) (new : Replaced) → is_home table new.home ≡ false
-    → with_replaced table new ≡ table ++ first_row new ∷ []
-fresh_row [] new fresh = refl
-fresh_row (row ∷ rows) new fresh = by_home (row.home == new.home) fresh (fresh_row rows new)
-  where
-    by_home : (b : Bool) → (b || is_home rows new.home) ≡ false
-        → (is_home rows new.home ≡ false
-        → with_replaced rows new ≡ rows ++ first_row new ∷ [])
-        → cond b (record row { bases = row.bases ++ new.base ∷ [] } ∷ rows) (row ∷ with_replaced rows new)
-        ≡ row ∷ (rows ++ first_row new ∷ [])
-    by_home true none rest = absurd (cc)
-    by_home false none rest = ap (λ (rs : List Row). row ∷ rs) (rest none)
-
-homes_beside : (table : List Row) (new : Replaced) (address : ℕ) → is_home table address ≡ false
-    → new.home ≢ address → is_home (table ++ first_row new ∷ []) address ≡ false
-homes_beside table new address none other =
-    list_any-append (λ row. row.home == address) table (first_row new ∷ [])
-    ∙ ap (λ (b : Bool). b || ((new.home == address) || false)) none
-    ∙ ap (λ (b : Bool). b || false) (ne_eqb new.home address other)
-
-table_made : (table : List Row) (replaced : List Replaced)
-    → All (λ (new : Replaced). is_home table new.home ≡ false) replaced
-    → AllPairs (λ (a b : Replaced). a.home ≢ b.home) replaced
-    → fold with_replaced table replaced ≡ table ++ map first_row replaced
-table_made table [] fresh once = sym (append-nil table)
-table_made table (new ∷ more) fresh once =
-    ap (λ (t : List Row). fold with_replaced t more)
-    (fresh_row table new (All-head (λ (r : Replaced). is_home table r.home ≡ false) new more fresh))
-    ∙ table_made (table ++ first_row new ∷ []) more
-    (λ i d l. homes_beside table new (get_or more i d).home
-    (All-tail (λ (r : Replaced). is_home table r.home ≡ false) new more fresh i d l)
-    (once 0 (suc i) d (omega arith) (omega arith)))
-    (λ i j d less within. once (suc i) (suc j) d (omega arith) (omega arith))
-    ∙ append_assoc table (first_row new ∷ []) (map first_row more)
-
-pub table_is : (replaced : List Replaced) → AllPairs (λ (a b : Replaced). a.home ≢ b.home) replaced
-    → fold with_replaced [] replaced ≡ map first_row replaced
-table_is replaced once = table_made [] replaced (λ i d l. refl) once
-
-rows_made : (replaced : List Replaced) → bodies_in (map first_row replaced) ≡ jump_rows replaced
-rows_made [] = refl
-rows_made (new ∷ more) = ap (λ (rows : List (ℕ × ℕ)). (new.home, new.base) ∷ rows) (rows_made more)
-
-homes_made : (replaced : List Replaced) (address : ℕ)
-    → is_home (map first_row replaced) address ≡ is_replaced_at replaced address
-homes_made [] address = refl
-homes_made (new ∷ more) address = ap (λ (b : Bool). (new.home == address) || b) (homes_made more address)
-
--- what holds of each retired range holds of all when more are retired of which it holds
-all_put : (P : Fence → Type 0) (fence : Fence) (fences : List Fence) → P fence → All P fences
-    → All P (with_fence fence fences)
-all_put P fence [] is all = All-cons P fence [] is all
-all_put P fence (x ∷ xs) is all =
-    by_order (nat_lt fence.range.low x.range.low)
-    (all_put P fence xs is (All-tail P x xs all))
-  where
-    by_order : (b : Bool) → All P (with_fence fence xs) → All P (cond b (fence ∷ x ∷ xs) (x ∷ with_fence fence xs))
-    by_order true rest = All-cons P fence (x ∷ xs) is all
-    by_order false rest = All-cons P x (with_fence fence xs) (All-head P x xs all) rest
-
-all_fenced : (P : Fence → Type 0) (contents : Contents) (fences : List Fence) → All P contents.fences → All P fences
-    → All P (with_fences contents fences).fences
-unfolding with_fences
-all_fenced P contents [] before all = before
-all_fenced P contents (fence ∷ fences) before all =
-    all_fenced P (after_fence contents fence) fences
-    (all_put P fence contents.fences (All-head P fence fences all) before) (All-tail P fence fences all)
-
--- retired ranges that are marked by a table are its fences
-abbrev IsMarked : List Row → Fence → Type 0
-IsMarked table fence = fence.jump ≡ is_home table fence.range.low
-
-fences_back : (table : List Row) (fences : List Fence) → All (IsMarked table) fences
-    → map (fence_in table) (map fence_range fences) ≡ fences
-fences_back table [] marked = refl
-fences_back table (fence ∷ fences) marked =
-    ap (λ (jump : Bool). let f : Fence = record { range = fence.range; jump = jump } in
-    f ∷ map (fence_in table) (map fence_range fences)) (sym (All-head (IsMarked table) fence fences marked))
-    ∙ ap (λ (fs : List Fence). fence ∷ fs) (fences_back table fences (All-tail (IsMarked table) fence fences marked))
-
--- the pieces of a memory to which some were added
-pieces_made : (contents : Contents) (pieces : List Piece)
-    → (with_pieces contents pieces).pieces ≡ fold with_new_piece contents.pieces pieces
-unfolding with_pieces
-pieces_made contents [] = refl
-pieces_made contents (piece ∷ pieces) = pieces_made (after_add contents piece) pieces
+-- a range meets none of pieces that have the ranges of others of which it meets none
+meets_by_ranges : (own : Range) (ps qs : List Piece) → map piece_range ps ≡ map piece_range qs
+    → MeetsNone piece_range own qs → MeetsNone piece_range own ps
+meets_by_ranges own ps qs same none =
+    sym (list_any-map (meets own) piece_range ps)
+    ∙ ap (list_any (meets own)) same
+    ∙ list_any-map (meets own) piece_range qs
+    ∙ none
 
 -- a memory by its two parts
 memory_is : (a b : Contents) → a.pieces ≡ b.pieces → a.fences ≡ b.fences → a ≡ b
 memory_is a b pieces fences = λ i. record { pieces = pieces i; fences = fences i }
 
--- stacks are pieces by their kinds and ranges
-abbrev stack_among : List Kind → List Range → Range → Bool
-stack_among [] ranges stack = false
-stack_among (kind ∷ kinds) [] stack = false
-stack_among (kind ∷ kinds) (range ∷ ranges) stack =
-    (is_writable kind && are_same range stack) || stack_among kinds ranges stack
+-- retired ranges are added to those that are there, whatever the pieces
+fences_by : (a b : Contents) (fences : List Fence) → a.fences ≡ b.fences
+    → (with_fences a fences).fences ≡ (with_fences b fences).fences
+unfolding with_fences
+fences_by a b [] same = same
+fences_by a b (fence ∷ fences) same =
+    fences_by (after_fence a fence) (after_fence b fence) fences
+    (ap (λ (fs : List Fence). (after_fence (record a { fences = fs }) fence).fences) same)
 
-stack_read : (pieces : List Piece) (stack : Range)
-    → is_stack pieces stack ≡ stack_among (map kind_of pieces) (map piece_range pieces) stack
-stack_read [] stack = refl
-stack_read (piece ∷ pieces) stack =
-    ap (λ (b : Bool). (is_writable piece.kind && are_same (piece_range piece) stack) || b) (stack_read pieces stack)
+ranges_back : (table : List Row) (ranges : List Range) → map fence_range (map (fence_in table) ranges) ≡ ranges
+ranges_back table [] = refl
+ranges_back table (range ∷ ranges) = ap (λ (rs : List Range). range ∷ rs) (ranges_back table ranges)
 
-same_stacks : (a b : List Piece) (stacks : List Range) → map kind_of a ≡ map kind_of b
-    → map piece_range a ≡ map piece_range b → AreStacks b stacks → AreStacks a stacks
-same_stacks a b stacks kinds ranges are i d l =
-    subst (λ (is : Bool). IsTrue is)
-    (stack_read b (get_or stacks i d)
-    ∙ ap (λ (ks : List Kind). stack_among ks (map piece_range b) (get_or stacks i d)) (sym kinds)
-    ∙ ap (λ (rs : List Range). stack_among (map kind_of a) rs (get_or stacks i d)) (sym ranges)
-    ∙ sym (stack_read a (get_or stacks i d)))
-    (are i d l)
+-- the code that was noted, in pieces where it stands still
+same_olds : (ps qs : List Piece) (rows : List (ℕ × ℕ))
+    → All (λ (row : ℕ × ℕ). five_at ps row.0 ≡ five_at qs row.0) rows → olds_at ps rows ≡ olds_at qs rows
+same_olds ps qs [] same = refl
+same_olds ps qs (row ∷ rows) same =
+    let Same : ℕ × ℕ → Type 0 = λ r. five_at ps r.0 ≡ five_at qs r.0 in
+    ap (λ (old : List ℕ). let first : ℕ × List ℕ = (row.0, old) in first ∷ olds_at ps rows) (All-head Same row rows same)
+    ∙ ap (λ (olds : List (ℕ × List ℕ)). let first : ℕ × List ℕ = (row.0, five_at qs row.0) in first ∷ olds)
+    (same_olds ps qs rows (All-tail Same row rows same))
 
-later_true : (a b : Bool) → b ≡ true → (a || b) ≡ true
-later_true true b is = refl
-later_true false b is = is
+-- pieces are added beside old code that is put back
+abbrev with_text : Contents → List Piece → Contents
+with_text contents pieces = record contents { pieces = pieces }
 
-either_true : (here rest more : Bool) → (here || rest) ≡ true → (rest ≡ true → more ≡ true) → (here || more) ≡ true
-either_true true rest more is then = refl
-either_true false rest more is then = then is
-
-stack_put : (piece : Piece) (pieces : List Piece) (stack : Range) → is_stack pieces stack ≡ true
-    → is_stack (with_piece piece pieces) stack ≡ true
-stack_put piece [] stack is = absurd (false≢true is)
-stack_put piece (x ∷ xs) stack is = by_order (nat_lt piece.base x.base) (stack_put piece xs stack)
-  where
-    by_order : (b : Bool) → (is_stack xs stack ≡ true → is_stack (with_piece piece xs) stack ≡ true)
-        → is_stack (cond b (piece ∷ x ∷ xs) (x ∷ with_piece piece xs)) stack ≡ true
-    by_order true rest =
-        later_true (is_writable piece.kind && are_same (piece_range piece) stack) (is_stack (x ∷ xs) stack) is
-    by_order false rest =
-        either_true (is_writable x.kind && are_same (piece_range x) stack) (is_stack xs stack)
-        (is_stack (with_piece piece xs) stack) is rest
-
-stacks_stay : (contents : Contents) (pieces : List Piece) (stack : Range) → is_stack contents.pieces stack ≡ true
-    → is_stack (with_pieces contents pieces).pieces stack ≡ true
-unfolding with_pieces
-stacks_stay contents [] stack is = is
-stacks_stay contents (piece ∷ pieces) stack is =
-    stacks_stay (after_add contents piece) pieces stack (stack_put piece contents.pieces stack is)
-
--- what memory with jumps keeps, and other laws of other crates
-abbrev RangesGiven : Type 0
-RangesGiven = (contents : Contents) (fences : List Fence) (fence : Fence) → Contains fences fence
-    → Contains (with_fences contents fences).fences fence
-
-abbrev RangesMade : Type 0
-RangesMade = (contents : Contents) (fences : List Fence) → map fence_range (with_fences contents fences).fences
-    ≡ with_ranges (map fence_range contents.fences) (map fence_range fences)
-
-abbrev RangesValid : Type 0
-RangesValid = (contents : Contents) (fences : List Fence) → IsValid contents → AreRetirable contents fences
-    → IsValid (with_fences contents fences)
-
-abbrev BytesAdded : Type 0
-BytesAdded = (contents : Contents) (pieces : List Piece) (address count : ℕ) → IsValid contents
-    → ArePlaceable pieces → AreAddable contents pieces → HasCode contents.pieces address count
-    → bytes_at (with_pieces contents pieces).pieces address count ≡ bytes_at contents.pieces address count
-
-abbrev TakenBack : Type 0
-TakenBack = (contents : Contents) (rows : List (ℕ × ℕ)) → IsValid contents → AreSpliced contents rows
-    → unjumped (olds_at contents.pieces rows) (jumped rows contents.pieces) ≡ contents.pieces
-
-abbrev StaySpliced : Type 0
-StaySpliced = (contents : Contents) (rows others : List (ℕ × ℕ)) → AreSpliced contents rows
-    → AreSpliced (jumped_memory others contents) rows
-
-abbrev KindsStay : Type 0
-KindsStay = (rows : List (ℕ × ℕ)) (pieces : List Piece) → map kind_of (jumped rows pieces) ≡ map kind_of pieces
-
-abbrev PlacesStay : Type 0
-PlacesStay = (rows : List (ℕ × ℕ)) (pieces : List Piece)
-    → map piece_range (jumped rows pieces) ≡ map piece_range pieces
-
--- the memory before the jumps of a plan, which was made valid, with all homes spliced
-module _ (contents : Contents) (plan : Plan) (valid : IsValid contents) (can : CanBeMade contents plan)
-    (none : contents.fences ≡ []) where
-  abbrev added : Contents
-  added = with_pieces contents plan.pieces
-
-  abbrev retired : Contents
-  retired = with_fences added plan.fences
-
-  abbrev rows : List (ℕ × ℕ)
-  rows = jump_rows plan.report.replaced
-
-  retired_valid : PiecesValid → FencesStay → RangesValid → IsValid retired
-  retired_valid pieces stay ranges =
-      ranges added plan.fences (pieces contents plan.pieces valid can.placeable (pieces_fit contents plan can))
-      (ranges_fit stay contents plan can)
-
-  fence_there : RangesGiven → (home : ℕ) → Any (IsFenced home) plan.fences → Any (IsFenced home) retired.fences
-  fence_there given home (k, fence, less, at, is) =
-      let there = given added plan.fences fence (k, less, at) in
-      (there.0, fence, there.1, there.2, is)
-
-  all_spliced : PiecesAdded → PiecesStay → RangesGiven → AreSpliced retired rows
-  all_spliced code stay given = record {
-    each =
-        All-map (λ (row : ℕ × ℕ). IsSpliced retired row.0) jump_row plan.report.replaced (λ i d l. record {
-          code =
-              subst (λ (pieces : List Piece). HasCode pieces (get_or plan.report.replaced i d).home 5)
-              (sym (stay added plan.fences))
-              (code contents plan.pieces (get_or plan.report.replaced i d).home 5 valid can.placeable
-              (pieces_fit contents plan can) (can.jumps i d l).code);
-          fence = fence_there given (get_or plan.report.replaced i d).home (can.jumps i d l).fence;
-        });
-    once = pairs_map jump_row (λ (a b : ℕ × ℕ). a.0 ≢ b.0) plan.report.replaced can.once;
-  }
-
-  all_low : All (λ (row : ℕ × ℕ). row.1 < 2 ^ 32) rows
-  all_low = All-map (λ (row : ℕ × ℕ). row.1 < 2 ^ 32) jump_row plan.report.replaced (λ i d l. (can.jumps i d l).base)
-
-  -- the code that was noted stands there still when pieces were added and ranges retired
-  old_code : BytesAdded → PiecesStay → olds_at contents.pieces rows ≡ olds_at retired.pieces rows
-  old_code bytes stay = each plan.report.replaced can.jumps
-    where
-      each : (replaced : List Replaced) → All (IsJumpTo contents plan.fences) replaced
-          → olds_at contents.pieces (jump_rows replaced) ≡ olds_at retired.pieces (jump_rows replaced)
-      each [] jumps = refl
-      each (one ∷ more) jumps =
-          ap (λ (old : List ℕ). let first : ℕ × List ℕ = (one.home, old) in
-          first ∷ olds_at contents.pieces (jump_rows more))
-          (sym (bytes contents plan.pieces one.home 5 valid can.placeable (pieces_fit contents plan can)
-          (All-head (IsJumpTo contents plan.fences) one more jumps).code)
-          ∙ ap (λ (pieces : List Piece). five_at pieces one.home) (sym (stay added plan.fences)))
-          ∙ ap (λ (olds : List (ℕ × List ℕ)). let first : ℕ × List ℕ = (one.home, five_at retired.pieces one.home) in
-          first ∷ olds) (each more (All-tail (IsJumpTo contents plan.fences) one more jumps))
-
-  -- the retired ranges are those of the table
-  fences_marked : FencesStay
-      → map (fence_in (map first_row plan.report.replaced)) (map fence_range retired.fences) ≡ retired.fences
-  fences_marked stay =
-      let table = map first_row plan.report.replaced in
-      fences_back table retired.fences
-      (all_fenced (IsMarked table) added plan.fences
-      (subst (All (IsMarked table)) (sym (stay contents plan.pieces ∙ none)) (λ i d l. absurd (omega arith)))
-      (λ i d l. can.marked i d l
-      ∙ sym (homes_made plan.report.replaced (get_or plan.fences i d).range.low)))
-
-  retired_ranges : FencesStay → RangesMade
-      → map fence_range retired.fences ≡ fold with_range (map fence_range contents.fences) (map fence_range plan.fences)
-  retired_ranges stay made =
-      made added plan.fences
-      ∙ ap (λ (fences : List Fence). fold with_range (map fence_range fences) (map fence_range plan.fences))
-      (stay contents plan.pieces)
-
-  retired_pieces : PiecesStay → retired.pieces ≡ fold with_new_piece contents.pieces plan.pieces
-  retired_pieces stay = stay added plan.fences ∙ pieces_made contents plan.pieces
-
-  stacks_there : PiecesStay → KindsStay → PlacesStay → (stacks : List Range) → AreStacks contents.pieces stacks
-      → AreStacks (jumped rows retired.pieces) stacks
-  stacks_there stay kinds places stacks are =
-      same_stacks (jumped rows retired.pieces) added.pieces stacks
-      (kinds rows retired.pieces ∙ ap (map kind_of) (stay added plan.fences))
-      (places rows retired.pieces ∙ ap (map piece_range) (stay added plan.fences))
-      (λ i d l. stacks_stay contents plan.pieces (get_or stacks i d) (are i d l))
-
--- a machine by its parts
-machine_is : (a b : CallTable) → a.pieces ≡ b.pieces → a.table ≡ b.table → a.retired ≡ b.retired → a.symbols ≡ b.symbols
-    → a.stacks ≡ b.stacks → a.arena ≡ b.arena → a.threads ≡ b.threads → a.updates ≡ b.updates → a ≡ b
-machine_is a b pieces table retired symbols stacks arena threads updates = λ i. record {
-  pieces = pieces i;
-  table = table i;
-  retired = retired i;
-  symbols = symbols i;
-  stacks = stacks i;
-  arena = arena i;
-  threads = threads i;
-  updates = updates i;
-}
+text_added : OldsAdded → CodeStays → (contents : Contents) (pieces : List Piece) (kept : List Kept) → IsValid contents
+    → ArePlaceable pieces → AreAddable contents pieces → HasOldCode kept contents.pieces
+    → text_of kept (with_pieces contents pieces).pieces
+    ≡ (with_pieces (with_text contents (text_of kept contents.pieces)) pieces).pieces
+text_added past stays contents pieces [] valid placeable addable code = refl
+text_added past stays contents pieces (one ∷ later) valid placeable addable code =
+    let Each : Kept → Type 0 = λ each. All (HasJumpCode contents.pieces) each.jumps in
+    let text = text_of later contents.pieces in
+    ap (unjumped (olds_of one.jumps))
+    (text_added past stays contents pieces later valid placeable addable (All-tail Each one later code))
+    ∙ sym (past (with_text contents text) pieces (olds_of one.jumps)
+    (kept_by_text (λ ps. IsValid (with_text contents ps))
+    (λ start bytes ps is. record { placed = placed_stays start bytes ps is.placed; fenced = is.fenced })
+    later contents.pieces valid)
+    placeable
+    (kept_by_text (λ ps. AreAddable (with_text contents ps) pieces)
+    (λ start bytes ps is. record {
+      apart = is.apart;
+      clear =
+          All-weaker (λ (range : Range). MeetsNone piece_range range ps)
+          (λ (range : Range). MeetsNone piece_range range (written start bytes ps))
+          (λ range none. meets_by_ranges range (written start bytes ps) ps (ranges_stay start bytes ps) none)
+          (map piece_range pieces) is.clear;
+    })
+    later contents.pieces addable)
+    (All-map (λ (old : ℕ × List ℕ). HasCode text old.0 (length old.1)) old_of one.jumps
+    (kept_by_text (λ ps. All (HasJumpCode ps) one.jumps)
+    (λ start bytes ps all. All-weaker (HasJumpCode ps) (HasJumpCode (written start bytes ps))
+    (λ jump has. stays ps start bytes jump.home (length jump.old) has) one.jumps all)
+    later contents.pieces (All-head Each one later code))))
 
 -- what is kept of an update is what the machine has of it
-update_is : (name : List ℕ) (plan : Plan) (jumps : List Jump) (kept : Kept) → IsKeptOf plan jumps kept
-    → live_update (shown_as name plan.report) kept ≡ update_as name plan
-update_is name plan jumps kept is = λ i. record {
+update_is : (name : List ℕ) (plan : Plan) (jumps : List Jump) (gaps : List Range) (kept : Kept)
+    → IsKeptOf plan jumps gaps kept → live_update (shown_as name plan.report) kept ≡ update_as name plan
+update_is name plan jumps gaps kept is = λ i. record {
   name = name;
   report = plan.report;
   pieces = is.pieces i;
@@ -428,138 +180,294 @@ update_is name plan jumps kept is = λ i. record {
   symbols = is.symbols i;
 }
 
--- the laws that are used
-pub record Laws : Type 0 where
-  pub pieces_code : PiecesAdded
-  pub pieces_valid : PiecesValid
-  pub pieces_fences : FencesStay
-  pub pieces_bytes : BytesAdded
-  pub ranges_pieces : PiecesStay
-  pub ranges_given : RangesGiven
-  pub ranges_made : RangesMade
-  pub ranges_valid : RangesValid
-  pub taken_back : TakenBack
-  pub stay_spliced : StaySpliced
-  pub kinds : KindsStay
-  pub places : PlacesStay
+-- a system, and a plan that can be made on its machine
+module _ (laws : Laws) (before : Program) (arena : Range) (gaps : List Range) (updates : List Shown) (kept : List Kept)
+    (holds : Holds before arena gaps updates kept) (plan : Plan)
+    (can : CanBeMade (contents_of (machine_of before arena updates kept)) plan) where
+  abbrev k : CallTable
+  k = machine_of before arena updates kept
 
-module _ (laws : Laws) (before after : Program) (arena : Range) (name : List ℕ) (plan : Plan) (jumps : List Jump)
-    (kept : Kept) (valid : IsValid before.contents) (can : CanBeMade before.contents plan)
-    (none : before.contents.fences ≡ []) (is : IsCarriedOut before after plan jumps) (has : IsKeptOf plan jumps kept) where
   abbrev replaced : List Replaced
   replaced = plan.report.replaced
 
-  abbrev shown : Shown
-  shown = shown_as name plan.report
+  -- the rows that were there
+  abbrev rows : List (ℕ × ℕ)
+  rows = bodies_in k.table
 
-  abbrev machine : CallTable
-  machine = machine_of after arena (shown ∷ []) (kept ∷ [])
+  valid_text : IsValid (contents_of k)
+  valid_text = (built_sound k holds.built).jumps.valid
 
-  abbrev text : Contents
-  text = retired before.contents plan valid can none
+  spliced_text : AreSpliced (contents_of k) rows
+  spliced_text = (built_sound k holds.built).jumps.spliced
 
-  spliced : AreSpliced text (jump_rows replaced)
-  spliced =
-      all_spliced before.contents plan valid can none laws.pieces_code laws.ranges_pieces laws.ranges_given
-
-  text_valid : IsValid text
-  text_valid =
-      retired_valid before.contents plan valid can none laws.pieces_valid laws.pieces_fences laws.ranges_valid
-
-  memory_after : after.contents ≡ jumped_memory (jump_rows replaced) text
-  memory_after =
-      ap (λ (s : Seen). s.contents) is.seen_after
-      ∙ ap (λ (rows : List (ℕ × ℕ)). jumped_memory rows text) is.rows
-
-  text_back : machine.pieces ≡ text.pieces
-  text_back =
-      ap (λ (jumps : List Jump). unjumped (olds_of jumps) after.contents.pieces) has.jumps_kept
-      ∙ ap (λ (olds : List (ℕ × List ℕ)). unjumped olds after.contents.pieces)
-      (is.olds ∙ old_code before.contents plan valid can none laws.pieces_bytes laws.ranges_pieces)
-      ∙ ap (λ (m : Contents). unjumped (olds_at text.pieces (jump_rows replaced)) m.pieces) memory_after
-      ∙ laws.taken_back text (jump_rows replaced) text_valid spliced
-
-  table_now : machine.table ≡ map first_row replaced
-  table_now = ap (fold with_replaced []) (append-nil replaced) ∙ table_is replaced can.once
-
-  bodies_now : bodies_in machine.table ≡ jump_rows replaced
-  bodies_now = ap bodies_in table_now ∙ rows_made replaced
-
-  ranges_now : machine.retired ≡ map fence_range text.fences
-  ranges_now = ap (λ (m : Contents). map fence_range m.fences) memory_after
-
-  contents_now : contents_of machine ≡ text
-  contents_now =
-      memory_is (contents_of machine) text text_back
-      (ap (λ (table : List Row). map (fence_in table) machine.retired) table_now
-      ∙ ap (map (fence_in (map first_row replaced))) ranges_now
-      ∙ fences_marked before.contents plan valid can none laws.pieces_fences)
-
-  patched_now : patched machine ≡ after.contents
+  memory : before.contents ≡ jumped_memory rows (contents_of k)
   unfolding patched
-  patched_now =
-      ap (λ (rows : List (ℕ × ℕ)). jumped_memory rows (contents_of machine)) bodies_now
-      ∙ ap (jumped_memory (jump_rows replaced)) contents_now
-      ∙ sym memory_after
+  memory = ap (λ (s : Seen). s.contents) holds.stands
 
-  home_code : All (HasHomeCode after.contents.pieces) jumps
-  home_code =
-      jump_code after.contents.pieces jumps
-      (subst (All (CodeAt after.contents.pieces)) (sym is.rows)
-      (subst (λ (m : Contents). All (CodeAt m.pieces) (jump_rows replaced)) (sym memory_after)
-      (λ i d l. ((laws.stay_spliced text (jump_rows replaced) (jump_rows replaced) spliced).each i d l).code)))
+  valid_before : IsValid before.contents
+  valid_before = subst IsValid (sym memory) (laws.valid (contents_of k) rows valid_text)
 
-  code_now : All (HasJumpCode after.contents.pieces) kept.jumps
-  code_now =
-      subst (All (HasJumpCode after.contents.pieces)) (sym has.jumps_kept)
-      (λ i d l. subst (λ (n : ℕ). HasCode after.contents.pieces (get_or jumps i d).home n)
-      (sym (old_lengths before.contents.pieces (jump_rows replaced) jumps is.olds i d l)) (home_code i d l))
-
-  stacks_now : AreStacks before.contents.pieces before.stacks → AreStacks after.contents.pieces after.stacks
-  stacks_now are =
-      subst (λ (stacks : List Range). AreStacks after.contents.pieces stacks)
-      (sym (ap (λ (s : Seen). s.stacks) is.seen_after))
-      (subst (λ (m : Contents). AreStacks m.pieces before.stacks) (sym memory_after)
-      (stacks_there before.contents plan valid can none laws.ranges_pieces laws.kinds laws.places before.stacks are))
-
-  can_jump : CanJump machine
-  can_jump = record {
-    valid = subst IsValid (sym contents_now) text_valid;
-    spliced =
-        subst (λ (m : Contents). AreSpliced m (bodies_in machine.table)) (sym contents_now)
-        (subst (AreSpliced text) (sym bodies_now) spliced);
-    low =
-        subst (All (λ (row : ℕ × ℕ). row.1 < 2 ^ 32)) (sym bodies_now)
-        (all_low before.contents plan valid can none);
+  can_jumped : CanBeMade (jumped_memory rows (contents_of k)) plan
+  can_jumped = record {
+    placeable = can.placeable;
+    apart = can.apart;
+    alone =
+        All-weaker (λ (piece : Piece). MeetsNone piece_range (piece_range piece) k.pieces)
+        (λ (piece : Piece). MeetsNone piece_range (piece_range piece) (jumped rows k.pieces))
+        (λ piece none. meets_by_ranges (piece_range piece) (jumped rows k.pieces) k.pieces (laws.places rows k.pieces) none)
+        plan.pieces can.alone;
+    full = can.full;
+    retired_apart = can.retired_apart;
+    in_use = can.in_use;
+    jumps =
+        All-weaker (IsJumpTo (contents_of k) plan.fences) (IsJumpTo (jumped_memory rows (contents_of k)) plan.fences)
+        (λ one is. record {
+          code = code_jumped laws.stays rows k.pieces one.home 5 is.code;
+          fence = is.fence;
+          base = is.base;
+        }) replaced can.jumps;
+    once = can.once;
+    marked = can.marked;
   }
 
-  seen_now : seen after ≡ seen_of machine
-  seen_now = ap (λ (m : Contents). let s : Seen = record (seen after) { contents = m } in s) (sym patched_now)
+  pub can_before : CanBeMade before.contents plan
+  can_before = subst (λ (c : Contents). CanBeMade c plan) (sym memory) can_jumped
 
-  pub holds_now : AreStacks before.contents.pieces before.stacks → Holds after arena (shown ∷ []) (kept ∷ [])
-  holds_now stacks = record {
-    stands = seen_now;
-    jumps = can_jump;
-    stacks = stacks_now stacks;
-    code = All-cons (λ (one : Kept). All (HasJumpCode after.contents.pieces) one.jumps) kept [] code_now
-        (λ i d l. absurd (omega arith));
-    few = omega arith;
-    paired = refl;
-    untouched = λ other. cc;
+  -- the plan fits
+  code_there : All (λ (one : Replaced). HasCode before.contents.pieces one.home 5) replaced
+  code_there i d l = (can_before.jumps i d l).code
+
+  abbrev full : Contents
+  full = with_fences (with_pieces before.contents plan.pieces) plan.fences
+
+  full_pieces : full.pieces ≡ (with_pieces before.contents plan.pieces).pieces
+  full_pieces = laws.memory.ranges_pieces (with_pieces before.contents plan.pieces) plan.fences
+
+  code_full : All (λ (row : ℕ × ℕ). HasCode full.pieces row.0 5) (jump_rows replaced)
+  code_full =
+      All-map (λ (row : ℕ × ℕ). HasCode full.pieces row.0 5) jump_row replaced
+      (λ i d l. subst (λ (ps : List Piece). HasCode ps (get_or replaced i d).home 5) (sym full_pieces)
+      (laws.memory.pieces_code before.contents plan.pieces (get_or replaced i d).home 5 valid_before can_before.placeable
+      (pieces_fit before.contents plan can_before) (code_there i d l)))
+
+  pub plan_fits : (jumps : List Jump) → rows_of jumps ≡ jump_rows replaced → FitsIn before.contents plan jumps
+  plan_fits jumps are = record {
+    addable = pieces_fit before.contents plan can_before;
+    retirable = ranges_fit laws.memory.pieces_fences before.contents plan can_before;
+    code =
+        jump_code full.pieces jumps
+        (subst (All (λ (row : ℕ × ℕ). HasCode full.pieces row.0 5)) (sym are) code_full);
   }
 
-  pub same_now : machine ≡ committed (machine_of before arena [] []) name plan
-  unfolding committed
-  same_now =
-      machine_is machine (committed (machine_of before arena [] []) name plan)
-      (text_back ∙ retired_pieces before.contents plan valid can none laws.ranges_pieces)
-      (ap (fold with_replaced []) (append-nil replaced))
-      (ranges_now ∙ retired_ranges before.contents plan valid can none laws.pieces_fences laws.ranges_made)
-      (ap (λ (s : Seen). s.symbols) is.seen_after)
-      (ap (λ (s : Seen). s.stacks) is.seen_after)
-      refl
-      (ap (λ (s : Seen). s.threads) is.seen_after)
-      (ap (λ (u : Update). u ∷ []) (update_is name plan jumps kept has))
+  module _ (name : List ℕ) where
+    abbrev after_it : CallTable
+    after_it = committed k name plan
+
+    abbrev update : Update
+    update = update_as name plan
+
+    built_after : IsBuilt after_it
+    built_after = built_commit laws.memory k name plan holds.built can
+
+    back : withdrawn after_it update ≡ k
+    back = committed_back laws.memory k name plan holds.built can
+
+    -- the machine's memory after it
+    abbrev text : Contents
+    text = with_fences (with_pieces (contents_of k) plan.pieces) plan.fences
+
+    text_now : contents_of after_it ≡ text
+    text_now = contents_after laws.memory k name plan holds.built can
+
+    table_now : after_it.table ≡ fold with_replaced k.table replaced
+    unfolding committed
+    table_now = refl
+
+    text_pieces : text.pieces ≡ (with_pieces (contents_of k) plan.pieces).pieces
+    text_pieces = laws.memory.ranges_pieces (with_pieces (contents_of k) plan.pieces) plan.fences
+
+    -- the memory before the new jumps
+    pieces_full : full.pieces ≡ jumped rows text.pieces
+    pieces_full =
+        full_pieces
+        ∙ ap (λ (c : Contents). (with_pieces c plan.pieces).pieces) memory
+        ∙ laws.past_jumps (contents_of k) plan.pieces rows valid_text can.placeable
+        (pieces_fit (contents_of k) plan can) spliced_text
+        ∙ ap (jumped rows) (sym text_pieces)
+
+    fences_full : full.fences ≡ text.fences
+    fences_full =
+        fences_by (with_pieces before.contents plan.pieces) (with_pieces (contents_of k) plan.pieces) plan.fences
+        (laws.memory.pieces_fences before.contents plan.pieces
+        ∙ ap (λ (c : Contents). c.fences) memory
+        ∙ sym (laws.memory.pieces_fences (contents_of k) plan.pieces))
+
+    full_is : full ≡ jumped_memory rows text
+    full_is = memory_is full (jumped_memory rows text) pieces_full fences_full
+
+    valid_after : IsValid text
+    valid_after = subst IsValid text_now (built_sound after_it built_after).jumps.valid
+
+    spliced_after : AreSpliced text (bodies_in (fold with_replaced k.table replaced))
+    spliced_after =
+        subst (λ (t : List Row). AreSpliced text (bodies_in t)) table_now
+        (subst (λ (c : Contents). AreSpliced c (bodies_in after_it.table)) text_now
+        (built_sound after_it built_after).jumps.spliced)
+
+    spliced_full : AreSpliced full (jump_rows replaced)
+    spliced_full =
+        subst (λ (c : Contents). AreSpliced c (jump_rows replaced)) (sym full_is)
+        (laws.spliced text (jump_rows replaced) rows
+        (spliced_new text k.table replaced can.once spliced_after))
+
+    valid_full : IsValid full
+    valid_full = subst IsValid (sym full_is) (laws.valid text rows valid_after)
+
+    patched_is : jumped_memory (jump_rows replaced) full ≡ patched after_it
+    unfolding patched
+    patched_is =
+        ap (jumped_memory (jump_rows replaced)) full_is
+        ∙ ap (with_text text) (sym (jumps_stacked laws.added laws.over text k.table replaced valid_after spliced_after))
+        ∙ ap (λ (t : List Row). jumped_memory (bodies_in t) text) (sym table_now)
+        ∙ ap (jumped_memory (bodies_in after_it.table)) (sym text_now)
+
+    -- the code that was noted stands there still
+    olds_full : olds_at before.contents.pieces (jump_rows replaced) ≡ olds_at full.pieces (jump_rows replaced)
+    olds_full =
+        same_olds before.contents.pieces full.pieces (jump_rows replaced)
+        (All-map (λ (row : ℕ × ℕ). five_at before.contents.pieces row.0 ≡ five_at full.pieces row.0) jump_row replaced
+        (λ i d l.
+        sym (laws.bytes before.contents plan.pieces (get_or replaced i d).home 5 valid_before can_before.placeable
+        (pieces_fit before.contents plan can_before) (code_there i d l))
+        ∙ ap (λ (ps : List Piece). five_at ps (get_or replaced i d).home) (sym full_pieces)))
+
+    module _ (after : Program) (jumps : List Jump) (one : Kept) (is : IsCarriedOut before after plan jumps)
+        (has : IsKeptOf plan jumps gaps one) where
+      abbrev shown : Shown
+      shown = shown_as name plan.report
+
+      abbrev now : CallTable
+      now = machine_of after arena (updates ++ shown ∷ []) (kept ++ one ∷ [])
+
+      memory_jumped : after.contents ≡ jumped_memory (jump_rows replaced) full
+      memory_jumped =
+          ap (λ (s : Seen). s.contents) is.seen_after
+          ∙ ap (λ (rs : List (ℕ × ℕ)). jumped_memory rs full) is.rows
+
+      memory_after : after.contents ≡ patched after_it
+      memory_after = memory_jumped ∙ patched_is
+
+      olds_are : olds_of one.jumps ≡ olds_at full.pieces (jump_rows replaced)
+      olds_are = ap olds_of has.jumps_kept ∙ is.olds ∙ olds_full
+
+      restored : unjumped (olds_of one.jumps) after.contents.pieces ≡ full.pieces
+      restored =
+          ap (λ (olds : List (ℕ × List ℕ)). unjumped olds after.contents.pieces) olds_are
+          ∙ ap (λ (c : Contents). unjumped (olds_at full.pieces (jump_rows replaced)) c.pieces) memory_jumped
+          ∙ laws.taken_back full (jump_rows replaced) valid_full spliced_full
+
+      pieces_now : now.pieces ≡ after_it.pieces
+      unfolding committed
+      pieces_now =
+          text_more kept one after.contents.pieces
+          ∙ ap (text_of kept) (restored ∙ full_pieces)
+          ∙ text_added laws.past_olds laws.stays before.contents plan.pieces kept valid_before can_before.placeable
+          (pieces_fit before.contents plan can_before) holds.code
+          ∙ pieces_made (with_text before.contents (text_of kept before.contents.pieces)) plan.pieces
+
+      ranges_now : now.retired ≡ after_it.retired
+      unfolding patched
+      ranges_now =
+          ap (λ (c : Contents). map fence_range c.fences) memory_after ∙ ranges_back after_it.table after_it.retired
+
+      pub same_now : now ≡ after_it
+      unfolding committed
+      same_now =
+          machine_is now after_it pieces_now (table_more updates shown) ranges_now
+          (ap (λ (s : Seen). s.symbols) is.seen_after) (ap (λ (s : Seen). s.stacks) is.seen_after) refl
+          (ap (λ (s : Seen). s.threads) is.seen_after)
+          (live_more updates shown kept one holds.paired
+          ∙ ap (λ (u : Update). live_updates updates kept ++ u ∷ []) (update_is name plan jumps gaps one has))
+
+      stands : seen after ≡ seen_of now
+      stands =
+          ap (λ (c : Contents). let s : Seen = record (seen after) { contents = c } in s)
+          (memory_after ∙ ap patched (sym same_now))
+
+      newest : newest_update after_it ≡ Some update
+      unfolding committed
+      newest = last_more k.updates update
+
+      olds_kept : olds_of one.jumps
+          ≡ olds_at (jumped (bodies_in (withdrawn after_it update).table) after_it.pieces) (jump_rows replaced)
+      olds_kept =
+          olds_are
+          ∙ ap (λ (ps : List Piece). olds_at ps (jump_rows replaced))
+          (pieces_full
+          ∙ ap (λ (c : Contents). jumped rows c.pieces) (sym text_now)
+          ∙ ap (λ (m : CallTable). jumped (bodies_in m.table) after_it.pieces) (sym back))
+
+      left : without_pieces update.pieces (fold with_new_piece k.pieces plan.pieces) ≡ k.pieces
+      unfolding committed withdrawn
+      left = ap (λ (m : CallTable). m.pieces) back
+
+      ranges_kept : IsPermutation one.ranges (ranges_in after_it update)
+      unfolding committed
+      ranges_kept =
+          IsPermutation-trans one.ranges (map piece_range plan.pieces) (ranges_in after_it update)
+          (IsPermutation-sym (map piece_range plan.pieces) one.ranges has.ranges)
+          (added_ranges k.pieces plan.pieces left)
+
+      free_now : gaps_after gaps plan ≡ gaps_of after_it
+      unfolding committed
+      free_now =
+          ap (λ (free : List Range). fold without free (map piece_range plan.pieces))
+          (kept_free k kept gaps holds.are_kept)
+          ∙ sym (laws.gaps (unless_empty arena) k.pieces plan.pieces)
+
+      kept_after : AreKept after_it (kept ++ one ∷ []) (gaps_after gaps plan)
+      kept_after =
+          OneKept after_it update kept (kept ++ one ∷ []) one (gaps_after gaps plan) newest refl
+          (record {
+            rows = ap rows_of has.jumps_kept ∙ is.rows;
+            olds = olds_kept;
+            ranges = ranges_kept;
+            count = has.count;
+          })
+          free_now
+          (subst (λ (m : CallTable). AreKept m kept one.gaps) (sym back)
+          (subst (AreKept k kept) (sym has.gaps_kept) holds.are_kept))
+
+      built_now : IsBuilt now
+      built_now = subst IsBuilt (sym same_now) built_after
+
+      kept_now : AreKept now (kept ++ one ∷ []) (gaps_after gaps plan)
+      kept_now = subst (λ (m : CallTable). AreKept m (kept ++ one ∷ []) (gaps_after gaps plan)) (sym same_now) kept_after
+
+      code_now : HasOldCode (kept ++ one ∷ []) after.contents.pieces
+      unfolding patched
+      code_now =
+          All-weaker (λ (o : Kept). All (HasJumpCode now.pieces) o.jumps)
+          (λ (o : Kept). All (HasJumpCode after.contents.pieces) o.jumps)
+          (λ o all. All-weaker (HasJumpCode now.pieces) (HasJumpCode after.contents.pieces)
+          (λ jump there. subst (λ (s : Seen). HasCode s.contents.pieces jump.home (length jump.old)) (sym stands)
+          (code_jumped laws.stays (bodies_in now.table) now.pieces jump.home (length jump.old) there))
+          o.jumps all) (kept ++ one ∷ [])
+          (kept_code laws.was_there now (kept ++ one ∷ []) (gaps_after gaps plan) built_now kept_now)
+
+      pub holds_after : HoldsAfter before after arena gaps updates kept name plan one
+      holds_after = record {
+        holds = record {
+          stands = stands;
+          built = built_now;
+          are_kept = kept_now;
+          code = code_now;
+          paired =
+              let was : length kept ≡ length updates = holds.paired in
+              omega (arith, length-append kept (one ∷ []), length-append updates (shown ∷ []));
+        };
+        same = same_now;
+      }
 
 -- the jumps of a plan end at addresses of 32 bits
 abbrev pub CodeEnds : Type 0
@@ -588,25 +496,3 @@ seen_carried before reserved after plan fences jumps jumps_given same are_fences
     ∙ ap (after_change plan.pieces plan.symbols fences jumps_given) same
     ∙ ap (λ (fs : List Fence). after_change plan.pieces plan.symbols fs jumps_given (seen before)) are_fences
     ∙ ap (λ (js : List Jump). after_change plan.pieces plan.symbols plan.fences js (seen before)) are_jumps
-
--- the lists of updates with the new one
-pub held_after : (before after : Program) (arena : Range) (name : List ℕ) (plan : Plan) (kept : Kept)
-    (updates : List Shown) (all_kept : List Kept) → updates ≡ shown_as name plan.report ∷ [] → all_kept ≡ kept ∷ []
-    → HoldsAfter before after arena name plan kept → Holds after arena updates all_kept
-held_after before after arena name plan kept updates all_kept shown are after_all =
-    subst (λ (us : List Shown). Holds after arena us all_kept) (sym shown)
-    (subst (λ (ks : List Kept). Holds after arena (shown_as name plan.report ∷ []) ks) (sym are) after_all.holds)
-
-pub same_after : (before after : Program) (arena : Range) (name : List ℕ) (plan : Plan) (kept : Kept)
-    (updates : List Shown) (all_kept : List Kept) → updates ≡ shown_as name plan.report ∷ [] → all_kept ≡ kept ∷ []
-    → HoldsAfter before after arena name plan kept
-    → machine_of after arena updates all_kept ≡ committed (machine_of before arena [] []) name plan
-same_after before after arena name plan kept updates all_kept shown are after_all =
-    ap (λ (us : List Shown). machine_of after arena us all_kept) shown
-    ∙ ap (λ (ks : List Kept). machine_of after arena (shown_as name plan.report ∷ []) ks) are
-    ∙ after_all.same
-
--- the first of some updates
-pub first_item : {X : Type 0} (before after : List X) (x : X) → after ≡ before ++ x ∷ [] → before ≡ []
-    → after ≡ x ∷ []
-first_item {X} before after x more none = more ∙ ap (λ (xs : List X). xs ++ x ∷ []) none

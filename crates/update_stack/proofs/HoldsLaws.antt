@@ -1,10 +1,15 @@
 -- What holds of a system holds again after data were written, and the machine has them.
-use Rattle.std.proofs.Common.{◌≡◌, ℕ, List, [], ◌∷◌, map, length, None, refl, sym, ap, ◌∙◌, subst, arith}
+use Rattle.std.proofs.Common.{◌≡◌, ℕ, ◌<◌, ◌≤◌, true, nat_lt, List, [], ◌∷◌, map, length, None, refl, sym, ap, ◌∙◌}
+use Rattle.std.proofs.Common.{subst, arith}
+use Rattle.std.specs.List.{All}
+use Rattle.std.proofs.lemmas.Bool.Decides.{nat_tests}
+use Rattle.std.proofs.lemmas.List.Elements.{All-head}
 use Rattle.ks_base.specs.declared.places.Range.{Range}
 use Rattle.image_memory.specs.declared.types.Piece.{Piece}
 use Rattle.image_memory.specs.declared.types.Fence.{Fence}
 use Rattle.image_memory.specs.Contents.{Contents, IsValid, fence_range}
 use Rattle.image_memory.specs.Access.{first_fault, write_fault, written, after_write}
+use Rattle.ia32_step.specs.declared.types.Thread.{Thread}
 use Rattle.image_threads.specs.Program.{Program}
 use Rattle.image_threads.specs.Spawning.{AreStacks}
 use Rattle.splice_jump.specs.Jumps.{jumped, jumped_memory, AreSpliced}
@@ -14,8 +19,13 @@ use Rattle.update_stack.specs.declared.updates.Kept.{Kept}
 use Rattle.update_stack.specs.CallTable.{CallTable, fence_in, bodies_in, shown_update}
 use Rattle.update_stack.specs.StandsFor.{Seen, StandsFor, patched}
 use Rattle.update_stack.specs.Systems.{text_of, table_of, machine_of, live_updates, gaps_in, Holds}
-use Rattle.update_stack.proofs.TextLaws.{PastOldCode, CodeStays, IsClear, HasOldCode, placed_stays, gaps_stay}
+use Rattle.update_stack.specs.Stacked.{IsBuilt, Untouched, AreKept, NoneKept}
+use Rattle.update_stack.proofs.TextLaws.{PastOldCode, CodeStays, IsClear, HasOldCode, placed_stays}
 use Rattle.update_stack.proofs.TextLaws.{clear_text, clear_under, old_code_stays, past_text}
+use Rattle.update_stack.proofs.FreshLaws.{arena_free}
+use Rattle.update_stack.proofs.KeptLaws.{CodeWasThere}
+use Rattle.update_stack.proofs.BuiltLaws.{built_sound, wrote, built_write}
+use Rattle.update_stack.proofs.BesideLaws.{AvoidsCode, none_avoids, clear_avoids, written_nothing, kept_write}
 
 -- the laws of other crates that are used here
 pub record Laws : Type 0 where
@@ -27,6 +37,7 @@ pub record Laws : Type 0 where
   pub valid : (contents : Contents) (rows : List (ℕ × ℕ)) → IsValid contents → IsValid (jumped_memory rows contents)
   pub spliced : (contents : Contents) (rows : List (ℕ × ℕ)) (start : ℕ) (bytes : List ℕ) → AreSpliced contents rows
       → AreSpliced (after_write contents start bytes) rows
+  pub there : CodeWasThere
 
 -- the homes that updates replaced, each with its newest base
 abbrev pub rows_in : List Shown → List (ℕ × ℕ)
@@ -47,20 +58,41 @@ pub record Sound (updates : List Shown) (kept : List Kept) (contents : Contents)
   pub spliced : AreSpliced (machine_memory updates kept contents) (rows_in updates)
   pub code : HasOldCode kept contents.pieces
 
--- what is retired, and what is free, stays so
-pub record KeepsPlaces (before after : Contents) : Type 0 where
-  pub fences : after.fences ≡ before.fences
-  pub gaps : (gaps : List Range) → AreGaps before gaps → AreGaps after gaps
+-- what holds of the machine and of what is kept of its updates
+pub record IsKeptOver (kept : List Kept) (gaps : List Range) (k : CallTable) : Type 0 where
+  pub built : IsBuilt k
+  pub are_kept : AreKept k kept gaps
 
-pub sound_of : (program : Program) (arena : Range) (updates : List Shown) (kept : List Kept)
-    → Holds program arena updates kept → Sound updates kept program.contents
-unfolding patched
-sound_of program arena updates kept holds = record {
-  stands = ap (λ (s : Seen). s.contents) holds.stands;
-  valid = holds.jumps.valid;
-  spliced = holds.jumps.spliced;
-  code = holds.code;
+-- and holds again after data were written beside its code
+pub over_wrote : Laws → (k : CallTable) (kept : List Kept) (gaps : List Range) (start : ℕ) (bytes : List ℕ)
+    (threads : List Thread) → AvoidsCode start (length bytes) k.pieces → IsKeptOver kept gaps k
+    → IsKeptOver kept gaps (wrote start bytes threads k)
+over_wrote laws k kept gaps start bytes threads avoids over = record {
+  built = built_write k start bytes threads over.built;
+  are_kept = kept_write laws.there k kept gaps start bytes threads avoids over.built over.are_kept;
 }
+
+over_threads : Laws → (k : CallTable) (kept : List Kept) (gaps : List Range) (threads : List Thread)
+    → IsKeptOver kept gaps k → IsKeptOver kept gaps (record k { threads = threads })
+over_threads laws k kept gaps threads over =
+    subst (λ (ps : List Piece). IsKeptOver kept gaps (record k { pieces = ps; threads = threads }))
+    (written_nothing k.pieces) (over_wrote laws k kept gaps 0 [] threads (none_avoids k.pieces) over)
+
+pub sound_of : (program : Program) (arena : Range) (gaps : List Range) (updates : List Shown) (kept : List Kept)
+    → Holds program arena gaps updates kept → Sound updates kept program.contents
+unfolding patched
+sound_of program arena gaps updates kept holds =
+    let jumps = (built_sound (machine_of program arena updates kept) holds.built).jumps in
+    record {
+      stands = ap (λ (s : Seen). s.contents) holds.stands;
+      valid = jumps.valid;
+      spliced = jumps.spliced;
+      code = holds.code;
+    }
+
+pub over_of : (program : Program) (arena : Range) (gaps : List Range) (updates : List Shown) (kept : List Kept)
+    → Holds program arena gaps updates kept → IsKeptOver kept gaps (machine_of program arena updates kept)
+over_of program arena gaps updates kept holds = record { built = holds.built; are_kept = holds.are_kept }
 
 stands_by : (program : Program) (arena : Range) (updates : List Shown) (kept : List Kept)
     → program.contents ≡ jumped_memory (rows_in updates) (machine_memory updates kept program.contents)
@@ -74,20 +106,16 @@ stands_by program arena updates kept same =
       threads = program.threads;
     } in s) same
 
--- another program with memory of which it holds
-pub holds_again : (old new : Program) (arena : Range) (updates : List Shown) (kept : List Kept)
-    → Holds old arena updates kept → Sound updates kept new.contents → KeepsPlaces old.contents new.contents
-    → AreStacks new.contents.pieces new.stacks → Holds new arena updates kept
-holds_again old new arena updates kept holds sound places stacks = record {
-  stands = stands_by new arena updates kept sound.stands;
-  jumps = record { valid = sound.valid; spliced = sound.spliced; low = holds.jumps.low };
-  stacks = stacks;
+-- a program with memory of which it holds
+pub holds_again : (program : Program) (arena : Range) (gaps : List Range) (updates : List Shown) (kept : List Kept)
+    → length kept ≡ length updates → Sound updates kept program.contents
+    → IsKeptOver kept gaps (machine_of program arena updates kept) → Holds program arena gaps updates kept
+holds_again program arena gaps updates kept paired sound over = record {
+  stands = stands_by program arena updates kept sound.stands;
+  built = over.built;
+  are_kept = over.are_kept;
   code = sound.code;
-  few = holds.few;
-  paired = holds.paired;
-  untouched = λ none.
-      let was = holds.untouched none in
-      record { none_retired = places.fences ∙ was.none_retired; gaps = places.gaps (gaps_in arena) was.gaps };
+  paired = paired;
 }
 
 pub valid_of : Laws → (updates : List Shown) (kept : List Kept) (contents : Contents) → Sound updates kept contents
@@ -135,27 +163,32 @@ writes_beside laws updates kept contents start bytes sound clear =
     }
 
 -- Memory of the machine that follows from that which other memory stands for: with the jumps it is sound, and what is
--- seen of it is this.
-pub record Follows (updates : List Shown) (kept : List Kept) (before machine : Contents) : Type 0 where
+-- seen of it is this. What is kept of the machine stays with it.
+pub record Follows (updates : List Shown) (kept : List Kept) (gaps : List Range) (k : CallTable) (before machine : Contents)
+    : Type 0 where
   pub sound : Sound updates kept (jumped_memory (rows_in updates) machine)
   pub text : machine_memory updates kept (jumped_memory (rows_in updates) machine) ≡ machine
-  pub places : KeepsPlaces before (jumped_memory (rows_in updates) machine)
+  pub fences : machine.fences ≡ before.fences
+  pub over : (threads : List Thread) → IsKeptOver kept gaps (record k { pieces = machine.pieces; threads = threads })
 
-pub follows_itself : (updates : List Shown) (kept : List Kept) (contents : Contents) → Sound updates kept contents
-    → Follows updates kept contents (machine_memory updates kept contents)
-follows_itself updates kept contents sound = record {
+pub follows_itself : Laws → (updates : List Shown) (kept : List Kept) (gaps : List Range) (k : CallTable)
+    (contents : Contents) → Sound updates kept contents → IsKeptOver kept gaps k
+    → k.pieces ≡ text_of kept contents.pieces
+    → Follows updates kept gaps k contents (machine_memory updates kept contents)
+follows_itself laws updates kept gaps k contents sound over pieces = record {
   sound = subst (Sound updates kept) sound.stands sound;
   text = ap (machine_memory updates kept) (sym sound.stands);
-  places = record {
-    fences = sym (ap (λ (c : Contents). c.fences) sound.stands);
-    gaps = λ gaps are. subst (λ (c : Contents). AreGaps c gaps) sound.stands are;
-  };
+  fences = sym (ap (λ (c : Contents). c.fences) sound.stands);
+  over = λ threads. subst (λ (ps : List Piece). IsKeptOver kept gaps (record k { pieces = ps; threads = threads })) pieces
+      (over_threads laws k kept gaps threads over);
 }
 
-pub follows_write : Laws → (updates : List Shown) (kept : List Kept) (contents : Contents) → Sound updates kept contents
-    → (start : ℕ) (bytes : List ℕ) → IsClear start (length bytes) (text_of kept contents.pieces)
-    → Follows updates kept contents (after_write (machine_memory updates kept contents) start bytes)
-follows_write laws updates kept contents sound start bytes clear =
+pub follows_write : Laws → (updates : List Shown) (kept : List Kept) (gaps : List Range) (k : CallTable)
+    (contents : Contents) → Sound updates kept contents → IsKeptOver kept gaps k
+    → k.pieces ≡ text_of kept contents.pieces → (start : ℕ) (bytes : List ℕ)
+    → IsClear start (length bytes) (text_of kept contents.pieces)
+    → Follows updates kept gaps k contents (after_write (machine_memory updates kept contents) start bytes)
+follows_write laws updates kept gaps k contents sound over pieces start bytes clear =
     let rows = rows_in updates in
     let machine = machine_memory updates kept contents in
     let after = after_write contents start bytes in
@@ -163,13 +196,17 @@ follows_write laws updates kept contents sound start bytes clear =
     (clear_under start (length bytes) kept contents.pieces clear) in
     let same : after ≡ jumped_memory rows (after_write machine start bytes) =
     beside.sound.stands ∙ ap (jumped_memory rows) beside.text in
+    let avoids : AvoidsCode start (length bytes) machine.pieces =
+    clear_avoids machine start (length bytes) sound.valid clear in
     record {
       sound = subst (Sound updates kept) same beside.sound;
       text = ap (machine_memory updates kept) (sym same) ∙ beside.text;
-      places = record {
-        fences = sym (ap (λ (c : Contents). c.fences) sound.stands);
-        gaps = λ gaps are. subst (λ (c : Contents). AreGaps c gaps) same (gaps_stay contents start bytes gaps are);
-      };
+      fences = sym (ap (λ (c : Contents). c.fences) sound.stands);
+      over = λ threads. subst
+          (λ (ps : List Piece). IsKeptOver kept gaps (record k { pieces = written start bytes ps; threads = threads }))
+          pieces
+          (over_wrote laws k kept gaps start bytes threads
+          (subst (AvoidsCode start (length bytes)) (sym pieces) avoids) over);
     }
 
 -- the machine by its pieces and its retired ranges
@@ -199,24 +236,36 @@ none_spliced : (contents : Contents) → AreSpliced contents []
 none_spliced contents =
     record { each = λ i d below. absurd (omega arith); once = λ i j d before below. absurd (omega arith) }
 
+full_arena : (arena : Range) (limit : ℕ) → All (λ (gap : Range). gap.high ≤ limit) (gaps_in arena) → arena.low < arena.high
+    → arena.high ≤ limit
+full_arena arena limit low full =
+    let test : nat_lt arena.low arena.high ≡ true = grind (arith, nat_tests) in
+    let some : gaps_in arena ≡ arena ∷ [] = rw test refl in
+    All-head (λ (gap : Range). gap.high ≤ limit) arena []
+    (subst (All (λ (gap : Range). gap.high ≤ limit)) some low)
+
 pub holds_at_first : (program : Program) (arena : Range) → IsValid program.contents → program.contents.fences ≡ []
     → AreStacks program.contents.pieces program.stacks → AreGaps program.contents (gaps_in arena)
-    → Holds program arena [] []
+    → Holds program arena (gaps_in arena) [] []
 unfolding jumped
 holds_at_first program arena valid none stacks gaps =
     let same : program.contents ≡ machine_memory [] [] program.contents =
     ap (λ (fences : List Fence). let c : Contents = record program.contents { fences = fences } in c)
     (none ∙ sym (ap (λ (fences : List Fence). map (fence_in []) (map fence_range fences)) none)) in
+    let k = machine_of program arena [] [] in
     record {
       stands = stands_by program arena [] [] same;
-      jumps = record {
-        valid = subst IsValid same valid;
-        spliced = none_spliced (machine_memory [] [] program.contents);
-        low = λ i d below. absurd (omega arith);
-      };
-      stacks = stacks;
+      built =
+          Untouched k (record {
+            jumps = record {
+              valid = subst IsValid same valid;
+              spliced = none_spliced (machine_memory [] [] program.contents);
+              low = λ i d below. absurd (omega arith);
+            };
+            stacks = stacks;
+            arena = full_arena arena 0xFFFF_0000 gaps.low;
+          }) refl refl (ap (map fence_range) none);
+      are_kept = NoneKept k [] (gaps_in arena) refl refl (sym (arena_free program.contents arena gaps));
       code = λ i d below. absurd (omega arith);
-      few = omega arith;
       paired = refl;
-      untouched = λ _. record { none_retired = none; gaps = gaps };
     }

@@ -9,6 +9,7 @@ use Rattle.ks_base.specs.declared.refusals.Refusal.{Refusal}
 use Rattle.ks_base.specs.declared.refusals.Refusal.TheVariants.{Memory, TooManyThreads}
 use Rattle.image_memory.specs.declared.types.Piece.{Piece}
 use Rattle.image_memory.specs.Contents.{Contents, IsValid}
+use Rattle.image_memory.specs.Access.{written}
 use Rattle.image_threads.specs.Program.{Program, IsStackRange}
 use Rattle.image_threads.specs.Spawning.{Started, started, started_at, started_on, with_started, free_stack}
 use Rattle.image_threads.specs.Spawning.{first_bytes, is_stack, AreStacks, first_thread, spawned as program_spawned}
@@ -16,12 +17,15 @@ use Rattle.image_threads.proofs.StackLaws.{stack_written, length-first_bytes, st
 use Rattle.symbol_table.specs.Symbols.{function_named}
 use Rattle.update_stack.specs.declared.updates.Update.{Update as Shown}
 use Rattle.update_stack.specs.declared.updates.Kept.{Kept}
-use Rattle.update_stack.specs.CallTable.{CallTable}
+use Rattle.update_stack.specs.CallTable.{CallTable, contents_of}
 use Rattle.update_stack.specs.Steps.{after_start, spawned}
 use Rattle.update_stack.specs.Events.{Spawn, Spawned, Happened, happened, spawn_answered, answered}
 use Rattle.update_stack.specs.Systems.{text_of, machine_of, Holds}
-use Rattle.update_stack.proofs.TextLaws.{IsClear, gaps_stay}
-use Rattle.update_stack.proofs.HoldsLaws.{Laws, Sound, KeepsPlaces, sound_of, valid_of, writes_beside, holds_again}
+use Rattle.update_stack.proofs.TextLaws.{IsClear, clear_under}
+use Rattle.update_stack.proofs.BuiltLaws.{built_sound}
+use Rattle.update_stack.proofs.BesideLaws.{clear_avoids}
+use Rattle.update_stack.proofs.HoldsLaws.{Laws, Sound, IsKeptOver, over_wrote, sound_of, over_of, writes_beside}
+use Rattle.update_stack.proofs.HoldsLaws.{holds_again}
 
 -- the bytes of a stack can be written
 stack_clear : (contents : Contents) (stacks : List Range) (stack : Range) (argument : ℕ) → IsValid contents
@@ -33,50 +37,53 @@ stack_clear contents stacks stack argument valid bounds are listed =
     (All-contains (λ (range : Range). IsTrue (is_stack contents.pieces range)) stacks stack are listed)
     (length-first_bytes stack argument (omega arith))
 
-module _ (arena : Range) (updates : List Shown) (kept : List Kept) where
+module _ (arena : Range) (gaps : List Range) (updates : List Shown) (kept : List Kept) where
   -- a program as the machine
   abbrev machine : Program → CallTable
   machine program = machine_of program arena updates kept
 
   -- what the program leaves, and what the machine does
-  abbrev pub Starts : Program → Result Program Refusal → Result CallTable Refusal → Type 0
-  Starts old (Err refusal) now = now ≡ Err refusal
-  Starts old (Ok new) now =
-      (now ≡ Ok (machine new)) × Sound updates kept new.contents
-      × KeepsPlaces old.contents new.contents
+  abbrev pub Starts : Result Program Refusal → Result CallTable Refusal → Type 0
+  Starts (Err refusal) now = now ≡ Err refusal
+  Starts (Ok new) now =
+      (now ≡ Ok (machine new)) × Sound updates kept new.contents × IsKeptOver kept gaps (machine new)
 
-  starts_on : Laws → (old : Program) (pc argument : ℕ) → Holds old arena updates kept → All IsStackRange old.stacks
+  starts_on : Laws → (old : Program) (pc argument : ℕ) → Holds old arena gaps updates kept → All IsStackRange old.stacks
       → (o : Option Range) → IfSome o (Contains old.stacks)
-      → Starts old (with_started old (started_on old.contents.pieces old.threads pc argument o))
+      → Starts (with_started old (started_on old.contents.pieces old.threads pc argument o))
       (after_start (machine old)
       (started_on (text_of kept old.contents.pieces) old.threads pc argument o))
   starts_on laws old pc argument holds bounds None listed = refl
   starts_on laws old pc argument holds bounds (Some stack) listed =
-      let sound = sound_of old arena updates kept holds in
+      let k = machine old in
+      let sound = sound_of old arena gaps updates kept holds in
+      let over = over_of old arena gaps updates kept holds in
+      let holds_k = built_sound k holds.built in
       let bytes = first_bytes stack argument in
-      let clear = stack_clear old.contents old.stacks stack argument (valid_of laws updates kept old.contents sound)
-      bounds holds.stacks listed in
+      let threads = old.threads ++ first_thread (length old.threads) stack pc ∷ [] in
+      let clear_k = stack_clear (contents_of k) old.stacks stack argument holds_k.jumps.valid bounds holds_k.stacks listed in
+      let clear = clear_under stack.low (length bytes) kept old.contents.pieces clear_k in
       let beside = writes_beside laws updates kept old.contents stack.low bytes sound clear in
-      let start : List Piece → Started = λ ps. record {
-        pieces = ps;
-        threads = old.threads ++ first_thread (length old.threads) stack pc ∷ [];
-      } in (
-        ap (λ (ps : List Piece). after_start (machine old) (Ok (start ps)))
-            (sym (ap (λ (c : Contents). c.pieces) beside.text)),
+      let avoids = clear_avoids (contents_of k) stack.low (length bytes) holds_k.jumps.valid clear_k in
+      let by : List Piece → CallTable = λ ps. record k { pieces = ps; threads = threads } in
+      let text : written stack.low bytes k.pieces ≡ text_of kept (written stack.low bytes old.contents.pieces) =
+      sym (ap (λ (c : Contents). c.pieces) beside.text) in (
+        ap (λ (ps : List Piece). let r : Result CallTable Refusal = Ok (by ps) in r) text,
         beside.sound,
-        record { fences = refl; gaps = gaps_stay old.contents stack.low bytes },
+        subst (λ (ps : List Piece). IsKeptOver kept gaps (by ps)) text
+            (over_wrote laws k kept gaps stack.low bytes threads avoids over),
       )
 
-  starts_at : Laws → (old : Program) (argument : ℕ) → Holds old arena updates kept → All IsStackRange old.stacks
+  starts_at : Laws → (old : Program) (argument : ℕ) → Holds old arena gaps updates kept → All IsStackRange old.stacks
       → (pc : Result ℕ Refusal)
-      → Starts old (with_started old (started_at old.contents.pieces old.stacks old.threads argument pc))
+      → Starts (with_started old (started_at old.contents.pieces old.stacks old.threads argument pc))
       (after_start (machine old)
       (started_at (text_of kept old.contents.pieces) old.stacks old.threads argument pc))
   starts_at laws old argument holds bounds (Err refusal) = refl
   starts_at laws old argument holds bounds (Ok pc) = by_count (nat_le 4096 (length old.threads))
     where
       by_count : (full : Bool)
-          → Starts old (with_started old (if full then Err TooManyThreads
+          → Starts (with_started old (if full then Err TooManyThreads
           else started_on old.contents.pieces old.threads pc argument (free_stack old.stacks old.threads)))
           (after_start (machine old) (if full then Err TooManyThreads
           else started_on (text_of kept old.contents.pieces) old.threads pc argument
@@ -86,9 +93,9 @@ module _ (arena : Range) (updates : List Shown) (kept : List Kept) where
           starts_on laws old pc argument holds bounds (free_stack old.stacks old.threads)
           (stack_listed old.stacks old.threads (free_stack old.stacks old.threads) refl)
 
-  starts : Laws → (old : Program) (name : List ℕ) (argument : ℕ) → Holds old arena updates kept
+  starts : Laws → (old : Program) (name : List ℕ) (argument : ℕ) → Holds old arena gaps updates kept
       → All IsStackRange old.stacks
-      → Starts old (program_spawned old name argument) (spawned (machine old) name argument)
+      → Starts (program_spawned old name argument) (spawned (machine old) name argument)
   unfolding program_spawned spawned started
   starts laws old name argument holds bounds =
       starts_at laws old argument holds bounds (function_named old.table.symbols name)
@@ -100,23 +107,23 @@ module _ (arena : Range) (updates : List Shown) (kept : List Kept) where
       (λ refusal. refusal ≢ Memory → program_spawned old name argument ≡ Err refusal)
 
   spawn_goes : Laws → (old : Program) (name : List ℕ) (argument : ℕ) (given : Result Program Refusal)
-      → Holds old arena updates kept → All IsStackRange old.stacks → program_spawned old name argument ≡ given
-      → Starts old given (spawned (machine old) name argument)
+      → Holds old arena gaps updates kept → All IsStackRange old.stacks → program_spawned old name argument ≡ given
+      → Starts given (spawned (machine old) name argument)
   spawn_goes laws old name argument given holds bounds is =
-      subst (λ (r : Result Program Refusal). Starts old r (spawned (machine old) name argument)) is
+      subst (λ (r : Result Program Refusal). Starts r (spawned (machine old) name argument)) is
       (starts laws old name argument holds bounds)
 
   pub spawn_holds : Laws → (old new : Program) (name : List ℕ) (argument : ℕ) (result : Result ℕ Refusal)
-      → Holds old arena updates kept → All IsStackRange old.stacks → HasSpawned old new name argument result
-      → OnErr result (new ≡ old) → AreStacks new.contents.pieces new.stacks → Holds new arena updates kept
-  spawn_holds laws old new name argument (Ok number) holds bounds is same stacks =
+      → Holds old arena gaps updates kept → All IsStackRange old.stacks → HasSpawned old new name argument result
+      → OnErr result (new ≡ old) → Holds new arena gaps updates kept
+  spawn_holds laws old new name argument (Ok number) holds bounds is same =
       let goes = spawn_goes laws old name argument (Ok new) holds bounds is in
-      holds_again old new arena updates kept holds goes.1 goes.2 stacks
-  spawn_holds laws old new name argument (Err refusal) holds bounds is same stacks =
-      subst (λ (p : Program). Holds p arena updates kept) (sym same) holds
+      holds_again new arena gaps updates kept holds.paired goes.1 goes.2
+  spawn_holds laws old new name argument (Err refusal) holds bounds is same =
+      subst (λ (p : Program). Holds p arena gaps updates kept) (sym same) holds
 
   pub spawn_seen : Laws → (old new : Program) (name : List ℕ) (argument : ℕ) (result : Result ℕ Refusal)
-      → Holds old arena updates kept → All IsStackRange old.stacks → HasSpawned old new name argument result
+      → Holds old arena gaps updates kept → All IsStackRange old.stacks → HasSpawned old new name argument result
       → MatchResult result (λ number. number ≡ length old.threads) (λ _. Unit {0})
       → MatchResult result
       (λ number. answered (machine old) (Spawn name argument)

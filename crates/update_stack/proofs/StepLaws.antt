@@ -1,6 +1,6 @@
 -- A thread's step: the program does what the machine does.
 use Rattle.std.proofs.Common.{◌≡◌, ℕ, ◌==◌, Bool, true, false, if◌then◌else◌}
-use Rattle.std.proofs.Common.{List, map, length, Option, Some, None, Result, Ok, Err}
+use Rattle.std.proofs.Common.{List, map, length, set, Option, Some, None, Result, Ok, Err}
 use Rattle.std.proofs.Common.{MatchResult, OnErr, is_ok, is_some, refl, sym, ◌∙◌, ap, subst}
 use Rattle.ks_base.specs.declared.places.Range.{Range}
 use Rattle.ks_base.specs.declared.refusals.Fault.{Fault}
@@ -16,7 +16,6 @@ use Rattle.ia32_step.specs.Operands.{spelled}
 use Rattle.ia32_step.specs.Step.{Left, context_of, exits, done, store_fault, after_store, unless_barred, change_by}
 use Rattle.ia32_step.specs.Step.{stepped}
 use Rattle.image_threads.specs.Program.{Program, running_at}
-use Rattle.image_threads.specs.Spawning.{AreStacks}
 use Rattle.image_threads.specs.Stepping.{continued, moved_by as program_moved_by, moved as program_moved}
 use Rattle.update_stack.specs.declared.updates.Update.{Update as Shown}
 use Rattle.update_stack.specs.declared.updates.Kept.{Kept}
@@ -29,7 +28,8 @@ use Rattle.update_stack.specs.Events.{step_answered, answered, machine_after, af
 use Rattle.update_stack.specs.Systems.{text_of, machine_of, Holds}
 use Rattle.update_stack.proofs.LockStep.{spelled_length}
 use Rattle.update_stack.proofs.TextLaws.{IsClear}
-use Rattle.update_stack.proofs.HoldsLaws.{Laws, Sound, KeepsPlaces, Follows, rows_in, machine_by, sound_of}
+use Rattle.update_stack.proofs.BuiltLaws.{built_sound}
+use Rattle.update_stack.proofs.HoldsLaws.{Laws, Sound, IsKeptOver, Follows, rows_in, machine_by, sound_of, over_of}
 use Rattle.update_stack.proofs.HoldsLaws.{follows_itself, follows_write, holds_again}
 
 -- What is so of memory as it was, and after each write that has no fault, is so of what a step leaves.
@@ -77,34 +77,34 @@ by_step Q k same writes thread =
 abbrev pub AllSteps : Type 0
 AllSteps = (k : CallTable) (thread : Thread) → CanJump k → StepsStand k thread
 
-module _ (arena : Range) (updates : List Shown) (kept : List Kept) where
+module _ (arena : Range) (gaps : List Range) (updates : List Shown) (kept : List Kept) where
   -- a program as the machine
   abbrev machine : Program → CallTable
   machine program = machine_of program arena updates kept
 
   -- what the program leaves and answers, and what the machine does
-  abbrev pub Goes : Program → Program → Outcome → Result (CallTable × Outcome) Refusal → Type 0
-  Goes old new outcome now =
-      (now ≡ Ok (machine new, outcome)) × Sound updates kept new.contents
-      × KeepsPlaces old.contents new.contents
+  abbrev pub Goes : Program → Outcome → Result (CallTable × Outcome) Refusal → Type 0
+  Goes new outcome now =
+      (now ≡ Ok (machine new, outcome)) × Sound updates kept new.contents × IsKeptOver kept gaps (machine new)
 
   -- the memory after a step of the machine, with the jumps
-  goes_beside : (old : Program) (n : ℕ) (left : Left) → Follows updates kept old.contents left.contents
-      → Goes old (continued old n (jumped_left (rows_in updates) left)) left.outcome
+  goes_beside : (old : Program) (n : ℕ) (left : Left) → Follows updates kept gaps (machine old) old.contents left.contents
+      → Goes (continued old n (jumped_left (rows_in updates) left)) left.outcome
       (Ok (after_step (machine old) n left, left.outcome))
   goes_beside old n left follows =
       let new = continued old n (jumped_left (rows_in updates) left) in
-      let after : CallTable → Result (CallTable × Outcome) Refusal = λ k. Ok (k, left.outcome) in (
-        ap (λ (ps : List Piece). after (machine_by new arena updates kept ps (map fence_range old.contents.fences)))
-            (sym (ap (λ (c : Contents). c.pieces) follows.text))
-            ∙ ap (λ (rs : List Range). after (machine_by new arena updates kept (text_of kept new.contents.pieces) rs))
-            (sym (ap (map fence_range) follows.places.fences)),
+      let same : after_step (machine old) n left ≡ machine new =
+      ap (λ (ps : List Piece). machine_by new arena updates kept ps (map fence_range old.contents.fences))
+      (sym (ap (λ (c : Contents). c.pieces) follows.text))
+      ∙ ap (λ (rs : List Range). machine_by new arena updates kept (text_of kept new.contents.pieces) rs)
+      (sym (ap (map fence_range) follows.fences)) in (
+        ap (λ (k : CallTable). let r : Result (CallTable × Outcome) Refusal = Ok (k, left.outcome) in r) same,
         follows.sound,
-        follows.places,
+        subst (IsKeptOver kept gaps) same (follows.over (set old.threads n left.thread)),
       )
 
-  step_goes : Laws → AllSteps → (old : Program) (n : ℕ) (thread : Thread) → Holds old arena updates kept
-      → Goes old (continued old n (stepped old.contents thread)) (stepped old.contents thread).outcome
+  step_goes : Laws → AllSteps → (old : Program) (n : ℕ) (thread : Thread) → Holds old arena gaps updates kept
+      → Goes (continued old n (stepped old.contents thread)) (stepped old.contents thread).outcome
       (Ok (
         after_step (machine old) n (step_in (machine old) thread),
         (step_in (machine old) thread).outcome,
@@ -112,30 +112,32 @@ module _ (arena : Range) (updates : List Shown) (kept : List Kept) where
   unfolding patched
   step_goes laws steps old n thread holds =
       let k = machine old in
-      let sound = sound_of old arena updates kept holds in
+      let sound = sound_of old arena gaps updates kept holds in
+      let over = over_of old arena gaps updates kept holds in
       let left = step_in k thread in
       let same : stepped old.contents thread ≡ jumped_left (rows_in updates) left =
-      ap (λ (c : Contents). stepped c thread) sound.stands ∙ steps k thread holds.jumps in
-      let follows : Follows updates kept old.contents left.contents =
-      by_step (Follows updates kept old.contents) k (follows_itself updates kept old.contents sound)
-      (follows_write laws updates kept old.contents sound) thread in
+      ap (λ (c : Contents). stepped c thread) sound.stands ∙ steps k thread (built_sound k holds.built).jumps in
+      let follows : Follows updates kept gaps k old.contents left.contents =
+      by_step (Follows updates kept gaps k old.contents) k
+      (follows_itself laws updates kept gaps k old.contents sound over refl)
+      (follows_write laws updates kept gaps k old.contents sound over refl) thread in
       let P : Left → Type 0 =
-      λ after. Goes old (continued old n after) after.outcome (Ok (after_step k n left, left.outcome)) in
+      λ after. Goes (continued old n after) after.outcome (Ok (after_step k n left, left.outcome)) in
       subst P (sym same) (goes_beside old n left follows)
 
-  moved_goes : Laws → AllSteps → (old new : Program) (n : ℕ) (outcome : Outcome) → Holds old arena updates kept
-      → program_moved old n ≡ Ok (new, outcome) → Goes old new outcome (moved (machine old) n)
+  moved_goes : Laws → AllSteps → (old new : Program) (n : ℕ) (outcome : Outcome) → Holds old arena gaps updates kept
+      → program_moved old n ≡ Ok (new, outcome) → Goes new outcome (moved (machine old) n)
   unfolding moved program_moved
   moved_goes laws steps old new n outcome holds is = by_thread (running_at old.threads n) is
     where
       by_thread : (o : Option Thread) → program_moved_by old n o ≡ Ok (new, outcome)
-          → Goes old new outcome (moved_by (machine old) n o)
+          → Goes new outcome (moved_by (machine old) n o)
       by_thread None is = cc
       by_thread (Some thread) is =
           let left = stepped old.contents thread in
           let pair : Program × Outcome = (continued old n left, left.outcome) in
           let same : pair ≡ (new, outcome) = cc in
-          subst (λ (p : Program × Outcome). Goes old p.0 p.1 (moved_by (machine old) n (Some thread)))
+          subst (λ (p : Program × Outcome). Goes p.0 p.1 (moved_by (machine old) n (Some thread)))
           same (step_goes laws steps old n thread holds)
 
   not_moved : (old : Program) (n : ℕ) (refusal : Refusal) → program_moved old n ≡ Err refusal
@@ -155,16 +157,16 @@ module _ (arena : Range) (updates : List Shown) (kept : List Kept) where
       (λ refusal. program_moved old n ≡ Err refusal)
 
   pub step_holds : Laws → AllSteps → (old new : Program) (n : ℕ) (result : Result Outcome Refusal)
-      → Holds old arena updates kept → HasMoved old new n result → OnErr result (new ≡ old)
-      → AreStacks new.contents.pieces new.stacks → Holds new arena updates kept
-  step_holds laws steps old new n (Ok outcome) holds is same stacks =
+      → Holds old arena gaps updates kept → HasMoved old new n result → OnErr result (new ≡ old)
+      → Holds new arena gaps updates kept
+  step_holds laws steps old new n (Ok outcome) holds is same =
       let goes = moved_goes laws steps old new n outcome holds is in
-      holds_again old new arena updates kept holds goes.1 goes.2 stacks
-  step_holds laws steps old new n (Err refusal) holds is same stacks =
-      subst (λ (p : Program). Holds p arena updates kept) (sym same) holds
+      holds_again new arena gaps updates kept holds.paired goes.1 goes.2
+  step_holds laws steps old new n (Err refusal) holds is same =
+      subst (λ (p : Program). Holds p arena gaps updates kept) (sym same) holds
 
   pub step_seen : Laws → AllSteps → (old new : Program) (n : ℕ) (result : Result Outcome Refusal)
-      → Holds old arena updates kept → HasMoved old new n result
+      → Holds old arena gaps updates kept → HasMoved old new n result
       → MatchResult result
       (λ outcome. answered (machine old) (Step n)
       ≡ Ok (happened (machine new) (Stepped outcome)))
@@ -175,7 +177,7 @@ module _ (arena : Range) (updates : List Shown) (kept : List Kept) where
   step_seen laws steps old new n (Err refusal) holds is = ap step_answered (not_moved old n refusal is)
 
   pub stepped_after : Laws → AllSteps → (old new : Program) (n : ℕ) (result : Result Outcome Refusal)
-      → Holds old arena updates kept → HasMoved old new n result → OnErr result (new ≡ old)
+      → Holds old arena gaps updates kept → HasMoved old new n result → OnErr result (new ≡ old)
       → machine new ≡ after_event (machine old) (Step n)
   unfolding after_event
   stepped_after laws steps old new n (Ok outcome) holds is same =

@@ -1,4 +1,5 @@
--- The update rule: the refusals in their order, and otherwise the machine with the new version of each changed function.
+-- The update rule: the refusals in their order, and otherwise the machine with the new version of each changed
+-- function.
 use Rattle.std.specs.Prelude.{ℕ, Bool, nat_le, List, [], ◌∷◌, ◌++◌, map, length, Option, Result, Ok}
 use Rattle.std.specs.List.{fold, flat_map, list_any}
 use Rattle.ks_base.specs.declared.places.Range.{Range}
@@ -22,12 +23,12 @@ use Rattle.update_stack.specs.CallTable.{CallTable, Update, with_replaced, bodie
 
 -- so many updates may be live
 abbrev pub most_updates : ℕ
-most_updates = 1
+most_updates = 64
 
--- so many updates are live; or a live one has the name
 abbrev pub has_name : List ℕ → Update → Bool
 has_name name update = same_bytes update.name name
 
+-- as many updates are live as may be; or a live one has the name
 unfoldable pub name_refusal : CallTable → List ℕ → Option Refusal
 name_refusal k name =
     first_of (refused_where (nat_le most_updates (length k.updates)) TooMany)
@@ -68,8 +69,8 @@ with_range ranges range = put_in (λ (one : Range). one) range ranges
 abbrev pub with_new_piece : List Piece → Piece → List Piece
 with_new_piece pieces piece = with_piece piece pieces
 
--- The machine after an update of a name: its pieces are added, each changed function's new base is appended to its home's row,
--- what it replaces or drops is retired, its symbols are added, and it is the newest update.
+-- The machine after an update of a name: its pieces are added, each changed function's new base is appended to its
+-- home's row, what it replaces or drops is retired, its symbols are added, and it is the newest update.
 unfoldable pub committed : CallTable → List ℕ → Plan → CallTable
 committed k name plan = record k {
   pieces = fold with_new_piece k.pieces plan.pieces;
@@ -79,8 +80,8 @@ committed k name plan = record k {
   updates = k.updates ++ update_as name plan ∷ [];
 }
 
--- The machine after an update of a name from one object file to another, and its report; or the first refusal: that of the name, then
--- the plan's, and then that of the threads.
+-- The machine after an update of a name from one object file to another, and its report; or the first refusal: that
+-- of the name, then the plan's, and then that of the threads.
 unfoldable pub applied : CallTable → (name pre_file post_file : List ℕ) → Result (CallTable × Report) Refusal
 applied k name pre_file post_file = do
   plan ← planned_in k name pre_file post_file

@@ -1,5 +1,6 @@
--- The abstract machine that never patches code. A table says where the newest version of each replaced function begins, and a thread
--- that comes to the function's home goes on there; the text of every version stays as it was placed.
+-- The abstract machine that never patches code. A table says where the newest version of each replaced function
+-- begins, and a thread that comes to the function's home goes on there; the text of every version stays as it was
+-- placed.
 use Rattle.std.specs.Prelude.{ℕ, ◌-◌, Bool, ◌==◌, if◌then◌else◌, List, [], ◌∷◌, ◌++◌, map, replicate, None, unwrap_or}
 use Rattle.std.specs.List.{list_any, last_or}
 use Rattle.ks_base.specs.declared.places.Range.{Range}
@@ -22,8 +23,8 @@ pub record Row : Type 0 where
   pub home : ℕ
   pub bases : List ℕ
 
--- An update that is live: its name and report, whose replaced functions tell the homes that it replaced; the bases of its pieces; the
--- ranges that it retired; and the symbols that it added.
+-- An update that is live: its name and report, the bases of its pieces, the ranges that it retired, and the symbols
+-- that it added. The homes that it replaced are those of its report's replaced functions.
 pub record Update : Type 0 where
   pub name : List ℕ
   pub report : Report
@@ -31,8 +32,9 @@ pub record Update : Type 0 where
   pub retired : List Range
   pub symbols : List Symbol
 
--- Text and data, ascending, the text being the pieces of code; the table; the retired ranges, ascending; the symbols; the image's stacks
--- in order and its arena, which never change; all threads by number, those that have ended among them; and the live updates, oldest first.
+-- Text and data, ascending, the text being the pieces of code; the table; the retired ranges, ascending; the symbols;
+-- the image's stacks in order and its arena, which never change; all threads by number, those that have ended among
+-- them; and the live updates, oldest first.
 pub record CallTable : Type 0 where
   pub pieces : List Piece
   pub table : List Row
@@ -62,7 +64,8 @@ base_of k home = newest (bodies_in k.table) home
 unfoldable pub view_in : CallTable → ℕ → View
 view_in k pc = view (is_home k.table) k.retired k.pieces pc
 
--- the machine as a memory: its own text, and a fence for each retired range, with a jump where that begins at a home with a row
+-- the machine as a memory: its own text, and a fence for each retired range, with a jump where that begins at a home
+-- with a row
 abbrev pub fence_in : List Row → Range → Fence
 fence_in table range = record { range = range; jump = is_home table range.low }
 
@@ -96,6 +99,13 @@ abbrev pub with_replaced : List Row → Replaced → List Row
 with_replaced [] new = record { home = new.home; bases = new.base ∷ [] } ∷ []
 with_replaced (row ∷ rows) new =
     if row.home == new.home then record row { bases = row.bases ++ new.base ∷ [] } ∷ rows else row ∷ with_replaced rows new
+
+-- replaced functions as homes with their new bases
+abbrev pub jump_row : Replaced → ℕ × ℕ
+jump_row one = (one.home, one.base)
+
+abbrev pub jump_rows : List Replaced → List (ℕ × ℕ)
+jump_rows replaced = map jump_row replaced
 
 -- what is shown of an update
 abbrev pub shown_update : Update → Shown

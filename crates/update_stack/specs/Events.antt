@@ -7,12 +7,15 @@ use Rattle.ia32_step.specs.declared.types.Outcome.{Outcome}
 use Rattle.update_stack.specs.CallTable.{CallTable}
 use Rattle.update_stack.specs.Steps.{moved, spawned}
 use Rattle.update_stack.specs.Apply.{applied}
+use Rattle.update_stack.specs.Undo.{undone}
 
--- One event: a thread is started, a thread makes one step, or an update is made as a whole. What is refused changes nothing.
+-- One event: a thread is started, a thread makes one step, an update is made as a whole, or the newest one is taken
+-- back as a whole. What is refused changes nothing.
 pub data Event : Type 0 where
   Spawn : (name : List ℕ) (argument : ℕ) → Event
   Step : (thread : ℕ) → Event
   Apply : (name pre post : List ℕ) → Event
+  Undo : Event
 
 -- what an event answers
 pub data Answer : Type 0 where
@@ -20,6 +23,8 @@ pub data Answer : Type 0 where
   Spawned : (thread : ℕ) → Answer
   Stepped : (outcome : Outcome) → Answer
   Applied : (report : Report) → Answer
+  -- the name of the update that was taken back
+  Undone : (name : List ℕ) → Answer
 
 -- the machine after an event, and its answer
 pub record Happened : Type 0 where
@@ -42,10 +47,15 @@ abbrev pub apply_answered : Result (CallTable × Report) Refusal → Result Happ
 apply_answered (Err refusal) = Err refusal
 apply_answered (Ok left) = Ok (happened left.0 (Applied left.1))
 
+abbrev pub undo_answered : Result (CallTable × List ℕ) Refusal → Result Happened Refusal
+undo_answered (Err refusal) = Err refusal
+undo_answered (Ok left) = Ok (happened left.0 (Undone left.1))
+
 unfoldable pub answered : CallTable → Event → Result Happened Refusal
 answered k (Spawn name argument) = spawn_answered (length k.threads) (spawned k name argument)
 answered k (Step thread) = step_answered (moved k thread)
 answered k (Apply name pre post) = apply_answered (applied k name pre post)
+answered k Undo = undo_answered (undone k)
 
 abbrev pub machine_after : CallTable → Result Happened Refusal → CallTable
 machine_after k (Err refusal) = k

@@ -1,11 +1,15 @@
--- Public clauses cite all of these: the machine that never patches code (CallTable, Steps, Apply, Events), what stands for it
--- (StandsFor), its steps beside those of a memory with its jumps (Jumps), and a system seen as it (Systems). What stands in inside is the
--- code's own.
+-- Public clauses cite all of these: the machine that never patches code (CallTable, Steps, Apply, Undo, Events), that
+-- undoing restores what was (TakenBack), what stands for the machine (StandsFor), its steps beside those of a memory
+-- with its jumps (Jumps), and a system seen as it (Systems), with what holds of it and of what it keeps (Stacked).
+-- What stands in inside is the code's own.
 pub mod CallTable
 pub mod Steps
 pub mod Apply
+pub mod Undo
 pub mod Events
+pub mod TakenBack
 pub mod StandsFor
 pub mod Jumps
+pub mod Stacked
 pub mod Systems
 pub mod inside

@@ -1,4 +1,5 @@
--- When a system stands for the machine that never patches code: its code bytes are the machine's text, but for the jumps at homes.
+-- When a system stands for the machine that never patches code: its code bytes are the machine's text, but for the
+-- jumps at homes.
 use Rattle.std.specs.Prelude.{◌≡◌, List}
 use Rattle.ks_base.specs.declared.places.Range.{Range}
 use Rattle.image_memory.specs.Contents.{Contents}
@@ -27,6 +28,7 @@ seen program =
 abbrev pub seen_of : CallTable → Seen
 seen_of k = record { contents = patched k; symbols = k.symbols; stacks = k.stacks; threads = k.threads }
 
--- A program stands for the machine where this is what is seen of it.
+-- A program stands for the machine where this is what is seen of it. The arena, and the names and reports of live
+-- updates, are the system's own: the machine that it is seen as has them from it.
 abbrev pub StandsFor : Program → CallTable → Type 0
 StandsFor program k = seen program ≡ seen_of k

@@ -15,7 +15,8 @@ use Rattle.image_threads.specs.Program.{running_at}
 use Rattle.image_threads.specs.Spawning.{Started, started}
 use Rattle.update_stack.specs.CallTable.{CallTable, contents_of, view_in, base_of}
 
--- A thread's step at what it meets. At a home it goes on at the newest version, and nothing else changes; there no byte is fetched.
+-- A thread's step at what it meets. At a home it goes on at the newest version, and nothing else changes; there no
+-- byte is fetched.
 abbrev pub step_at : Contents → Thread → ℕ → View → Left
 step_at contents thread base Unmapped = stops contents thread faults.Unmapped
 step_at contents thread base AtHome = left_by contents (record thread { pc = base }) (Moved Plain)

@@ -1,6 +1,6 @@
--- A running system, seen as the machine that never patches code: the old code is put back over the jumps that its live updates
--- wrote, and what they replaced makes the table.
-use Rattle.std.specs.Prelude.{◌≡◌, ◌≤◌, List, [], ◌∷◌, map, length}
+-- A running system, seen as the machine that never patches code: the old code is put back over the jumps that its
+-- live updates wrote, and what they replaced makes the table.
+use Rattle.std.specs.Prelude.{◌≡◌, List, [], ◌∷◌, map, length}
 use Rattle.std.specs.List.{fold, flat_map, All}
 use Rattle.ks_base.specs.declared.places.Range.{Range}
 use Rattle.ks_base.specs.declared.reports.Replaced.{Replaced}
@@ -12,13 +12,11 @@ use Rattle.memory_changes.specs.declared.types.Jump.{Jump}
 use Rattle.memory_changes.specs.Rows.{olds_of}
 use Rattle.link_post.specs.Places.{unless_empty}
 use Rattle.image_threads.specs.Program.{Program}
-use Rattle.image_threads.specs.Spawning.{AreStacks}
-use Rattle.update_plan.specs.Sound.{AreGaps}
 use Rattle.update_stack.specs.declared.updates.Update.{Update as Shown}
 use Rattle.update_stack.specs.declared.updates.Kept.{Kept}
 use Rattle.update_stack.specs.CallTable.{CallTable, Row, Update, with_replaced}
-use Rattle.update_stack.specs.Jumps.{CanJump}
 use Rattle.update_stack.specs.StandsFor.{StandsFor}
+use Rattle.update_stack.specs.Stacked.{IsBuilt, AreKept}
 
 -- pieces with the old code of updates put back, that of the newest update first
 abbrev pub text_of : List Kept → List Piece → List Piece
@@ -70,18 +68,11 @@ gaps_in arena = unless_empty arena
 abbrev pub HasJumpCode : List Piece → Jump → Type 0
 HasJumpCode pieces jump = HasCode pieces jump.home (length jump.old)
 
--- a program in which nothing was replaced: nothing is retired, and the arena is free
-pub record IsUntouched (program : Program) (arena : Range) : Type 0 where
-  pub none_retired : program.contents.fences ≡ []
-  pub gaps : AreGaps program.contents (gaps_in arena)
-
--- What holds of a system at every moment: its program stands for the machine, whose jumps can stand in memory; each stack is
--- a piece; and where no update is live, nothing was replaced.
-pub record Holds (program : Program) (arena : Range) (updates : List Shown) (kept : List Kept) : Type 0 where
+-- What holds of a system at every moment: its program stands for the machine, whose updates lie one upon the other;
+-- with each is kept what taking it back needs; and the bytes that were kept have their place in code.
+pub record Holds (program : Program) (arena : Range) (gaps : List Range) (updates : List Shown) (kept : List Kept) : Type 0 where
   pub stands : StandsFor program (machine_of program arena updates kept)
-  pub jumps : CanJump (machine_of program arena updates kept)
-  pub stacks : AreStacks program.contents.pieces program.stacks
+  pub built : IsBuilt (machine_of program arena updates kept)
+  pub are_kept : AreKept (machine_of program arena updates kept) kept gaps
   pub code : All (λ one. All (HasJumpCode program.contents.pieces) one.jumps) kept
-  pub few : length updates ≤ 1
   pub paired : length kept ≡ length updates
-  pub untouched : updates ≡ [] → IsUntouched program arena

@@ -1,31 +1,42 @@
 //! What carrying out a plan takes and does, piece by piece.
-ghost use Rattle.std.specs.Prelude.{◌≡◌, ℕ, List, ◌≤◌, ◌+◌, ◌^◌, ◌++◌, [], ◌∷◌, length, map, IfOk, OnOk, OnErr};
+ghost use Rattle.std.specs.Prelude.{◌≡◌, ℕ, List, ◌≤◌, ◌<◌, ◌+◌, ◌^◌, ◌++◌, [], ◌∷◌, length, map, IfOk, OnOk, OnErr};
 ghost use Rattle.std.specs.List.{All};
-ghost use Rattle.image_memory.specs.Contents.{Contents, IsValid, piece_range, fence_range};
+ghost use Rattle.std.specs.List.Sorted.{IsPermutation};
+ghost use Rattle.image_memory.specs.Contents.{piece_range, fence_range};
 ghost use Rattle.image_memory.specs.Changes.{ArePlaceable};
 ghost use Rattle.splice_jump.specs.Jumps.{jumped_memory, olds_at};
 ghost use Rattle.memory_changes.specs.Added.{AreAddable, with_pieces};
 ghost use Rattle.memory_changes.specs.Retired.{AreRetirable, with_fences};
 ghost use Rattle.memory_changes.specs.Rows.{olds_of, rows_of};
 ghost use Rattle.update_stack.specs.StandsFor.{seen};
-ghost use Rattle.update_stack.specs.Systems.{Holds};
-ghost use Rattle.update_stack.specs.inside.Carrying.{bare_jump, base_of_piece, jump_rows, EndsLow, FitsIn, HasHomeCode};
+ghost use Rattle.update_stack.specs.CallTable.{contents_of, jump_rows};
+ghost use Rattle.update_stack.specs.declared.updates.Update.{Update as Shown};
+ghost use Rattle.update_stack.specs.Systems.{Holds, machine_of};
+ghost use Rattle.update_stack.specs.inside.Carrying.{bare_jump, base_of_piece, EndsLow, FitsIn, HasHomeCode};
 ghost use Rattle.update_stack.specs.inside.Carrying.{HoldsAfter, IsCarriedOut, IsKeptOf, shown_as};
 ghost use Rattle.update_stack.specs.declared.updates.Kept.{Kept as KeptOf};
-ghost use Rattle.ks_base.specs.declared.places.Range.{Range};
+ghost use Rattle.ks_base.specs.declared.places.Range.{Range as RangeOf};
 ghost use Rattle.image_threads.specs.Program.{Program};
 ghost use Rattle.memory_changes.specs.declared.types.Jump.{Jump as Jumped};
 ghost use Rattle.update_plan.specs.declared.types.Plan.{Plan as Planned};
 ghost use Rattle.update_plan.specs.Sound.{CanBeMade};
 
 use crate::updates::{Kept, KeptList, Update, Updates};
+use arena_gaps::laws::gaps_of_pieces;
 use image_memory::{Fence, Piece, Pieces, Space};
 use image_threads::Machine;
-use ks_base::{Name, Ranges, Replaced, Report};
-use memory_changes::laws::{pieces_are_added, ranges_are_retired};
+use ks_base::{Name, Range, Ranges, Replaced, Report};
+use memory_changes::laws::{
+    changes_are_withdrawn, code_that_stays, pieces_are_added, pieces_are_added_past_code,
+    ranges_are_retired,
+};
 use memory_changes::{Jump, Jumps, add_pieces, note_old_code, retire, write_jumps};
 use new_code::NewSymbols;
-use splice_jump::laws::{homes_stay_spliced, jumps_are_taken_back, jumps_change_their_bytes_alone};
+use splice_jump::laws::{
+    code_stays_code, homes_stay_spliced, jumps_are_added_and_replaced, jumps_are_taken_back,
+    jumps_change_their_bytes_alone,
+};
+use stack_scan::sorted;
 use std::alloc::{AllocError, Global};
 use symbol_table::{Addresses, SymbolTable};
 use update_plan::Plan;
@@ -136,16 +147,74 @@ fn bare_jump(one: &Replaced) -> Jump
     }
 }
 
-// What is kept of a plan that is carried out with these jumps.
-pub(crate) fn kept_of(alloc: Global, plan: &Plan, jumps: &Jumps) -> Result<Kept, AllocError>
-    ensures { IfOk result (λ kept. IsKeptOf plan.now jumps.now kept) }
+// What is kept of a plan that is carried out with these jumps, where this was free, and its pieces have these ranges.
+pub(crate) fn kept_of(
+    alloc: Global,
+    plan: &Plan,
+    jumps: &Jumps,
+    ranges: &Ranges,
+    gaps: &Ranges,
+) -> Result<Kept, AllocError>
+    requires { ranges.now ≡ map piece_range plan.now.pieces }
+    ensures { IfOk result (λ kept. IsKeptOf plan.now jumps.now gaps.now kept) }
 {
     Ok(Kept {
         pieces: bases_of(alloc, plan.pieces.as_slice())?,
+        ranges: in_order(alloc, plan, ranges)?,
         retired: ranges_of(alloc, plan.fences.as_slice())?,
-        symbols: plan.symbols.clone()?,
-        jumps: jumps.clone()?,
+        symbols: copy_of_symbols(&plan.symbols)?,
+        symbol_count: counted(plan.symbols.len())?,
+        jumps: copy_of_jumps(jumps)?,
+        gaps: copy_of_ranges(gaps)?,
     })
+}
+
+fn copy_of_symbols(symbols: &NewSymbols) -> Result<NewSymbols, AllocError>
+    ensures { IfOk result (λ copy. copy ≡ symbols.now) }
+{
+    symbols.clone()
+}
+
+fn copy_of_jumps(jumps: &Jumps) -> Result<Jumps, AllocError>
+    ensures { IfOk result (λ copy. copy ≡ jumps.now) }
+{
+    jumps.clone()
+}
+
+fn copy_of_ranges(ranges: &Ranges) -> Result<Ranges, AllocError>
+    ensures { IfOk result (λ copy. copy ≡ ranges.now) }
+{
+    ranges.clone()
+}
+
+// The ranges of a plan's pieces in ascending order.
+fn in_order(alloc: Global, plan: &Plan, ranges: &Ranges) -> Result<Ranges, AllocError>
+    requires { ranges.now ≡ map piece_range plan.now.pieces }
+    ensures { IfOk result (λ sorted. IsPermutation (map piece_range plan.now.pieces) sorted) }
+{
+    Ok(Ranges::from_vec(sorted(alloc, ranges.as_slice())?))
+}
+
+// The ranges of pieces.
+pub(crate) fn piece_ranges(alloc: Global, pieces: &[Piece]) -> Result<Ranges, AllocError>
+    requires { All (λ piece. (piece_range piece).high < 2 ^ 32) pieces.now }
+    ensures { IfOk result (λ ranges. ranges ≡ map piece_range pieces.now) }
+{
+    let mut ranges = Ranges::new(alloc);
+    for piece in pieces {
+        ranges.push(range_of(piece))?;
+    }
+    Ok(ranges)
+}
+
+fn range_of(piece: &Piece) -> Range
+    requires { (piece_range piece.now).high < 2 ^ 32 }
+    ensures { result ≡ piece_range piece.now }
+{
+    Range {
+        low: piece.base,
+        high: piece.base + piece.bytes.len() as u32,
+    }
 }
 
 fn bases_of(alloc: Global, pieces: &[Piece]) -> Result<Addresses, AllocError>
@@ -198,19 +267,31 @@ pub(crate) fn push_both(
     Ok(())
 }
 
-// A plan that can be made fits in the program, and when it is carried out where no update is live, the system holds, as
-// the machine after the update.
+// A plan that can be made on a system's machine fits in its program, each of its jumps ends at an address of 32 bits, and
+// when it is carried out, the system holds, as the machine after the update.
 pub(crate) fn plans_are_carried_out()
-    ensures fits { (contents : Contents) (plan : Planned) (jumps : List Jumped) → IsValid contents
-        → CanBeMade contents plan → rows_of jumps ≡ jump_rows plan.report.replaced → FitsIn contents plan jumps }
-    ensures holds { (before after : Program) (arena : Range) (name : List ℕ) (plan : Planned) (jumps : List Jumped)
-        (kept : KeptOf) → IsValid before.contents → Holds before arena [] [] → CanBeMade before.contents plan
-        → IsCarriedOut before after plan jumps → IsKeptOf plan jumps kept
-        → HoldsAfter before after arena name plan kept }
+    ensures fits { (program : Program) (arena : RangeOf) (gaps : List RangeOf) (updates : List Shown) (kept : List KeptOf)
+        (plan : Planned) (jumps : List Jumped) → Holds program arena gaps updates kept
+        → CanBeMade (contents_of (machine_of program arena updates kept)) plan
+        → rows_of jumps ≡ jump_rows plan.report.replaced → FitsIn program.contents plan jumps }
+    ensures ends { (program : Program) (arena : RangeOf) (gaps : List RangeOf) (updates : List Shown) (kept : List KeptOf)
+        (plan : Planned) → Holds program arena gaps updates kept
+        → CanBeMade (contents_of (machine_of program arena updates kept)) plan → All EndsLow plan.report.replaced }
+    ensures holds { (before after : Program) (arena : RangeOf) (gaps : List RangeOf) (updates : List Shown)
+        (kept : List KeptOf) (name : List ℕ) (plan : Planned) (jumps : List Jumped) (one : KeptOf)
+        → Holds before arena gaps updates kept → CanBeMade (contents_of (machine_of before arena updates kept)) plan
+        → IsCarriedOut before after plan jumps → IsKeptOf plan jumps gaps one
+        → HoldsAfter before after arena gaps updates kept name plan one }
 {
     pieces_are_added();
     ranges_are_retired();
+    changes_are_withdrawn();
+    code_that_stays();
+    pieces_are_added_past_code();
+    jumps_are_added_and_replaced();
     jumps_are_taken_back();
     jumps_change_their_bytes_alone();
     homes_stay_spliced();
+    code_stays_code();
+    gaps_of_pieces();
 }

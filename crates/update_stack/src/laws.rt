@@ -12,6 +12,7 @@ ghost use Rattle.update_stack.specs.Systems.{text_of, Holds};
 
 use ia32_decode::jumps_decode;
 use ia32_step::code_bytes_have_no_say;
+use memory_changes::laws::code_that_stays;
 use splice_jump::laws::{
     code_stays_code, data_are_written_past_jumps, homes_stay_spliced, jumps_leave_views,
     jumps_stand,
@@ -34,8 +35,8 @@ pub fn steps_stand()
 /// Data that can be written are written past the old code of a system's updates: with that put back, memory has them as
 /// the machine has, and the code as it was.
 pub fn data_are_written_past_updates()
-    ensures { (program : Program) (arena : Range) (updates : List Update) (kept : List Kept)
-        (start : ℕ) (bytes : List ℕ) → Holds program arena updates kept →
+    ensures { (program : Program) (arena : Range) (gaps : List Range) (updates : List Update)
+        (kept : List Kept) (start : ℕ) (bytes : List ℕ) → Holds program arena gaps updates kept →
         first_fault (write_fault program.contents.pieces) start (length bytes) ≡ None →
         text_of kept (written start bytes program.contents.pieces)
         ≡ written start bytes (text_of kept program.contents.pieces) }
@@ -43,4 +44,5 @@ pub fn data_are_written_past_updates()
     data_are_written_past_jumps();
     code_stays_code();
     homes_stay_spliced();
+    code_that_stays();
 }

@@ -3,8 +3,11 @@
 
 mod carrying;
 pub mod laws;
+mod live;
 pub mod system;
+pub mod taking_back;
 pub mod updates;
+mod withdrawing;
 
 pub use system::System;
 pub use updates::{Update, Updates};

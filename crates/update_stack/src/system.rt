@@ -1,6 +1,6 @@
 //! A running program with its updates.
 ghost use Rattle.std.specs.Prelude.{◌≡◌, ◌≢◌, [], map, IfOk, OnOk, OnErr, MatchResult, Ok, Err, is_some};
-ghost use Rattle.std.specs.Result.{is_ok};
+ghost use Rattle.std.specs.Result.{is_ok, result_err};
 ghost use Rattle.ks_base.specs.declared.refusals.Refusal.TheVariants.{Memory};
 ghost use Rattle.image_threads.specs.Program.{running_at};
 ghost use Rattle.image_threads.specs.Spawning.{AreStacks};
@@ -12,27 +12,38 @@ ghost use Rattle.stack_scan.specs.Standing.{thread_refusal};
 ghost use Rattle.update_plan.specs.Plan.{planned};
 ghost use Rattle.update_plan.specs.Sound.{AreGaps, CanBeMade};
 ghost use Rattle.update_stack.specs.Apply.{committed, gaps_of, planned_in, retired_of, running_of};
-ghost use Rattle.update_stack.specs.Events.{Apply, Spawn, Step, Applied, Spawned, Stepped, happened, answered, after_event};
+ghost use Rattle.update_stack.specs.Events.{Apply, Spawn, Step, Undo, Applied, Spawned, Stepped, Undone, happened};
+ghost use Rattle.update_stack.specs.Events.{answered, after_event};
 ghost use Rattle.update_stack.specs.StandsFor.{StandsFor};
+ghost use Rattle.update_stack.specs.Undo.{newest_update};
+ghost use Rattle.update_stack.specs.inside.TakingBack.{undo_refusal, ComesOfUndo};
 
 use crate::carrying::{
-    change, jumps_of, kept_of, plans_are_carried_out, push_both, reserve, shown_as,
+    change, jumps_of, kept_of, piece_ranges, plans_are_carried_out, push_both, reserve, shown_as,
 };
 use crate::laws::steps_stand;
+use crate::live::{bodies_of, is_taken, retired_by};
 use crate::updates::{KeptList, Updates};
+use crate::withdrawing::{take_back, updates_are_taken_back};
+use arena_gaps::laws::gaps_are_free;
+use arena_gaps::without_all;
 use ia32_step::Outcome;
 use image_memory::Space;
 use image_threads::Machine;
 use ks_base::{Name, Range, Ranges, Refusal, Report};
-use splice_jump::laws::{code_stays_code, data_are_written_past_jumps, homes_stay_spliced};
+use memory_changes::laws::code_that_stays;
+use splice_jump::laws::{
+    code_stays_code, data_are_written_past_jumps, homes_stay_spliced,
+    jumps_change_their_bytes_alone, jumps_leave_views,
+};
 use stack_scan::{check_threads, order_has_no_say, sorted};
 use std::alloc::{AllocError, Global};
 use std::marker::Model;
-use update_plan::laws::plans_can_be_made;
+use update_plan::laws::{alike_programs_have_one_plan, plans_can_be_made};
 use update_plan::{Plan, plan};
 
 // So many updates may be live.
-const MOST_UPDATES: usize = 1;
+const MOST_UPDATES: usize = 64;
 
 /// A program that runs over a memory, with the arena that new versions of its functions are placed in, and its live
 /// updates. A clause sees it as the machine that never patches code: its text stays as it is, and a table says where the
@@ -42,6 +53,8 @@ pub struct System<S: Space> {
     alloc: Global,
     machine: Machine<S>,
     arena: Range,
+    // What is free of the arena.
+    gaps: Ranges,
     updates: Updates,
     kept: KeptList,
 }
@@ -54,7 +67,7 @@ impl<S: Space> Model for System<S> {
 
     ghost view = { λ s. machine_of s.machine s.arena s.updates s.kept };
 
-    ghost invariant = { λ s. Holds s.machine s.arena s.updates s.kept };
+    ghost invariant = { λ s. Holds s.machine s.arena s.gaps s.updates s.kept };
 }
 
 impl<S: Space> System<S> {
@@ -69,10 +82,12 @@ impl<S: Space> System<S> {
     {
         // It runs over a memory.
         let _space = machine.space();
+        let gaps = gaps_in(alloc, arena)?;
         Ok(System {
             alloc,
             machine,
             arena,
+            gaps,
             updates: Updates::new(alloc),
             kept: KeptList::new(alloc),
         })
@@ -105,6 +120,8 @@ impl<S: Space> System<S> {
         data_are_written_past_jumps();
         code_stays_code();
         homes_stay_spliced();
+        code_that_stays();
+        jumps_change_their_bytes_alone();
         // Each stack has room for a thread's first frame.
         let _threads = self.machine.threads();
         self.machine.spawn(name, argument)
@@ -124,6 +141,7 @@ impl<S: Space> System<S> {
         data_are_written_past_jumps();
         code_stays_code();
         homes_stay_spliced();
+        code_that_stays();
         self.machine.step(thread)
     }
 
@@ -133,6 +151,7 @@ impl<S: Space> System<S> {
     /// It is refused by the first of these that holds, and all is then as before:
     ///
     /// - as many updates are live as may be ([`Refusal::TooMany`]);
+    /// - a live update has the name ([`Refusal::NameTaken`]);
     /// - `pre` isn't an object that can be matched, or `post` isn't (the refusals of an object file);
     /// - what differs between them can't be changed ([`Refusal::DataChanged`], [`Refusal::Interior`],
     ///   [`Refusal::NoChange`]);
@@ -156,61 +175,129 @@ impl<S: Space> System<S> {
         Ok(self.carry_out(name, plan)?)
     }
 
+    /// Takes the newest update back, and answers its name: its pieces, its retired ranges and its symbols are gone, and
+    /// each home that it replaced goes on where it went before it. All else, data among it, stays as it is. It takes no
+    /// memory.
+    ///
+    /// It is refused by the first of these that holds, and all is then as before:
+    ///
+    /// - no update is live ([`Refusal::NothingApplied`]);
+    /// - a running thread stands in one of its pieces, or its ESP is outside its stack ([`Refusal::Busy`],
+    ///   [`Refusal::StackOut`]).
+    pub fn undo(&mut self) -> Result<Name, Refusal>
+        ensures answered { MatchResult result
+            (λ name. answered self.old Undo ≡ Ok (happened self.new (Undone name)))
+            (λ refusal. answered self.old Undo ≡ Err refusal) }
+        ensures refused { OnErr result (self.new ≡ self.old) }
+    {
+        self.check_newest()?;
+        self.take_newest_back()
+    }
+
+    // Whether no thread stands in the way of taking the newest update back.
+    fn check_newest(&self) -> Result<(), Refusal>
+        ensures { result_err result ≡ undo_refusal self.now }
+    {
+        // The law says that the answer is the same in whichever order the ranges are.
+        order_has_no_say();
+        match self.kept.as_slice().last() {
+            None => Err(Refusal::NothingApplied),
+            Some(one) => self.check_ranges(one.ranges.as_slice()),
+        }
+    }
+
+    // Takes the newest update back, and answers its name.
+    fn take_newest_back(&mut self) -> Result<Name, Refusal>
+        ensures { ComesOfUndo (newest_update self.old) self.old self.new result }
+    {
+        updates_are_taken_back();
+        let Some(update) = self.updates.pop() else {
+            return Err(Refusal::NothingApplied);
+        };
+        let Some(one) = self.kept.pop() else {
+            return Err(Refusal::NothingApplied);
+        };
+        take_back(&mut self.machine, &one);
+        self.gaps = one.gaps;
+        Ok(update.name)
+    }
+
     // What an update would do, or the first refusal but those of the threads.
     fn plan(&self, name: &Name, pre: &[u8], post: &[u8]) -> Result<Plan, Refusal>
         ensures planned { Gives (λ plan. plan) result (planned_in self.now name.now pre.now post.now) }
-        ensures none { IfOk result (λ _. self.now.updates ≡ []) }
         ensures sound { IfOk result (λ plan. CanBeMade (contents_of self.now) plan) }
     {
         if self.updates.len() >= MOST_UPDATES {
             return Err(Refusal::TooMany);
         }
-        self.plan_first(pre, post)
+        if is_taken(self.updates.as_slice(), name) {
+            let name = Name::from_slice(self.alloc, name.as_slice())?;
+            return Err(Refusal::NameTaken(name));
+        }
+        self.plan_beside(pre, post)
     }
 
-    // The same where no update is live.
-    fn plan_first(&self, pre: &[u8], post: &[u8]) -> Result<Plan, Refusal>
-        requires { self.now.updates ≡ [] }
+    // The same where the update's name has no say.
+    fn plan_beside(&self, pre: &[u8], post: &[u8]) -> Result<Plan, Refusal>
         ensures planned { Gives (λ plan. plan) result
             (planned (running_of self.now) (retired_of self.now) (gaps_of self.now) pre.now post.now) }
         ensures sound { IfOk result (λ plan. CanBeMade (contents_of self.now) plan) }
     {
-        // The law says that what is planned can be carried out.
+        // The laws say that what is planned can be carried out, and that jumps have no say in a plan.
         plans_can_be_made();
-        let gaps = gaps_in(self.alloc, self.arena)?;
+        alike_programs_have_one_plan();
+        jumps_leave_views();
+        jumps_change_their_bytes_alone();
+        homes_stay_spliced();
+        gaps_are_free();
+        let bodies = bodies_of(self.alloc, self.updates.as_slice())?;
+        let retired = retired_by(self.alloc, self.kept.as_slice())?;
+        let symbols = self.machine.symbols();
         let space = self.machine.space();
-        plan(self.alloc, space, self.machine.symbols(), &gaps, pre, post)
+        plan(
+            self.alloc, space, &bodies, symbols, &retired, &self.gaps, pre, post,
+        )
     }
 
     // Whether no thread stands in the way of a plan.
     fn check_threads(&self, plan: &Plan) -> Result<(), Refusal>
-        requires { self.now.updates ≡ [] }
         ensures { Finds Refusal.Memory result (thread_refusal self.now.pieces plan.now.guarded self.now.threads) }
     {
+        let ranges = sorted(self.alloc, plan.guarded.as_slice())?;
         // The law says that the answer is the same when the ranges are sorted.
         order_has_no_say();
-        let ranges = sorted(self.alloc, plan.guarded.as_slice())?;
+        self.check_ranges(ranges.as_slice())
+    }
+
+    // Whether no thread stands in one of some ranges.
+    fn check_ranges(&self, ranges: &[Range]) -> Result<(), Refusal>
+        ensures { result_err result ≡ thread_refusal self.now.pieces ranges.now self.now.threads }
+    {
+        // The law says that jumps have no say in where a thread stands.
+        jumps_change_their_bytes_alone();
         let threads = self.machine.threads().as_slice();
-        check_threads(threads, self.machine.space(), ranges.as_slice())
+        check_threads(threads, self.machine.space(), ranges)
     }
 
     // Carries a plan out, and answers its report. `Err` comes for want of memory alone, and all is then as before.
     fn carry_out(&mut self, name: &Name, plan: Plan) -> Result<Report, AllocError>
-        requires none { self.old.updates ≡ [] }
-        requires sound { CanBeMade (contents_of self.old) plan }
+        requires { CanBeMade (contents_of self.old) plan }
         ensures report { IfOk result (λ report. report ≡ plan.report) }
         ensures committed { OnOk result (self.new ≡ committed self.old name.now plan) }
         ensures refused { OnErr result (self.new ≡ self.old) }
     {
         // The laws say that the plan fits, and what comes of it.
         plans_are_carried_out();
-        code_stays_code();
+        gaps_are_free();
         let update = shown_as(self.alloc, name, &plan.report)?;
         let replaced = plan.report.replaced.as_slice();
         let jumps = jumps_of(self.alloc, self.machine.space(), replaced)?;
-        let kept = kept_of(self.alloc, &plan, &jumps)?;
+        let ranges = piece_ranges(self.alloc, plan.pieces.as_slice())?;
+        let gaps = without_all(self.alloc, &self.gaps, ranges.as_slice())?;
+        let kept = kept_of(self.alloc, &plan, &jumps, &ranges, &self.gaps)?;
         reserve(&mut self.machine, &plan)?;
         push_both(&mut self.updates, &mut self.kept, update, kept)?;
+        self.gaps = gaps;
         let Plan {
             report,
             pieces,

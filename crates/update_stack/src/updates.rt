@@ -21,12 +21,18 @@ pub type Updates = ListOf<Update>;
 pub(crate) struct Kept {
     /// Where the pieces begin that it added.
     pub(crate) pieces: Addresses,
+    /// The ranges of these pieces, in ascending order.
+    pub(crate) ranges: Ranges,
     /// The ranges that it retired.
     pub(crate) retired: Ranges,
     /// The symbols that it added.
     pub(crate) symbols: NewSymbols,
+    /// How many they are.
+    pub(crate) symbol_count: u32,
     /// The jumps that it wrote, with the code that stood there before.
     pub(crate) jumps: Jumps,
+    /// What was free of the arena before it.
+    pub(crate) gaps: Ranges,
 }
 
 /// What is kept of updates in order.

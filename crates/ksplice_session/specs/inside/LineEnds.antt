@@ -15,7 +15,8 @@ use Rattle.ksplice_session.specs.Replies.{Told, told_of, files_of}
 use Rattle.ksplice_session.specs.Answers.{MadeFront}
 use Rattle.ksplice_session.specs.Session.{file_line, lost_line}
 
--- How a line ends the session that has its files: the sink failed at its reply, or memory ran out, before its reply or in it.
+-- How a line ends the session that has its files: the sink failed at its reply, or memory ran out, before its reply or
+-- in it.
 pub data CutAt (k : CallTable) (told : Told) (old new : Option (List ℕ)) (now : CallTable) : SessionEnd → Type 0 where
   SinkCut : TookPart old told.reply new → now ≡ after_events k told.events → CutAt k told old new now SinkEnd
   MemoryCut : TookPart old told.reply new → now ≡ after_events k told.events → CutAt k told old new now MemoryEnd
@@ -23,31 +24,67 @@ pub data CutAt (k : CallTable) (told : Told) (old new : Option (List ℕ)) (now 
 
 -- How a line ends the session that lacks a file.
 pub data LostAt (file : Needed) (lost : Option FileFault) (old new : Option (List ℕ)) : SessionEnd → Type 0 where
-  LineWritten : (fault : FileFault) → lost ≡ Some fault → new ≡ grown old (file_line file.name fault) → LostAt file lost old new FileEnd
-  SinkLost : (fault : FileFault) → lost ≡ Some fault → TookPart old (file_line file.name fault) new → LostAt file lost old new SinkEnd
+  LineWritten : (fault : FileFault) →
+      lost ≡ Some fault →
+      new ≡ grown old (file_line file.name fault) →
+      LostAt file lost old new FileEnd
+  SinkLost : (fault : FileFault) →
+      lost ≡ Some fault →
+      TookPart old (file_line file.name fault) new →
+      LostAt file lost old new SinkEnd
   MemoryLost : TookFront old (lost_line (Some file) lost) new → LostAt file lost old new MemoryEnd
 
 -- A line was run and its reply written.
-pub record Replied (k : CallTable) (told : Told) (old new : Option (List ℕ)) (now : CallTable) (refused : Bool) : Type 0 where
+pub record Replied
+    (k : CallTable)
+    (told : Told)
+    (old new : Option (List ℕ))
+    (now : CallTable)
+    (refused : Bool)
+    : Type 0 where
   pub marked : refused ≡ told.refused
   pub taken : new ≡ grown old told.reply
   pub machine : now ≡ after_events k told.events
 
 -- A line was run with its files, and its reply written.
-pub record WasRun (files : ToldFiles) (k : CallTable) (line : Command) (before after : Counts) (old new : Option (List ℕ)) (now : CallTable) (refused : Bool) : Type 0 where
+pub record WasRun
+    (files : ToldFiles)
+    (k : CallTable)
+    (line : Command)
+    (before after : Counts)
+    (old new : Option (List ℕ))
+    (now : CallTable)
+    (refused : Bool)
+    : Type 0 where
   pub held : List (List ℕ)
   pub loads : CameTo files (files_of line) held None before after
   pub all_held : length held ≡ length (files_of line)
   pub replied : Replied k (told_of k line held) old new now refused
 
 -- A line ended the session, with its files or without one of them.
-pub data EndedBy (files : ToldFiles) (k : CallTable) (line : Command) (before after : Counts) (old new : Option (List ℕ)) (now : CallTable) (end : SessionEnd) : Type 0 where
-  AtLine : (held : List (List ℕ)) → CameTo files (files_of line) held None before after → length held ≡ length (files_of line) →
-      CutAt k (told_of k line held) old new now end → EndedBy files k line before after old new now end
-  AtFile : (held : List (List ℕ)) (lost : Option FileFault) (file : Needed) → CameTo files (files_of line) held lost before after →
-      first_lacking (files_of line) held ≡ Some file → LostAt file lost old new end → now ≡ k → EndedBy files k line before after old new now end
+pub data EndedBy
+    (files : ToldFiles)
+    (k : CallTable)
+    (line : Command)
+    (before after : Counts)
+    (old new : Option (List ℕ))
+    (now : CallTable)
+    (end : SessionEnd)
+    : Type 0 where
+  AtLine : (held : List (List ℕ)) →
+      CameTo files (files_of line) held None before after →
+      length held ≡ length (files_of line) →
+      CutAt k (told_of k line held) old new now end →
+      EndedBy files k line before after old new now end
+  AtFile : (held : List (List ℕ)) (lost : Option FileFault) (file : Needed) →
+      CameTo files (files_of line) held lost before after →
+      first_lacking (files_of line) held ≡ Some file →
+      LostAt file lost old new end →
+      now ≡ k →
+      EndedBy files k line before after old new now end
 
-abbrev pub LineEnds : ToldFiles → CallTable → Command → Counts → Counts → Option (List ℕ) → Option (List ℕ) → CallTable → Result Bool SessionEnd → Type 0
+abbrev pub LineEnds : ToldFiles → CallTable → Command → Counts → Counts → Option (List ℕ) → Option (List ℕ) →
+    CallTable → Result Bool SessionEnd → Type 0
 LineEnds files k line before after old new now (Ok refused) = WasRun files k line before after old new now refused
 LineEnds files k line before after old new now (Err end) = EndedBy files k line before after old new now end
 

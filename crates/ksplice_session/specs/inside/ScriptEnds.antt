@@ -20,7 +20,15 @@ AreFiled [] = Unit {0}
 AreFiled (r ∷ rs) = IsFiled r × AreFiled rs
 
 -- lines that were run, each with all its files
-pub record HaveRun (files : ToldFiles) (k : CallTable) (script : List Command) (before after : Counts) (old new : Option (List ℕ)) (now : CallTable) (refused : Bool) : Type 0 where
+pub record HaveRun
+    (files : ToldFiles)
+    (k : CallTable)
+    (script : List Command)
+    (before after : Counts)
+    (old new : Option (List ℕ))
+    (now : CallTable)
+    (refused : Bool)
+    : Type 0 where
   pub ran : List Ran
   pub lines : map line_of ran ≡ script
   pub filed : AreFiled ran
@@ -30,6 +38,9 @@ pub record HaveRun (files : ToldFiles) (k : CallTable) (script : List Command) (
   pub machine : now ≡ (played k ran).machine
 
 -- All lines were run, and at least one was refused or none; or the session ended.
-abbrev pub ScriptEnds : ToldFiles → CallTable → List Command → Counts → Counts → Option (List ℕ) → Option (List ℕ) → CallTable → Result Bool SessionEnd → Type 0
-ScriptEnds files k script before after old new now (Ok refused) = HaveRun files k script before after old new now refused
-ScriptEnds files k script before after old new now (Err end) = SessionEnds files k script before after old new now end
+abbrev pub ScriptEnds : ToldFiles → CallTable → List Command → Counts → Counts → Option (List ℕ) → Option (List ℕ) →
+    CallTable → Result Bool SessionEnd → Type 0
+ScriptEnds files k script before after old new now (Ok refused) =
+    HaveRun files k script before after old new now refused
+ScriptEnds files k script before after old new now (Err end) =
+    SessionEnds files k script before after old new now end

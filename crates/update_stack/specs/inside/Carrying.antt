@@ -1,21 +1,24 @@
 -- What is kept of a plan that is carried out.
-use Rattle.std.specs.Prelude.{◌≡◌, ℕ, ◌+◌, ◌≤◌, ◌^◌, List, [], ◌∷◌, ◌++◌, map, replicate}
-use Rattle.std.specs.List.{All}
+use Rattle.std.specs.Prelude.{◌≡◌, ℕ, ◌+◌, ◌≤◌, ◌^◌, List, [], ◌∷◌, ◌++◌, map, length, replicate}
+use Rattle.std.specs.List.{All, fold}
+use Rattle.std.specs.List.Sorted.{IsPermutation}
 use Rattle.ks_base.specs.declared.places.Range.{Range}
 use Rattle.ks_base.specs.declared.reports.Replaced.{Replaced}
 use Rattle.ks_base.specs.declared.reports.Report.{Report}
 use Rattle.image_memory.specs.declared.types.Piece.{Piece}
-use Rattle.image_memory.specs.Contents.{Contents, fence_range}
+use Rattle.image_memory.specs.Contents.{Contents, piece_range, fence_range}
 use Rattle.image_memory.specs.Fetch.{HasCode}
 use Rattle.splice_jump.specs.Jumps.{jumped_memory, olds_at}
 use Rattle.memory_changes.specs.declared.types.Jump.{Jump}
 use Rattle.memory_changes.specs.Added.{AreAddable, with_pieces}
 use Rattle.memory_changes.specs.Retired.{AreRetirable, with_fences}
 use Rattle.memory_changes.specs.Rows.{rows_of, olds_of}
+use Rattle.link_post.specs.Places.{without}
 use Rattle.image_threads.specs.Program.{Program}
 use Rattle.update_plan.specs.declared.types.Plan.{Plan}
 use Rattle.update_stack.specs.declared.updates.Update.{Update as Shown}
 use Rattle.update_stack.specs.declared.updates.Kept.{Kept}
+use Rattle.update_stack.specs.CallTable.{jump_rows}
 use Rattle.update_stack.specs.StandsFor.{seen}
 use Rattle.update_stack.specs.Systems.{Holds, machine_of}
 use Rattle.update_stack.specs.Apply.{committed}
@@ -23,13 +26,6 @@ use Rattle.update_stack.specs.Apply.{committed}
 -- where a piece begins
 abbrev pub base_of_piece : Piece → ℕ
 base_of_piece piece = piece.base
-
--- replaced functions as homes with their new bases
-abbrev pub jump_row : Replaced → ℕ × ℕ
-jump_row one = (one.home, one.base)
-
-abbrev pub jump_rows : List Replaced → List (ℕ × ℕ)
-jump_rows replaced = map jump_row replaced
 
 -- the jump of a replaced function, before the code at its home is noted
 abbrev pub bare_jump : Replaced → Jump
@@ -39,14 +35,17 @@ bare_jump one = record { home = one.home; base = one.base; old = replicate 5 0 }
 abbrev pub EndsLow : Replaced → Type 0
 EndsLow one = one.home + 5 ≤ 2 ^ 32
 
-pub record IsKeptOf (plan : Plan) (jumps : List Jump) (kept : Kept) : Type 0 where
+pub record IsKeptOf (plan : Plan) (jumps : List Jump) (gaps : List Range) (kept : Kept) : Type 0 where
   pub pieces : kept.pieces ≡ map base_of_piece plan.pieces
   pub retired : kept.retired ≡ map fence_range plan.fences
   pub symbols : kept.symbols ≡ plan.symbols
   pub jumps_kept : kept.jumps ≡ jumps
+  pub ranges : IsPermutation (map piece_range plan.pieces) kept.ranges
+  pub count : kept.symbol_count ≡ length plan.symbols
+  pub gaps_kept : kept.gaps ≡ gaps
 
--- A program after a plan was carried out in one in which nothing was replaced: its pieces were added, its ranges retired, its
--- jumps written, each over the code that was noted, and its symbols added.
+-- A program after a plan was carried out: its pieces were added, its ranges retired, its jumps written, each over the
+-- code that was noted, and its symbols added.
 pub record IsCarriedOut (before after : Program) (plan : Plan) (jumps : List Jump) : Type 0 where
   pub seen_after : seen after ≡ record (seen before) {
     contents = jumped_memory (rows_of jumps) (with_fences (with_pieces before.contents plan.pieces) plan.fences);
@@ -69,8 +68,13 @@ pub record FitsIn (contents : Contents) (plan : Plan) (jumps : List Jump) : Type
 abbrev pub shown_as : List ℕ → Report → Shown
 shown_as name report = record { name = name; report = report }
 
--- what comes of a plan that is carried out where no update is live: the system holds, as the machine after the update
-pub record HoldsAfter (before after : Program) (arena : Range) (name : List ℕ) (plan : Plan) (kept : Kept) : Type 0 where
-  pub holds : Holds after arena (shown_as name plan.report ∷ []) (kept ∷ [])
-  pub same : machine_of after arena (shown_as name plan.report ∷ []) (kept ∷ [])
-      ≡ committed (machine_of before arena [] []) name plan
+-- what is free after a plan was carried out
+abbrev pub gaps_after : List Range → Plan → List Range
+gaps_after gaps plan = fold without gaps (map piece_range plan.pieces)
+
+-- what comes of a plan that is carried out: the system holds, as the machine after the update
+pub record HoldsAfter (before after : Program) (arena : Range) (gaps : List Range) (updates : List Shown) (kept : List Kept)
+    (name : List ℕ) (plan : Plan) (one : Kept) : Type 0 where
+  pub holds : Holds after arena (gaps_after gaps plan) (updates ++ shown_as name plan.report ∷ []) (kept ++ one ∷ [])
+  pub same : machine_of after arena (updates ++ shown_as name plan.report ∷ []) (kept ++ one ∷ [])
+      ≡ committed (machine_of before arena updates kept) name plan

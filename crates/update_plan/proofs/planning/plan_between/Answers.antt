@@ -1,8 +1,7 @@
-use Rattle.std.proofs.Common.{◌≡◌, List, [], ℕ, sym, ap, ◌∙◌, subst}
+use Rattle.std.proofs.Common.{sym, subst}
 use Rattle.std.proofs.lemmas.Result.{err_from_is_err_and}
 use Rattle.ks_base.specs.Gives.{Gives}
 use Rattle.match_candidates.specs.Candidates.{Running}
-use Rattle.symbol_solve.specs.Solve.{solved}
 use Rattle.update_plan.specs.declared.types.Plan.{Plan}
 use Rattle.update_plan.proofs.Planned.{extract_ends, solution_ends, solution_goes_on}
 use Rattle.update_plan.proofs.planning.plan_between.Goals as goal
@@ -12,23 +11,22 @@ returns g c =
     let running : Running = record {
       contents = g.S.Space.contents c.args.space.now;
       symbols = c.args.symbols.now.symbols;
-      bodies = [];
+      bodies = c.args.bodies.now;
     } in
-    let matched = ap (λ (bodies : List (ℕ × ℕ)). solved c.args.pre.now bodies running.contents running.symbols)
-    (sym c.no_bodies.ensures) ∙ c.in_ok-found.ensures in
     subst (Gives (λ (plan : Plan). plan) c.plan_with.result)
-    (sym (solution_goes_on running [] c.args.gaps.now c.args.pre.now c.args.post.now c.in_ok-extract.extract
-    c.in_ok-extract.ensures c.in_ok-found.found.entries matched)) c.plan_with.ensures
+    (sym (solution_goes_on running c.args.retired.now c.args.gaps.now c.args.pre.now c.args.post.now
+    c.in_ok-extract.extract c.in_ok-extract.ensures c.in_ok-found.found.entries c.in_ok-found.ensures))
+    c.plan_with.ensures
 
 pub returns-in_err-extract : goal.returns-in_err-extract
 returns-in_err-extract g c =
     let running : Running = record {
       contents = g.S.Space.contents c.args.space.now;
       symbols = c.args.symbols.now.symbols;
-      bodies = [];
+      bodies = c.args.bodies.now;
     } in
     let p = err_from_is_err_and c.from_residual.result c.from_residual.ensures.1 in
-    rw (p.1, p.2) (λ free. extract_ends running [] c.args.gaps.now c.args.pre.now c.args.post.now _
+    rw (p.1, p.2) (λ free. extract_ends running c.args.retired.now c.args.gaps.now c.args.pre.now c.args.post.now _
     (c.in_err-extract.ensures free))
 
 pub returns-in_err-found : goal.returns-in_err-found
@@ -36,11 +34,10 @@ returns-in_err-found g c =
     let running : Running = record {
       contents = g.S.Space.contents c.args.space.now;
       symbols = c.args.symbols.now.symbols;
-      bodies = [];
+      bodies = c.args.bodies.now;
     } in
     let refused = c.from_residual-in_err-found in
     let p = err_from_is_err_and refused.result refused.ensures.1 in
-    rw (p.1, p.2) (λ free. solution_ends running [] c.args.gaps.now c.args.pre.now c.args.post.now
+    rw (p.1, p.2) (λ free. solution_ends running c.args.retired.now c.args.gaps.now c.args.pre.now c.args.post.now
     c.in_ok-extract.extract c.in_ok-extract.ensures _
-    (ap (λ (bodies : List (ℕ × ℕ)). solved c.args.pre.now bodies running.contents running.symbols)
-    (sym c.no_bodies.ensures) ∙ c.in_err-found.ensures free))
+    (c.in_err-found.ensures free))

@@ -1,4 +1,4 @@
-use Rattle.std.proofs.Common.{◌≡◌, List, [], sym, ap, ◌∙◌, subst}
+use Rattle.std.proofs.Common.{List, sym, ap, ◌∙◌, subst}
 use Rattle.std.proofs.lemmas.Result.{err_from_is_err_and}
 use Rattle.ks_base.specs.Gives.{Gives}
 use Rattle.match_candidates.specs.Candidates.{Running}
@@ -14,44 +14,44 @@ returns g c =
     let running : Running = record {
       contents = g.S.Space.contents c.args.space.now;
       symbols = c.args.symbols.now.symbols;
-      bodies = [];
+      bodies = c.args.bodies.now;
     } in
     let gaps = c.args.gaps.now in
     let post = c.args.post.now in
     let values = c.in_ok-values.values.entries in
     let olds = c.in_ok-olds.olds.items in
-    let goes_on = olds_go_on running [] gaps c.args.pre.now post c.args.extract.now c.args.found.now.entries
-    c.as_slice.result.now (c.as_slice.ensures.value ∙ c.in_ok-parts.ensures.parts) values c.in_ok-values.ensures olds
-    c.in_ok-olds.ensures.olds in
+    let goes_on = olds_go_on running c.args.retired.now gaps c.args.pre.now post c.args.extract.now
+    c.args.found.now.entries c.as_slice.result.now (c.as_slice.ensures.value ∙ c.in_ok-parts.ensures.parts) values
+    c.in_ok-values.ensures olds c.in_ok-olds.ensures.olds in
     let same_parts = ap (λ (parts : List NewPart). planned_at running gaps post parts values olds)
     (c.as_slice.ensures.value ∙ sym c.as_slice-2.ensures.value) in
     let same_olds = ap (λ (olds : List OldFunction). planned_at running gaps post c.as_slice-2.result.now values olds)
     (sym c.as_slice-3.ensures.value) in
     subst (Gives (λ (plan : Plan). plan) c.plan_at.result) (sym (goes_on ∙ same_parts ∙ same_olds))
-    (c.plan_at.ensures running.symbols)
+    (c.plan_at.ensures running.symbols running.bodies)
 
 pub returns-in_err-values : goal.returns-in_err-values
 returns-in_err-values g c =
     let running : Running = record {
       contents = g.S.Space.contents c.args.space.now;
       symbols = c.args.symbols.now.symbols;
-      bodies = [];
+      bodies = c.args.bodies.now;
     } in
     let refused = c.from_residual-in_err-values in
     let p = err_from_is_err_and refused.result refused.ensures.1 in
-    rw (p.1, p.2) (λ free. values_end running [] c.args.gaps.now c.args.pre.now c.args.post.now c.args.extract.now
-    c.args.found.now.entries c.as_slice.result.now (c.as_slice.ensures.value ∙ c.in_ok-parts.ensures.parts) _
-    (c.in_err-values.ensures free))
+    rw (p.1, p.2) (λ free. values_end running c.args.retired.now c.args.gaps.now c.args.pre.now c.args.post.now
+    c.args.extract.now c.args.found.now.entries c.as_slice.result.now
+    (c.as_slice.ensures.value ∙ c.in_ok-parts.ensures.parts) _ (c.in_err-values.ensures free))
 
 pub returns-in_err-olds : goal.returns-in_err-olds
 returns-in_err-olds g c =
     let running : Running = record {
       contents = g.S.Space.contents c.args.space.now;
       symbols = c.args.symbols.now.symbols;
-      bodies = [];
+      bodies = c.args.bodies.now;
     } in
     let refused = c.from_residual-in_err-olds in
     let p = err_from_is_err_and refused.result refused.ensures.1 in
-    rw (p.1, p.2) (λ free. olds_end running [] c.args.gaps.now c.args.pre.now c.args.post.now c.args.extract.now
-    c.args.found.now.entries c.as_slice.result.now (c.as_slice.ensures.value ∙ c.in_ok-parts.ensures.parts)
-    c.in_ok-values.values.entries c.in_ok-values.ensures _ (c.in_err-olds.ensures.olds free))
+    rw (p.1, p.2) (λ free. olds_end running c.args.retired.now c.args.gaps.now c.args.pre.now c.args.post.now
+    c.args.extract.now c.args.found.now.entries c.as_slice.result.now
+    (c.as_slice.ensures.value ∙ c.in_ok-parts.ensures.parts) c.in_ok-values.values.entries c.in_ok-values.ensures _ (c.in_err-olds.ensures.olds free))

@@ -1,30 +1,74 @@
-use Rattle.std.proofs.Common.{◌≡◌, ◌≤◌, List, [], length, ℕ, sym, ◌∙◌, ap, arith, subst}
+use Rattle.std.proofs.Common.{◌≡◌, ℕ, ◌≤◌, ◌<◌, true, false, List, length, arith, Result, Ok, Err, sym, ◌∙◌, ap, subst}
+use Rattle.std.specs.List.{list_any}
+use Rattle.ks_base.specs.declared.refusals.Refusal.{Refusal}
+use Rattle.ks_base.specs.declared.refusals.Refusal.TheVariants.{TooMany, NameTaken}
 use Rattle.ks_base.specs.Gives.{Gives}
+use Rattle.i386_reloc.specs.Normal.{same_bytes}
 use Rattle.update_plan.specs.declared.types.Plan.{Plan}
-use Rattle.update_stack.specs.CallTable.{CallTable, Update}
-use Rattle.update_stack.specs.Systems.{live_updates}
+use Rattle.update_plan.specs.Plan.{planned}
+use Rattle.update_stack.specs.declared.updates.Update.{Update as Shown}
+use Rattle.update_stack.specs.CallTable.{CallTable}
+use Rattle.update_stack.specs.Systems.{machine_of, live_updates}
+use Rattle.update_stack.specs.Apply.{has_name, planned_in, running_of, retired_of, gaps_of}
+use Rattle.update_stack.proofs.ApplyLaws.{too_many, name_taken, name_free}
 use Rattle.update_stack.proofs.FreshLaws.{live_length}
-use Rattle.update_stack.proofs.ApplyLaws.{too_many, first_planned, no_items}
+use Rattle.update_stack.proofs.LiveLaws.{named_live}
 use Rattle.update_stack.proofs.system.System.plan.Goals as goal
 
 pub returns-then-len-ge-MOST_UPDATES-clause-planned :
     goal.returns-then-len-ge-MOST_UPDATES-clause-planned
-returns-then-len-ge-MOST_UPDATES-clause-planned g c other =
+returns-then-len-ge-MOST_UPDATES-clause-planned g c =
     let inside = c.self.inside in
-    let long : length c.args.self.now.updates ≡ length inside.updates =
-    ap (λ (k : CallTable). length k.updates) (sym c.self.view_is)
-    ∙ live_length inside.updates inside.kept c.self.invariant.paired in
-    too_many c.args.self.now c.args.name.now c.args.pre.now c.args.post.now
-    (omega (arith, long, c.len.ensures, c.if-len-ge-MOST_UPDATES.true))
+    let k = machine_of inside.machine inside.arena inside.updates inside.kept in
+    let many : 64 ≤ length (live_updates inside.updates inside.kept) =
+    omega (
+      arith,
+      live_length inside.updates inside.kept c.self.invariant.paired,
+      c.len.ensures,
+      c.if-len-ge-MOST_UPDATES.true,
+    ) in
+    λ other. ap (λ (m : CallTable). planned_in m c.args.name.now c.args.pre.now c.args.post.now) (sym c.self.view_is)
+    ∙ too_many k c.args.name.now c.args.pre.now c.args.post.now many
+
+pub returns-then-is_taken-clause-planned : goal.returns-then-is_taken-clause-planned
+returns-then-is_taken-clause-planned g c =
+    let inside = c.self.inside in
+    let k = machine_of inside.machine inside.arena inside.updates inside.kept in
+    let few : length (live_updates inside.updates inside.kept) < 64 =
+    omega (
+      arith,
+      live_length inside.updates inside.kept c.self.invariant.paired,
+      c.len.ensures,
+      c.if-len-ge-MOST_UPDATES.false,
+    ) in
+    let has : list_any (has_name c.args.name.now) (live_updates inside.updates inside.kept) ≡ true =
+    sym (named_live inside.updates inside.kept c.args.name.now c.self.invariant.paired)
+    ∙ ap (list_any (λ (update : Shown). same_bytes update.name c.args.name.now)) (sym c.as_slice.ensures)
+    ∙ sym c.is_taken.ensures ∙ c.if-is_taken.true in
+    λ other. ap (λ (m : CallTable). planned_in m c.args.name.now c.args.pre.now c.args.post.now) (sym c.self.view_is)
+    ∙ name_taken k c.args.name.now c.args.pre.now c.args.post.now few has
+    ∙ ap (λ (name : List ℕ). let r : Result Plan Refusal = Err (NameTaken name) in r)
+    (sym (c.in_ok-name.ensures ∙ c.as_slice-then-is_taken.ensures))
 
 pub returns-clause-planned : goal.returns-clause-planned
 returns-clause-planned g c =
     let inside = c.self.inside in
-    let long : length c.args.self.now.updates ≡ length inside.updates =
-    ap (λ (k : CallTable). length k.updates) (sym c.self.view_is)
-    ∙ live_length inside.updates inside.kept c.self.invariant.paired in
-    let none : c.args.self.now.updates ≡ [] =
-    no_items c.args.self.now.updates (omega (arith, long, c.len.ensures, c.if-len-ge-MOST_UPDATES.false)) in
-    subst (Gives (λ (plan : Plan). plan) c.plan_first.result)
-    (sym (first_planned c.args.self.now c.args.name.now c.args.pre.now c.args.post.now none))
-    c.plan_first.ensures.planned
+    let k = machine_of inside.machine inside.arena inside.updates inside.kept in
+    let few : length (live_updates inside.updates inside.kept) < 64 =
+    omega (
+      arith,
+      live_length inside.updates inside.kept c.self.invariant.paired,
+      c.len.ensures,
+      c.if-len-ge-MOST_UPDATES.false,
+    ) in
+    let none : list_any (has_name c.args.name.now) (live_updates inside.updates inside.kept) ≡ false =
+    sym (named_live inside.updates inside.kept c.args.name.now c.self.invariant.paired)
+    ∙ ap (list_any (λ (update : Shown). same_bytes update.name c.args.name.now)) (sym c.as_slice.ensures)
+    ∙ sym c.is_taken.ensures ∙ c.if-is_taken.false in
+    let P : CallTable → Type 0 = λ m. Gives (λ (plan : Plan). plan) c.plan_beside.result
+    (planned (running_of m) (retired_of m) (gaps_of m) c.args.pre.now c.args.post.now) in
+    subst (λ (m : CallTable). Gives (λ (plan : Plan). plan) c.plan_beside.result
+    (planned_in m c.args.name.now c.args.pre.now c.args.post.now)) c.self.view_is
+    (subst (Gives (λ (plan : Plan). plan) c.plan_beside.result)
+    (sym (name_free k c.args.name.now c.args.pre.now c.args.post.now few none))
+    (subst P (sym c.self.view_is) c.plan_beside.ensures.planned))

@@ -4,6 +4,7 @@ use Rattle.update_stack.specs.CallTable.{CallTable}
 use Rattle.update_stack.specs.Events.{Spawn, Spawned, happened, answered}
 use Rattle.update_stack.specs.Systems.{machine_of}
 use Rattle.update_stack.proofs.HoldsLaws.{Laws}
+use Rattle.update_stack.proofs.SeenLaws.{program_stacks}
 use Rattle.update_stack.proofs.SpawnLaws.{spawn_holds, spawn_seen}
 use Rattle.update_stack.proofs.system.System.spawn.Goals as goal
 
@@ -15,11 +16,12 @@ invariant_of-self g c =
       stays = c.code_stays_code.ensures.stays;
       valid = c.homes_stay_spliced.ensures.valid;
       spliced = c.homes_stay_spliced.ensures.written;
+      there = c.code_that_stays.ensures.code;
     } in
     let inside = c.self.inside in
-    spawn_holds inside.arena inside.updates inside.kept laws inside.machine c.spawn.new.self c.args.name.now
+    spawn_holds inside.arena inside.gaps inside.updates inside.kept laws inside.machine c.spawn.new.self c.args.name.now
     c.args.argument c.spawn.result c.self.invariant c.threads-threads.ensures.placed.bounds c.spawn.ensures.started
-    c.spawn.ensures.refused c.spawn.ensures.stacks
+    c.spawn.ensures.refused
 
 pub returns-clause-answered : goal.returns-clause-answered
 returns-clause-answered g c =
@@ -29,6 +31,7 @@ returns-clause-answered g c =
       stays = c.code_stays_code.ensures.stays;
       valid = c.homes_stay_spliced.ensures.valid;
       spliced = c.homes_stay_spliced.ensures.written;
+      there = c.code_that_stays.ensures.code;
     } in
     let inside = c.self.inside in
     let P : CallTable → Type 0 = λ k. MatchResult c.spawn.result
@@ -36,6 +39,12 @@ returns-clause-answered g c =
     ≡ Ok (happened (machine_of c.spawn.new.self inside.arena inside.updates inside.kept) (Spawned number)))
     (λ refusal. refusal ≢ Memory → answered k (Spawn c.args.name.now c.args.argument) ≡ Err refusal) in
     subst P c.self.view_is
-    (spawn_seen inside.arena inside.updates inside.kept laws inside.machine c.spawn.new.self c.args.name.now
+    (spawn_seen inside.arena inside.gaps inside.updates inside.kept laws inside.machine c.spawn.new.self c.args.name.now
     c.args.argument c.spawn.result c.self.invariant c.threads-threads.ensures.placed.bounds c.spawn.ensures.started
     c.spawn.ensures.number)
+
+pub spawn-requires : goal.spawn-requires
+spawn-requires g c =
+    let inside = c.self.inside in
+    program_stacks inside.machine inside.arena inside.gaps inside.updates inside.kept c.self.invariant
+    c.jumps_change_their_bytes_alone.ensures.kinds c.jumps_change_their_bytes_alone.ensures.ranges

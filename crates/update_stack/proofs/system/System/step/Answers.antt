@@ -15,11 +15,11 @@ invariant_of-self g c =
       stays = c.code_stays_code.ensures.stays;
       valid = c.homes_stay_spliced.ensures.valid;
       spliced = c.homes_stay_spliced.ensures.written;
+      there = c.code_that_stays.ensures.code;
     } in
     let inside = c.self.inside in
-    step_holds inside.arena inside.updates inside.kept laws c.steps_stand.ensures inside.machine c.step.new.self
+    step_holds inside.arena inside.gaps inside.updates inside.kept laws c.steps_stand.ensures inside.machine c.step.new.self
     c.args.thread c.step.result c.self.invariant c.step.ensures.moved c.step.ensures.refused
-    (c.step.ensures.stacks c.self.invariant.stacks)
 
 pub returns-clause-answered : goal.returns-clause-answered
 returns-clause-answered g c =
@@ -29,6 +29,7 @@ returns-clause-answered g c =
       stays = c.code_stays_code.ensures.stays;
       valid = c.homes_stay_spliced.ensures.valid;
       spliced = c.homes_stay_spliced.ensures.written;
+      there = c.code_that_stays.ensures.code;
     } in
     let inside = c.self.inside in
     let P : CallTable → Type 0 = λ k. MatchResult c.step.result
@@ -36,7 +37,7 @@ returns-clause-answered g c =
     ≡ Ok (happened (machine_of c.step.new.self inside.arena inside.updates inside.kept) (Stepped outcome)))
     (λ refusal. answered k (Step c.args.thread) ≡ Err refusal) in
     subst P c.self.view_is
-    (step_seen inside.arena inside.updates inside.kept laws c.steps_stand.ensures inside.machine c.step.new.self
+    (step_seen inside.arena inside.gaps inside.updates inside.kept laws c.steps_stand.ensures inside.machine c.step.new.self
     c.args.thread c.step.result c.self.invariant c.step.ensures.moved)
 
 pub returns-clause-after : goal.returns-clause-after
@@ -47,12 +48,13 @@ returns-clause-after g c =
       stays = c.code_stays_code.ensures.stays;
       valid = c.homes_stay_spliced.ensures.valid;
       spliced = c.homes_stay_spliced.ensures.written;
+      there = c.code_that_stays.ensures.code;
     } in
     let inside = c.self.inside in
     let P : CallTable → Type 0 = λ k.
     machine_of c.step.new.self inside.arena inside.updates inside.kept ≡ after_event k (Step c.args.thread) in
     subst P c.self.view_is
-    (stepped_after inside.arena inside.updates inside.kept laws c.steps_stand.ensures inside.machine c.step.new.self
+    (stepped_after inside.arena inside.gaps inside.updates inside.kept laws c.steps_stand.ensures inside.machine c.step.new.self
     c.args.thread c.step.result c.self.invariant c.step.ensures.moved c.step.ensures.refused)
 
 pub returns-clause-runs : goal.returns-clause-runs

@@ -1,0 +1,5 @@
+mod FoldLaws
+mod CutLaws
+mod GapLaws
+mod PieceLaws
+mod SweepLaws

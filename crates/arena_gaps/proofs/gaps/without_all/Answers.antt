@@ -1,0 +1,16 @@
+use Rattle.std.proofs.Common.{◌≡◌, List, IfOk, fold, subst}
+use Rattle.ks_base.specs.declared.places.Range.{Range}
+use Rattle.link_post.specs.Places.{without}
+use Rattle.arena_gaps.proofs.FoldLaws.{order_has_none}
+use Rattle.arena_gaps.proofs.CutLaws.{commute}
+use Rattle.arena_gaps.proofs.gaps.without_all.Goals as goal
+
+pub returns : goal.returns
+returns c =
+    let free = c.args.free.now in
+    let order =
+    order_has_none without commute free c.in_ok-from_slice.field-0.items c.in_order-taken.result.items
+    c.in_order-taken.ensures.same in
+    let same : fold without c.as_slice.result.now c.as_slice-2.result.now ≡ fold without free c.args.taken.now =
+    cc (order, c.as_slice-2.ensures.value, c.in_ok-from_slice.ensures.items) in
+    subst (λ (ranges : List Range). IfOk c.swept.result (λ left. left ≡ ranges)) same c.swept.ensures

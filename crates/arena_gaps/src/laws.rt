@@ -1,0 +1,32 @@
+//! What holds of what is left of free ranges.
+ghost use Rattle.std.specs.Prelude.{◌≡◌, ◌≤◌, ℕ, List, map, fold};
+ghost use Rattle.std.specs.List.{All};
+ghost use Rattle.std.specs.List.Sorted.{IsPermutation};
+ghost use Rattle.ks_base.specs.declared.places.Range.{Range};
+ghost use Rattle.image_memory.specs.declared.types.Piece.{Piece};
+ghost use Rattle.image_memory.specs.Ranges.{Ascends, MeetsNone};
+ghost use Rattle.image_memory.specs.Contents.{piece_range};
+ghost use Rattle.image_memory.specs.Changes.{with_piece};
+ghost use Rattle.link_post.specs.Places.{without};
+
+/// In whichever order ranges are taken, the same is left.
+pub fn order_has_no_say()
+    ensures { (free a b : List Range) → IsPermutation a b → fold without free a ≡ fold without free b }
+{}
+
+/// What pieces leave of free ranges, and what pieces put among them leave of that, is what all of them leave.
+pub fn gaps_of_pieces()
+    ensures { (free : List Range) (pieces more : List Piece)
+        → fold without free (map piece_range (fold (λ pieces piece. with_piece piece pieces) pieces more))
+        ≡ fold without (fold without free (map piece_range pieces)) (map piece_range more) }
+{}
+
+/// What pieces leave of free ranges that ascend below a limit ascends below it, and shares no address with a piece.
+pub fn gaps_are_free()
+    ensures ascend { (free : List Range) (pieces : List Piece) → Ascends (λ range. range) 0 free
+        → Ascends (λ range. range) 0 (fold without free (map piece_range pieces)) }
+    ensures below { (limit : ℕ) (free : List Range) (pieces : List Piece) → All (λ range. range.high ≤ limit) free
+        → All (λ gap. gap.high ≤ limit) (fold without free (map piece_range pieces)) }
+    ensures apart { (free : List Range) (pieces : List Piece)
+        → All (λ gap. MeetsNone piece_range gap pieces) (fold without free (map piece_range pieces)) }
+{}

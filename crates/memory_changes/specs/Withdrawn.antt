@@ -1,0 +1,35 @@
+-- Memory from which pieces and retired ranges are taken away.
+use Rattle.std.specs.Prelude.{ℕ, Bool, not, ◌==◌, List}
+use Rattle.std.specs.List.{filter, list_any}
+use Rattle.ks_base.specs.declared.places.Range.{Range}
+use Rattle.image_memory.specs.declared.types.Piece.{Piece}
+use Rattle.image_memory.specs.declared.types.Fence.{Fence}
+use Rattle.image_memory.specs.Ranges.{are_same}
+use Rattle.image_memory.specs.Contents.{Contents}
+use Rattle.splice_jump.specs.Jumps.{unjumped}
+
+-- whether a piece begins at one of some addresses, and the pieces that don't
+abbrev pub is_based_at : List ℕ → Piece → Bool
+is_based_at bases piece = list_any (λ base. base == piece.base) bases
+
+abbrev pub without_pieces : List ℕ → List Piece → List Piece
+without_pieces bases pieces = filter (λ piece. not (is_based_at bases piece)) pieces
+
+-- whether a range is one of some, the ranges that aren't, and the retired ranges that aren't
+abbrev pub is_one_of : List Range → Range → Bool
+is_one_of ranges range = list_any (are_same range) ranges
+
+abbrev pub ranges_but : List Range → List Range → List Range
+ranges_but taken ranges = filter (λ range. not (is_one_of taken range)) ranges
+
+abbrev pub without_ranges : List Range → List Fence → List Fence
+without_ranges taken fences = filter (λ fence. not (is_one_of taken fence.range)) fences
+
+-- A memory after an update was taken back: old bytes are put back at homes, ranges are retired no longer, and the
+-- pieces that begin at some addresses are gone.
+unfoldable pub withdrawn_memory : List ℕ → List Range → List (ℕ × List ℕ) → Contents → Contents
+withdrawn_memory bases taken olds contents =
+    record {
+      pieces = without_pieces bases (unjumped olds contents.pieces);
+      fences = without_ranges taken contents.fences;
+    }

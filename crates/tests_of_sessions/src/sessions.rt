@@ -1,0 +1,73 @@
+//! A session of a small program: the replies to a script, the system that it leaves, and the line of a lost file.
+use image_file::read_image;
+use ks_io::{FileFault, MemoryFiles, MemorySink};
+use ksplice_session::{Session, SessionEnd, run_session, write_file_line};
+use script_lines::read_script;
+use std::alloc::Global;
+use std::test::Fail;
+
+// `f` gives 1, and `main` calls it and returns. One stack.
+const IMAGE: [u8; 113] = [
+    0x4b, 0x49, 0x4d, 0x31, 1, 0, 0, 0, 2, 0, 0, 0, 1, 0, 0, 0, // magic and counts
+    0, 0, 0x80, 0, 0, 0, 0x81, 0, // arena
+    1, 0, 0, 0, 0, 0, 0x10, 0, 0x20, 0, 0, 0, // code at 0x00100000
+    0xb8, 1, 0, 0, 0, 0xc3, // mov, ret
+    0x66, 0x90, 0x66, 0x90, 0x66, 0x90, 0x66, 0x90, 0x66, 0x90, // padding
+    0xe8, 0xeb, 0xff, 0xff, 0xff, 0xc3, // call, ret
+    0x90, 0x90, 0x90, 0x90, 0x90, 0x90, 0x90, 0x90, 0x90, 0x90, // padding
+    0, 0, 0x10, 0, 1, 0, 0, 0, 1, 0, 0, 0, 1, 0, 0, 0, b'f', // 0x00100000
+    0x10, 0, 0x10, 0, 1, 0, 0, 0, 1, 0, 0, 0, 4, 0, 0, 0, b'm', b'a', b'i', b'n', // 0x00100010
+    0, 0, 0x40, 0, 0, 0x10, 0x40, 0, // a stack of 4,096 bytes at 0x00400000
+];
+
+pub(crate) fn session_of(alloc: Global) -> Option<Session> {
+    let image = read_image(alloc, &IMAGE).ok()?;
+    Session::new(alloc, image).ok()
+}
+
+// Runs a script over no files. The answer is how it ended and whether these are the replies.
+fn ends(
+    alloc: Global,
+    session: &mut Session,
+    script: &str,
+    replies: &str,
+) -> Option<(SessionEnd, bool)> {
+    let script = read_script(alloc, script.as_bytes()).ok()?;
+    let mut files = MemoryFiles::new(alloc, Vec::new(alloc));
+    let mut sink = MemorySink::new(alloc, Vec::new(alloc), 7);
+    let end = run_session(alloc, session, &script, &mut files, &mut sink);
+    Some((end, sink.taken() == replies.as_bytes()))
+}
+
+#[test]
+fn replies_to_a_script(rt: HostRuntime) -> Result<(), Fail> {
+    let alloc = rt.alloc();
+    let mut session = session_of(alloc).ok_or("no session")?;
+    let script = "spawn main 7\nstep 0 2\nrr 1 100\nthreads\npeek 0x00100000 6\n";
+    let replies =
+        "spawned 0 0x00100010 main+0x0\nstepped 0 2 running 0x00100005 f+0x5\nrr 3\nthread 0 exited 0x00000001\nthreads 1\n0x00100000: b8 01 00 00 00 c3\n";
+    let end = ends(alloc, &mut session, script, replies).ok_or("no script")?;
+    assert!(rt; end == (SessionEnd::Done, true));
+    let system = session.system();
+    assert_eq!(rt; system.updates().len(), 0);
+    assert_eq!(rt; system.machine().threads().len(), 1);
+    let end = ends(
+        alloc,
+        &mut session,
+        "step 0 1\nrr 1 1\nundo\nlist\n",
+        "refused 30 no thread 0\nrr 0\nrefused 27 nothing applied\nupdates 0\n",
+    )
+    .ok_or("no script")?;
+    assert!(rt; end == (SessionEnd::SomeRefused, true));
+    Ok(())
+}
+
+#[test]
+fn line_of_a_lost_file(rt: HostRuntime) -> Result<(), Fail> {
+    let alloc = rt.alloc();
+    let mut sink = MemorySink::new(alloc, Vec::new(alloc), 100);
+    assert!(rt; write_file_line(alloc, "x.o", FileFault::Missing, &mut sink).is_ok());
+    assert!(rt; write_file_line(alloc, "y.o", FileFault::TooLong, &mut sink).is_ok());
+    assert!(rt; sink.taken() == b"file x.o missing\nfile y.o too long\n".as_slice());
+    Ok(())
+}

@@ -1,0 +1,84 @@
+-- What holds of the newest update of a machine, and of what is kept of it.
+use Rattle.std.proofs.Common.{◌≡◌, ◌≢◌, ℕ, List, [], ◌∷◌, ◌++◌, Option, Some, None, refl, sym, subst, ap, ◌∙◌}
+use Rattle.std.proofs.Common.{length, arith}
+use Rattle.std.specs.List.{last_or}
+use Rattle.ks_base.specs.declared.places.Range.{Range}
+use Rattle.image_memory.specs.Contents.{Contents, IsValid}
+use Rattle.image_memory.specs.Fetch.{HasCode}
+use Rattle.memory_changes.specs.Withdrawn.{without_pieces}
+use Rattle.update_stack.specs.declared.updates.Kept.{Kept}
+use Rattle.update_stack.specs.CallTable.{CallTable, Update}
+use Rattle.update_stack.specs.Apply.{gaps_of}
+use Rattle.update_stack.specs.Undo.{withdrawn, newest_update}
+use Rattle.update_stack.specs.Stacked.{IsSound, IsOnTop, IsBuilt, Untouched, Updated, IsKept, AreKept, NoneKept}
+use Rattle.update_stack.specs.Stacked.{OneKept}
+use Rattle.update_stack.proofs.LastLaws.{last_more}
+
+-- a law of another crate: code that is left was there
+abbrev pub CodeWasThere : Type 0
+CodeWasThere = (contents : Contents) (bases : List ℕ) (address count : ℕ) → IsValid contents
+    → HasCode (without_pieces bases contents.pieces) address count → HasCode contents.pieces address count
+
+pub withdrawn_pieces : (k : CallTable) (update : Update)
+    → (withdrawn k update).pieces ≡ without_pieces update.pieces k.pieces
+unfolding withdrawn
+withdrawn_pieces k update = refl
+
+-- of a machine with updates: the newest lies on one that is built
+pub record HasNewest (k : CallTable) (update : Update) : Type 0 where
+  pub sound : IsSound k
+  pub top : IsOnTop k update
+  pub below : IsBuilt (withdrawn k update)
+
+pub built_newest : (k : CallTable) (update : Update) → IsBuilt k → newest_update k ≡ Some update → HasNewest k update
+built_newest k update (Untouched _ sound none table retired) is =
+    let nothing : newest_update k ≡ None = ap (last_or None) none in
+    absurd (cc)
+built_newest k update (Updated _ other sound newest top below) is =
+    let same : other ≡ update = cc in
+    subst (HasNewest k) same (record { sound = sound; top = top; below = below })
+
+-- the last item of a list that ends with it
+last_same : {X : Type 0} (xs ys : List X) (x y : X) → xs ++ x ∷ [] ≡ ys ++ y ∷ [] → x ≡ y
+last_same {X} xs ys x y same =
+    let e : last_or None (xs ++ x ∷ []) ≡ last_or None (ys ++ y ∷ []) = ap (last_or None) same in
+    let f = last_more xs x in
+    let g = last_more ys y in
+    cc
+
+front_same : {X : Type 0} (xs ys : List X) (x y : X) → xs ++ x ∷ [] ≡ ys ++ y ∷ [] → xs ≡ ys
+front_same [] [] x y same = refl
+front_same [] (b ∷ []) x y same = absurd (cc)
+front_same [] (b ∷ c ∷ ys) x y same = absurd (cc)
+front_same (a ∷ []) [] x y same = absurd (cc)
+front_same (a ∷ c ∷ xs) [] x y same = absurd (cc)
+front_same {X} (a ∷ xs) (b ∷ ys) x y same =
+    let head : a ≡ b = cc in
+    let tail : xs ++ x ∷ [] ≡ ys ++ y ∷ [] = cc in
+    let rest : xs ≡ ys = front_same xs ys x y tail in
+    cc
+
+-- and of what is kept: that of the newest update, and of those before it
+pub record HasKept (k : CallTable) (update : Update) (earlier : List Kept) (one : Kept) (gaps : List Range) : Type 0 where
+  pub is_kept : IsKept k update one
+  pub free : gaps ≡ gaps_of k
+  pub before : AreKept (withdrawn k update) earlier one.gaps
+
+pub kept_newest : (k : CallTable) (update : Update) (earlier kept : List Kept) (one : Kept) (gaps : List Range)
+    → AreKept k kept gaps → newest_update k ≡ Some update → kept ≡ earlier ++ one ∷ [] → HasKept k update earlier one gaps
+kept_newest k update earlier kept one gaps (NoneKept _ _ _ none nothing free) is ends =
+    let none_newest : newest_update k ≡ None = ap (last_or None) none in
+    absurd (cc)
+kept_newest k update earlier kept one gaps (OneKept _ other front _ last _ newest has kept_one free before) is ends =
+    let same : other ≡ update = cc in
+    let joined : front ++ last ∷ [] ≡ earlier ++ one ∷ [] = sym has ∙ ends in
+    let last_is : last ≡ one = last_same front earlier last one joined in
+    let front_is : front ≡ earlier = front_same front earlier last one joined in
+    subst (λ (u : Update). HasKept k u earlier one gaps) same
+    (subst (λ (ks : List Kept). HasKept k other ks one gaps) front_is
+    (subst (λ (o : Kept). HasKept k other front o gaps) last_is
+    (record { is_kept = kept_one; free = free; before = before })))
+
+pub kept_free : (k : CallTable) (kept : List Kept) (gaps : List Range) → AreKept k kept gaps → gaps ≡ gaps_of k
+kept_free k kept gaps (NoneKept _ _ _ none nothing free) = free
+kept_free k kept gaps (OneKept _ update front _ last _ newest has kept_one free before) = free

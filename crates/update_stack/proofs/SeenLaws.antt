@@ -1,0 +1,137 @@
+-- A system as its program shows it: its stacks, and where its threads stand.
+use Rattle.std.proofs.Common.{◌≡◌, ℕ, ◌-◌, Bool, true, false, ◌&&◌, ◌||◌, IsTrue, List, [], ◌∷◌, ◌++◌, map, length}
+use Rattle.std.proofs.Common.{get_or, Option, Some, None}
+use Rattle.std.proofs.Common.{refl, sym, ◌∙◌, ap, subst, arith}
+use Rattle.std.specs.List.{All, last_or, slice_get}
+use Rattle.std.specs.List.Sorted.{IsPermutation}
+use Rattle.ks_base.specs.declared.places.Range.{Range}
+use Rattle.ks_base.specs.declared.refusals.Refusal.{Refusal}
+use Rattle.ks_base.specs.declared.refusals.Refusal.TheVariants.{NothingApplied}
+use Rattle.image_memory.specs.declared.types.Kind.{Kind}
+use Rattle.image_memory.specs.declared.types.Piece.{Piece}
+use Rattle.image_memory.specs.Ranges.{are_same}
+use Rattle.image_memory.specs.Contents.{piece_range}
+use Rattle.image_memory.specs.Access.{kind_of}
+use Rattle.ia32_step.specs.declared.types.Thread.{Thread}
+use Rattle.image_threads.specs.Program.{Program, WellPlaced}
+use Rattle.image_threads.specs.Spawning.{is_writable, is_stack, AreStacks}
+use Rattle.splice_jump.specs.Jumps.{jumped}
+use Rattle.stack_scan.specs.Standing.{thread_refusal}
+use Rattle.update_stack.specs.declared.updates.Update.{Update as Shown}
+use Rattle.update_stack.specs.declared.updates.Kept.{Kept}
+use Rattle.update_stack.specs.CallTable.{CallTable, Update, bodies_in, contents_of}
+use Rattle.update_stack.specs.StandsFor.{Seen, patched}
+use Rattle.update_stack.specs.Undo.{ranges_in, newest_update}
+use Rattle.update_stack.specs.Systems.{machine_of, Holds}
+use Rattle.update_stack.specs.Stacked.{IsKept, AreKept, NoneKept, OneKept}
+use Rattle.update_stack.specs.inside.TakingBack.{refusal_of, undo_refusal}
+use Rattle.update_stack.proofs.LastLaws.{last_more}
+use Rattle.update_stack.proofs.BuiltLaws.{built_sound}
+use Rattle.update_stack.proofs.FreshLaws.{all_have_stacks}
+use Rattle.update_stack.proofs.ThreadLaws.{DataStay, threads_stay}
+
+-- stacks are pieces by their kinds and ranges
+abbrev stack_among : List Kind → List Range → Range → Bool
+stack_among [] ranges stack = false
+stack_among (kind ∷ kinds) [] stack = false
+stack_among (kind ∷ kinds) (range ∷ ranges) stack =
+    (is_writable kind && are_same range stack) || stack_among kinds ranges stack
+
+stack_read : (pieces : List Piece) (stack : Range)
+    → is_stack pieces stack ≡ stack_among (map kind_of pieces) (map piece_range pieces) stack
+stack_read [] stack = refl
+stack_read (piece ∷ pieces) stack =
+    ap (λ (b : Bool). (is_writable piece.kind && are_same (piece_range piece) stack) || b) (stack_read pieces stack)
+
+pub same_stacks : (a b : List Piece) (stacks : List Range) → map kind_of a ≡ map kind_of b
+    → map piece_range a ≡ map piece_range b → AreStacks b stacks → AreStacks a stacks
+same_stacks a b stacks kinds ranges are i d l =
+    subst (λ (is : Bool). IsTrue is)
+    (stack_read b (get_or stacks i d)
+    ∙ ap (λ (ks : List Kind). stack_among ks (map piece_range b) (get_or stacks i d)) (sym kinds)
+    ∙ ap (λ (rs : List Range). stack_among (map kind_of a) rs (get_or stacks i d)) (sym ranges)
+    ∙ sym (stack_read a (get_or stacks i d)))
+    (are i d l)
+
+-- the laws of other crates that are used here
+abbrev pub KindsStay : Type 0
+KindsStay = (rows : List (ℕ × ℕ)) (pieces : List Piece) → map kind_of (jumped rows pieces) ≡ map kind_of pieces
+
+abbrev pub PlacesStay : Type 0
+PlacesStay = (rows : List (ℕ × ℕ)) (pieces : List Piece)
+    → map piece_range (jumped rows pieces) ≡ map piece_range pieces
+
+module _ (program : Program) (arena : Range) (gaps : List Range) (updates : List Shown) (kept : List Kept)
+    (holds : Holds program arena gaps updates kept) where
+  abbrev k : CallTable
+  k = machine_of program arena updates kept
+
+  pub program_stacks : KindsStay → PlacesStay → AreStacks program.contents.pieces program.stacks
+  unfolding patched
+  program_stacks kinds places =
+      let rows = bodies_in k.table in
+      subst (λ (s : Seen). AreStacks s.contents.pieces program.stacks) (sym holds.stands)
+      (same_stacks (jumped rows k.pieces) k.pieces program.stacks (kinds rows k.pieces) (places rows k.pieces)
+      (built_sound k holds.built).stacks)
+
+  pub refusal_seen : DataStay → (ranges : List Range) → WellPlaced program.stacks program.threads
+      → thread_refusal program.contents.pieces ranges program.threads ≡ thread_refusal k.pieces ranges k.threads
+  unfolding patched
+  refusal_seen data_stay ranges placed =
+      let sound = built_sound k holds.built in
+      ap (λ (s : Seen). thread_refusal s.contents.pieces ranges program.threads) holds.stands
+      ∙ threads_stay data_stay (contents_of k) (bodies_in k.table) sound.jumps.valid sound.jumps.spliced ranges
+      program.threads (all_have_stacks k.pieces program.stacks program.threads sound.stacks placed)
+
+-- where nothing is kept there is no update, and the last that is kept is of the newest
+kept_none : (k : CallTable) (kept : List Kept) (gaps : List Range) → AreKept k kept gaps → last_or None kept ≡ None
+    → newest_update k ≡ None
+kept_none k kept gaps (NoneKept _ _ _ none nothing free) last = ap (last_or None) none
+kept_none k kept gaps (OneKept _ update earlier _ one _ newest ends is free before) last =
+    let some : last_or None kept ≡ Some one = ap (last_or None) ends ∙ last_more earlier one in
+    absurd (cc)
+
+pub record HasLast (k : CallTable) (one : Kept) : Type 0 where
+  pub update : Update
+  pub newest : newest_update k ≡ Some update
+  pub is : IsKept k update one
+
+kept_last : (k : CallTable) (kept : List Kept) (gaps : List Range) (one : Kept) → AreKept k kept gaps
+    → last_or None kept ≡ Some one → HasLast k one
+kept_last k kept gaps one (NoneKept _ _ _ none nothing free) last =
+    let no : last_or None kept ≡ None = ap (last_or None) nothing in
+    absurd (cc)
+kept_last k kept gaps one (OneKept _ update earlier _ other _ newest ends is free before) last =
+    let some : last_or None kept ≡ Some other = ap (last_or None) ends ∙ last_more earlier other in
+    let same : other ≡ one = cc in
+    subst (HasLast k) same (record { update = update; newest = newest; is = is })
+
+pub none_refused : (k : CallTable) (kept : List Kept) (gaps : List Range) → AreKept k kept gaps
+    → last_or None kept ≡ None → Some NothingApplied ≡ undo_refusal k
+unfolding undo_refusal
+none_refused k kept gaps are last = sym (ap (refusal_of k) (kept_none k kept gaps are last))
+
+-- a law of another crate: the order of ranges has no say
+abbrev pub OrderHasNoSay : Type 0
+OrderHasNoSay = (pieces : List Piece) (ranges others : List Range) (threads : List Thread) → IsPermutation ranges others
+    → thread_refusal pieces ranges threads ≡ thread_refusal pieces others threads
+
+pub last_refused : OrderHasNoSay → (k : CallTable) (kept : List Kept) (gaps : List Range) (one : Kept)
+    → AreKept k kept gaps → last_or None kept ≡ Some one
+    → thread_refusal k.pieces one.ranges k.threads ≡ undo_refusal k
+unfolding undo_refusal
+last_refused order k kept gaps one are last =
+    let has = kept_last k kept gaps one are last in
+    order k.pieces one.ranges (ranges_in k has.update) k.threads has.is.ranges
+    ∙ sym (ap (refusal_of k) has.newest)
+
+-- the last item is that before the length
+last_get : {X : Type 0} (x : X) (xs : List X) → slice_get (x ∷ xs) (length xs) ≡ last_or (Some x) xs
+last_get x [] = refl
+last_get x (y ∷ ys) = last_get y ys
+
+pub last_is : {X : Type 0} (xs : List X) → slice_get xs (length xs - 1) ≡ last_or None xs
+last_is [] = refl
+last_is (x ∷ xs) =
+    let short : length (x ∷ xs) - 1 ≡ length xs = omega arith in
+    ap (slice_get (x ∷ xs)) short ∙ last_get x xs

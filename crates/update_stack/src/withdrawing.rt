@@ -1,0 +1,59 @@
+//! What taking the newest update back does.
+ghost use Rattle.std.specs.Prelude.{◌≡◌, ℕ, List, ◌++◌, [], ◌∷◌, length, ◌≤◌, ◌+◌, ◌-◌, take, map};
+ghost use Rattle.std.specs.List.{All, AllPairs};
+ghost use Rattle.ks_base.specs.declared.places.Range.{Range as RangeOf};
+ghost use Rattle.image_memory.specs.Changes.{HasPiece, IsRetired};
+ghost use Rattle.image_memory.specs.Ranges.{are_same};
+ghost use Rattle.image_memory.specs.Fetch.{HasCode};
+ghost use Rattle.memory_changes.specs.Rows.{olds_of};
+ghost use Rattle.memory_changes.specs.Withdrawn.{withdrawn_memory};
+ghost use Rattle.image_threads.specs.Program.{Program};
+ghost use Rattle.update_stack.specs.StandsFor.{seen};
+ghost use Rattle.update_stack.specs.Systems.{Holds};
+ghost use Rattle.update_stack.specs.declared.updates.Kept.{Kept as KeptOf};
+ghost use Rattle.update_stack.specs.declared.updates.Update.{Update as Shown};
+ghost use Rattle.update_stack.specs.inside.TakingBack.{CanBeTaken, after_taking, IsHeldBefore};
+
+use crate::updates::Kept;
+use image_memory::Space;
+use image_threads::Machine;
+use memory_changes::laws::{
+    changes_are_withdrawn, code_that_stays, dropping_goes_past_writes, memory_stays_memory,
+};
+use memory_changes::withdraw;
+use splice_jump::laws::{
+    code_stays_code, homes_stay_spliced, jumps_are_added_and_replaced, jumps_are_taken_back,
+    jumps_change_their_bytes_alone,
+};
+
+// Takes away what an update changed: its jumps, its retired ranges, its pieces and its symbols. It takes no memory.
+pub(crate) fn take_back<S: Space>(machine: &mut Machine<S>, one: &Kept)
+    requires { CanBeTaken machine.old one.now }
+    ensures { seen machine.new ≡ after_taking one.now (seen machine.old) }
+{
+    let pieces = one.pieces.as_slice();
+    let retired = one.retired.as_slice();
+    withdraw(machine.space_mut(), pieces, retired, one.jumps.as_slice());
+    machine.symbols_mut().remove_last(one.symbol_count);
+}
+
+// What is kept of the newest update can be taken away, and the system holds then, as the machine without that update.
+pub(crate) fn updates_are_taken_back()
+    ensures can { (program : Program) (arena : RangeOf) (gaps : List RangeOf) (updates : List Shown) (kept : List KeptOf)
+        (update : Shown) (one : KeptOf)
+        → Holds program arena gaps (updates ++ update ∷ []) (kept ++ one ∷ []) → CanBeTaken program one }
+    ensures held { (before after : Program) (arena : RangeOf) (gaps : List RangeOf) (updates : List Shown)
+        (kept : List KeptOf) (update : Shown) (one : KeptOf)
+        → Holds before arena gaps (updates ++ update ∷ []) (kept ++ one ∷ [])
+        → seen after ≡ after_taking one (seen before) → IsHeldBefore before after arena updates kept update one }
+{
+    jumps_are_added_and_replaced();
+    jumps_are_taken_back();
+    jumps_change_their_bytes_alone();
+    homes_stay_spliced();
+    code_stays_code();
+    changes_are_withdrawn();
+    dropping_goes_past_writes();
+    memory_stays_memory();
+    code_that_stays();
+}
