@@ -102,6 +102,19 @@ stepped contents thread =
     if thread.pc == 0xFFFF_0000 then exits contents thread
     else done contents thread (next_change contents thread)
 
+-- what a change writes, unless it can't
+abbrev pub store_unless : Option Fault → Option Store → Option Store
+store_unless (Some fault) store = None
+store_unless None store = store
+
+abbrev pub store_of : Contents → Result Change Fault → Option Store
+store_of contents (Err fault) = None
+store_of contents (Ok change) = store_unless (store_fault contents change.store) change.store
+
+-- all that one step of a running thread writes: nothing where the thread ends or stops
+unfoldable pub stored : Contents → Thread → Option Store
+stored contents thread = if thread.pc == 0xFFFF_0000 then None else store_of contents (next_change contents thread)
+
 -- the kind of a piece and the addresses that it has
 abbrev pub shape : Piece → Kind × Range
 shape piece = (piece.kind, piece_range piece)

@@ -1,13 +1,16 @@
 //! What holds of each step.
-ghost use Rattle.std.specs.Prelude.{◌≡◌, ℕ, ◌+◌, ◌^◌, ◌≤◌, ◌<◌, List, length, map, Option, Some, Result, IsSomeAnd};
+ghost use Rattle.std.specs.Prelude.{◌≡◌, ◌≢◌, ℕ, ◌+◌, ◌^◌, ◌≤◌, ◌<◌, List, length, map};
+ghost use Rattle.std.specs.Prelude.{Option, Some, Result, IsSomeAnd, None};
 ghost use Rattle.std.specs.Option.{option_map};
 ghost use Rattle.ks_base.specs.declared.refusals.Fault.{Fault};
+ghost use Rattle.ks_base.specs.declared.refusals.Fault.TheVariants.{Stray};
 ghost use Rattle.image_memory.specs.declared.types.Piece.{Piece};
 ghost use Rattle.image_memory.specs.declared.types.Kind.TheVariants.{Code};
 ghost use Rattle.image_memory.specs.Contents.{Contents, ArePlaced, holding};
 ghost use Rattle.image_memory.specs.Access.{kind_of, written};
 ghost use Rattle.ia32_decode.specs.declared.types.Decoded.{Decoded};
-ghost use Rattle.ia32_step.specs.Step.{Left, shape, store_fault, change_by, done, carried_out, stepped};
+ghost use Rattle.ia32_step.specs.Step.{Left, shape, store_fault, after_store, change_by, done, carried_out};
+ghost use Rattle.ia32_step.specs.Step.{stepped, stored};
 ghost use Rattle.ia32_step.specs.Threads.{esp_of};
 ghost use Rattle.ia32_step.specs.Code.{KeepsCode, SameData, SameLeft};
 ghost use Rattle.ia32_step.specs.Frames.{instruction_at, IsCalled, IsReturned};
@@ -15,7 +18,7 @@ ghost use Rattle.ia32_step.specs.declared.types.Context.{Context};
 ghost use Rattle.ia32_step.specs.declared.types.Change.{Change};
 ghost use Rattle.ia32_step.specs.declared.types.Store.{Store};
 ghost use Rattle.ia32_step.specs.declared.types.Thread.{Thread};
-ghost use Rattle.ia32_step.specs.declared.types.Outcome.TheVariants.{Moved};
+ghost use Rattle.ia32_step.specs.declared.types.Outcome.TheVariants.{Moved, Stopped};
 ghost use Rattle.ia32_step.specs.declared.types.Flow.TheVariants.{Call, Return};
 
 /// A step leaves a thread its number and its stack, memory its retired ranges, and each piece its kind, its base and
@@ -27,6 +30,13 @@ pub fn steps_keep()
         (stepped contents thread).contents.fences ≡ contents.fences }
     ensures shapes { (contents : Contents) (thread : Thread) →
         map shape (stepped contents thread).contents.pieces ≡ map shape contents.pieces }
+{}
+
+/// What a step tells that it wrote can be written, and is all that the step changes of memory.
+pub fn steps_write_one_number()
+    ensures clear { (contents : Contents) (thread : Thread) → store_fault contents (stored contents thread) ≡ None }
+    ensures all { (contents : Contents) (thread : Thread) →
+        (stepped contents thread).contents ≡ after_store contents (stored contents thread) }
 {}
 
 /// A step leaves each byte of code as it was, and so does whatever an instruction may do.
@@ -72,4 +82,10 @@ pub fn calls_and_returns()
     ensures returned { (contents : Contents) (thread : Thread) (decoded : Decoded) →
         (carried_out contents thread (Some decoded)).outcome ≡ Moved Return →
         IsReturned contents.pieces thread (carried_out contents thread (Some decoded)) }
+{}
+
+/// An instruction that is carried out never stops a thread as a retired range does: that fault is the fetch's alone.
+pub fn instructions_are_never_stray()
+    ensures { (contents : Contents) (thread : Thread) (decoded : Option Decoded) →
+        (carried_out contents thread decoded).outcome ≢ Stopped Stray }
 {}

@@ -18,6 +18,9 @@ mod stack;
 mod step;
 mod types;
 
-pub use laws::{calls_and_returns, code_bytes_have_no_say, steps_keep, steps_leave_code};
-pub use step::step_thread;
-pub use types::{Flow, Outcome, State, Thread, Threads};
+pub use laws::{
+    calls_and_returns, code_bytes_have_no_say, instructions_are_never_stray, steps_keep,
+    steps_leave_code, steps_write_one_number,
+};
+pub use step::{step_thread, step_traced};
+pub use types::{Flow, Frame, Outcome, State, Store, Thread, Threads, Traced};

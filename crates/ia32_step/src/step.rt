@@ -2,14 +2,14 @@
 ghost use Rattle.std.specs.Prelude.{◌≡◌, Some, OnOk, OnErr};
 ghost use Rattle.ia32_step.specs.Registers.{accumulator};
 ghost use Rattle.ia32_step.specs.Step.{left_by, context_of, resumed, stopped, exited, store_fault, after_store};
-ghost use Rattle.ia32_step.specs.Step.{unless_barred, change_by, next_change, stepped};
+ghost use Rattle.ia32_step.specs.Step.{unless_barred, change_by, next_change, stepped, store_unless, stored};
 ghost use Rattle.ia32_decode.specs.declared.types.Width.TheVariants.{Dword};
 ghost use Rattle.ia32_step.specs.declared.types.State.TheVariants.{Running};
 ghost use Rattle.ia32_step.specs.declared.types.Outcome.TheVariants.{Stopped, Exited};
 ghost use Rattle.ia32_step.specs.inside.Comes.{Comes, fault_of};
 
 use crate::exec::execute;
-use crate::types::{Change, Context, Flow, Outcome, State, Store, Thread};
+use crate::types::{Change, Context, Flow, Outcome, State, Store, Thread, Traced};
 use ia32_decode::{Decoded, Width, decode};
 use image_memory::Space;
 use ks_base::Fault;
@@ -72,20 +72,35 @@ fn exit(thread: &mut Thread) -> Outcome
     Outcome::Exited(value)
 }
 
+/// A step that writes nothing.
+fn unwritten(outcome: Outcome) -> Traced
+    ensures { result ≡ record { outcome = outcome; store = None } }
+{
+    Traced {
+        outcome,
+        store: None,
+    }
+}
+
 /// Does what an instruction does, or stops the thread where its number can't be written.
-fn carry_out<S: Space>(space: &mut S, thread: &mut Thread, change: &Change) -> Outcome
-    ensures left { left_by (S.contents space.new) thread.new result
+fn carry_out<S: Space>(space: &mut S, thread: &mut Thread, change: &Change) -> Traced
+    ensures left { left_by (S.contents space.new) thread.new result.outcome
         ≡ unless_barred (store_fault (S.contents space.old) change.now.store) (S.contents space.old) thread.old
         change.now }
+    ensures store { result.store
+        ≡ store_unless (store_fault (S.contents space.old) change.now.store) change.now.store }
     ensures room { S.room space.new ≡ S.room space.old }
 {
     if let Some(store) = &change.store {
         if let Err(fault) = write_store(space, store) {
-            return stop(thread, fault);
+            return unwritten(stop(thread, fault));
         }
     }
     thread.resume(&change.context);
-    Outcome::Moved(change.flow)
+    Traced {
+        outcome: Outcome::Moved(change.flow),
+        store: change.store,
+    }
 }
 
 /// What a decoded instruction does, if there is one.
@@ -122,14 +137,25 @@ fn do_next<S: Space>(space: &S, thread: &Thread, change: &mut Change) -> Result<
 /// [`Fault::Unsupported`], [`Fault::Trap`], [`Fault::BadLock`], the fault of the first byte that can't be read,
 /// [`Fault::Divide`], or that of the first byte that can't be written, the first of these that holds. No byte of
 /// code is read or written as data.
-#[tactic(auto, unfolding(crate::specs::Step::stepped))]
 pub fn step_thread<S: Space>(space: &mut S, thread: &mut Thread) -> Outcome
     requires running { thread.old.state ≡ Running }
     ensures left { left_by (S.contents space.new) thread.new result ≡ stepped (S.contents space.old) thread.old }
     ensures room { S.room space.new ≡ S.room space.old }
 {
+    step_traced(space, thread).outcome
+}
+
+/// Carries out the next instruction of a running thread, as [`step_thread`] does, and answers what it wrote beside what
+/// it came to.
+#[tactic(auto, unfolding(crate::specs::Step::stepped, crate::specs::Step::stored))]
+pub fn step_traced<S: Space>(space: &mut S, thread: &mut Thread) -> Traced
+    requires running { thread.old.state ≡ Running }
+    ensures left { left_by (S.contents space.new) thread.new result.outcome ≡ stepped (S.contents space.old) thread.old }
+    ensures store { result.store ≡ stored (S.contents space.old) thread.old }
+    ensures room { S.room space.new ≡ S.room space.old }
+{
     if thread.pc == 0xFFFF_0000 {
-        return exit(thread);
+        return unwritten(exit(thread));
     }
     let mut change = Change {
         context: thread.context(),
@@ -138,6 +164,6 @@ pub fn step_thread<S: Space>(space: &mut S, thread: &mut Thread) -> Outcome
     };
     match do_next(space, thread, &mut change) {
         Ok(()) => carry_out(space, thread, &change),
-        Err(fault) => stop(thread, fault),
+        Err(fault) => unwritten(stop(thread, fault)),
     }
 }

@@ -67,6 +67,24 @@ pub enum Outcome {
     Stopped(Fault),
 }
 
+/// What a step came to, and what it wrote.
+#[derive(Clone, Copy)]
+pub struct Traced {
+    /// What the step came to.
+    pub outcome: Outcome,
+    /// All that it wrote to memory; nothing where the thread ended or stopped.
+    pub store: Option<Store>,
+}
+
+/// A call that is open: where the address to which it returns stands, and which it is.
+#[derive(Clone, Copy, PartialEq, Eq, Debug)]
+pub struct Frame {
+    /// The address of the lowest of the four bytes of the stack that hold the return address.
+    pub slot: u32,
+    /// The return address.
+    pub address: u32,
+}
+
 /// Where an operand stands.
 #[derive(Clone, Copy)]
 pub(crate) enum Place {
@@ -76,9 +94,9 @@ pub(crate) enum Place {
     InMemory(u32),
 }
 
-/// A number that is to be written to memory.
+/// A number that is written to memory.
 #[derive(Clone, Copy)]
-pub(crate) struct Store {
+pub struct Store {
     /// The address of its lowest byte.
     pub address: u32,
     /// How wide it is.

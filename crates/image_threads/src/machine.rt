@@ -1,9 +1,9 @@
 //! A program that runs: its memory, its symbols, its stacks and its threads.
-ghost use Rattle.std.specs.Prelude.{◌≡◌, ◌≢◌, ◌<◌, ◌≤◌, ◌+◌, ◌-◌, ◌++◌, [], ◌∷◌, length, map, IfOk, OnOk, OnErr, IfSome, IsTrue, Contains, MatchResult, Ok, Err, false};
+ghost use Rattle.std.specs.Prelude.{◌≡◌, ◌≢◌, ◌<◌, ◌≤◌, ◌+◌, ◌-◌, ◌++◌, [], ◌∷◌, length, map, IfOk, OnOk, OnErr, IfSome, IsTrue, Contains, MatchResult, Ok, Err, None, false};
 ghost use Rattle.std.specs.Borrow.{Lends, sem};
 ghost use Rattle.ks_base.specs.declared.refusals.Refusal.TheVariants.{Memory};
 ghost use Rattle.ia32_step.specs.declared.types.State.TheVariants.{Running};
-ghost use Rattle.ia32_step.specs.Step.{left_by, shape, stepped};
+ghost use Rattle.ia32_step.specs.Step.{left_by, shape, stepped, stored, store_fault, after_store};
 ghost use Rattle.image_memory.specs.Access.{after_write};
 ghost use Rattle.image_threads.specs.Program.{AreNumbered, WellPlaced, running_at, running_numbers};
 ghost use Rattle.image_threads.specs.Spawning.{is_stack, AreStacks, is_taken, free_stack, first_bytes, first_thread, spawned};
@@ -12,7 +12,9 @@ ghost use Rattle.image_threads.specs.Stepping.{moved};
 use crate::first::first_bytes;
 use crate::stacks::fill_stack;
 use crate::thread_list::ThreadList;
-use ia32_step::{Outcome, Thread, Threads, step_thread, steps_keep};
+use ia32_step::{
+    Outcome, Thread, Threads, Traced, step_traced, steps_keep, steps_write_one_number,
+};
 use image_file::Image;
 use image_memory::Space;
 use ks_base::{Name, Range, Ranges, Refusal};
@@ -174,7 +176,6 @@ impl<S: Space> Machine<S> {
 
     /// Steps the running thread of a number, and answers what the step came to. [`Refusal::NoThread`] comes exactly
     /// where no running thread has the number, and all is then as before. It takes no memory.
-    #[tactic(auto, unfolding(crate::specs::Stepping::moved))]
     pub fn step(&mut self, thread: u32) -> Result<Outcome, Refusal>
         ensures moved { MatchResult result
             (λ outcome. moved self.old thread ≡ Ok (self.new, outcome))
@@ -182,12 +183,26 @@ impl<S: Space> Machine<S> {
         ensures refused { OnErr result (self.new ≡ self.old) }
         ensures stacks { AreStacks self.old.contents.pieces self.old.stacks → AreStacks self.new.contents.pieces self.new.stacks }
     {
+        Ok(self.step_traced(thread)?.outcome)
+    }
+
+    /// Steps the running thread of a number, as [`Machine::step`] does, and answers what it wrote beside what it came to.
+    #[tactic(auto, unfolding(crate::specs::Stepping::moved))]
+    pub fn step_traced(&mut self, thread: u32) -> Result<Traced, Refusal>
+        ensures moved { MatchResult result
+            (λ traced. moved self.old thread ≡ Ok (self.new, traced.outcome))
+            (λ refusal. moved self.old thread ≡ Err refusal) }
+        ensures written { IfOk result (λ traced. self.new.contents ≡ after_store self.old.contents traced.store) }
+        ensures clear { IfOk result (λ traced. store_fault self.old.contents traced.store ≡ None) }
+        ensures refused { OnErr result (self.new ≡ self.old) }
+        ensures stacks { AreStacks self.old.contents.pieces self.old.stacks → AreStacks self.new.contents.pieces self.new.stacks }
+    {
         let Some(mut running) = self.threads.running_at(thread) else {
             return Err(Refusal::NoThread(thread));
         };
-        let outcome = step_numbered(&mut self.space, &mut running);
+        let traced = step_numbered(&mut self.space, &mut running);
         self.threads.put(running);
-        Ok(outcome)
+        Ok(traced)
     }
 }
 
@@ -199,15 +214,18 @@ fn free_among(stacks: &[Range], threads: &ThreadList) -> Option<Range>
 }
 
 /// Steps a running thread, which keeps its number and its stack.
-fn step_numbered<S: Space>(space: &mut S, thread: &mut Thread) -> Outcome
+fn step_numbered<S: Space>(space: &mut S, thread: &mut Thread) -> Traced
     requires running { thread.old.state ≡ Running }
-    ensures left { left_by (S.contents space.new) thread.new result ≡ stepped (S.contents space.old) thread.old }
+    ensures left { left_by (S.contents space.new) thread.new result.outcome ≡ stepped (S.contents space.old) thread.old }
+    ensures written { S.contents space.new ≡ after_store (S.contents space.old) result.store }
+    ensures clear { store_fault (S.contents space.old) result.store ≡ None }
     ensures room { S.room space.new ≡ S.room space.old }
     ensures number { thread.new.number ≡ thread.old.number }
     ensures stack { thread.new.stack ≡ thread.old.stack }
     ensures shapes { map shape (S.contents space.new).pieces ≡ map shape (S.contents space.old).pieces }
 {
-    // A step keeps the thread's number and stack, and the shapes of the pieces.
+    // A step keeps the thread's number and stack, and the shapes of the pieces, and writes what it tells.
     steps_keep();
-    step_thread(space, thread)
+    steps_write_one_number();
+    step_traced(space, thread)
 }
