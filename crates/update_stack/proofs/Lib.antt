@@ -14,6 +14,7 @@ pub mod PlanLaws
 pub mod SeenLaws
 pub mod SpawnLaws
 pub mod StepLaws
+pub mod TraceLaws
 pub mod TableLaws
 pub mod TakenBackLaws
 pub mod TextLaws

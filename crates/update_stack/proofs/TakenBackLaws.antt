@@ -45,7 +45,7 @@ use Rattle.update_stack.specs.Apply.{update_as}
 use Rattle.update_stack.specs.Undo.{without_last, withdrawn, ranges_in, newest_update, undone_by, undone}
 use Rattle.update_stack.specs.Events.{Event, Spawn, Step, Apply, Undo, Happened, spawn_answered, step_answered}
 use Rattle.update_stack.specs.Events.{apply_answered, undo_answered, answered, machine_after, after_event, after_events}
-use Rattle.update_stack.specs.TakenBack.{Lasting, is_text, lasting, earlier_by, befores, TakenBackIsRestored}
+use Rattle.update_stack.specs.TakenBack.{Lasting, is_text, lasting, earlier_by, befores, TakenBackIsRestored, MachinesAreBuilt}
 use Rattle.update_stack.specs.Stacked.{IsSound, IsBuilt, Untouched, Updated}
 use Rattle.update_stack.proofs.TableLaws.{last_back, last_more}
 use Rattle.update_stack.proofs.BuiltLaws.{MemoryLaws, built_sound, built_write, built_commit, committed_back, wrote}
@@ -478,3 +478,7 @@ pub taken_back : MemoryLaws → PlansCanBeMade → GapsAreFree → StartsWell �
 taken_back laws plans free starts file image events now read is =
     undo_restores_earlier (befores [] (first_machine image) events) (after_events (first_machine image) events)
     (moments laws plans free [] (first_machine image) events (starts file image read)) now is
+
+pub all_built : MemoryLaws → PlansCanBeMade → GapsAreFree → StartsWell → MachinesAreBuilt
+all_built laws plans free starts file image events read =
+    (moments laws plans free [] (first_machine image) events (starts file image read)).built

@@ -10,6 +10,7 @@ use Rattle.image_memory.specs.Fetch.{is_code}
 use Rattle.symbol_table.specs.declared.symbols.Symbol.{Symbol}
 use Rattle.update_stack.specs.CallTable.{CallTable, Row, first_machine}
 use Rattle.update_stack.specs.StandsFor.{patched}
+use Rattle.update_stack.specs.Stacked.{IsBuilt}
 use Rattle.update_stack.specs.Undo.{without_last}
 use Rattle.update_stack.specs.Events.{Event, Undo, Answer, Happened, Spawned, Stepped, Applied, Undone, answered}
 use Rattle.update_stack.specs.Events.{after_event, after_events}
@@ -60,3 +61,9 @@ TakenBackIsRestored =
     → image_of file ≡ Ok image
     → answered (after_events (first_machine image) events) Undo ≡ Ok now
     → option_map lasting (last_or None (befores [] (first_machine image) events)) ≡ Some (lasting now.machine)
+
+-- after every list of events from the start, what holds of the machine at every moment
+abbrev pub MachinesAreBuilt : Type 0
+MachinesAreBuilt =
+    (file : List ℕ) (image : Image) (events : List Event)
+    → image_of file ≡ Ok image → IsBuilt (after_events (first_machine image) events)

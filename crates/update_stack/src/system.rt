@@ -2,6 +2,7 @@
 ghost use Rattle.std.specs.Prelude.{◌≡◌, ◌≢◌, [], map, IfOk, OnOk, OnErr, MatchResult, Ok, Err, is_some};
 ghost use Rattle.std.specs.Result.{is_ok, result_err};
 ghost use Rattle.ks_base.specs.declared.refusals.Refusal.TheVariants.{Memory};
+ghost use Rattle.ia32_step.specs.Step.{after_store};
 ghost use Rattle.image_threads.specs.Program.{running_at};
 ghost use Rattle.image_threads.specs.Spawning.{AreStacks};
 ghost use Rattle.update_stack.specs.CallTable.{contents_of, shown_update};
@@ -14,6 +15,7 @@ ghost use Rattle.update_plan.specs.Sound.{AreGaps, CanBeMade};
 ghost use Rattle.update_stack.specs.Apply.{committed, gaps_of, planned_in, retired_of, running_of};
 ghost use Rattle.update_stack.specs.Events.{Apply, Spawn, Step, Undo, Applied, Spawned, Stepped, Undone, happened};
 ghost use Rattle.update_stack.specs.Events.{answered, after_event};
+ghost use Rattle.update_stack.specs.Stacked.{IsBuilt};
 ghost use Rattle.update_stack.specs.StandsFor.{StandsFor};
 ghost use Rattle.update_stack.specs.Undo.{newest_update};
 ghost use Rattle.update_stack.specs.inside.TakingBack.{undo_refusal, ComesOfUndo};
@@ -27,7 +29,7 @@ use crate::updates::{KeptList, Updates};
 use crate::withdrawing::{take_back, updates_are_taken_back};
 use arena_gaps::laws::gaps_are_free;
 use arena_gaps::without_all;
-use ia32_step::Outcome;
+use ia32_step::{Outcome, Traced};
 use image_memory::Space;
 use image_threads::Machine;
 use ks_base::{Name, Range, Ranges, Refusal, Report};
@@ -96,7 +98,8 @@ impl<S: Space> System<S> {
     /// The program. It stands for the machine that never patches code: all is equal but the bytes of the jumps at the
     /// homes of replaced functions.
     pub fn machine(&self) -> &Machine<S>
-        ensures { StandsFor result.now self.now }
+        ensures stands { StandsFor result.now self.now }
+        ensures built { IsBuilt self.now }
     {
         &self.machine
     }
@@ -137,12 +140,26 @@ impl<S: Space> System<S> {
         ensures after { self.new ≡ after_event self.old (Step thread) }
         ensures runs { is_ok result ≡ is_some (running_at self.old.threads thread) }
     {
+        Ok(self.step_traced(thread)?.outcome)
+    }
+
+    /// Steps the running thread of a number, as [`System::step`] does, and answers what it wrote beside what it came to.
+    pub fn step_traced(&mut self, thread: u32) -> Result<Traced, Refusal>
+        ensures answered { MatchResult result
+            (λ traced. answered self.old (Step thread) ≡ Ok (happened self.new (Stepped traced.outcome)))
+            (λ refusal. answered self.old (Step thread) ≡ Err refusal) }
+        ensures written { IfOk result (λ traced.
+            self.new.pieces ≡ (after_store (contents_of self.old) traced.store).pieces) }
+        ensures refused { OnErr result (self.new ≡ self.old) }
+        ensures after { self.new ≡ after_event self.old (Step thread) }
+        ensures runs { is_ok result ≡ is_some (running_at self.old.threads thread) }
+    {
         steps_stand();
         data_are_written_past_jumps();
         code_stays_code();
         homes_stay_spliced();
         code_that_stays();
-        self.machine.step(thread)
+        self.machine.step_traced(thread)
     }
 
     /// Replaces the functions of the program that differ between two object files, built before and after a change of

@@ -1,5 +1,5 @@
 //! What is restored when an update is taken back.
-ghost use Rattle.update_stack.specs.TakenBack.{TakenBackIsRestored};
+ghost use Rattle.update_stack.specs.TakenBack.{TakenBackIsRestored, MachinesAreBuilt};
 
 use arena_gaps::laws::gaps_are_free;
 use image_memory::pieces_stay_placed;
@@ -14,6 +14,18 @@ pub fn undo_restores()
     ensures { TakenBackIsRestored }
 {
     // Nothing is done here: the laws say what each change of the machine leaves.
+    pieces_stay_placed();
+    pieces_are_added();
+    ranges_are_retired();
+    changes_are_withdrawn();
+    plans_can_be_made();
+    gaps_are_free();
+}
+
+/// After every list of events from the start of an image, the machine's updates lie each on what was there without it.
+pub fn machines_are_built()
+    ensures { MachinesAreBuilt }
+{
     pieces_stay_placed();
     pieces_are_added();
     ranges_are_retired();
