@@ -1,0 +1,4 @@
+pub mod ClearLaws
+pub mod SlotLaws
+pub mod ViewLaws
+pub mod WindowLaws

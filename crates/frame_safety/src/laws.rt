@@ -1,0 +1,45 @@
+//! What is clear of threads and their frames where code goes, and which windows and slots stay.
+ghost use Rattle.frame_safety.specs.Clear.{AcceptedIsClear, TakenBackIsClear};
+ghost use Rattle.frame_safety.specs.Slots.{UpdatesKeepSlots, UndosKeepSlots, UpdatesKeepThreads, UndosKeepThreads};
+ghost use Rattle.frame_safety.specs.Windows.{StartsKeepWindows, StepsKeepWindows, UpdatesKeepWindows, UndosKeepWindows};
+
+use arena_gaps::laws::gaps_are_free;
+use memory_changes::laws::pieces_are_added;
+use update_plan::laws::plans_can_be_made;
+
+/// Where an update is accepted, no running thread, and no frame of it that keeps the slot rule, is in the code that is
+/// retired.
+pub fn accepted_updates_are_clear()
+    ensures { AcceptedIsClear }
+{}
+
+/// Where an update is taken back, none is in its pieces.
+pub fn undone_updates_are_clear()
+    ensures { TakenBackIsClear }
+{}
+
+/// A start and a step of a thread change no window.
+pub fn threads_keep_windows()
+    ensures starts { StartsKeepWindows }
+    ensures steps { StepsKeepWindows }
+{}
+
+/// An update takes windows away in the ranges that it retires alone, and taking it back in its pieces alone.
+pub fn updates_keep_windows()
+    ensures updates { UpdatesKeepWindows }
+    ensures undos { UndosKeepWindows }
+{
+    // Nothing is done here: code stays code where pieces are added, and a plan's pieces meet no piece that is there.
+    pieces_are_added();
+    plans_can_be_made();
+    gaps_are_free();
+}
+
+/// An update that is accepted, and one that is taken back, leaves each slot of a stack what it holds, and each thread
+/// as it is.
+pub fn updates_keep_slots()
+    ensures updates { UpdatesKeepSlots }
+    ensures undos { UndosKeepSlots }
+    ensures updated_threads { UpdatesKeepThreads }
+    ensures undone_threads { UndosKeepThreads }
+{}

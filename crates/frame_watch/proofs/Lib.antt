@@ -1,0 +1,6 @@
+mod FrameLaws
+mod LeastLaws
+mod ListLaws
+mod TouchedLaws
+mod MovedLaws
+mod EventLaws

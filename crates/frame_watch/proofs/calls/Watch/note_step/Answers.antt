@@ -1,0 +1,21 @@
+-- The slot rule is tested after all others.
+use Rattle.std.proofs.Common.{◌∙◌, sym, subst, ap}
+use Rattle.frame_watch.specs.Frames.{Watching}
+use Rattle.frame_watch.specs.Discipline.{sight_of, slots_tested, step_noted}
+use Rattle.frame_watch.specs.inside.Kept.{AreInPlace}
+use Rattle.frame_watch.proofs.EventLaws.{step_is, tested_in_place}
+use Rattle.frame_watch.proofs.calls.Watch.note_step.Goals as goal
+
+pub invariant_of-self : goal.invariant_of-self
+invariant_of-self g c =
+    let P : Watching → Type 0 = λ w. AreInPlace w.threads in
+    subst P (sym c.test_all.ensures)
+    (tested_in_place (sight_of (g.S.Space.contents c.args.space.now)) c.advance.new.self)
+
+pub returns : goal.returns
+returns g c =
+    let sight = sight_of (g.S.Space.contents c.args.space.now) in
+    c.test_all.ensures
+    ∙ (ap (slots_tested sight) c.advance.ensures.noted
+    ∙ (step_is sight c.args.before.now c.args.after.now c.args.outcome c.self.inside.notes c.advance.ensures.stops
+    ∙ ap (λ (w : Watching). step_noted sight c.args.before.now c.args.after.now c.args.outcome w) c.self.view_is))

@@ -1,0 +1,139 @@
+//! What is told to a watch, and what it says.
+ghost use Rattle.std.specs.Prelude.{◌≡◌, OnOk, OnErr, None};
+ghost use Rattle.frame_watch.specs.Frames.{first_watching};
+ghost use Rattle.frame_watch.specs.Discipline.{sight_of, spawn_noted, step_noted, update_noted};
+ghost use Rattle.frame_watch.specs.Conditions.{MayStart, IsStep, HoldBut};
+ghost use Rattle.frame_watch.specs.inside.Kept as inside;
+
+use crate::memory::esp_of;
+use crate::notes::Notes;
+use crate::types::Verdict;
+use ia32_decode::Width;
+use ia32_step::{Outcome, Store, Thread, Traced};
+use image_memory::Space;
+use std::alloc::{AllocError, Global};
+use std::marker::Model;
+
+/// Watches a run: it is told each event, keeps the open frames of each running thread, and says whether the run has
+/// kept the rules. Once one was broken it only counts events.
+#[derive(Drop)]
+pub struct Watch {
+    alloc: Global,
+    notes: Notes,
+}
+
+impl Model for Watch {
+    ghost use Rattle.frame_watch.specs.Frames.{Watching};
+    ghost use Rattle.frame_watch.specs.inside.Kept.{AreInPlace};
+
+    ghost Value = { Watching };
+
+    ghost view = { λ w. w.notes };
+
+    ghost invariant = { λ w. AreInPlace w.notes.threads };
+}
+
+impl Watch {
+    /// A watch before the first event. It takes no memory; `alloc` is kept for the threads that are started.
+    pub fn new(alloc: Global) -> Watch
+        ensures { result ≡ first_watching }
+    {
+        Watch {
+            alloc,
+            notes: Notes::new(alloc),
+        }
+    }
+
+    /// A thread was started. This looks at each open frame, and takes room for all frames that the thread's stack can
+    /// hold. `Err` comes for want of memory alone, and the watch is then as before.
+    pub fn note_spawn<S: Space>(&mut self, thread: &Thread, space: &S) -> Result<(), AllocError>
+        requires { MayStart self.old thread.now }
+        ensures noted { OnOk result (self.new ≡ spawn_noted (sight_of (S.contents space.now)) thread.now self.old) }
+        ensures refused { OnErr result (self.new ≡ self.old) }
+    {
+        self.notes.begin(self.alloc, thread, space)?;
+        self.notes.test_all(space);
+        Ok(())
+    }
+
+    /// A thread was started, and since the event before nothing was written but its own stack. This looks at no frame
+    /// of another thread, and is else as [`note_spawn`](Watch::note_spawn).
+    pub fn note_spawn_alone<S: Space>(
+        &mut self,
+        thread: &Thread,
+        space: &S,
+    ) -> Result<(), AllocError>
+        requires start { MayStart self.old thread.now }
+        requires held { HoldBut (S.contents space.now).pieces self.old.threads None }
+        ensures noted { OnOk result (self.new ≡ spawn_noted (sight_of (S.contents space.now)) thread.now self.old) }
+        ensures refused { OnErr result (self.new ≡ self.old) }
+    {
+        self.notes.begin(self.alloc, thread, space)?;
+        self.notes.test_touched(
+            thread.number,
+            thread.stack,
+            Some(first_store(thread)),
+            space,
+        );
+        Ok(())
+    }
+
+    /// A thread made a step. This looks at each open frame, and takes no memory.
+    pub fn note_step<S: Space>(
+        &mut self,
+        before: &Thread,
+        after: &Thread,
+        outcome: Outcome,
+        space: &S,
+    )
+        requires { IsStep (S.contents space.now).pieces before.now after.now outcome self.old.threads }
+        ensures { self.new ≡ step_noted (sight_of (S.contents space.now)) before.now after.now outcome self.old }
+    {
+        self.notes.advance(before, after, outcome, space);
+        self.notes.test_all(space);
+    }
+
+    /// A thread made a step that tells what it wrote. This looks only at frames whose slots these bytes touch, found by
+    /// halving, and takes no memory.
+    pub fn note_traced<S: Space>(
+        &mut self,
+        before: &Thread,
+        after: &Thread,
+        traced: &Traced,
+        space: &S,
+    )
+        requires step { IsStep (S.contents space.now).pieces before.now after.now traced.now.outcome self.old.threads }
+        requires held { HoldBut (S.contents space.now).pieces self.old.threads traced.now.store }
+        ensures { self.new
+            ≡ step_noted (sight_of (S.contents space.now)) before.now after.now traced.now.outcome self.old }
+    {
+        self.notes.advance(before, after, traced.outcome, space);
+        self.notes
+            .test_touched(before.number, before.stack, traced.store, space);
+    }
+
+    /// An update was accepted or taken back. This takes no memory.
+    pub fn note_update(&mut self)
+        ensures { self.new ≡ update_noted self.old }
+    {
+        self.notes.count();
+    }
+
+    /// Whether the run has kept the rules so far.
+    pub fn verdict(&self) -> Verdict
+        ensures { result ≡ self.now.verdict }
+    {
+        self.notes.verdict()
+    }
+}
+
+// A started thread's stack was written up to the address to which it returns at last.
+fn first_store(thread: &Thread) -> Store
+    ensures { result ≡ inside.first_store thread.now }
+{
+    Store {
+        address: esp_of(thread),
+        width: Width::Dword,
+        value: 0xFFFF_0000,
+    }
+}
