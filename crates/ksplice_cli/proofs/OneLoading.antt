@@ -7,7 +7,7 @@ use Rattle.ks_io.specs.Loads.{Needed, AreHeld, IsHeld, FaultTells, EndsLoads, Ca
 use Rattle.ks_io.specs.declared.types.FileFault.{FileFault}
 use Rattle.ks_io.specs.declared.types.FileFault.TheVariants.{Missing, TooLong, Failed, Memory}
 use Rattle.script_lines.specs.declared.types.Command.{Command}
-use Rattle.update_stack.specs.CallTable.{CallTable}
+use Rattle.ksplice_session.specs.Watching.{Watched}
 use Rattle.ksplice_session.specs.Session.{lacking, session_played}
 use Rattle.ksplice_cli.specs.Answer.{Answer}
 use Rattle.ksplice_cli.specs.Calls.{failed_load, named_files, needed, session_files, IsAnswer, IsAnswerBy}
@@ -147,7 +147,7 @@ whole_lines : (file : Option Needed) (lost : Option FileFault) (refused : Bool) 
 whole_lines None lost refused ample is = refl
 whole_lines (Some file) lost refused ample is = absurd (ample (ap (λ (x : Option FileFault). session_status (Some file) x refused) is))
 
-whole_session : (read : Result (CallTable × List Command) Refusal) (held : List (List ℕ)) (lost : Option FileFault) → ((session_answer read held lost).status ≡ 6 → ⊥) → lost ≡ None
+whole_session : (read : Result (Watched × List Command) Refusal) (held : List (List ℕ)) (lost : Option FileFault) → ((session_answer read held lost).status ≡ 6 → ⊥) → lost ≡ None
     → first_lacking (session_files read) held ≡ None
 whole_session (Err refusal) held lost ample is = refl
 whole_session (Ok session) held lost ample is = whole_lines (lacking session.1 held) lost (session_played session.0 session.1 held).refused ample is

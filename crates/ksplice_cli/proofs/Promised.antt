@@ -10,7 +10,7 @@ use Rattle.ks_io.specs.Loads.{Needed, Told, AreHeld, EndsLoads, RoseFor, first_l
 use Rattle.ks_io.specs.LoadLaws.{first_lacking-within}
 use Rattle.ks_io.specs.declared.types.FileFault.{FileFault}
 use Rattle.script_lines.specs.declared.types.Command.{Command}
-use Rattle.update_stack.specs.CallTable.{CallTable}
+use Rattle.ksplice_session.specs.Watching.{Watched}
 use Rattle.ksplice_session.specs.Session.{lacking, lost_line, session_played}
 use Rattle.ksplice_cli.specs.Answer.{Answer, OneComesOut, Answered, NoMemory, ComesOut, usage_answer}
 use Rattle.ksplice_cli.specs.Calls.{named_files, line_files, session_files, needed, IsAnswerBy, Answers}
@@ -80,7 +80,7 @@ not_four reply e =
     let wrong : is_replied 4 ≡ true = subst (λ (status : ℕ). is_replied status ≡ true) (sym e) (reply_status reply) in cc
 
 -- a session that lacks a file
-lines_at : (image script bytes lines : List ℕ) (k : CallTable) (commands : List Command) (held : List (List ℕ)) (told : Told) (lost : Option FileFault) (before now : Counts) (old new : Option (List ℕ))
+lines_at : (image script bytes lines : List ℕ) (k : Watched) (commands : List Command) (held : List (List ℕ)) (told : Told) (lost : Option FileFault) (before now : Counts) (old new : Option (List ℕ))
     → session_of bytes lines ≡ Ok (k, commands) → EndsLoads told (lacking commands held) lost before now
     → (file : Option Needed) → lacking commands held ≡ file → 4 ≡ session_status file lost (session_played k commands held).refused
     → new ≡ grown old ((session_played k commands held).output ++ lost_line file lost) → EndsWithFile (Some (Run image script)) told before now old new
@@ -101,7 +101,7 @@ lines_at image script bytes lines k commands held told (Some fault) before now o
   line = taken;
 }
 
-session_at : (image script bytes lines : List ℕ) (read : Result (CallTable × List Command) Refusal) (held : List (List ℕ)) (told : Told) (lost : Option FileFault) (before now : Counts) (old new : Option (List ℕ))
+session_at : (image script bytes lines : List ℕ) (read : Result (Watched × List Command) Refusal) (held : List (List ℕ)) (told : Told) (lost : Option FileFault) (before now : Counts) (old new : Option (List ℕ))
     → session_of bytes lines ≡ read → EndsLoads told (first_lacking (session_files read) held) lost before now
     → 4 ≡ (session_answer read held lost).status → new ≡ grown old (session_answer read held lost).output → EndsWithFile (Some (Run image script)) told before now old new
 session_at image script bytes lines (Err refusal) held told lost before now old new is ends four taken = absurd (not_four (Err refusal) four)

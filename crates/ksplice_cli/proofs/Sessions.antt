@@ -8,7 +8,7 @@ use Rattle.ks_io.specs.Loads.{Told}
 use Rattle.ks_io.specs.LoadLaws.{CameTo-nothing}
 use Rattle.ks_io.specs.declared.types.FileFault.{FileFault}
 use Rattle.script_lines.specs.declared.types.Command.{Command}
-use Rattle.update_stack.specs.CallTable.{CallTable}
+use Rattle.ksplice_session.specs.Watching.{Watched}
 use Rattle.ksplice_session.specs.Session.{Ends, AllDone, AllRun, FileStopped, SinkStopped, SinkAtFile, MemoryInLine, MemoryAfterLine, MemoryAtFile, SessionEnds, whole_output}
 use Rattle.ksplice_session.specs.declared.types.SessionEnd.{SessionEnd}
 use Rattle.ksplice_cli.specs.Answer.{ComesOut, Answered, refused_answer}
@@ -17,7 +17,7 @@ use Rattle.ksplice_cli.specs.Reply.{session_of, session_answer, lines_answer, ru
 use Rattle.ksplice_cli.proofs.Replies.{refusal_is_one}
 
 -- the answer to the lines comes out
-lines_come_out : (k : CallTable) (script : List Command) (held : List (List ℕ)) (lost : Option FileFault) (old new : Option (List ℕ)) (now : CallTable) (end : SessionEnd)
+lines_come_out : (k : Watched) (script : List Command) (held : List (List ℕ)) (lost : Option FileFault) (old new : Option (List ℕ)) (now : Watched) (end : SessionEnd)
     → Ends k script held lost old new now end → TookFront old (whole_output k script held lost) new → ComesOut (lines_answer k script held lost) old new (end_status end)
 lines_come_out k script held lost old new now _ (AllDone all none taken _) front =
     (rw (all, none) refl, rw all (taken ∙ ap (grown old) (sym (append-nil _))))
@@ -31,7 +31,7 @@ lines_come_out k script held lost old new now _ (MemoryAfterLine _ _ _ _) front 
 lines_come_out k script held lost old new now _ (MemoryAtFile _ _ _ _) front = front
 
 -- The session of image and script ended.
-pub session_answers : (image script : List ℕ) (k : CallTable) (lines : List Command) (told : Told) (before after : Counts) (old new : Option (List ℕ)) (now : CallTable) (end : SessionEnd) (status : ℕ)
+pub session_answers : (image script : List ℕ) (k : Watched) (lines : List Command) (told : Told) (before after : Counts) (old new : Option (List ℕ)) (now : Watched) (end : SessionEnd) (status : ℕ)
     → session_of image script ≡ Ok (k, lines) → SessionEnds told k lines before after old new now end → status ≡ end_status end → RunAnswers image script told before after old new status
 session_answers image script k lines told before after old new now end status read ends is = record {
   held = ends.held;

@@ -7,7 +7,7 @@ use Rattle.ks_io.specs.Outside.{Counts}
 use Rattle.ks_io.specs.declared.types.FileFault.{FileFault}
 use Rattle.ks_io.specs.declared.types.FileFault.TheVariants.{Missing, TooLong, Failed, Memory}
 use Rattle.script_lines.specs.declared.types.Command.{Command}
-use Rattle.update_stack.specs.CallTable.{CallTable}
+use Rattle.ksplice_session.specs.Watching.{Watched}
 use Rattle.ksplice_session.specs.Replies.{object_limit}
 use Rattle.ksplice_session.specs.Session.{files_along}
 use Rattle.ksplice_session.specs.declared.types.SessionEnd.{SessionEnd}
@@ -35,7 +35,7 @@ named_files (Some (Match image pre)) = needed_file image image_limit ∷ needed_
 named_files (Some (Run image script)) = needed_file image image_limit ∷ needed_file script script_limit ∷ []
 
 -- the files of a session that was read
-abbrev pub session_files : Result (CallTable × List Command) Refusal → List Needed
+abbrev pub session_files : Result (Watched × List Command) Refusal → List Needed
 session_files (Err refusal) = []
 session_files (Ok session) = files_along session.1
 

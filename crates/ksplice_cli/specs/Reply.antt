@@ -11,7 +11,7 @@ use Rattle.code_listing.specs.Listing.{code_of, memory_of}
 use Rattle.symbol_solve.specs.Solve.{Value, solved}
 use Rattle.script_lines.specs.declared.types.Command.{Command}
 use Rattle.script_lines.specs.Script.{script_of}
-use Rattle.update_stack.specs.CallTable.{CallTable, first_machine}
+use Rattle.ksplice_session.specs.Watching.{Watched, first_watched}
 use Rattle.ks_io.specs.Loads.{Needed}
 use Rattle.ks_io.specs.declared.types.FileFault.{FileFault}
 use Rattle.ksplice_session.specs.Session.{whole_output, lacking, session_played}
@@ -91,16 +91,16 @@ abbrev pub match_answer : List ℕ → List ℕ → Answer
 match_answer image pre = reply_answer (match_reply image pre)
 
 -- the machine of an image at its start, and the lines of a script
-abbrev pub with_lines : CallTable → Result (List Command) Refusal → Result (CallTable × List Command) Refusal
+abbrev pub with_lines : Watched → Result (List Command) Refusal → Result (Watched × List Command) Refusal
 with_lines machine (Err refusal) = Err refusal
 with_lines machine (Ok lines) = Ok (machine, lines)
 
-abbrev pub session_of_read : Result Contents Refusal → Result (List Command) Refusal → Result (CallTable × List Command) Refusal
+abbrev pub session_of_read : Result Contents Refusal → Result (List Command) Refusal → Result (Watched × List Command) Refusal
 session_of_read (Err refusal) script = Err refusal
-session_of_read (Ok image) script = with_lines (first_machine image) script
+session_of_read (Ok image) script = with_lines (first_watched image) script
 
 -- the session of an image file and a script file; what is wrong with the image comes before what is wrong with the script
-unfoldable pub session_of : List ℕ → List ℕ → Result (CallTable × List Command) Refusal
+unfoldable pub session_of : List ℕ → List ℕ → Result (Watched × List Command) Refusal
 session_of image script = session_of_read (image_of image) (script_of script)
 
 -- the status of a session: whether a file is lacking, else whether a reply is a refusal
@@ -109,11 +109,11 @@ session_status None lost refused = if refused then 3 else 0
 session_status (Some file) lost refused = lost_status lost
 
 -- the replies to the lines, up to the line of a file where one is lacking
-abbrev pub lines_answer : CallTable → List Command → List (List ℕ) → Option FileFault → Answer
+abbrev pub lines_answer : Watched → List Command → List (List ℕ) → Option FileFault → Answer
 lines_answer k script held lost =
     answer_of (whole_output k script held lost) (session_status (lacking script held) lost (session_played k script held).refused)
 
-abbrev pub session_answer : Result (CallTable × List Command) Refusal → List (List ℕ) → Option FileFault → Answer
+abbrev pub session_answer : Result (Watched × List Command) Refusal → List (List ℕ) → Option FileFault → Answer
 session_answer (Err refusal) held lost = refused_answer refusal
 session_answer (Ok session) held lost = lines_answer session.0 session.1 held lost
 

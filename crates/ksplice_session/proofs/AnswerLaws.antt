@@ -1,5 +1,5 @@
 -- Why each line is answered as it is to be.
-use Rattle.std.proofs.Common.{◌≡◌, ◌≢◌, ℕ, Bool, true, false, List, [], ◌∷◌, length, map, is_some, arith, Result, Ok, Err, IfOk, refl, sym, ◌∙◌, ap, append-nil}
+use Rattle.std.proofs.Common.{◌≡◌, ◌≢◌, ℕ, Bool, true, false, List, [], ◌∷◌, ◌++◌, length, map, is_some, arith, Result, Ok, Err, IfOk, refl, sym, ◌∙◌, ap, append-nil}
 use Rattle.std.specs.declared.alloc.AllocError.{AllocError}
 use Rattle.std.specs.Global.{Vec}
 use Rattle.ks_io.specs.Loads.{bytes_of}
@@ -7,97 +7,154 @@ use Rattle.ks_base.specs.declared.refusals.Refusal.{Refusal}
 use Rattle.ks_base.specs.declared.refusals.Refusal.TheVariants.{NoThread, Memory}
 use Rattle.ks_base.specs.Refusals.{refusal_line}
 use Rattle.image_threads.specs.Program.{running_at}
-use Rattle.script_lines.specs.declared.types.Command.TheVariants.{Spawn, Step, RoundRobin, Threads, Peek, Undo, ListUpdates}
+use Rattle.script_lines.specs.declared.types.Command.TheVariants.{Spawn, Step, RoundRobin, Threads, Peek, Undo, ListUpdates, Watch}
 use Rattle.update_stack.specs.CallTable.{CallTable, shown_update}
 use Rattle.update_stack.specs.Events.{Event, Spawn as SpawnEvent, Undo as UndoEvent, Spawned, Undone, Happened, happened, answered, machine_after, after_event, after_events}
 use Rattle.update_stack.specs.StandsFor.{patched}
 use Rattle.ksplice_session.specs.declared.types.Answer.{Answer}
-use Rattle.ksplice_session.specs.Lines.{spawned_line, threads_lines, peek_line, undone_line, list_lines}
+use Rattle.ksplice_session.specs.Watching.{Watched, watched_by, watched_after, watched_after_all}
+use Rattle.ksplice_session.specs.Lines.{spawned_line, threads_lines, peek_line, undone_line, list_lines, watch_line}
 use Rattle.ksplice_session.specs.Running.{thread_steps, round_robin}
 use Rattle.ksplice_session.specs.Replies.{Told, told_of, apply_told, told_by, replied, refused_after, shown, step_told, turns_told}
-use Rattle.ksplice_session.specs.Answers.{Answers, answer_of}
+use Rattle.ksplice_session.specs.Answers.{Answers, MadeFront, Noted, Unnoted, watched, answer_of}
 
-nothing_made : (k now : CallTable) (events : List Event) → now ≡ k → now ≡ after_events k []
-unfolding after_events
-nothing_made k now events same = same
+nothing_made : (s now : Watched) (events : List Event) → now ≡ s → now ≡ watched_after_all s []
+unfolding watched_after_all
+nothing_made s now events same = same
+
+pub nothing_done : (s : Watched) → s ≡ watched_after_all s []
+unfolding watched_after_all
+nothing_done s = refl
 
 same_line : (line : Result (List ℕ) AllocError) (reply l : List ℕ) → IfOk line (λ m. m ≡ reply) → line ≡ Ok l → l ≡ reply
 same_line (Ok m) reply l made is = cc
 same_line (Err e) reply l made is = cc
 
+-- all events of a line were made
+pub all_made : (s now : Watched) (events : List Event) → now ≡ watched_after_all s events → MadeFront s events now
+all_made s now events is = Noted events [] (append-nil events) is
+
+-- none was
+pub none_made : (s now : Watched) (events : List Event) → now ≡ s → MadeFront s events now
+none_made s now events same = Noted [] events refl (nothing_made s now events same)
+
 -- a line that was run
-pub told_answers : (k now : CallTable) (told : Told) (line : Result (List ℕ) AllocError) (r : Result Answer AllocError)
-    → told.refused ≡ false → IfOk line (λ l. l ≡ told.reply) → now ≡ after_events k told.events
-    → IfOk r (λ answer. (line ≡ Ok answer.line) × (answer.refused ≡ false)) → Answers k told now r
-told_answers k now told line (Ok answer) done made machine is = (
+pub told_answers : (s now : Watched) (told : Told) (line : Result (List ℕ) AllocError) (r : Result Answer AllocError)
+    → told.refused ≡ false → IfOk line (λ l. l ≡ told.reply) → now ≡ watched_after_all s told.events
+    → IfOk r (λ answer. (line ≡ Ok answer.line) × (answer.refused ≡ false)) → Answers s told now r
+told_answers s now told line (Ok answer) done made session is = (
   ap (λ (l : List ℕ). let a : Answer = record { line = l; refused = answer.refused } in a) (same_line line told.reply answer.line made is.0)
       ∙ ap (λ (b : Bool). let a : Answer = record { line = told.reply; refused = b } in a) (is.1 ∙ sym done),
-  machine,
+  session,
 )
-told_answers k now told line (Err e) done made machine is = record { made = told.events; rest = []; whole = append-nil told.events; machine = machine }
+told_answers s now told line (Err e) done made session is = all_made s now told.events session
 
 -- a line that is refused, and changes nothing
-pub refused_answers : (k now : CallTable) (told : Told) (refusal : Refusal) (r : Result Answer AllocError) → now ≡ k
-    → (refusal ≢ Memory → told ≡ refused_after [] refusal)
-    → IfOk r (λ answer. (answer ≡ (let a : Answer = record { line = refusal_line refusal; refused = true } in a)) × (refusal ≢ Memory)) → Answers k told now r
-refused_answers k now told refusal (Ok answer) same is h = (
+pub refused_answers : (s now : Watched) (told : Told) (refusal : Refusal) (r : Result Answer AllocError)
+    → (refusal ≢ Memory → now ≡ s) → (refusal ≢ Memory → told ≡ refused_after [] refusal) → MadeFront s told.events now
+    → IfOk r (λ answer. (answer ≡ (let a : Answer = record { line = refusal_line refusal; refused = true } in a)) × (refusal ≢ Memory)) → Answers s told now r
+refused_answers s now told refusal (Ok answer) same is front h = (
   h.0 ∙ sym (ap answer_of (is h.1)),
-  nothing_made k now told.events same ∙ sym (ap (λ (t : Told). after_events k t.events) (is h.1)),
+  nothing_made s now told.events (same h.1) ∙ sym (ap (λ (t : Told). watched_after_all s t.events) (is h.1)),
 )
-refused_answers k now told refusal (Err e) same is h = record { made = []; rest = told.events; whole = refl; machine = nothing_made k now told.events same }
+refused_answers s now told refusal (Err e) same is front h = front
 
--- an event that was answered
-pub one_event : (k : CallTable) (event : Event) (now : Happened) → answered k event ≡ Ok now → now.machine ≡ after_events k (event ∷ [])
+-- an event that was made
+pub one_event : (s now : Watched) (event : Event) → now ≡ watched_after s event → now ≡ watched_after_all s (event ∷ [])
+unfolding watched_after_all
+one_event s now event is = is
+
+unspawned : (s : Watched) (event : Event) (refusal : Refusal) → answered s.machine event ≡ Err refusal → watched_after_all s (event ∷ []) ≡ s
+unfolding watched_after_all watched_after
+unspawned s event refusal is = ap (watched_by s event) is
+
+unmoved : (s : Watched) (event : Event) (refusal : Refusal) → answered s.machine event ≡ Err refusal → after_events s.machine (event ∷ []) ≡ s.machine
 unfolding after_events after_event
-one_event k event now is = sym (ap (machine_after k) is)
+unmoved s event refusal is = ap (machine_after s.machine) is
 
-pub told_spawned : (k now : CallTable) (name : List ℕ) (argument number : ℕ) → answered k (SpawnEvent name argument) ≡ Ok (happened now (Spawned number))
-    → told_of k (Spawn name argument) [] ≡ replied (SpawnEvent name argument ∷ []) (shown now number spawned_line)
+no_more : (more rest : List Event) → more ++ rest ≡ [] → more ≡ []
+no_more [] rest is = refl
+no_more (e ∷ es) rest is = cc
+
+-- an event that is refused leaves all as it was
+nothing_came : (s now : Watched) (event : Event) (refusal : Refusal) → answered s.machine event ≡ Err refusal → MadeFront s (event ∷ []) now → now ≡ s
+nothing_came s now event refusal none (Noted [] rest whole is) = is ∙ sym (nothing_done s)
+nothing_came s now event refusal none (Noted (e ∷ es) rest whole is) =
+    let here : e ≡ event = cc in
+    let later : es ≡ [] = no_more es rest cc in
+    is ∙ ap (λ (x : Event). watched_after_all s (x ∷ es)) here ∙ ap (λ (xs : List Event). watched_after_all s (event ∷ xs)) later
+    ∙ unspawned s event refusal none
+nothing_came s now event refusal none (Unnoted [] rest name argument whole is) =
+    let here : SpawnEvent name argument ≡ event = cc in
+    is ∙ ap (λ (k : CallTable). watched k (watched_after_all s []).watch)
+    (ap (λ (x : Event). after_events s.machine (x ∷ [])) here ∙ unmoved s event refusal none)
+    ∙ ap (λ (w : Watched). watched s.machine w.watch) (sym (nothing_done s))
+nothing_came s now event refusal none (Unnoted (e ∷ []) rest name argument whole is) = cc
+nothing_came s now event refusal none (Unnoted (e ∷ f ∷ es) rest name argument whole is) = cc
+
+-- where memory ran out in a line that is one event, a front of what it tells was made
+pub front_told : (s now : Watched) (event : Event) → MadeFront s (event ∷ []) now
+    → MadeFront s (told_by event (answered s.machine event)).events now
+front_told s now event front = by (answered s.machine event) refl
+  where
+    by : (r : Result Happened Refusal) → answered s.machine event ≡ r → MadeFront s (told_by event r).events now
+    by (Ok happened) is = front
+    by (Err refusal) is = none_made s now [] (nothing_came s now event refusal is front)
+
+pub told_spawn : (s : Watched) (name : List ℕ) (argument : ℕ)
+    → told_of s (Spawn name argument) [] ≡ told_by (SpawnEvent name argument) (answered s.machine (SpawnEvent name argument))
 unfolding told_of
-told_spawned k now name argument number is = ap (told_by (SpawnEvent name argument)) is
+told_spawn s name argument = refl
 
-pub told_spawn_refused : (k : CallTable) (name : List ℕ) (argument : ℕ) (refusal : Refusal) → answered k (SpawnEvent name argument) ≡ Err refusal
-    → told_of k (Spawn name argument) [] ≡ refused_after [] refusal
+pub told_spawned : (s : Watched) (now : CallTable) (name : List ℕ) (argument number : ℕ) → answered s.machine (SpawnEvent name argument) ≡ Ok (happened now (Spawned number))
+    → told_of s (Spawn name argument) [] ≡ replied (SpawnEvent name argument ∷ []) (shown now number spawned_line)
 unfolding told_of
-told_spawn_refused k name argument refusal is = ap (told_by (SpawnEvent name argument)) is
+told_spawned s now name argument number is = ap (told_by (SpawnEvent name argument)) is
 
-pub told_stepped : (k : CallTable) (thread n : ℕ) → is_some (running_at k.threads thread) ≡ true → told_of k (Step thread n) [] ≡ step_told k thread (thread_steps k thread n)
+pub told_spawn_refused : (s : Watched) (name : List ℕ) (argument : ℕ) (refusal : Refusal) → answered s.machine (SpawnEvent name argument) ≡ Err refusal
+    → told_of s (Spawn name argument) [] ≡ refused_after [] refusal
 unfolding told_of
-told_stepped k thread n runs = rw runs refl
+told_spawn_refused s name argument refusal is = ap (told_by (SpawnEvent name argument)) is
 
-pub told_step_refused : (k : CallTable) (thread n : ℕ) → is_some (running_at k.threads thread) ≡ false → told_of k (Step thread n) [] ≡ refused_after [] (NoThread thread)
+pub told_stepped : (s : Watched) (thread n : ℕ) → is_some (running_at s.machine.threads thread) ≡ true
+    → told_of s (Step thread n) [] ≡ step_told s.machine thread (thread_steps s.machine thread n)
 unfolding told_of
-told_step_refused k thread n runs = rw runs refl
+told_stepped s thread n runs = rw runs refl
 
-pub told_turns : (k : CallTable) (quantum n : ℕ) → told_of k (RoundRobin quantum n) [] ≡ turns_told (round_robin k quantum n)
+pub told_step_refused : (s : Watched) (thread n : ℕ) → is_some (running_at s.machine.threads thread) ≡ false
+    → told_of s (Step thread n) [] ≡ refused_after [] (NoThread thread)
 unfolding told_of
-told_turns k quantum n = refl
+told_step_refused s thread n runs = rw runs refl
 
-pub told_threads : (k : CallTable) → told_of k Threads [] ≡ replied [] (threads_lines k.symbols k.threads)
+pub told_turns : (s : Watched) (quantum n : ℕ) → told_of s (RoundRobin quantum n) [] ≡ turns_told (round_robin s.machine quantum n)
 unfolding told_of
-told_threads k = refl
+told_turns s quantum n = refl
 
-pub told_peek : (k : CallTable) (address count : ℕ) → told_of k (Peek address count) [] ≡ replied [] (peek_line (patched k).pieces address count)
+pub told_threads : (s : Watched) → told_of s Threads [] ≡ replied [] (threads_lines s.machine.symbols s.machine.threads)
 unfolding told_of
-told_peek k address count = refl
+told_threads s = refl
 
-pub nothing_done : (k : CallTable) → k ≡ after_events k []
-unfolding after_events
-nothing_done k = refl
-
-pub told_undone : (k now : CallTable) (name : List ℕ) → answered k UndoEvent ≡ Ok (happened now (Undone name))
-    → told_of k Undo [] ≡ replied (UndoEvent ∷ []) (undone_line name)
+pub told_peek : (s : Watched) (address count : ℕ) → told_of s (Peek address count) [] ≡ replied [] (peek_line (patched s.machine).pieces address count)
 unfolding told_of
-told_undone k now name is = ap (told_by UndoEvent) is
+told_peek s address count = refl
 
-pub told_undo_refused : (k : CallTable) (refusal : Refusal) → answered k UndoEvent ≡ Err refusal
-    → told_of k Undo [] ≡ refused_after [] refusal
+pub told_undone : (s : Watched) (now : CallTable) (name : List ℕ) → answered s.machine UndoEvent ≡ Ok (happened now (Undone name))
+    → told_of s Undo [] ≡ replied (UndoEvent ∷ []) (undone_line name)
 unfolding told_of
-told_undo_refused k refusal is = ap (told_by UndoEvent) is
+told_undone s now name is = ap (told_by UndoEvent) is
 
-pub told_list : (k : CallTable) → told_of k ListUpdates [] ≡ replied [] (list_lines (map shown_update k.updates))
+pub told_undo_refused : (s : Watched) (refusal : Refusal) → answered s.machine UndoEvent ≡ Err refusal
+    → told_of s Undo [] ≡ refused_after [] refusal
 unfolding told_of
-told_list k = refl
+told_undo_refused s refusal is = ap (told_by UndoEvent) is
+
+pub told_list : (s : Watched) → told_of s ListUpdates [] ≡ replied [] (list_lines (map shown_update s.machine.updates))
+unfolding told_of
+told_list s = refl
+
+pub told_watch : (s : Watched) → told_of s Watch [] ≡ replied [] (watch_line s.watch.verdict)
+unfolding told_of
+told_watch s = refl
 
 -- any other number of files than two
 pub not_two_files : (k : CallTable) (name : List ℕ) (tries gap : ℕ) (held : List (Vec ℕ)) → length held ≢ 2

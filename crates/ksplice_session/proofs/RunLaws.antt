@@ -7,32 +7,35 @@ use Rattle.image_threads.specs.declared.turns.Turn.{Turn}
 use Rattle.ia32_step.specs.declared.types.Thread.{Thread}
 use Rattle.update_stack.specs.CallTable.{CallTable}
 use Rattle.update_stack.specs.Steps.{moved_by, moved}
-use Rattle.update_stack.specs.Events.{Event, Step, step_answered, answered, machine_after, after_event, after_events}
+use Rattle.update_stack.specs.Events.{Event, Step, step_answered, answered, after_event}
 use Rattle.ksplice_session.specs.Running.{thread_steps, turn_steps, taken, after_taken}
+use Rattle.ksplice_session.specs.Watching.{Watched, watched_by, watched_after, watched_after_all}
+use Rattle.ksplice_session.specs.inside.InStep.{watched_taken}
+use Rattle.ksplice_session.proofs.WatchedLaws.{machine_after_one, machine_taken}
 
 -- So many of some events were made, and these are still to be made.
-pub record Goes (first : CallTable) (all : List Event) (made : ℕ) (now : CallTable) (rest : List Event) : Type 0 where
+pub record Goes (first : Watched) (all : List Event) (made : ℕ) (now : Watched) (rest : List Event) : Type 0 where
   pub count : made + length rest ≡ length all
-  pub after : after_events now rest ≡ after_events first all
+  pub after : watched_after_all now rest ≡ watched_after_all first all
 
-pub begins : (k : CallTable) (all : List Event) → Goes k all 0 k all
-begins k all = record { count = omega arith; after = refl }
+pub begins : (s : Watched) (all : List Event) → Goes s all 0 s all
+begins s all = record { count = omega arith; after = refl }
 
-pub goes_on : (first : CallTable) (all : List Event) (made : ℕ) (k now : CallTable) (event : Event) (rest later : List Event)
-    → rest ≡ event ∷ later → now ≡ after_event k event → Goes first all made k rest → Goes first all (made + 1) now later
-unfolding after_events
-goes_on first all made k now event rest later is next h =
+pub goes_on : (first : Watched) (all : List Event) (made : ℕ) (s now : Watched) (event : Event) (rest later : List Event)
+    → rest ≡ event ∷ later → now ≡ watched_after s event → Goes first all made s rest → Goes first all (made + 1) now later
+unfolding watched_after_all
+goes_on first all made s now event rest later is next h =
     record {
       count = let n : length rest ≡ length later + 1 = ap length is ∙ omega arith in omega (arith, h.count);
-      after = ap (λ (n : CallTable). after_events n later) next ∙ sym (ap (after_events k) is) ∙ h.after;
+      after = ap (λ (n : Watched). watched_after_all n later) next ∙ sym (ap (watched_after_all s) is) ∙ h.after;
     }
 
-pub has_gone : (first : CallTable) (all : List Event) (made : ℕ) (k : CallTable) (rest : List Event) → rest ≡ [] → Goes first all made k rest
-    → (made ≡ length all) × (k ≡ after_events first all)
-unfolding after_events
-has_gone first all made k rest is h = (
+pub has_gone : (first : Watched) (all : List Event) (made : ℕ) (s : Watched) (rest : List Event) → rest ≡ [] → Goes first all made s rest
+    → (made ≡ length all) × (s ≡ watched_after_all first all)
+unfolding watched_after_all
+has_gone first all made s rest is h = (
   let n : length rest ≡ 0 = ap length is in omega (arith, h.count),
-  sym (ap (after_events k) is) ∙ h.after,
+  sym (ap (watched_after_all s) is) ∙ h.after,
 )
 
 pub thread_done : (k : CallTable) (thread n : ℕ) → n ≡ 0 → thread_steps k thread n ≡ []
@@ -43,22 +46,31 @@ thread_first : (k : CallTable) (thread n : ℕ) → is_some (running_at k.thread
 unfolding thread_steps
 thread_first k thread n ends = rw ends refl
 
-pub thread_goes_on : (k now : CallTable) (thread n m : ℕ) → n ≡ suc m → is_some (running_at k.threads thread) ≡ true → now ≡ after_event k (Step thread)
+thread_on : (k now : CallTable) (thread n m : ℕ) → n ≡ suc m → is_some (running_at k.threads thread) ≡ true → now ≡ after_event k (Step thread)
     → thread_steps k thread n ≡ Step thread ∷ thread_steps now thread m
 unfolding thread_steps
-thread_goes_on k now thread n m is runs next = rw (is, runs, next) refl
+thread_on k now thread n m is runs next = rw (is, runs, next) refl
 
-no_step : (k : CallTable) (thread : ℕ) → is_some (running_at k.threads thread) ≡ false → after_event k (Step thread) ≡ k
-unfolding after_event answered moved
-no_step k thread ends =
-    let P : Option Thread → Type 0 = λ o. is_some o ≡ false → machine_after k (step_answered (moved_by k thread o)) ≡ k in
-    let all : P (running_at k.threads thread) = elim (running_at k.threads thread) as P [ None ↦ λ e. refl | Some t ↦ λ e. cc ] in
+-- the machine of a session after an event
+machine_is : (s now : Watched) (event : Event) → now ≡ watched_after s event → now.machine ≡ after_event s.machine event
+machine_is s now event next = ap (λ (n : Watched). n.machine) next ∙ machine_after_one s event
+
+pub thread_goes_on : (s now : Watched) (thread n m : ℕ) → n ≡ suc m → is_some (running_at s.machine.threads thread) ≡ true → now ≡ watched_after s (Step thread)
+    → thread_steps s.machine thread n ≡ Step thread ∷ thread_steps now.machine thread m
+thread_goes_on s now thread n m is runs next =
+    thread_on s.machine now.machine thread n m is runs (machine_is s now (Step thread) next)
+
+no_step : (s : Watched) (thread : ℕ) → is_some (running_at s.machine.threads thread) ≡ false → watched_after s (Step thread) ≡ s
+unfolding watched_after answered moved
+no_step s thread ends =
+    let P : Option Thread → Type 0 = λ o. is_some o ≡ false → watched_by s (Step thread) (step_answered (moved_by s.machine thread o)) ≡ s in
+    let all : P (running_at s.machine.threads thread) = elim (running_at s.machine.threads thread) as P [ None ↦ λ e. refl | Some t ↦ λ e. cc ] in
     all ends
 
 -- no step is made where the thread has ended
-pub thread_ends : (k now : CallTable) (thread n : ℕ) → is_some (running_at k.threads thread) ≡ false → now ≡ after_event k (Step thread)
-    → (thread_steps k thread n ≡ []) × (now ≡ k)
-thread_ends k now thread n ends next = (none k thread n ends, next ∙ no_step k thread ends)
+pub thread_ends : (s now : Watched) (thread n : ℕ) → is_some (running_at s.machine.threads thread) ≡ false → now ≡ watched_after s (Step thread)
+    → (thread_steps s.machine thread n ≡ []) × (now ≡ s)
+thread_ends s now thread n ends next = (none s.machine thread n ends, next ∙ no_step s thread ends)
   where
     none : (k : CallTable) (thread n : ℕ) → is_some (running_at k.threads thread) ≡ false → thread_steps k thread n ≡ []
     none k thread zero ends = thread_done k thread 0 refl
@@ -102,42 +114,46 @@ turn_ends : (k : CallTable) (s : Schedule) (m : ℕ) → s.left ≡ suc m → is
 turn_ends k s m left none =
     turn_first k s m left ∙ ap (taken k (turn_steps s.quantum m)) (sym (next_is s k m left)) ∙ taken_none k (turn_steps s.quantum m) (next_turn s k.threads) none
 
-none_taken : (k now : CallTable) (o : Option Turn) → is_some o ≡ false → now ≡ after_taken k o → now ≡ k
-none_taken k now None none is = is
-none_taken k now (Some turn) none is = cc
+none_taken : (s now : Watched) (o : Option Turn) → is_some o ≡ false → now ≡ watched_taken s o → now ≡ s
+none_taken s now None none is = is
+none_taken s now (Some turn) none is = cc
 
 -- no step is made where no thread runs
-pub turns_stop : (k now : CallTable) (s : Schedule) (m : ℕ) → s.left ≡ suc m → is_some (next_turn s k.threads) ≡ false → now ≡ after_taken k (next_turn s k.threads)
-    → (turn_steps s.quantum s.left s.turn k ≡ []) × (now ≡ k)
-turns_stop k now s m left none is = (turn_ends k s m left none, none_taken k now (next_turn s k.threads) none is)
+pub turns_stop : (s now : Watched) (t : Schedule) (m : ℕ) → t.left ≡ suc m → is_some (next_turn t s.machine.threads) ≡ false
+    → now ≡ watched_taken s (next_turn t s.machine.threads)
+    → (turn_steps t.quantum t.left t.turn s.machine ≡ []) × (now ≡ s)
+turns_stop s now t m left none is = (turn_ends s.machine t m left none, none_taken s now (next_turn t s.machine.threads) none is)
 
 pub turn_done : (k : CallTable) (s : Schedule) → s.left ≡ 0 → turn_steps s.quantum s.left s.turn k ≡ []
 unfolding turn_steps
 turn_done k s none = rw none refl
 
 -- where a turn is taken, its step is made
-pub taken_is_step : (k now : CallTable) (o : Option Turn) → is_some o ≡ true → now ≡ after_taken k o → now ≡ after_event k (Step (thread_in o))
-taken_is_step k now None some is = cc
-taken_is_step k now (Some turn) some is = is
+pub taken_is_step : (s now : Watched) (o : Option Turn) → is_some o ≡ true → now ≡ watched_taken s o → now ≡ watched_after s (Step (thread_in o))
+taken_is_step s now None some is = cc
+taken_is_step s now (Some turn) some is = is
 
 left_less : (s : Schedule) (o : Option Turn) (m : ℕ) → s.left ≡ suc m → is_some o ≡ true → (after_turn s o).left ≡ m
 left_less s None m left some = cc
 left_less s (Some turn) m left some = omega (arith, left)
 
 -- what is left of the turns after a step was made
-pub turns_on : (first : CallTable) (all : List Event) (made count : ℕ) (k now : CallTable) (s t : Schedule) → made < count → s.left ≡ count - made
-    → Goes first all made k (turn_steps s.quantum s.left s.turn k) → is_some (next_turn s k.threads) ≡ true → now ≡ after_taken k (next_turn s k.threads)
-    → t ≡ after_turn s (next_turn s k.threads)
-    → (t.left ≡ count - (made + 1)) × Goes first all (made + 1) now (turn_steps t.quantum t.left t.turn now)
-turns_on first all made count k now s t more left goes some next is =
+pub turns_on : (first : Watched) (all : List Event) (made count : ℕ) (s now : Watched) (t u : Schedule) → made < count → t.left ≡ count - made
+    → Goes first all made s (turn_steps t.quantum t.left t.turn s.machine) → is_some (next_turn t s.machine.threads) ≡ true
+    → now ≡ watched_taken s (next_turn t s.machine.threads)
+    → u ≡ after_turn t (next_turn t s.machine.threads)
+    → (u.left ≡ count - (made + 1)) × Goes first all (made + 1) now (turn_steps u.quantum u.left u.turn now.machine)
+turns_on first all made count s now t u more left goes some next is =
     let m = count - (made + 1) in
-    let o = next_turn s k.threads in
-    let less : s.left ≡ suc m = omega arith in
-    let left_is : (after_turn s o).left ≡ m = left_less s o m less some in
-    let gone = goes_on first all made k now (Step (thread_in o)) (turn_steps s.quantum s.left s.turn k)
-    (turn_steps (after_turn s o).quantum m (after_turn s o).turn (after_taken k o)) (turn_goes_on k s m less some) (taken_is_step k now o some next) goes in
-    let later : turn_steps (after_turn s o).quantum m (after_turn s o).turn (after_taken k o) ≡ turn_steps t.quantum t.left t.turn now =
-    ap (λ (n : ℕ). turn_steps (after_turn s o).quantum n (after_turn s o).turn (after_taken k o)) (sym left_is)
-    ∙ ap (λ (u : Schedule). turn_steps u.quantum u.left u.turn (after_taken k o)) (sym is)
-    ∙ ap (turn_steps t.quantum t.left t.turn) (sym next) in
-    (ap (λ (u : Schedule). u.left) is ∙ left_is, subst (Goes first all (made + 1) now) later gone)
+    let k = s.machine in
+    let o = next_turn t k.threads in
+    let less : t.left ≡ suc m = omega arith in
+    let left_is : (after_turn t o).left ≡ m = left_less t o m less some in
+    let gone = goes_on first all made s now (Step (thread_in o)) (turn_steps t.quantum t.left t.turn k)
+    (turn_steps (after_turn t o).quantum m (after_turn t o).turn (after_taken k o)) (turn_goes_on k t m less some) (taken_is_step s now o some next) goes in
+    let machine : now.machine ≡ after_taken k o = ap (λ (n : Watched). n.machine) next ∙ machine_taken s o in
+    let later : turn_steps (after_turn t o).quantum m (after_turn t o).turn (after_taken k o) ≡ turn_steps u.quantum u.left u.turn now.machine =
+    ap (λ (n : ℕ). turn_steps (after_turn t o).quantum n (after_turn t o).turn (after_taken k o)) (sym left_is)
+    ∙ ap (λ (v : Schedule). turn_steps v.quantum v.left v.turn (after_taken k o)) (sym is)
+    ∙ ap (turn_steps u.quantum u.left u.turn) (sym machine) in
+    (ap (λ (v : Schedule). v.left) is ∙ left_is, subst (Goes first all (made + 1) now) later gone)

@@ -21,14 +21,13 @@ use Rattle.ks_io.specs.declared.types.FileFault.TheVariants.{Missing, TooLong, F
 use Rattle.ks_io.specs.declared.types.SinkFault.{SinkFault}
 use Rattle.ks_io.specs.declared.types.SinkFault.TheVariants.{SinkFailed, Memory as SinkMemory}
 use Rattle.script_lines.specs.declared.types.Command.{Command}
-use Rattle.update_stack.specs.CallTable.{CallTable}
-use Rattle.update_stack.specs.Events.{after_events}
+use Rattle.ksplice_session.specs.Watching.{Watched, watched_after_all}
 use Rattle.ksplice_session.specs.declared.types.SessionEnd.{SessionEnd}
 use Rattle.ksplice_session.specs.declared.types.SessionEnd.TheVariants.{Done, SomeRefused}
 use Rattle.ksplice_session.specs.Replies.{Told, told_of, files_of}
 use Rattle.ksplice_session.specs.Session.{Ran, held_of, NoneBehind, Played, nothing_played, play_line, played, files_along, ran_by, lacking, file_line, lost_line, whole_output, At, Ends, AllDone, AllRun, FileStopped, SinkStopped, SinkAtFile, MemoryInLine, MemoryAfterLine, MemoryAtFile, SessionEnds}
 use Rattle.ksplice_session.specs.declared.types.Answer.{Answer}
-use Rattle.ksplice_session.specs.Answers.{answer_of}
+use Rattle.ksplice_session.specs.Answers.{MadeFront, answer_of}
 use Rattle.ksplice_session.specs.inside.LineEnds.{LineEnds, ToldEnds, FileEnds, written_end, file_end, CutAt, SinkCut, MemoryCut, EventsCut, LostAt, LineWritten, SinkLost, MemoryLost, WasRun, EndedBy, AtLine, AtFile}
 use Rattle.ksplice_session.specs.inside.ScriptEnds.{line_of, IsFiled, AreFiled, HaveRun}
 
@@ -86,7 +85,7 @@ files_along-one x = flat_map-cons files_of x [] ∙ append-nil (files_of x)
 held-one : (ran : List Ran) (r : Ran) → flat_map held_of (ran ++ r ∷ []) ≡ flat_map held_of ran ++ r.held
 held-one ran r = sym (flat_map_more held_of [] ran r)
 
-played-one : (k : CallTable) (ran : List Ran) (r : Ran) → played k (ran ++ r ∷ []) ≡ play_line (played k ran) r
+played-one : (k : Watched) (ran : List Ran) (r : Ran) → played k (ran ++ r ∷ []) ≡ play_line (played k ran) r
 unfolding played
 played-one k ran r = fold-append play_line (nothing_played k) ran (r ∷ [])
 
@@ -98,31 +97,31 @@ record More (output whole : List ℕ) : Type 0 where
 more_played : (p : Played) (ran : List Ran) → More p.output (fold play_line p ran).output
 more_played p [] = record { rest = []; whole_is = sym (append-nil p.output) }
 more_played p (r ∷ rs) =
-    let told = told_of p.machine r.line r.held in
+    let told = told_of p.session r.line r.held in
     let later = more_played (play_line p r) rs in
     record { rest = told.reply ++ later.rest; whole_is = later.whole_is ∙ append_assoc p.output told.reply later.rest }
 
 -- what comes of lines of which one is this
-played-at : (k : CallTable) (ran behind : List Ran) (r : Ran)
-    → More ((played k ran).output ++ (told_of (played k ran).machine r.line r.held).reply) (played k (ran ++ r ∷ behind)).output
+played-at : (k : Watched) (ran behind : List Ran) (r : Ran)
+    → More ((played k ran).output ++ (told_of (played k ran).session r.line r.held).reply) (played k (ran ++ r ∷ behind)).output
 unfolding played
 played-at k ran behind r =
     let more = more_played (play_line (played k ran) r) behind in
     record { rest = more.rest; whole_is = ap (λ (p : Played). p.output) (fold-append play_line (nothing_played k) ran (r ∷ behind)) ∙ more.whole_is }
 
-pub none_run : (files : ToldFiles) (k : CallTable) (counts : Counts) (old : Option (List ℕ)) → HaveRun files k [] counts counts old old k false
+pub none_run : (files : ToldFiles) (k : Watched) (counts : Counts) (old : Option (List ℕ)) → HaveRun files k [] counts counts old old k false
 unfolding played files_along
 none_run files k counts old =
-    record { ran = []; lines = refl; filed = tt; loads = CameTo-nothing files [] counts; marked = refl; taken = sym (grown-nothing old); machine = refl }
+    record { ran = []; lines = refl; filed = tt; loads = CameTo-nothing files [] counts; marked = refl; taken = sym (grown-nothing old); session = refl }
 
 -- one more line
-pub one_run : (files : ToldFiles) (k : CallTable) (script : List Command) (line : Command) (before between after : Counts) (old new new' : Option (List ℕ)) (now now' : CallTable) (refused more : Bool)
+pub one_run : (files : ToldFiles) (k : Watched) (script : List Command) (line : Command) (before between after : Counts) (old new new' : Option (List ℕ)) (now now' : Watched) (refused more : Bool)
     → NeverFall before between → HaveRun files k script before between old new now refused → WasRun files now line between after new new' now' more
     → HaveRun files k (script ++ line ∷ []) before after old new' now' (refused || more)
 one_run files k script line before between after old new new' now now' refused more fall run one =
     let r : Ran = record { line = line; held = one.held } in
     let told = told_of now line one.held in
-    let same : told_of (played k run.ran).machine line one.held ≡ told = ap (λ (n : CallTable). told_of n line one.held) (sym run.machine) in
+    let same : told_of (played k run.ran).session line one.held ≡ told = ap (λ (n : Watched). told_of n line one.held) (sym run.session) in
     let all = all_held run.ran run.filed ∙ ap (λ (s : List Command). length (files_along s)) run.lines in
     let loads = CameTo-then files (files_along script) (files_of line) (flat_map held_of run.ran) one.held None before between after all run.loads fall one.loads in
     let along : files_along (script ++ line ∷ []) ≡ files_along script ++ files_of line =
@@ -138,14 +137,14 @@ one_run files k script line before between after old new new' now now' refused m
       taken = one.replied.taken ∙ ap (λ (t : Option (List ℕ)). grown t told.reply) run.taken ∙ grown-append old (played k run.ran).output told.reply
           ∙ ap (λ (t : Told). grown old ((played k run.ran).output ++ t.reply)) (sym same)
           ∙ sym (ap (λ (p : Played). grown old p.output) (played-one k run.ran r));
-      machine = one.replied.machine ∙ ap (λ (n : CallTable). after_events n told.events) run.machine
-          ∙ ap (λ (t : Told). after_events (played k run.ran).machine t.events) (sym same)
-          ∙ sym (ap (λ (p : Played). p.machine) (played-one k run.ran r));
+      session = one.replied.session ∙ ap (λ (n : Watched). watched_after_all n told.events) run.session
+          ∙ ap (λ (t : Told). watched_after_all (played k run.ran).session t.events) (sym same)
+          ∙ sym (ap (λ (p : Played). p.session) (played-one k run.ran r));
     }
 
 -- What loading came to of the files of a script, where the lines before one were run, and then what it came to of that line's.
-module _ (files : ToldFiles) (k : CallTable) (script : List Command) (line : Command) (behind : List Command) (before between after : Counts)
-    (old new : Option (List ℕ)) (now : CallTable) (refused : Bool) (fall : NeverFall before between) (fall_later : NeverFall between after)
+module _ (files : ToldFiles) (k : Watched) (script : List Command) (line : Command) (behind : List Command) (before between after : Counts)
+    (old new : Option (List ℕ)) (now : Watched) (refused : Bool) (fall : NeverFall before between) (fall_later : NeverFall between after)
     (run : HaveRun files k script before between old new now refused) where
   abbrev whole : List Command
   whole = script ++ line ∷ behind
@@ -191,25 +190,22 @@ module _ (files : ToldFiles) (k : CallTable) (script : List Command) (line : Com
     here : At (ran_by whole total)
     here = record { before = run.ran; line = r; behind = ran_by behind []; whole = ran_is }
 
-    told_is : told_of now line held ≡ told_of (played k run.ran).machine line held
-    told_is = ap (λ (n : CallTable). told_of n line held) run.machine
-
-    events_made : (now' : CallTable) → now' ≡ after_events now (told_of now line held).events → now' ≡ after_events (played k run.ran).machine (told_of (played k run.ran).machine line held).events
-    events_made now' is = subst (λ (n : CallTable). now' ≡ after_events n (told_of n line held).events) run.machine is
+    events_made : (now' : Watched) → now' ≡ watched_after_all now (told_of now line held).events → now' ≡ watched_after_all (played k run.ran).session (told_of (played k run.ran).session line held).events
+    events_made now' is = subst (λ (n : Watched). now' ≡ watched_after_all n (told_of n line held).events) run.session is
 
     part_of : (new' : Option (List ℕ)) → TookPart new (told_of now line held).reply new'
-        → TookPart (grown old (played k run.ran).output) (told_of (played k run.ran).machine line held).reply new'
+        → TookPart (grown old (played k run.ran).output) (told_of (played k run.ran).session line held).reply new'
     part_of new' part =
-        subst (λ (n : CallTable). TookPart (grown old (played k run.ran).output) (told_of n line held).reply new') run.machine
+        subst (λ (n : Watched). TookPart (grown old (played k run.ran).output) (told_of n line held).reply new') run.session
         (subst (λ (t : Option (List ℕ)). TookPart t (told_of now line held).reply new') run.taken part)
 
     -- a front of what comes when the lines before were run is a front of all
-    front_of : (new' : Option (List ℕ)) → TookFront (grown old (played k run.ran).output) (told_of (played k run.ran).machine line held).reply new'
+    front_of : (new' : Option (List ℕ)) → TookFront (grown old (played k run.ran).output) (told_of (played k run.ran).session line held).reply new'
         → TookFront old (whole_output k whole total None) new'
     unfolding r
     front_of new' took =
         let more = played-at k run.ran (ran_by behind []) r in
-        let reply = (told_of (played k run.ran).machine line held).reply in
+        let reply = (told_of (played k run.ran).session line held).reply in
         let before_it : TookFront old ((played k run.ran).output ++ reply) new' = TookFront-after (played k run.ran).output reply refl took in
         let all_replies = TookFront-before ((played k run.ran).output ++ reply) more.rest before_it in
         let output : ((played k run.ran).output ++ reply) ++ more.rest ≡ (played k (ran_by whole total)).output =
@@ -221,7 +217,7 @@ module _ (files : ToldFiles) (k : CallTable) (script : List Command) (line : Com
     unfolding total r here
     none_behind = record { through = refl; none_lost = refl }
 
-    pub cut_exit : (new' : Option (List ℕ)) (now' : CallTable) (end : SessionEnd) → CutAt now (told_of now line held) new new' now' end
+    pub cut_exit : (new' : Option (List ℕ)) (now' : Watched) (end : SessionEnd) → CutAt now (told_of now line held) new new' now' end
         → SessionEnds files k whole before after old new' now' end
     unfolding r here
     cut_exit new' now' _ (SinkCut part is) =
@@ -246,14 +242,9 @@ module _ (files : ToldFiles) (k : CallTable) (script : List Command) (line : Com
           lost = None;
           loads = loads;
           ends = MemoryInLine here none_behind (untouched ∙ run.taken)
-              (record {
-                made = made.made;
-                rest = made.rest;
-                whole = made.whole ∙ ap (λ (t : Told). t.events) told_is;
-                machine = made.machine ∙ ap (λ (n : CallTable). after_events n made.made) run.machine;
-              });
-          front = front_of new' (subst (λ (t : Option (List ℕ)). TookFront (grown old (played k run.ran).output) (told_of (played k run.ran).machine line held).reply t) (sym (untouched ∙ run.taken))
-              (nothing_taken (grown old (played k run.ran).output) (told_of (played k run.ran).machine line held).reply));
+              (subst (λ (n : Watched). MadeFront n (told_of n line held).events now') run.session made);
+          front = front_of new' (subst (λ (t : Option (List ℕ)). TookFront (grown old (played k run.ran).output) (told_of (played k run.ran).session line held).reply t) (sym (untouched ∙ run.taken))
+              (nothing_taken (grown old (played k run.ran).output) (told_of (played k run.ran).session line held).reply));
         }
 
   -- a line that lacks a file
@@ -286,8 +277,8 @@ module _ (files : ToldFiles) (k : CallTable) (script : List Command) (line : Com
     output_before : new ≡ grown old (played k (ran_by whole total_lost)).output
     output_before = run.taken ∙ ap (λ (p : Played). grown old p.output) played_before
 
-    machine_before : (now' : CallTable) → now' ≡ now → now' ≡ (played k (ran_by whole total_lost)).machine
-    machine_before now' same = same ∙ run.machine ∙ ap (λ (p : Played). p.machine) played_before
+    machine_before : (now' : Watched) → now' ≡ now → now' ≡ (played k (ran_by whole total_lost)).session
+    machine_before now' same = same ∙ run.session ∙ ap (λ (p : Played). p.session) played_before
 
     front_lost : (new' : Option (List ℕ)) → TookFront new (lost_line (Some file) lost) new' → TookFront old (whole_output k whole total_lost lost) new'
     front_lost new' took =
@@ -298,7 +289,7 @@ module _ (files : ToldFiles) (k : CallTable) (script : List Command) (line : Com
         → TookFront new (lost_line (Some file) lost) new'
     at_line new' fault is took = subst (λ (l : Option FileFault). TookFront new (lost_line (Some file) l) new') (sym is) took
 
-    pub lost_exit : (new' : Option (List ℕ)) (now' : CallTable) (end : SessionEnd) → LostAt file lost new new' end → now' ≡ now
+    pub lost_exit : (new' : Option (List ℕ)) (now' : Watched) (end : SessionEnd) → LostAt file lost new new' end → now' ≡ now
         → SessionEnds files k whole before after old new' now' end
     lost_exit new' now' _ (LineWritten fault is out) same =
         record {
@@ -328,13 +319,13 @@ module _ (files : ToldFiles) (k : CallTable) (script : List Command) (line : Com
         }
 
   -- the session ends at a line
-  pub line_exit : (new' : Option (List ℕ)) (now' : CallTable) (end : SessionEnd) → EndedBy files now line between after new new' now' end
+  pub line_exit : (new' : Option (List ℕ)) (now' : Watched) (end : SessionEnd) → EndedBy files now line between after new new' now' end
       → SessionEnds files k whole before after old new' now' end
   line_exit new' now' end (AtLine held came all cut) = cut_exit held came all new' now' end cut
   line_exit new' now' end (AtFile held lost file came lacks lost_at same) = lost_exit held lost file came lacks new' now' end lost_at same
 
 -- the session ends after all lines
-pub all_run : (files : ToldFiles) (k : CallTable) (script : List Command) (before after : Counts) (old new : Option (List ℕ)) (now : CallTable) (refused : Bool)
+pub all_run : (files : ToldFiles) (k : Watched) (script : List Command) (before after : Counts) (old new : Option (List ℕ)) (now : Watched) (refused : Bool)
     → HaveRun files k script before after old new now refused → SessionEnds files k script before after old new now (if refused then SomeRefused else Done)
 unfolding ran_by
 all_run files k script before after old new now refused run =
@@ -346,7 +337,7 @@ all_run files k script before after old new now refused run =
     let none : lacking script held ≡ None =
     first_lacking-none (files_along script) held (all_held run.ran run.filed ∙ ap (λ (s : List Command). length (files_along s)) run.lines) in
     let out : new ≡ grown old (played k (ran_by script held)).output = run.taken ∙ ap (λ (p : Played). grown old p.output) same in
-    let machine : now ≡ (played k (ran_by script held)).machine = run.machine ∙ ap (λ (p : Played). p.machine) same in
+    let machine : now ≡ (played k (ran_by script held)).session = run.session ∙ ap (λ (p : Played). p.session) same in
     let marked : refused ≡ (played k (ran_by script held)).refused = run.marked ∙ ap (λ (p : Played). p.refused) same in
     record {
       held = held;
@@ -357,10 +348,10 @@ all_run files k script before after old new now refused run =
     }
   where
     all_end : {held : List (List ℕ)} (refused : Bool) → lacking script held ≡ None → refused ≡ (played k (ran_by script held)).refused
-        → new ≡ grown old (played k (ran_by script held)).output → now ≡ (played k (ran_by script held)).machine
+        → new ≡ grown old (played k (ran_by script held)).output → now ≡ (played k (ran_by script held)).session
         → Ends k script held None old new now (if refused then SomeRefused else Done)
-    all_end true none marked out machine = AllRun none (sym marked) out machine
-    all_end false none marked out machine = AllDone none (sym marked) out machine
+    all_end true none marked out session = AllRun none (sym marked) out session
+    all_end false none marked out session = AllDone none (sym marked) out session
 
 -- a line, those before it and those behind it
 pub whole_at : (xs : List Command) (i : ℕ) (x : Command) → i < length xs → x ≡ get_or xs i x → take i xs ++ x ∷ drop (i + 1) xs ≡ xs
@@ -391,24 +382,24 @@ file_exit file fault written old new outside ok part = ends written ok part
         (front_of_part old new (file_line file.name fault) part))
 
 -- what comes of a line that has its files
-pub reply_written : (k now : CallTable) (told : Told) (answer : Answer) (old new : Option (List ℕ)) (w : Result (Unit {0}) SinkFault)
-    → answer ≡ answer_of told → now ≡ after_events k told.events → OnOk w (new ≡ grown old answer.line) → OnErr w (TookPart old answer.line new)
+pub reply_written : (k now : Watched) (told : Told) (answer : Answer) (old new : Option (List ℕ)) (w : Result (Unit {0}) SinkFault)
+    → answer ≡ answer_of told → now ≡ watched_after_all k told.events → OnOk w (new ≡ grown old answer.line) → OnErr w (TookPart old answer.line new)
     → ToldEnds k told old new now (written_end w answer.refused)
 reply_written k now told answer old new (Ok u) is machine ok part =
-    record { marked = ap (λ (a : Answer). a.refused) is; taken = ok ∙ ap (λ (a : Answer). grown old a.line) is; machine = machine }
+    record { marked = ap (λ (a : Answer). a.refused) is; taken = ok ∙ ap (λ (a : Answer). grown old a.line) is; session = machine }
 reply_written k now told answer old new (Err SinkFailed) is machine ok part =
     SinkCut (subst (λ (a : Answer). TookPart old a.line new) is part) machine
 reply_written k now told answer old new (Err SinkMemory) is machine ok part =
     MemoryCut (subst (λ (a : Answer). TookPart old a.line new) is part) machine
 
 -- a line that has its files ends as what it tells does
-pub line_told : (files : ToldFiles) (k : CallTable) (line : Command) (held : List (List ℕ)) (before after : Counts) (old new : Option (List ℕ)) (now : CallTable) (r : Result Bool SessionEnd)
+pub line_told : (files : ToldFiles) (k : Watched) (line : Command) (held : List (List ℕ)) (before after : Counts) (old new : Option (List ℕ)) (now : Watched) (r : Result Bool SessionEnd)
     → length held ≡ length (files_of line) → CameTo files (files_of line) held None before after → ToldEnds k (told_of k line held) old new now r
     → LineEnds files k line before after old new now r
 line_told files k line held before after old new now (Ok refused) all came ends = record { held = held; loads = came; all_held = all; replied = ends }
 line_told files k line held before after old new now (Err end) all came ends = AtLine held came all ends
 
-pub line_held : (files : ToldFiles) (k : CallTable) (line : Command) (needed : List Needed) (contents : List (Vec ℕ)) (before after : Counts) (old new : Option (List ℕ)) (now : CallTable) (r : Result Bool SessionEnd)
+pub line_held : (files : ToldFiles) (k : Watched) (line : Command) (needed : List Needed) (contents : List (Vec ℕ)) (before after : Counts) (old new : Option (List ℕ)) (now : Watched) (r : Result Bool SessionEnd)
     → needed ≡ files_of line → (length contents ≡ length needed) × CameTo files needed (bytes_of contents) None before after
     → ToldEnds k (told_of k line (bytes_of contents)) old new now r → LineEnds files k line before after old new now r
 line_held files k line needed contents before after old new now r is came ends =
@@ -416,7 +407,7 @@ line_held files k line needed contents before after old new now r is came ends =
     (subst (λ (f : List Needed). CameTo files f (bytes_of contents) None before after) is came.1) ends
 
 -- a line that lacks a file
-pub line_lost : (files : ToldFiles) (k : CallTable) (line : Command) (wanted : List Wanted) (d : Wanted) (lost : Lost) (before after : Counts) (old new : Option (List ℕ)) (end : SessionEnd)
+pub line_lost : (files : ToldFiles) (k : Watched) (line : Command) (wanted : List Wanted) (d : Wanted) (lost : Lost) (before after : Counts) (old new : Option (List ℕ)) (end : SessionEnd)
     → map needed_by wanted ≡ files_of line → IsLostAfter files (map needed_by wanted) before after lost
     → FileEnds (get_or wanted lost.index d) lost.fault old new end → EndedBy files k line before after old new k end
 line_lost files k line wanted d lost before after old new end is after_it ends =

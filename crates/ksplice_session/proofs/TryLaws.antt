@@ -1,36 +1,49 @@
 -- Why the tries of an update are answered as they are to be.
-use Rattle.std.proofs.Common.{◌≡◌, ◌≢◌, ℕ, zero, suc, ◌+◌, Bool, true, false, if◌then◌else◌, List, [], ◌∷◌, ◌++◌, Result, Ok, Err, IfOk, OnErr, MatchResult, refl, sym, ◌∙◌, ap, subst, append-nil, append_assoc}
+use Rattle.std.proofs.Common.{◌≡◌, ◌≢◌, ℕ, zero, suc, ◌+◌, Bool, true, false, if◌then◌else◌, List, [], ◌∷◌, ◌++◌, Result, Ok, Err, IfOk, OnOk, OnErr, MatchResult, refl, sym, ◌∙◌, ap, subst, append_assoc}
 use Rattle.std.proofs.lemmas.List.Sums.{fold-append}
 use Rattle.std.specs.declared.alloc.AllocError.{AllocError}
 use Rattle.ks_base.specs.declared.reports.Report.{Report}
 use Rattle.ks_base.specs.declared.refusals.Refusal.{Refusal}
 use Rattle.ks_base.specs.declared.refusals.Refusal.TheVariants.{Memory}
 use Rattle.update_stack.specs.CallTable.{CallTable}
-use Rattle.update_stack.specs.Events.{Event, Applied, Happened, happened, answered, after_event, after_events}
+use Rattle.update_stack.specs.Events.{Event, Spawn, Applied, Happened, happened, answered, after_event, after_events}
 use Rattle.ksplice_session.specs.declared.types.Answer.{Answer}
 use Rattle.ksplice_session.specs.Lines.{applied_lines}
 use Rattle.ksplice_session.specs.Running.{round_robin}
 use Rattle.ksplice_session.specs.Replies.{Told, Trial, event_of, try_told, tried, is_busy, after_gap, replied, refused_after}
-use Rattle.ksplice_session.specs.Answers.{Answers, answer_of}
+use Rattle.ksplice_session.specs.Watching.{Watched, watched_after, watched_after_all}
+use Rattle.ksplice_session.specs.Answers.{Answers, MadeFront, Noted, Unnoted, watched, answer_of}
 use Rattle.ksplice_session.specs.inside.Trying.{IsTryAnswer}
-use Rattle.ksplice_session.proofs.AnswerLaws.{refused_answers, one_event}
+use Rattle.ksplice_session.proofs.AnswerLaws.{refused_answers, one_event, all_made, none_made}
+use Rattle.ksplice_session.proofs.WatchedLaws.{machine_after_all, watched_after_both}
 
 after_both : (k : CallTable) (gap events : List Event)
     → after_events k (gap ++ events) ≡ after_events (after_events k gap) events
 unfolding after_events
 after_both k gap events = fold-append after_event k gap events
 
+-- a front of what is made after a gap
+front_after : (s now : Watched) (gap events : List Event) → MadeFront (watched_after_all s gap) events now
+    → MadeFront s (gap ++ events) now
+front_after s now gap events (Noted made rest whole is) =
+    Noted (gap ++ made) rest (append_assoc gap made rest ∙ ap (λ (l : List Event). gap ++ l) whole)
+    (is ∙ sym (watched_after_both s gap made))
+front_after s now gap events (Unnoted made rest name argument whole is) =
+    let last : List Event = Spawn name argument ∷ [] in
+    let machine : after_events (watched_after_all s gap).machine (made ++ last) ≡ after_events s.machine ((gap ++ made) ++ last) =
+    ap (λ (k : CallTable). after_events k (made ++ last)) (machine_after_all s gap)
+    ∙ sym (after_both s.machine gap (made ++ last))
+    ∙ ap (after_events s.machine) (sym (append_assoc gap made last)) in
+    Unnoted (gap ++ made) rest name argument
+    (append_assoc gap made (Spawn name argument ∷ rest) ∙ ap (λ (l : List Event). gap ++ l) whole)
+    (is ∙ ap (λ (k : CallTable). watched k (watched_after_all (watched_after_all s gap) made).watch) machine
+    ∙ ap (λ (w : Watched). watched (after_events s.machine ((gap ++ made) ++ last)) w.watch) (sym (watched_after_both s gap made)))
+
 -- what a line does when some events were made, it does after all
-after_gap_answers : (k now : CallTable) (gap : List Event) (told : Told) (r : Result Answer AllocError)
-    → Answers (after_events k gap) told now r → Answers k (after_gap gap told) now r
-after_gap_answers k now gap told (Ok answer) h = (h.0, h.1 ∙ sym (after_both k gap told.events))
-after_gap_answers k now gap told (Err e) h =
-    record {
-      made = gap ++ h.made;
-      rest = h.rest;
-      whole = append_assoc gap h.made h.rest ∙ ap (λ (l : List Event). gap ++ l) h.whole;
-      machine = h.machine ∙ sym (after_both k gap h.made);
-    }
+after_gap_answers : (s now : Watched) (gap : List Event) (told : Told) (r : Result Answer AllocError)
+    → Answers (watched_after_all s gap) told now r → Answers s (after_gap gap told) now r
+after_gap_answers s now gap told (Ok answer) h = (h.0, h.1 ∙ sym (watched_after_both s gap told.events))
+after_gap_answers s now gap told (Err e) h = front_after s now gap told.events h
 
 -- a try that is the last one
 pub last_try : (trial : Trial) (gap try left : ℕ) (k : CallTable) → left ≡ 0
@@ -58,76 +71,81 @@ again_try trial gap try left k busy =
     else try_told trial try (answered k (event_of trial))) busy
 
 -- What a try came to is what the machine answers, unless memory ran out; what is refused changes nothing.
-pub record CameOut (k now : CallTable) (trial : Trial) (outcome : Result Report Refusal) : Type 0 where
-  pub answered : MatchResult outcome (λ report. answered k (event_of trial) ≡ Ok (happened now (Applied report)))
-      (λ refusal. refusal ≢ Memory → answered k (event_of trial) ≡ Err refusal)
-  pub refused : OnErr outcome (now ≡ k)
+pub record CameOut (s now : Watched) (trial : Trial) (outcome : Result Report Refusal) : Type 0 where
+  pub answered : MatchResult outcome (λ report. answered s.machine (event_of trial) ≡ Ok (happened now.machine (Applied report)))
+      (λ refusal. refusal ≢ Memory → answered s.machine (event_of trial) ≡ Err refusal)
+  pub noted : OnOk outcome (now ≡ watched_after s (event_of trial))
+  pub refused : OnErr outcome (now ≡ s)
 
-same_busy : (k now : CallTable) (trial : Trial) (outcome : Result Report Refusal) → outcome ≢ Err Memory
-    → CameOut k now trial outcome → is_busy (answered k (event_of trial)) ≡ is_busy outcome
-same_busy k now trial (Ok report) other came = ap (λ (r : Result Happened Refusal). is_busy r) came.answered
-same_busy k now trial (Err refusal) other came =
+same_busy : (s now : Watched) (trial : Trial) (outcome : Result Report Refusal) → outcome ≢ Err Memory
+    → CameOut s now trial outcome → is_busy (answered s.machine (event_of trial)) ≡ is_busy outcome
+same_busy s now trial (Ok report) other came = ap (λ (r : Result Happened Refusal). is_busy r) came.answered
+same_busy s now trial (Err refusal) other came =
     ap (λ (r : Result Happened Refusal). is_busy r) (came.answered (λ is. other (ap (λ (x : Refusal). Err x) is)))
 
 is_free : (outcome : Result Report Refusal) → outcome ≡ Err Memory → is_busy outcome ≡ false
 is_free outcome is = ap (λ (r : Result Report Refusal). is_busy r) is
 
-unchanged : (k now : CallTable) (outcome : Result Report Refusal) → is_busy outcome ≡ true → OnErr outcome (now ≡ k)
-    → now ≡ k
-unchanged k now (Ok report) busy refused = cc
-unchanged k now (Err refusal) busy refused = refused
+unchanged : (s now : Watched) (outcome : Result Report Refusal) → is_busy outcome ≡ true → OnErr outcome (now ≡ s)
+    → now ≡ s
+unchanged s now (Ok report) busy refused = cc
+unchanged s now (Err refusal) busy refused = refused
 
 -- what a try tells that ends its line, as its answer
-try_answers : (k now : CallTable) (trial : Trial) (try : ℕ) (told : Told) (outcome : Result Report Refusal)
+try_answers : (s now : Watched) (trial : Trial) (try : ℕ) (told : Told) (outcome : Result Report Refusal)
     (r : Result Answer AllocError)
-    → (outcome ≢ Err Memory → told ≡ try_told trial try (answered k (event_of trial))) → CameOut k now trial outcome
-    → IfOk r (IsTryAnswer trial.name try outcome) → Answers k told now r
-try_answers k now trial try told (Ok report) r is came h = by r h
+    → (outcome ≢ Err Memory → told ≡ try_told trial try (answered s.machine (event_of trial))) → CameOut s now trial outcome
+    → IfOk r (IsTryAnswer trial.name try outcome) → Answers s told now r
+try_answers s now trial try told (Ok report) r is came h = by r h
   where
     told_is : told ≡ replied (event_of trial ∷ []) (applied_lines trial.name try report)
     told_is = is (λ e. cc) ∙ ap (try_told trial try) came.answered
 
-    made : now ≡ after_events k told.events
+    made : now ≡ watched_after_all s told.events
     made =
-        one_event k (event_of trial) (happened now (Applied report)) came.answered
-        ∙ sym (ap (λ (t : Told). after_events k t.events) told_is)
+        one_event s now (event_of trial) came.noted
+        ∙ sym (ap (λ (t : Told). watched_after_all s t.events) told_is)
 
-    by : (r : Result Answer AllocError) → IfOk r (IsTryAnswer trial.name try (Ok report)) → Answers k told now r
+    by : (r : Result Answer AllocError) → IfOk r (IsTryAnswer trial.name try (Ok report)) → Answers s told now r
     by (Ok answer) h = (h ∙ sym (ap answer_of told_is), made)
-    by (Err e) h = record { made = told.events; rest = []; whole = append-nil told.events; machine = made }
-try_answers k now trial try told (Err refusal) r is came h =
-    refused_answers k now told refusal r came.refused
-    (λ other. is (λ e. other cc) ∙ ap (try_told trial try) (came.answered other)) h
+    by (Err e) h = all_made s now told.events made
+try_answers s now trial try told (Err refusal) r is came h =
+    refused_answers s now told refusal r (λ _. came.refused)
+    (λ other. is (λ e. other cc) ∙ ap (try_told trial try) (came.answered other))
+    (none_made s now told.events came.refused) h
 
 -- the last try
-pub last_answers : (k now : CallTable) (trial : Trial) (gap try left : ℕ) (outcome : Result Report Refusal)
-    (r : Result Answer AllocError) → left ≡ 0 → CameOut k now trial outcome → IfOk r (IsTryAnswer trial.name try outcome)
-    → Answers k (tried trial gap try left k) now r
-last_answers k now trial gap try left outcome r none came h =
-    try_answers k now trial try (tried trial gap try left k) outcome r (λ _. last_try trial gap try left k none) came h
+pub last_answers : (s now : Watched) (trial : Trial) (gap try left : ℕ) (outcome : Result Report Refusal)
+    (r : Result Answer AllocError) → left ≡ 0 → CameOut s now trial outcome → IfOk r (IsTryAnswer trial.name try outcome)
+    → Answers s (tried trial gap try left s.machine) now r
+last_answers s now trial gap try left outcome r none came h =
+    try_answers s now trial try (tried trial gap try left s.machine) outcome r
+    (λ _. last_try trial gap try left s.machine none) came h
 
 -- a try that was made, or refused for another cause than a thread in its way
-pub ended_answers : (k now : CallTable) (trial : Trial) (gap try left : ℕ) (outcome : Result Report Refusal)
-    (r : Result Answer AllocError) → is_busy outcome ≡ false → CameOut k now trial outcome
-    → IfOk r (IsTryAnswer trial.name try outcome) → Answers k (tried trial gap try left k) now r
-ended_answers k now trial gap try left outcome r free came h =
-    try_answers k now trial try (tried trial gap try left k) outcome r
-    (λ other. ends_try trial gap try left k (same_busy k now trial outcome other came ∙ free)) came h
+pub ended_answers : (s now : Watched) (trial : Trial) (gap try left : ℕ) (outcome : Result Report Refusal)
+    (r : Result Answer AllocError) → is_busy outcome ≡ false → CameOut s now trial outcome
+    → IfOk r (IsTryAnswer trial.name try outcome) → Answers s (tried trial gap try left s.machine) now r
+ended_answers s now trial gap try left outcome r free came h =
+    try_answers s now trial try (tried trial gap try left s.machine) outcome r
+    (λ other. ends_try trial gap try left s.machine (same_busy s now trial outcome other came ∙ free)) came h
 
 -- another try, when steps were made
-pub again_answers : (k now after final : CallTable) (trial : Trial) (gap try left more : ℕ)
+pub again_answers : (s now after final : Watched) (trial : Trial) (gap try left more : ℕ)
     (outcome : Result Report Refusal) (r : Result Answer AllocError) → is_busy outcome ≡ true → more ≡ suc left
-    → CameOut k now trial outcome → after ≡ after_events now (round_robin now 1 gap)
-    → Answers after (tried trial gap (try + 1) left after) final r → Answers k (tried trial gap try more k) final r
-again_answers k now after final trial gap try left more outcome r busy is came steps h =
-    let steps_of : CallTable → List Event = λ n. round_robin n 1 gap in
-    let same : now ≡ k = unchanged k now outcome busy came.refused in
-    let there : after ≡ after_events k (steps_of k) = steps ∙ ap (λ (n : CallTable). after_events n (steps_of n)) same in
-    let later : Told = tried trial gap (try + 1) left (after_events k (steps_of k)) in
+    → CameOut s now trial outcome → after ≡ watched_after_all now (round_robin now.machine 1 gap)
+    → Answers after (tried trial gap (try + 1) left after.machine) final r → Answers s (tried trial gap try more s.machine) final r
+again_answers s now after final trial gap try left more outcome r busy is came steps h =
+    let events : List Event = round_robin s.machine 1 gap in
+    let same : now ≡ s = unchanged s now outcome busy came.refused in
+    let there : after ≡ watched_after_all s events = steps ∙ ap (λ (n : Watched). watched_after_all n (round_robin n.machine 1 gap)) same in
+    let machine : after.machine ≡ after_events s.machine events = ap (λ (n : Watched). n.machine) there ∙ machine_after_all s events in
+    let later : Told = tried trial gap (try + 1) left (after_events s.machine events) in
     let known : outcome ≢ Err Memory = λ e. let free = is_free outcome e in cc in
-    let told : tried trial gap try more k ≡ after_gap (steps_of k) later =
-    ap (λ (n : ℕ). tried trial gap try n k) is
-    ∙ again_try trial gap try left k (same_busy k now trial outcome known came ∙ busy) in
-    subst (λ (t : Told). Answers k t final r) (sym told)
-    (after_gap_answers k final (steps_of k) later r
-    (subst (λ (n : CallTable). Answers n (tried trial gap (try + 1) left n) final r) there h))
+    let told : tried trial gap try more s.machine ≡ after_gap events later =
+    ap (λ (n : ℕ). tried trial gap try n s.machine) is
+    ∙ again_try trial gap try left s.machine (same_busy s now trial outcome known came ∙ busy) in
+    subst (λ (t : Told). Answers s t final r) (sym told)
+    (after_gap_answers s final events later r
+    (subst (λ (n : Watched). Answers n later final r) there
+    (subst (λ (k : CallTable). Answers after (tried trial gap (try + 1) left k) final r) machine h)))

@@ -1,9 +1,11 @@
--- Public clauses cite Session (a whole session and its ends), by Replies, Answers, Running, Lines and Places. What
--- stands in inside is the code's own.
+-- Public clauses cite Session (a whole session and its ends), by Watching, Replies, Answers, Running, Lines and Places,
+-- and Safety (what the discipline of a run is good for). What stands in inside is the code's own.
 pub mod Places
 pub mod Lines
 pub mod Running
+pub mod Watching
 pub mod Replies
 pub mod Answers
 pub mod Session
+pub mod Safety
 pub mod inside

@@ -11,6 +11,10 @@ use Rattle.image_memory.specs.Contents.{look_at}
 use Rattle.symbol_table.specs.declared.symbols.Symbol.{Symbol}
 use Rattle.ia32_step.specs.declared.types.Thread.{Thread}
 use Rattle.update_stack.specs.declared.updates.Update.{Update}
+use Rattle.frame_watch.specs.declared.types.Rule.{Rule}
+use Rattle.frame_watch.specs.declared.types.Rule.TheVariants.{Start, Return, Arrival, Slot}
+use Rattle.frame_watch.specs.declared.types.Verdict.{Verdict}
+use Rattle.frame_watch.specs.declared.types.Verdict.TheVariants.{Disciplined, Broken}
 use Rattle.ksplice_session.specs.Places.{place_text, state_text}
 
 -- a thread was started: its number, and where it stands
@@ -97,3 +101,19 @@ updates_line count = codes "updates " ++ number_text count ++ 10 ∷ []
 -- all live updates, the oldest first, and how many they are
 unfoldable pub list_lines : List Update → List ℕ
 list_lines updates = flat_map update_line updates ++ updates_line (length updates)
+
+-- the rule that an event broke
+abbrev pub rule_text : Rule → List ℕ
+rule_text Start = codes "start"
+rule_text Return = codes "return"
+rule_text Arrival = codes "arrival"
+rule_text Slot = codes "slot"
+
+-- whether the run so far has kept all rules, or the event that has not, its thread, and the first rule that it broke
+abbrev pub verdict_text : Verdict → List ℕ
+verdict_text Disciplined = codes "disciplined"
+verdict_text (Broken event thread rule) =
+    codes "broken event " ++ number_text event ++ codes " thread " ++ number_text thread ++ codes " " ++ rule_text rule
+
+unfoldable pub watch_line : Verdict → List ℕ
+watch_line verdict = codes "watch " ++ verdict_text verdict ++ 10 ∷ []

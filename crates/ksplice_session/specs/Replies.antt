@@ -11,13 +11,15 @@ use Rattle.ia32_step.specs.declared.types.Thread.{Thread}
 use Rattle.image_threads.specs.Program.{running_at}
 use Rattle.script_lines.specs.declared.types.Command.{Command}
 use Rattle.script_lines.specs.declared.types.Command.TheVariants.{Spawn, Step, RoundRobin, Threads, Peek}
-use Rattle.script_lines.specs.declared.types.Command.TheVariants.{Apply, Undo, ListUpdates}
+use Rattle.script_lines.specs.declared.types.Command.TheVariants.{Apply, Undo, ListUpdates, Watch}
 use Rattle.update_stack.specs.CallTable.{CallTable, shown_update}
 use Rattle.update_stack.specs.Events.{Event, Spawn as SpawnEvent, Apply as ApplyEvent, Undo as UndoEvent}
 use Rattle.update_stack.specs.Events.{Answer, Spawned, Stepped, Applied, Undone, Happened, answered, after_events}
 use Rattle.update_stack.specs.StandsFor.{patched}
+use Rattle.frame_watch.specs.declared.types.Verdict.{Verdict}
+use Rattle.ksplice_session.specs.Watching.{Watched}
 use Rattle.ksplice_session.specs.Lines.{spawned_line, stepped_line, turns_line, threads_lines, peek_line}
-use Rattle.ksplice_session.specs.Lines.{applied_lines, undone_line, list_lines}
+use Rattle.ksplice_session.specs.Lines.{applied_lines, undone_line, list_lines, watch_line}
 use Rattle.ksplice_session.specs.Running.{thread_steps, round_robin}
 
 -- a line's events in order, its reply, and whether that is a refusal
@@ -111,19 +113,23 @@ apply_told k name tries gap (pre ∷ post ∷ []) =
     tried (record { name = name; pre = pre; post = post }) gap 1 (tries - 1) k
 apply_told k name tries gap _ = replied [] []
 
--- what a line does and replies, once its files are held with these bytes
-unfoldable pub told_of : CallTable → Command → List (List ℕ) → Told
-told_of k (Spawn name argument) held = event_told k (SpawnEvent name argument)
-told_of k (Step thread n) held =
+-- what a line of a machine does and replies, once its files are held with these bytes
+abbrev pub line_told : CallTable → Verdict → Command → List (List ℕ) → Told
+line_told k verdict (Spawn name argument) held = event_told k (SpawnEvent name argument)
+line_told k verdict (Step thread n) held =
     if is_some (running_at k.threads thread)
     then step_told k thread (thread_steps k thread n)
     else refused_after [] (NoThread thread)
-told_of k (RoundRobin quantum n) held = turns_told (round_robin k quantum n)
-told_of k Threads held = replied [] (threads_lines k.symbols k.threads)
-told_of k (Peek address count) held = replied [] (peek_line (patched k).pieces address count)
-told_of k (Apply name pre post tries gap) held = apply_told k name tries gap held
-told_of k Undo held = event_told k UndoEvent
-told_of k ListUpdates held = replied [] (list_lines (map shown_update k.updates))
+line_told k verdict (RoundRobin quantum n) held = turns_told (round_robin k quantum n)
+line_told k verdict Threads held = replied [] (threads_lines k.symbols k.threads)
+line_told k verdict (Peek address count) held = replied [] (peek_line (patched k).pieces address count)
+line_told k verdict (Apply name pre post tries gap) held = apply_told k name tries gap held
+line_told k verdict Undo held = event_told k UndoEvent
+line_told k verdict ListUpdates held = replied [] (list_lines (map shown_update k.updates))
+line_told k verdict Watch held = replied [] (watch_line verdict)
+
+unfoldable pub told_of : Watched → Command → List (List ℕ) → Told
+told_of s command held = line_told s.machine s.watch.verdict command held
 
 -- the most bytes that an object file may have
 abbrev pub object_limit : ℕ
@@ -142,3 +148,4 @@ files_of (Peek address count) = []
 files_of (Apply name pre post tries gap) = object_file pre ∷ object_file post ∷ []
 files_of Undo = []
 files_of ListUpdates = []
+files_of Watch = []

@@ -8,10 +8,10 @@ use Rattle.ks_io.specs.Loads.{Needed, Told as ToldFiles, CameTo, first_lacking}
 use Rattle.ks_io.specs.declared.types.FileFault.{FileFault}
 use Rattle.ks_io.specs.declared.types.FileFault.TheVariants.{Missing, TooLong, Failed, Memory}
 use Rattle.script_lines.specs.declared.types.Command.{Command}
+use Rattle.ksplice_session.specs.Watching.{Watched, watched_after_all}
 use Rattle.ksplice_session.specs.declared.types.SessionEnd.{SessionEnd}
 use Rattle.ksplice_session.specs.declared.types.SessionEnd.TheVariants.{Done, SomeRefused, FileEnd, SinkEnd, MemoryEnd}
-use Rattle.update_stack.specs.CallTable.{CallTable}
-use Rattle.update_stack.specs.Events.{Event, after_events}
+use Rattle.update_stack.specs.Events.{Event}
 use Rattle.ksplice_session.specs.Replies.{Told, told_of, files_of}
 use Rattle.ksplice_session.specs.Answers.{MadeFront}
 
@@ -23,24 +23,24 @@ pub record Ran : Type 0 where
 -- What was done of a script: the machine that the lines leave, their events, their replies together, and whether one
 -- was refused.
 pub record Played : Type 0 where
-  pub machine : CallTable
+  pub session : Watched
   pub events : List Event
   pub output : List ℕ
   pub refused : Bool
 
-abbrev pub nothing_played : CallTable → Played
-nothing_played k = record { machine = k; events = []; output = []; refused = false }
+abbrev pub nothing_played : Watched → Played
+nothing_played k = record { session = k; events = []; output = []; refused = false }
 
 abbrev pub with_told : Played → Told → Played
 with_told p told = record {
-  machine = after_events p.machine told.events;
+  session = watched_after_all p.session told.events;
   events = p.events ++ told.events;
   output = p.output ++ told.reply;
   refused = p.refused || told.refused;
 }
 
 abbrev pub play_line : Played → Ran → Played
-play_line p ran = with_told p (told_of p.machine ran.line ran.held)
+play_line p ran = with_told p (told_of p.session ran.line ran.held)
 
 abbrev pub held_of : Ran → List (List ℕ)
 held_of ran = ran.held
@@ -50,7 +50,7 @@ abbrev pub held_along : List Ran → List (List ℕ)
 held_along ran = flat_map held_of ran
 
 -- lines from a machine on
-unfoldable pub played : CallTable → List Ran → Played
+unfoldable pub played : Watched → List Ran → Played
 played k ran = fold play_line (nothing_played k) ran
 
 -- all files of a script, in order
@@ -70,7 +70,7 @@ ran_by (line ∷ lines) held =
 abbrev pub lacking : List Command → List (List ℕ) → Option Needed
 lacking script held = first_lacking (files_along script) held
 
-abbrev pub session_played : CallTable → List Command → List (List ℕ) → Played
+abbrev pub session_played : Watched → List Command → List (List ℕ) → Played
 session_played k script held = played k (ran_by script held)
 
 -- the line of a file that was not loaded; want of memory has none
@@ -89,7 +89,7 @@ lost_line (Some file) None = []
 lost_line (Some file) (Some fault) = file_line file.name fault
 
 -- the whole output: the replies, and the file line where a load ended the session
-abbrev pub whole_output : CallTable → List Command → List (List ℕ) → Option FileFault → List ℕ
+abbrev pub whole_output : Watched → List Command → List (List ℕ) → Option FileFault → List ℕ
 whole_output k script held lost = (session_played k script held).output ++ lost_line (lacking script held) lost
 
 -- lines that were run, one that was begun, and those behind it
@@ -100,11 +100,11 @@ pub record At (ran : List Ran) : Type 0 where
   pub whole : before ++ line ∷ behind ≡ ran
 
 -- what was done before that line, and what the line does
-abbrev pub before_line : {ran : List Ran} → CallTable → At ran → Played
+abbrev pub before_line : {ran : List Ran} → Watched → At ran → Played
 before_line k at = played k at.before
 
-abbrev pub told_at : {ran : List Ran} → CallTable → At ran → Told
-told_at k at = told_of (before_line k at).machine at.line.line at.line.held
+abbrev pub told_at : {ran : List Ran} → Watched → At ran → Told
+told_at k at = told_of (before_line k at).session at.line.line at.line.held
 
 -- No file of a line behind that one was loaded, and none was lost.
 pub record NoneBehind (held : List (List ℕ)) (lost : Option FileFault) {ran : List Ran} (at : At ran) : Type 0 where
@@ -114,72 +114,72 @@ pub record NoneBehind (held : List (List ℕ)) (lost : Option FileFault) {ran : 
 -- How a session ends that began at k, given the files that were held and the fault for which the next was not: what
 -- came out, and the machine that it leaves.
 pub data Ends
-    (k : CallTable)
+    (k : Watched)
     (script : List Command)
     (held : List (List ℕ))
     (lost : Option FileFault)
     (old new : Option (List ℕ))
-    (now : CallTable)
+    (now : Watched)
     : SessionEnd → Type 0 where
   -- all lines were run, and none was refused
   AllDone : lacking script held ≡ None →
       (session_played k script held).refused ≡ false →
       new ≡ grown old (session_played k script held).output →
-      now ≡ (session_played k script held).machine →
+      now ≡ (session_played k script held).session →
       Ends k script held lost old new now Done
   -- all were run, and at least one was refused
   AllRun : lacking script held ≡ None →
       (session_played k script held).refused ≡ true →
       new ≡ grown old (session_played k script held).output →
-      now ≡ (session_played k script held).machine →
+      now ≡ (session_played k script held).session →
       Ends k script held lost old new now SomeRefused
   -- a load failed; the lines before it were run, and the file's line was written
   FileStopped : (file : Needed) (fault : FileFault) →
       lacking script held ≡ Some file →
       lost ≡ Some fault →
       new ≡ grown old ((session_played k script held).output ++ file_line file.name fault) →
-      now ≡ (session_played k script held).machine →
+      now ≡ (session_played k script held).session →
       Ends k script held lost old new now FileEnd
   -- the sink failed at a line's reply; the line was run
   SinkStopped : (at : At (ran_by script held)) →
       NoneBehind held lost at →
       TookPart (grown old (before_line k at).output) (told_at k at).reply new →
-      now ≡ after_events (before_line k at).machine (told_at k at).events →
+      now ≡ watched_after_all (before_line k at).session (told_at k at).events →
       Ends k script held lost old new now SinkEnd
   -- or at the line of a file; the lines before it were run
   SinkAtFile : (file : Needed) (fault : FileFault) →
       lacking script held ≡ Some file →
       lost ≡ Some fault →
       TookPart (grown old (session_played k script held).output) (file_line file.name fault) new →
-      now ≡ (session_played k script held).machine →
+      now ≡ (session_played k script held).session →
       Ends k script held lost old new now SinkEnd
   -- Memory ran out in a line: a front of its events was made, and nothing of its reply came out.
   MemoryInLine : (at : At (ran_by script held)) →
       NoneBehind held lost at →
       new ≡ grown old (before_line k at).output →
-      MadeFront (before_line k at).machine (told_at k at).events now →
+      MadeFront (before_line k at).session (told_at k at).events now →
       Ends k script held lost old new now MemoryEnd
   -- Or when it had been run, before its reply was wholly written.
   MemoryAfterLine : (at : At (ran_by script held)) →
       NoneBehind held lost at →
       TookPart (grown old (before_line k at).output) (told_at k at).reply new →
-      now ≡ after_events (before_line k at).machine (told_at k at).events →
+      now ≡ watched_after_all (before_line k at).session (told_at k at).events →
       Ends k script held lost old new now MemoryEnd
   -- Or at a load, or in the line of the file that wasn't loaded; the lines before it were run.
   MemoryAtFile : (file : Needed) →
       lacking script held ≡ Some file →
       TookFront (grown old (session_played k script held).output) (lost_line (Some file) lost) new →
-      now ≡ (session_played k script held).machine →
+      now ≡ (session_played k script held).session →
       Ends k script held lost old new now MemoryEnd
 
 -- What a session's loads came to, and how it ends.
 pub record SessionEnds
     (told : ToldFiles)
-    (k : CallTable)
+    (k : Watched)
     (script : List Command)
     (before after : Counts)
     (old new : Option (List ℕ))
-    (now : CallTable)
+    (now : Watched)
     (end : SessionEnd)
     : Type 0 where
   pub held : List (List ℕ)

@@ -4,20 +4,20 @@ ghost use Rattle.std.specs.Prelude.{Ok, Err, true, false, IfOk, MatchResult};
 ghost use Rattle.ks_base.specs.declared.refusals.Refusal.TheVariants.{Memory};
 ghost use Rattle.ks_base.specs.Refusals.{refusal_line};
 ghost use Rattle.script_lines.specs.declared.types.Command.TheVariants.{Spawn, Step, RoundRobin, Threads, Peek};
-ghost use Rattle.script_lines.specs.declared.types.Command.TheVariants.{Undo, ListUpdates};
+ghost use Rattle.script_lines.specs.declared.types.Command.TheVariants.{Undo, ListUpdates, Watch};
 ghost use Rattle.update_stack.specs.CallTable.{shown_update};
 ghost use Rattle.script_lines.specs.Allowed.{IsAllowed};
 ghost use Rattle.update_stack.specs.StandsFor.{patched};
 ghost use Rattle.ks_io.specs.Loads.{bytes_of};
 ghost use Rattle.ksplice_session.specs.Lines.{spawned_line, turns_line, threads_lines, peek_line};
-ghost use Rattle.ksplice_session.specs.Lines.{applied_lines, undone_line, list_lines};
+ghost use Rattle.ksplice_session.specs.Lines.{applied_lines, undone_line, list_lines, watch_line};
 ghost use Rattle.ksplice_session.specs.Replies.{told_of, apply_told, tried, is_busy, shown, stepped_line_of};
 ghost use Rattle.ksplice_session.specs.Answers.{Answers};
 ghost use Rattle.ksplice_session.specs.inside.Trying.{trial_of, IsTryAnswer};
 
 use crate::lines::{
     put_applied, put_peek, put_spawned, put_stepped, put_threads, put_turns, put_undone,
-    put_updates,
+    put_updates, put_watch,
 };
 use crate::session::Session;
 use crate::types::{Answer, Trial};
@@ -51,6 +51,7 @@ pub fn answer(
         } => answer_apply(alloc, session, name, *tries, *gap, held),
         Command::Undo => answer_undo(alloc, session),
         Command::ListUpdates => answer_list(alloc, session),
+        Command::Watch => answer_watch(alloc, session),
     }
 }
 
@@ -129,6 +130,12 @@ fn answer_list(alloc: Global, session: &Session) -> Result<Answer, AllocError>
     told(list_reply(alloc, session))
 }
 
+fn answer_watch(alloc: Global, session: &Session) -> Result<Answer, AllocError>
+    ensures { Answers session.now (told_of session.now Watch []) session.now result }
+{
+    told(watch_reply(alloc, session))
+}
+
 fn answer_apply(
     alloc: Global,
     session: &mut Session,
@@ -138,7 +145,7 @@ fn answer_apply(
     held: &[Vec<u8>],
 ) -> Result<Answer, AllocError>
     requires { 1 ≤ tries }
-    ensures { Answers session.old (apply_told session.old name.now tries gap (bytes_of held.now)) session.new result }
+    ensures { Answers session.old (apply_told session.old.machine name.now tries gap (bytes_of held.now)) session.new result }
 {
     if held.len() != 2 {
         return told(Ok(Line::new(alloc)));
@@ -160,7 +167,7 @@ fn answer_trial(
     gap: u32,
 ) -> Result<Answer, AllocError>
     requires { 1 ≤ tries }
-    ensures { Answers session.old (tried (trial_of trial.now) gap 1 (tries - 1) session.old) session.new result }
+    ensures { Answers session.old (tried (trial_of trial.now) gap 1 (tries - 1) session.old.machine) session.new result }
 {
     for number in 1..tries {
         let outcome = session.apply(trial.name, trial.pre, trial.post);
@@ -230,7 +237,7 @@ fn is_memory(refusal: &Refusal) -> bool
 }
 
 fn spawned_reply(alloc: Global, session: &Session, number: u32) -> Result<Line, AllocError>
-    ensures { IfOk result (λ line. line ≡ shown session.now number spawned_line) }
+    ensures { IfOk result (λ line. line ≡ shown session.now.machine number spawned_line) }
 {
     let mut line = Line::new(alloc);
     if let Some(thread) = session.thread(number) {
@@ -245,7 +252,7 @@ fn stepped_reply(
     number: u32,
     made: u32,
 ) -> Result<Line, AllocError>
-    ensures { IfOk result (λ line. line ≡ shown session.now number (stepped_line_of made)) }
+    ensures { IfOk result (λ line. line ≡ shown session.now.machine number (stepped_line_of made)) }
 {
     let mut line = Line::new(alloc);
     if let Some(thread) = session.thread(number) {
@@ -263,7 +270,7 @@ fn turns_reply(alloc: Global, made: u32) -> Result<Line, AllocError>
 }
 
 fn threads_reply(alloc: Global, session: &Session) -> Result<Line, AllocError>
-    ensures { IfOk result (λ line. line ≡ threads_lines session.now.symbols session.now.threads) }
+    ensures { IfOk result (λ line. line ≡ threads_lines session.now.machine.symbols session.now.machine.threads) }
 {
     let mut line = Line::new(alloc);
     put_threads(&mut line, session.symbols(), session.threads())?;
@@ -277,7 +284,7 @@ fn peek_reply(
     count: u32,
 ) -> Result<Line, AllocError>
     requires { address + count ≤ 2 ^ 32 }
-    ensures { IfOk result (λ line. line ≡ peek_line (patched session.now).pieces address count) }
+    ensures { IfOk result (λ line. line ≡ peek_line (patched session.now.machine).pieces address count) }
 {
     let mut line = Line::new(alloc);
     put_peek(&mut line, session.system.machine().space(), address, count)?;
@@ -306,9 +313,17 @@ fn undone_reply(alloc: Global, name: &Name) -> Result<Line, AllocError>
 }
 
 fn list_reply(alloc: Global, session: &Session) -> Result<Line, AllocError>
-    ensures { IfOk result (λ line. line ≡ list_lines (map shown_update session.now.updates)) }
+    ensures { IfOk result (λ line. line ≡ list_lines (map shown_update session.now.machine.updates)) }
 {
     let mut line = Line::new(alloc);
     put_updates(&mut line, session.updates())?;
+    Ok(line)
+}
+
+fn watch_reply(alloc: Global, session: &Session) -> Result<Line, AllocError>
+    ensures { IfOk result (λ line. line ≡ watch_line session.now.watch.verdict) }
+{
+    let mut line = Line::new(alloc);
+    put_watch(&mut line, session.verdict())?;
     Ok(line)
 }

@@ -40,7 +40,8 @@ pub(crate) fn files_of(command: &Command) -> Loads<'_>
         | Command::Threads
         | Command::Peek { .. }
         | Command::Undo
-        | Command::ListUpdates => no_files(),
+        | Command::ListUpdates
+        | Command::Watch => no_files(),
         Command::Apply { pre, post, .. } => object_files(pre, post),
     }
 }

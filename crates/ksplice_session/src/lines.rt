@@ -5,8 +5,11 @@ ghost use Rattle.ksplice_session.specs.Lines.{spawned_line, stepped_line, turns_
 ghost use Rattle.ksplice_session.specs.Lines.{thread_line, count_line, threads_lines, peeked, peeked_at, peek_line};
 ghost use Rattle.ksplice_session.specs.Lines.{replaced_line, added_line, dropped_line, applied_line, applied_lines};
 ghost use Rattle.ksplice_session.specs.Lines.{undone_line, update_line, updates_line, list_lines};
+ghost use Rattle.frame_watch.specs.declared.types.Verdict.TheVariants.{Broken};
+ghost use Rattle.ksplice_session.specs.Lines.{rule_text, verdict_text, watch_line};
 
 use crate::places::{put_place, put_state};
+use frame_watch::{Rule, Verdict};
 use ia32_step::Thread;
 use image_memory::{Kind, Space};
 use ks_base::{Added, Line, Name, Replaced, Report};
@@ -297,4 +300,50 @@ pub fn put_updates(line: &mut Line, updates: &[Update]) -> Result<(), AllocError
 {
     put_each_update(line, updates)?;
     put_update_count(line, updates.len())
+}
+
+fn put_rule(line: &mut Line, rule: Rule) -> Result<(), AllocError>
+    ensures { OnOk result (line.new ≡ line.old ++ rule_text rule) }
+{
+    match rule {
+        Rule::Start => line.put_text("start"),
+        Rule::Return => line.put_text("return"),
+        Rule::Arrival => line.put_text("arrival"),
+        Rule::Slot => line.put_text("slot"),
+    }
+}
+
+fn put_break(line: &mut Line, event: u64, thread: u32, rule: Rule) -> Result<(), AllocError>
+    ensures { OnOk result (line.new ≡ line.old ++ verdict_text (Broken event thread rule)) }
+{
+    line.put_text("broken event ")?;
+    line.put_number(event)?;
+    line.put_text(" thread ")?;
+    line.put_number(u64::from(thread))?;
+    line.put_text(" ")?;
+    put_rule(line, rule)
+}
+
+fn put_verdict(line: &mut Line, verdict: Verdict) -> Result<(), AllocError>
+    ensures { OnOk result (line.new ≡ line.old ++ verdict_text verdict) }
+{
+    match verdict {
+        Verdict::Disciplined => line.put_text("disciplined"),
+        Verdict::Broken {
+            event,
+            thread,
+            rule,
+        } => put_break(line, event, thread, rule),
+    }
+}
+
+/// Whether the run so far has kept the discipline: `watch disciplined`; or `watch broken event`, the event's number from
+/// 1 on, `thread` and the thread's number, and the first rule that it broke: `start`, `return`, `arrival` or `slot`.
+#[tactic(auto, unfolding(crate::specs::Lines::watch_line))]
+pub fn put_watch(line: &mut Line, verdict: Verdict) -> Result<(), AllocError>
+    ensures { OnOk result (line.new ≡ line.old ++ watch_line verdict) }
+{
+    line.put_text("watch ")?;
+    put_verdict(line, verdict)?;
+    line.put_text("\n")
 }

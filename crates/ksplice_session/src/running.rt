@@ -1,17 +1,21 @@
 //! Running a script.
-ghost use Rattle.std.specs.Prelude.{◌≡◌, ◌≢◌, Err, IsErrOf};
+ghost use Rattle.std.specs.Prelude.{◌≡◌, ◌≢◌, ℕ, List, Ok, Err, IsErrOf};
 ghost use Rattle.std.specs.List.{All};
 ghost use Rattle.ks_io.specs.Kept.{FilesKept, SinkKept};
 ghost use Rattle.ks_io.specs.Loads.{bytes_of};
 ghost use Rattle.ks_io.specs.Outside.{Rose};
+ghost use Rattle.image_file.specs.Reading.{Contents as Image, image_of};
 ghost use Rattle.script_lines.specs.Allowed.{IsAllowed};
 ghost use Rattle.ksplice_session.specs.inside.LineEnds.{LineEnds, ToldEnds, FileEnds, written_end, file_end};
 ghost use Rattle.ksplice_session.specs.Replies.{told_of};
 ghost use Rattle.ksplice_session.specs.inside.ScriptEnds.{ScriptEnds};
 ghost use Rattle.ksplice_session.specs.Session.{SessionEnds};
+ghost use Rattle.ksplice_session.specs.Watching.{first_watched};
+ghost use Rattle.ksplice_session.specs.Safety.{RanSafely};
 
 use crate::answers::answer;
 use crate::files::{files_of, write_file_line};
+use crate::laws::disciplined_runs_are_safe;
 use crate::session::Session;
 use crate::types::SessionEnd;
 use ks_io::{FileFault, Files, Lost, Sink, SinkFault, Wanted, load_all, write_all};
@@ -21,8 +25,33 @@ use std::alloc::Global;
 /// Runs the lines of a script one after another. A line's files are loaded before it is run, and its reply is written
 /// when it was run; a refused line changes nothing but by the steps between its tries, and the next is run. The session
 /// ends at a file that can't be loaded, when that file's line was written, at a fault of the sink, or for want of
-/// memory.
+/// memory. Where it ran from the start of an image, and its events kept the discipline, no open frame has lost the code
+/// that it returns to.
 pub fn run_session<F: Files, O: Sink>(
+    alloc: Global,
+    session: &mut Session,
+    script: &Script,
+    files: &mut F,
+    out: &mut O,
+) -> SessionEnd
+    requires { All IsAllowed script.now }
+    ensures ends { SessionEnds (F.told files.old) session.old script.now (F.counts files.old) (F.counts files.new)
+        (O.taken out.old) (O.taken out.new) session.new result }
+    ensures files { FilesKept F.told F.counts F.quiet files.old files.new }
+    ensures out { SinkKept O.faults O.quiet out.old out.new }
+    ensures sink { result ≡ SessionEnd.SinkEnd → Rose (O.faults out.old) (O.faults out.new) }
+    ensures steady { result ≢ SessionEnd.SinkEnd → O.faults out.new ≡ O.faults out.old }
+    ensures quiet { O.quiet out.old → result ≢ SessionEnd.SinkEnd }
+    ensures safe { (file : List ℕ) (image : Image) → image_of file ≡ Ok image → session.old ≡ first_watched image →
+        RanSafely (first_watched image) session.new }
+{
+    // The law says what the discipline spares a run.
+    disciplined_runs_are_safe();
+    run_script(alloc, session, script, files, out)
+}
+
+// The same, by the lines that are run.
+fn run_script<F: Files, O: Sink>(
     alloc: Global,
     session: &mut Session,
     script: &Script,

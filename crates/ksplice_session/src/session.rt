@@ -1,43 +1,53 @@
 //! What a session holds.
-ghost use Rattle.std.specs.Prelude.{◌≡◌, ◌≢◌, Ok, Err, IfOk, OnErr, MatchResult, is_some, map};
+ghost use Rattle.std.specs.Prelude.{◌≡◌, ◌≢◌, Ok, Err, IfOk, OnOk, OnErr, MatchResult, is_some, map, [], ◌∷◌};
 ghost use Rattle.std.specs.List.{slice_get};
 ghost use Rattle.ks_base.specs.declared.refusals.Refusal.TheVariants.{Memory};
 ghost use Rattle.image_file.specs.Seen.{contents_of};
 ghost use Rattle.image_threads.specs.Program.{running_at};
-ghost use Rattle.update_stack.specs.CallTable.{first_machine, shown_update};
+ghost use Rattle.update_stack.specs.CallTable.{shown_update};
 ghost use Rattle.update_stack.specs.Events.{Apply, Applied, Spawn, Spawned, Undo, Undone, happened, answered};
 ghost use Rattle.update_stack.specs.StandsFor.{StandsFor};
+ghost use Rattle.ksplice_session.specs.Watching.{first_watched, watched_after};
+ghost use Rattle.ksplice_session.specs.Answers.{MadeFront};
 
 use crate::memory::all_pieces;
+use frame_watch::{Verdict, Watch};
 use ia32_step::{State, Thread};
 use image_file::Image;
 use image_file::laws::image_keeps_rules;
 use image_memory::{FlatSpace, pieces_stay_placed};
 use image_threads::Machine;
 use ks_base::{Name, Refusal, Report};
+use splice_jump::laws::{jumps_change_their_bytes_alone, jumps_leave_views};
 use std::alloc::{AllocError, Global};
 use std::marker::Model;
 use symbol_table::SymbolTable;
 use update_stack::{System, Update};
 
-/// A program that runs. A clause sees it as the machine that never patches code.
+/// A program that runs, and what was seen of its events. A clause sees it as the machine that never patches code, with
+/// the watch over its events.
 #[derive(Drop)]
 pub struct Session {
     pub(crate) system: System<FlatSpace>,
+    pub(crate) watch: Watch,
 }
 
 impl Model for Session {
-    ghost use Rattle.update_stack.specs.CallTable.{CallTable};
+    ghost use Rattle.ksplice_session.specs.Watching.{Watched};
+    ghost use Rattle.ksplice_session.specs.inside.InStep.{IsInStep};
 
-    ghost Value = { CallTable };
+    ghost Value = { Watched };
 
-    ghost view = { λ s. s.system };
+    ghost view = { λ s. record { machine = s.system; watch = s.watch } };
+
+    // The threads that the watch has run, and each of their frames keeps the slot rule.
+    ghost invariant = { λ s. IsInStep s.system s.watch };
 }
 
 impl Session {
     /// The session of an image: nothing was replaced, and there is no thread. `Err` comes for want of memory alone.
     pub fn new(alloc: Global, image: Image) -> Result<Self, AllocError>
-        ensures { IfOk result (λ session. session ≡ first_machine (contents_of image)) }
+        ensures { IfOk result (λ session. session ≡ first_watched (contents_of image)) }
     {
         // The regions and stacks of an image are apart, and so are they with the pieces of stacks put among them.
         image_keeps_rules(&image);
@@ -47,77 +57,113 @@ impl Session {
         let space = FlatSpace::new(alloc, pieces)?;
         let machine = Machine::new(alloc, image, space)?;
         let system = System::new(alloc, machine, arena)?;
-        Ok(Session { system })
+        let watch = Watch::new(alloc);
+        Ok(Session { system, watch })
     }
 
     /// The system that runs. It stands for the machine that the session is seen as.
     pub fn system(&self) -> &System<FlatSpace>
-        ensures { result.now ≡ self.now }
+        ensures { result.now ≡ self.now.machine }
     {
         &self.system
     }
 
-    /// Starts a thread at the function of a name, and answers its number, as the system does.
+    /// Whether each event so far has kept the discipline, or which one has not.
+    pub(crate) fn verdict(&self) -> Verdict
+        ensures { result ≡ self.now.watch.verdict }
+    {
+        self.watch.verdict()
+    }
+
+    /// Starts a thread at the function of a name, and answers its number, as the system does. For want of memory the
+    /// thread may have been started, and the watch lack it.
     pub(crate) fn spawn(&mut self, name: &Name, argument: u32) -> Result<u32, Refusal>
         ensures answered { MatchResult result
-            (λ number. answered self.old (Spawn name.now argument) ≡ Ok (happened self.new (Spawned number)))
-            (λ refusal. refusal ≢ Memory → answered self.old (Spawn name.now argument) ≡ Err refusal) }
-        ensures refused { OnErr result (self.new ≡ self.old) }
+            (λ number. answered self.old.machine (Spawn name.now argument)
+            ≡ Ok (happened self.new.machine (Spawned number)))
+            (λ refusal. refusal ≢ Memory → answered self.old.machine (Spawn name.now argument) ≡ Err refusal) }
+        ensures noted { OnOk result (self.new ≡ watched_after self.old (Spawn name.now argument)) }
+        ensures refused { MatchResult result (λ number. Unit)
+            (λ refusal. refusal ≢ Memory → self.new ≡ self.old) }
+        ensures front { OnErr result (MadeFront self.old (Spawn name.now argument ∷ []) self.new) }
     {
-        self.system.spawn(name, argument)
+        // Each thread has a stack of its own, and jumps have no say in what is seen of a machine.
+        jumps_leave_views();
+        jumps_change_their_bytes_alone();
+        let _threads = self.system.machine().threads();
+        let number = self.system.spawn(name, argument)?;
+        let machine = self.system.machine();
+        let Some(thread) = machine.threads().get(number as usize) else {
+            return Ok(number);
+        };
+        self.watch.note_spawn_alone(thread, machine.space())?;
+        Ok(number)
     }
 
     /// Replaces functions of the program, as the system does, and answers what the update did.
     pub(crate) fn apply(&mut self, name: &Name, pre: &[u8], post: &[u8]) -> Result<Report, Refusal>
         ensures answered { MatchResult result
-            (λ report. answered self.old (Apply name.now pre.now post.now) ≡ Ok (happened self.new (Applied report)))
-            (λ refusal. refusal ≢ Memory → answered self.old (Apply name.now pre.now post.now) ≡ Err refusal) }
+            (λ report. answered self.old.machine (Apply name.now pre.now post.now)
+            ≡ Ok (happened self.new.machine (Applied report)))
+            (λ refusal. refusal ≢ Memory → answered self.old.machine (Apply name.now pre.now post.now) ≡ Err refusal) }
+        ensures noted { OnOk result (self.new ≡ watched_after self.old (Apply name.now pre.now post.now)) }
         ensures refused { OnErr result (self.new ≡ self.old) }
     {
-        self.system.apply(name, pre, post)
+        // The stacks of threads are pieces that stay.
+        let _threads = self.system.machine().threads();
+        let report = self.system.apply(name, pre, post)?;
+        let _machine = self.system.machine();
+        self.watch.note_update();
+        Ok(report)
     }
 
     /// Takes the newest update back, as the system does, and answers its name.
     pub(crate) fn undo(&mut self) -> Result<Name, Refusal>
         ensures answered { MatchResult result
-            (λ name. answered self.old Undo ≡ Ok (happened self.new (Undone name)))
-            (λ refusal. answered self.old Undo ≡ Err refusal) }
+            (λ name. answered self.old.machine Undo ≡ Ok (happened self.new.machine (Undone name)))
+            (λ refusal. answered self.old.machine Undo ≡ Err refusal) }
+        ensures noted { OnOk result (self.new ≡ watched_after self.old Undo) }
         ensures refused { OnErr result (self.new ≡ self.old) }
     {
-        self.system.undo()
+        // The stacks of threads are pieces that stay.
+        let _threads = self.system.machine().threads();
+        let name = self.system.undo()?;
+        let _machine = self.system.machine();
+        self.watch.note_update();
+        Ok(name)
     }
 
     /// The live updates, the oldest first.
     pub(crate) fn updates(&self) -> &[Update]
-        ensures { result.now ≡ map shown_update self.now.updates }
+        ensures { result.now ≡ map shown_update self.now.machine.updates }
     {
         self.system.updates().as_slice()
     }
 
     /// The threads in the order of their numbers, from 0 on.
     pub(crate) fn threads(&self) -> &[Thread]
-        ensures { result.now ≡ self.now.threads }
+        ensures { result.now ≡ self.now.machine.threads }
     {
         self.system.machine().threads().as_slice()
     }
 
     /// The symbols.
     pub(crate) fn symbols(&self) -> &SymbolTable
-        ensures { result.now.symbols ≡ self.now.symbols }
+        ensures { result.now.symbols ≡ self.now.machine.symbols }
     {
         self.system.machine().symbols()
     }
 
     /// The thread of a number.
     pub(crate) fn thread(&self, number: u32) -> Option<Thread>
-        ensures { result ≡ slice_get self.now.threads number }
+        ensures { result ≡ slice_get self.now.machine.threads number }
     {
         self.threads().get(number as usize).copied()
     }
 
     /// Whether a running thread has a number.
     pub(crate) fn runs(&self, number: u32) -> bool
-        ensures { result ≡ is_some (running_at self.now.threads number) }
+        ensures { result ≡ is_some (running_at self.now.machine.threads number) }
     {
         match self.thread(number) {
             Some(thread) => matches!(thread.state, State::Running),

@@ -1,26 +1,52 @@
 //! Many steps of one thread, and of the threads in turn.
-ghost use Rattle.std.specs.Prelude.{◌≡◌, ◌≤◌, ◌<◌, length, is_some, None};
+ghost use Rattle.std.specs.Prelude.{◌≡◌, ◌≤◌, ◌<◌, ◌^◌, length, slice_index, is_some, None};
 ghost use Rattle.image_threads.specs.Program.{running_at};
 ghost use Rattle.image_threads.specs.Turning.{next_turn, after_turn};
-ghost use Rattle.update_stack.specs.Events.{Step, after_event, after_events};
-ghost use Rattle.ksplice_session.specs.Running.{thread_steps, round_robin, after_taken};
+ghost use Rattle.update_stack.specs.Events.{Step};
+ghost use Rattle.ksplice_session.specs.Running.{thread_steps, round_robin};
+ghost use Rattle.ksplice_session.specs.Watching.{watched_after, watched_after_all};
+ghost use Rattle.ksplice_session.specs.inside.InStep.{watched_taken};
 
 use crate::session::Session;
+use ia32_step::{calls_and_returns, steps_keep};
 use image_threads::Turns;
+use splice_jump::laws::{homes_stay_spliced, jumps_change_their_bytes_alone, jumps_leave_views};
+use update_stack::laws::steps_stand;
 
 impl Session {
     /// A step of the running thread of a number, and whether there is one. It takes no memory.
     fn step(&mut self, thread: u32) -> bool
-        ensures runs { result ≡ is_some (running_at self.old.threads thread) }
-        ensures after { self.new ≡ after_event self.old (Step thread) }
+        ensures runs { result ≡ is_some (running_at self.old.machine.threads thread) }
+        ensures after { self.new ≡ watched_after self.old (Step thread) }
     {
-        self.system.step(thread).is_ok()
+        let Some(before) = self.thread(thread) else {
+            return false;
+        };
+        // The laws say what a step does, and that jumps have no say in what is seen of a machine.
+        steps_stand();
+        steps_keep();
+        calls_and_returns();
+        jumps_leave_views();
+        jumps_change_their_bytes_alone();
+        homes_stay_spliced();
+        registers_fit(&before.registers);
+        let _threads = self.system.machine().threads();
+        let Ok(traced) = self.system.step_traced(thread) else {
+            return false;
+        };
+        let machine = self.system.machine();
+        let Some(after) = machine.threads().get(thread as usize) else {
+            return true;
+        };
+        self.watch
+            .note_traced(&before, after, &traced, machine.space());
+        true
     }
 
     /// At most so many steps of a thread, and how many were made: fewer where it ends. It takes no memory.
     pub(crate) fn run_thread(&mut self, thread: u32, count: u32) -> u32
-        ensures made { result ≡ length (thread_steps self.old thread count) }
-        ensures after { self.new ≡ after_events self.old (thread_steps self.old thread count) }
+        ensures made { result ≡ length (thread_steps self.old.machine thread count) }
+        ensures after { self.new ≡ watched_after_all self.old (thread_steps self.old.machine thread count) }
     {
         for made in 0..count {
             if !self.step(thread) {
@@ -32,9 +58,9 @@ impl Session {
 
     /// A step of the thread whose turn it is, and whether there is one. It takes no memory.
     fn turn(&mut self, turns: &mut Turns) -> bool
-        ensures runs { result ≡ is_some (next_turn turns.old self.old.threads) }
-        ensures after { self.new ≡ after_taken self.old (next_turn turns.old self.old.threads) }
-        ensures schedule { turns.new ≡ after_turn turns.old (next_turn turns.old self.old.threads) }
+        ensures runs { result ≡ is_some (next_turn turns.old self.old.machine.threads) }
+        ensures after { self.new ≡ watched_taken self.old (next_turn turns.old self.old.machine.threads) }
+        ensures schedule { turns.new ≡ after_turn turns.old (next_turn turns.old self.old.machine.threads) }
     {
         match turns.next(self.system.machine()) {
             Some(thread) => {
@@ -48,8 +74,8 @@ impl Session {
     /// At most so many steps of the threads in turn, and how many were made: fewer where all end. It takes no memory.
     pub(crate) fn run_turns(&mut self, quantum: u32, count: u32) -> u32
         requires { 1 ≤ quantum }
-        ensures made { result ≡ length (round_robin self.old quantum count) }
-        ensures after { self.new ≡ after_events self.old (round_robin self.old quantum count) }
+        ensures made { result ≡ length (round_robin self.old.machine quantum count) }
+        ensures after { self.new ≡ watched_after_all self.old (round_robin self.old.machine quantum count) }
     {
         let mut turns = Turns::new(quantum, count);
         for made in 0..count {
@@ -59,4 +85,12 @@ impl Session {
         }
         count
     }
+}
+
+// The registers of a thread are eight numbers of 32 bits.
+fn registers_fit(registers: &[u32; 8])
+    ensures count { length registers.now ≡ 8 }
+    ensures esp { slice_index registers.now 4 < 2 ^ 32 }
+{
+    let _esp = registers[4];
 }

@@ -6,7 +6,7 @@ use Rattle.std.proofs.lemmas.Bool.Decides.{nat_tests}
 use Rattle.std.proofs.lemmas.List.Elements.{All-nil, All-cons, All-append, All-same}
 use Rattle.ks_base.specs.declared.refusals.Refusal.TheVariants.{BadLine}
 use Rattle.script_lines.specs.declared.types.Command.{Command}
-use Rattle.script_lines.specs.declared.types.Command.TheVariants.{Threads, Peek, Undo, ListUpdates}
+use Rattle.script_lines.specs.declared.types.Command.TheVariants.{Threads, Peek, Undo, ListUpdates, Watch}
 use Rattle.script_lines.specs.Lines.{words_of, is_plain, lines_of, IsPrintable}
 use Rattle.script_lines.specs.Numbers.{when, number_of}
 use Rattle.script_lines.specs.Forms.{◌>>=◌, number_within, only, two, first_three, alone, spawn_of, step_of, round_robin_of, peek_of, are_tries_words, tries_of, tries_or_one, apply_of, command_of, is_comment, asked_by, asked_in}
@@ -114,7 +114,8 @@ command_allowed word words each =
     (chosen IsAllowed (bytes_eq word (codes "peek")) _ _ (peek_allowed words)
     (chosen IsAllowed (bytes_eq word (codes "apply")) _ _ (apply_allowed words each)
     (chosen IsAllowed (bytes_eq word (codes "undo")) _ _ (alone_allowed Undo words tt)
-    (chosen IsAllowed (bytes_eq word (codes "list")) _ _ (alone_allowed ListUpdates words tt) tt)))))))
+    (chosen IsAllowed (bytes_eq word (codes "list")) _ _ (alone_allowed ListUpdates words tt)
+    (chosen IsAllowed (bytes_eq word (codes "watch")) _ _ (alone_allowed Watch words tt) tt))))))))
 
 -- of what a line asks for, the command, if there is one, keeps the bounds
 abbrev Keeps : Option Command → Type 0

@@ -1,7 +1,7 @@
 -- The bounds of a command's words and numbers.
 use Rattle.std.specs.Prelude.{◌≤◌, ◌+◌, ◌*◌, ◌^◌}
 use Rattle.script_lines.specs.declared.types.Command.{Command}
-use Rattle.script_lines.specs.declared.types.Command.TheVariants.{Spawn, Step, RoundRobin, Threads, Peek, Apply, Undo, ListUpdates}
+use Rattle.script_lines.specs.declared.types.Command.TheVariants.{Spawn, Step, RoundRobin, Threads, Peek, Apply, Undo, ListUpdates, Watch}
 use Rattle.script_lines.specs.Lines.{IsPrintable}
 
 -- the bounds that the grammar of scripts keeps, beside those of a number of 32 bits
@@ -15,3 +15,4 @@ IsAllowed (Apply name pre post tries gap) =
     IsPrintable name × IsPrintable pre × IsPrintable post × (1 ≤ tries) × (tries ≤ 1000) × (tries * gap ≤ 16777216)
 IsAllowed Undo = Unit {0}
 IsAllowed ListUpdates = Unit {0}
+IsAllowed Watch = Unit {0}

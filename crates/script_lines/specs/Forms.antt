@@ -2,7 +2,7 @@
 use Rattle.std.specs.Prelude.{ℕ, ◌+◌, ◌*◌, ◌^◌, ◌==◌, nat_le, Bool, false, ◌&&◌, List, [], ◌∷◌, codes, bytes_eq, if◌then◌else◌}
 use Rattle.std.specs.Prelude.{Option, Some, None, option_map}
 use Rattle.script_lines.specs.declared.types.Command.{Command}
-use Rattle.script_lines.specs.declared.types.Command.TheVariants.{Spawn, Step, RoundRobin, Threads, Peek, Apply, Undo, ListUpdates}
+use Rattle.script_lines.specs.declared.types.Command.TheVariants.{Spawn, Step, RoundRobin, Threads, Peek, Apply, Undo, ListUpdates, Watch}
 use Rattle.script_lines.specs.Lines.{is_plain, words_of}
 use Rattle.script_lines.specs.Numbers.{when, number_of}
 
@@ -103,6 +103,7 @@ command_of word words =
     else if bytes_eq word (codes "apply") then apply_of words
     else if bytes_eq word (codes "undo") then alone Undo words
     else if bytes_eq word (codes "list") then alone ListUpdates words
+    else if bytes_eq word (codes "watch") then alone Watch words
     else None
 
 -- whether a word begins with `#`

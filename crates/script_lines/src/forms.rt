@@ -76,6 +76,9 @@ fn command_of(alloc: Global, word: &[u8], text: &[u8]) -> Result<Option<Command>
     if is(word, b"list") {
         return Ok(alone(Command::ListUpdates, text));
     }
+    if is(word, b"watch") {
+        return Ok(alone(Command::Watch, text));
+    }
     Ok(None)
 }
 

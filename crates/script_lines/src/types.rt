@@ -51,6 +51,8 @@ pub enum Command {
     Undo,
     /// Show the live updates.
     ListUpdates,
+    /// Show whether the run so far has kept the discipline.
+    Watch,
 }
 
 /// Commands in order.

@@ -17,12 +17,13 @@ enum Wanted {
     Apply(&'static str, &'static str, &'static str, u32, u32),
     Undo,
     ListUpdates,
+    Watch,
 }
 
 const TOP: u32 = 0xFFFF_FFFF;
 
 // Scripts of one command.
-const COMMANDS: [(&str, Wanted); 37] = [
+const COMMANDS: [(&str, Wanted); 38] = [
     ("spawn main 7\n", Wanted::Spawn("main", 7)),
     ("spawn main 7", Wanted::Spawn("main", 7)),
     ("  spawn   main  7  \n", Wanted::Spawn("main", 7)),
@@ -81,6 +82,7 @@ const COMMANDS: [(&str, Wanted); 37] = [
     ("  undo  \n", Wanted::Undo),
     ("list", Wanted::ListUpdates),
     ("list \n", Wanted::ListUpdates),
+    ("watch", Wanted::Watch),
 ];
 
 // Scripts that give no command.
@@ -97,7 +99,7 @@ const NOTHING: [&str; 9] = [
 ];
 
 // Scripts with a bad line, and its number.
-const BAD: [(&str, u32); 85] = [
+const BAD: [(&str, u32); 86] = [
     // words
     ("thread", 1),
     ("threadss", 1),
@@ -140,7 +142,8 @@ const BAD: [(&str, u32); 85] = [
     ("Undo", 1),
     ("list x", 1),
     ("lists", 1),
-    ("watch", 1),
+    ("watch x", 1),
+    ("watches", 1),
     // numbers
     ("spawn main x", 1),
     ("spawn main -1", 1),
@@ -220,6 +223,7 @@ fn is_wanted(command: &Command, wanted: Wanted) -> bool {
         }
         (Command::Undo, Wanted::Undo) => true,
         (Command::ListUpdates, Wanted::ListUpdates) => true,
+        (Command::Watch, Wanted::Watch) => true,
         _ => false,
     }
 }

@@ -21,7 +21,11 @@ const IMAGE: [u8; 113] = [
 ];
 
 pub(crate) fn session_of(alloc: Global) -> Option<Session> {
-    let image = read_image(alloc, &IMAGE).ok()?;
+    session_over(alloc, &IMAGE)
+}
+
+fn session_over(alloc: Global, bytes: &[u8]) -> Option<Session> {
+    let image = read_image(alloc, bytes).ok()?;
     Session::new(alloc, image).ok()
 }
 
@@ -43,9 +47,9 @@ fn ends(
 fn replies_to_a_script(rt: HostRuntime) -> Result<(), Fail> {
     let alloc = rt.alloc();
     let mut session = session_of(alloc).ok_or("no session")?;
-    let script = "spawn main 7\nstep 0 2\nrr 1 100\nthreads\npeek 0x00100000 6\n";
+    let script = "spawn main 7\nstep 0 2\nrr 1 100\nthreads\npeek 0x00100000 6\nwatch\n";
     let replies =
-        "spawned 0 0x00100010 main+0x0\nstepped 0 2 running 0x00100005 f+0x5\nrr 3\nthread 0 exited 0x00000001\nthreads 1\n0x00100000: b8 01 00 00 00 c3\n";
+        "spawned 0 0x00100010 main+0x0\nstepped 0 2 running 0x00100005 f+0x5\nrr 3\nthread 0 exited 0x00000001\nthreads 1\n0x00100000: b8 01 00 00 00 c3\nwatch disciplined\n";
     let end = ends(alloc, &mut session, script, replies).ok_or("no script")?;
     assert!(rt; end == (SessionEnd::Done, true));
     let system = session.system();
@@ -56,6 +60,25 @@ fn replies_to_a_script(rt: HostRuntime) -> Result<(), Fail> {
         &mut session,
         "step 0 1\nrr 1 1\nundo\nlist\n",
         "refused 30 no thread 0\nrr 0\nrefused 27 nothing applied\nupdates 0\n",
+    )
+    .ok_or("no script")?;
+    assert!(rt; end == (SessionEnd::SomeRefused, true));
+    Ok(())
+}
+
+// `f` pushes EAX and returns to it, which isn't its frame's address.
+#[test]
+fn broken_rule_is_shown(rt: HostRuntime) -> Result<(), Fail> {
+    let alloc = rt.alloc();
+    let mut image = IMAGE;
+    image[36] = 0x50;
+    image[37] = 0xc3;
+    let mut session = session_over(alloc, &image).ok_or("no session")?;
+    let end = ends(
+        alloc,
+        &mut session,
+        "spawn f 0\nstep 0 1\nwatch\nstep 0 1\nwatch\nspawn main 0\nwatch\n",
+        "spawned 0 0x00100000 f+0x0\nstepped 0 1 running 0x00100001 f+0x1\nwatch disciplined\nstepped 0 1 running 0x00000000\nwatch broken event 3 thread 0 return\nrefused 32 no stack\nwatch broken event 3 thread 0 return\n",
     )
     .ok_or("no script")?;
     assert!(rt; end == (SessionEnd::SomeRefused, true));

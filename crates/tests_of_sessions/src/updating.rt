@@ -41,6 +41,7 @@ undo
 list
 undo
 peek 0x00100000 6
+watch
 ";
 
 const REPLIES: &str = "spawned 0 0x00100010 main+0x0
@@ -63,6 +64,7 @@ undone one
 updates 0
 refused 27 nothing applied
 0x00100000: b8 01 00 00 00 c3
+watch disciplined
 ";
 
 // The files of the script.

@@ -7,8 +7,7 @@ use Rattle.ks_io.specs.declared.types.SinkFault.TheVariants.{SinkFailed, Memory}
 use Rattle.ks_io.specs.declared.types.Wanted.{Wanted}
 use Rattle.ks_io.specs.declared.types.FileFault.{FileFault}
 use Rattle.script_lines.specs.declared.types.Command.{Command}
-use Rattle.update_stack.specs.CallTable.{CallTable}
-use Rattle.update_stack.specs.Events.{after_events}
+use Rattle.ksplice_session.specs.Watching.{Watched, watched_after_all}
 use Rattle.ksplice_session.specs.declared.types.SessionEnd.{SessionEnd}
 use Rattle.ksplice_session.specs.declared.types.SessionEnd.TheVariants.{FileEnd, SinkEnd, MemoryEnd}
 use Rattle.ksplice_session.specs.Replies.{Told, told_of, files_of}
@@ -17,9 +16,9 @@ use Rattle.ksplice_session.specs.Session.{file_line, lost_line}
 
 -- How a line ends the session that has its files: the sink failed at its reply, or memory ran out, before its reply or
 -- in it.
-pub data CutAt (k : CallTable) (told : Told) (old new : Option (List ℕ)) (now : CallTable) : SessionEnd → Type 0 where
-  SinkCut : TookPart old told.reply new → now ≡ after_events k told.events → CutAt k told old new now SinkEnd
-  MemoryCut : TookPart old told.reply new → now ≡ after_events k told.events → CutAt k told old new now MemoryEnd
+pub data CutAt (k : Watched) (told : Told) (old new : Option (List ℕ)) (now : Watched) : SessionEnd → Type 0 where
+  SinkCut : TookPart old told.reply new → now ≡ watched_after_all k told.events → CutAt k told old new now SinkEnd
+  MemoryCut : TookPart old told.reply new → now ≡ watched_after_all k told.events → CutAt k told old new now MemoryEnd
   EventsCut : new ≡ old → MadeFront k told.events now → CutAt k told old new now MemoryEnd
 
 -- How a line ends the session that lacks a file.
@@ -36,24 +35,24 @@ pub data LostAt (file : Needed) (lost : Option FileFault) (old new : Option (Lis
 
 -- A line was run and its reply written.
 pub record Replied
-    (k : CallTable)
+    (k : Watched)
     (told : Told)
     (old new : Option (List ℕ))
-    (now : CallTable)
+    (now : Watched)
     (refused : Bool)
     : Type 0 where
   pub marked : refused ≡ told.refused
   pub taken : new ≡ grown old told.reply
-  pub machine : now ≡ after_events k told.events
+  pub session : now ≡ watched_after_all k told.events
 
 -- A line was run with its files, and its reply written.
 pub record WasRun
     (files : ToldFiles)
-    (k : CallTable)
+    (k : Watched)
     (line : Command)
     (before after : Counts)
     (old new : Option (List ℕ))
-    (now : CallTable)
+    (now : Watched)
     (refused : Bool)
     : Type 0 where
   pub held : List (List ℕ)
@@ -64,11 +63,11 @@ pub record WasRun
 -- A line ended the session, with its files or without one of them.
 pub data EndedBy
     (files : ToldFiles)
-    (k : CallTable)
+    (k : Watched)
     (line : Command)
     (before after : Counts)
     (old new : Option (List ℕ))
-    (now : CallTable)
+    (now : Watched)
     (end : SessionEnd)
     : Type 0 where
   AtLine : (held : List (List ℕ)) →
@@ -83,8 +82,8 @@ pub data EndedBy
       now ≡ k →
       EndedBy files k line before after old new now end
 
-abbrev pub LineEnds : ToldFiles → CallTable → Command → Counts → Counts → Option (List ℕ) → Option (List ℕ) →
-    CallTable → Result Bool SessionEnd → Type 0
+abbrev pub LineEnds : ToldFiles → Watched → Command → Counts → Counts → Option (List ℕ) → Option (List ℕ) →
+    Watched → Result Bool SessionEnd → Type 0
 LineEnds files k line before after old new now (Ok refused) = WasRun files k line before after old new now refused
 LineEnds files k line before after old new now (Err end) = EndedBy files k line before after old new now end
 
@@ -95,7 +94,7 @@ written_end (Err SinkFailed) refused = Err SinkEnd
 written_end (Err Memory) refused = Err MemoryEnd
 
 -- what comes of a line that has its files
-abbrev pub ToldEnds : CallTable → Told → Option (List ℕ) → Option (List ℕ) → CallTable → Result Bool SessionEnd → Type 0
+abbrev pub ToldEnds : Watched → Told → Option (List ℕ) → Option (List ℕ) → Watched → Result Bool SessionEnd → Type 0
 ToldEnds k told old new now (Ok refused) = Replied k told old new now refused
 ToldEnds k told old new now (Err end) = CutAt k told old new now end
 

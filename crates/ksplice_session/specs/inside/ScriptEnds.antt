@@ -3,7 +3,7 @@ use Rattle.std.specs.Prelude.{◌≡◌, ℕ, Bool, List, [], ◌∷◌, length,
 use Rattle.ks_io.specs.Outside.{Counts, grown}
 use Rattle.ks_io.specs.Loads.{Told as ToldFiles, CameTo}
 use Rattle.script_lines.specs.declared.types.Command.{Command}
-use Rattle.update_stack.specs.CallTable.{CallTable}
+use Rattle.ksplice_session.specs.Watching.{Watched}
 use Rattle.ksplice_session.specs.declared.types.SessionEnd.{SessionEnd}
 use Rattle.ksplice_session.specs.Replies.{files_of}
 use Rattle.ksplice_session.specs.Session.{Ran, held_along, played, files_along, SessionEnds}
@@ -22,11 +22,11 @@ AreFiled (r ∷ rs) = IsFiled r × AreFiled rs
 -- lines that were run, each with all its files
 pub record HaveRun
     (files : ToldFiles)
-    (k : CallTable)
+    (k : Watched)
     (script : List Command)
     (before after : Counts)
     (old new : Option (List ℕ))
-    (now : CallTable)
+    (now : Watched)
     (refused : Bool)
     : Type 0 where
   pub ran : List Ran
@@ -35,11 +35,11 @@ pub record HaveRun
   pub loads : CameTo files (files_along script) (held_along ran) None before after
   pub marked : refused ≡ (played k ran).refused
   pub taken : new ≡ grown old (played k ran).output
-  pub machine : now ≡ (played k ran).machine
+  pub session : now ≡ (played k ran).session
 
 -- All lines were run, and at least one was refused or none; or the session ended.
-abbrev pub ScriptEnds : ToldFiles → CallTable → List Command → Counts → Counts → Option (List ℕ) → Option (List ℕ) →
-    CallTable → Result Bool SessionEnd → Type 0
+abbrev pub ScriptEnds : ToldFiles → Watched → List Command → Counts → Counts → Option (List ℕ) → Option (List ℕ) →
+    Watched → Result Bool SessionEnd → Type 0
 ScriptEnds files k script before after old new now (Ok refused) =
     HaveRun files k script before after old new now refused
 ScriptEnds files k script before after old new now (Err end) =

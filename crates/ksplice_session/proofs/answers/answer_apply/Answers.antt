@@ -8,5 +8,5 @@ pub returns-then-held-ne2 : goal.returns-then-held-ne2
 returns-then-held-ne2 c =
     let k = c.args.session.now in
     subst (λ (told : Told). Answers k told k c.told.result)
-    (sym (not_two_files k c.args.name.now c.args.tries c.args.gap c.args.held.now c.if-held-ne2.true))
+    (sym (not_two_files k.machine c.args.name.now c.args.tries c.args.gap c.args.held.now c.if-held-ne2.true))
     (told_answers k k (replied [] []) (Ok c.new.result) c.told.result refl c.new.ensures (nothing_done k) c.told.ensures)

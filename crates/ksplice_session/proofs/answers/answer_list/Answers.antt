@@ -10,5 +10,5 @@ pub returns : goal.returns
 returns c =
     let k = c.args.session.now in
     subst (λ (told : Told). Answers k told k c.told.result) (sym (told_list k))
-    (told_answers k k (replied [] (list_lines (map shown_update k.updates))) c.list_reply.result c.told.result refl
+    (told_answers k k (replied [] (list_lines (map shown_update k.machine.updates))) c.list_reply.result c.told.result refl
     c.list_reply.ensures (nothing_done k) c.told.ensures)

@@ -10,4 +10,4 @@ pub returns : goal.returns
 returns c =
     let k = c.args.session.now in
     subst (λ (told : Told). Answers k told k c.told.result) (sym (told_peek k c.args.address c.args.count))
-    (told_answers k k (replied [] (peek_line (patched k).pieces c.args.address c.args.count)) c.peek_reply.result c.told.result refl c.peek_reply.ensures (nothing_done k) c.told.ensures)
+    (told_answers k k (replied [] (peek_line (patched k.machine).pieces c.args.address c.args.count)) c.peek_reply.result c.told.result refl c.peek_reply.ensures (nothing_done k) c.told.ensures)

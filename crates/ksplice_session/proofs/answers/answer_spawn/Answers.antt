@@ -1,10 +1,10 @@
 use Rattle.std.proofs.Common.{[], ◌∷◌, refl, sym, subst}
 use Rattle.script_lines.specs.declared.types.Command.TheVariants.{Spawn}
-use Rattle.update_stack.specs.Events.{Spawn as SpawnEvent, Spawned, happened}
+use Rattle.update_stack.specs.Events.{Spawn as SpawnEvent}
 use Rattle.ksplice_session.specs.Lines.{spawned_line}
 use Rattle.ksplice_session.specs.Replies.{Told, told_of, replied, shown}
-use Rattle.ksplice_session.specs.Answers.{Answers}
-use Rattle.ksplice_session.proofs.AnswerLaws.{told_answers, refused_answers, one_event, told_spawned, told_spawn_refused}
+use Rattle.ksplice_session.specs.Answers.{Answers, MadeFront}
+use Rattle.ksplice_session.proofs.AnswerLaws.{told_answers, refused_answers, one_event, told_spawn, told_spawned, told_spawn_refused, front_told}
 use Rattle.ksplice_session.proofs.answers.answer_spawn.Goals as goal
 
 pub returns-in-Ok : goal.returns-in-Ok
@@ -13,13 +13,16 @@ returns-in-Ok c =
     let now = c.spawn.new.self in
     let number = c.in-Ok.number in
     let event = SpawnEvent c.args.name.now c.args.argument in
-    subst (λ (told : Told). Answers k told now c.told.result) (sym (told_spawned k now c.args.name.now c.args.argument number c.in-Ok.ensures.answered))
-    (told_answers k now (replied (event ∷ []) (shown now number spawned_line)) c.spawned_reply.result c.told.result refl c.spawned_reply.ensures
-    (one_event k event (happened now (Spawned number)) c.in-Ok.ensures.answered) c.told.ensures)
+    subst (λ (told : Told). Answers k told now c.told.result) (sym (told_spawned k now.machine c.args.name.now c.args.argument number c.in-Ok.ensures.answered))
+    (told_answers k now (replied (event ∷ []) (shown now.machine number spawned_line)) c.spawned_reply.result c.told.result refl c.spawned_reply.ensures
+    (one_event k now event c.in-Ok.ensures.noted) c.told.ensures)
 
 pub returns-in-Err : goal.returns-in-Err
 returns-in-Err c =
     refused_answers c.args.session.now c.spawn.new.self (told_of c.args.session.now (Spawn c.args.name.now c.args.argument) []) c.in-Err.refusal c.refused.result
     c.in-Err.ensures.refused
     (λ other. told_spawn_refused c.args.session.now c.args.name.now c.args.argument c.in-Err.refusal (c.in-Err.ensures.answered other))
+    (subst (λ (told : Told). MadeFront c.args.session.now told.events c.spawn.new.self)
+    (sym (told_spawn c.args.session.now c.args.name.now c.args.argument))
+    (front_told c.args.session.now c.spawn.new.self (SpawnEvent c.args.name.now c.args.argument) c.in-Err.ensures.front))
     c.refused.ensures

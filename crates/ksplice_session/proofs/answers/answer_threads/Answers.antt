@@ -9,4 +9,4 @@ pub returns : goal.returns
 returns c =
     let k = c.args.session.now in
     subst (λ (told : Told). Answers k told k c.told.result) (sym (told_threads k))
-    (told_answers k k (replied [] (threads_lines k.symbols k.threads)) c.threads_reply.result c.told.result refl c.threads_reply.ensures (nothing_done k) c.told.ensures)
+    (told_answers k k (replied [] (threads_lines k.machine.symbols k.machine.threads)) c.threads_reply.result c.told.result refl c.threads_reply.ensures (nothing_done k) c.told.ensures)

@@ -1,6 +1,6 @@
 use Rattle.std.proofs.Common.{◌-◌, Result}
 use Rattle.std.specs.declared.alloc.AllocError.{AllocError}
-use Rattle.update_stack.specs.CallTable.{CallTable}
+use Rattle.ksplice_session.specs.Watching.{Watched}
 use Rattle.ksplice_session.specs.declared.types.Answer.{Answer}
 use Rattle.ksplice_session.specs.Replies.{tried}
 use Rattle.ksplice_session.specs.Answers.{Answers}
@@ -10,6 +10,6 @@ use Rattle.ksplice_session.proofs.answers.answer_trial.Given as goal
 -- whatever the tries from this one on come to, all come to
 abbrev pub invariant-loop-number : goal.invariant-loop-number
 invariant-loop-number l =
-    (now : CallTable) (r : Result Answer AllocError)
-    → Answers l.session (tried (trial_of l.trial) l.gap l.number (l.tries - l.number) l.session) now r
-    → Answers l.fn.session (tried (trial_of l.trial) l.gap 1 (l.tries - 1) l.fn.session) now r
+    (now : Watched) (r : Result Answer AllocError)
+    → Answers l.session (tried (trial_of l.trial) l.gap l.number (l.tries - l.number) l.session.machine) now r
+    → Answers l.fn.session (tried (trial_of l.trial) l.gap 1 (l.tries - 1) l.fn.session.machine) now r

@@ -10,5 +10,5 @@ returns c =
     let k = c.args.session.now in
     let now = c.run_turns-made.new.self in
     subst (λ (told : Told). Answers k told now c.told.result) (sym (told_turns k c.args.quantum c.args.count))
-    (told_answers k now (turns_told (round_robin k c.args.quantum c.args.count)) c.turns_reply.result c.told.result refl
+    (told_answers k now (turns_told (round_robin k.machine c.args.quantum c.args.count)) c.turns_reply.result c.told.result refl
     (rw (← c.run_turns-made.ensures.made) c.turns_reply.ensures) c.run_turns-made.ensures.after c.told.ensures)

@@ -1,10 +1,10 @@
 use Rattle.std.proofs.Common.{[], ◌∷◌, refl, sym, subst}
 use Rattle.script_lines.specs.declared.types.Command.TheVariants.{Undo}
-use Rattle.update_stack.specs.Events.{Undo as UndoEvent, Undone, happened}
+use Rattle.update_stack.specs.Events.{Undo as UndoEvent}
 use Rattle.ksplice_session.specs.Lines.{undone_line}
 use Rattle.ksplice_session.specs.Replies.{Told, told_of, replied}
 use Rattle.ksplice_session.specs.Answers.{Answers}
-use Rattle.ksplice_session.proofs.AnswerLaws.{told_answers, refused_answers, one_event, told_undone, told_undo_refused}
+use Rattle.ksplice_session.proofs.AnswerLaws.{told_answers, refused_answers, none_made, one_event, told_undone, told_undo_refused}
 use Rattle.ksplice_session.proofs.answers.answer_undo.Goals as goal
 
 pub returns-in-Ok : goal.returns-in-Ok
@@ -12,13 +12,15 @@ returns-in-Ok c =
     let k = c.args.session.now in
     let now = c.undo.new.self in
     let name = c.in-Ok.name in
-    subst (λ (told : Told). Answers k told now c.told.result) (sym (told_undone k now name c.in-Ok.ensures.answered))
+    subst (λ (told : Told). Answers k told now c.told.result) (sym (told_undone k now.machine name c.in-Ok.ensures.answered))
     (told_answers k now (replied (UndoEvent ∷ []) (undone_line name)) c.undone_reply.result c.told.result refl
     c.undone_reply.ensures
-    (one_event k UndoEvent (happened now (Undone name)) c.in-Ok.ensures.answered) c.told.ensures)
+    (one_event k now UndoEvent c.in-Ok.ensures.noted) c.told.ensures)
 
 pub returns-in-Err : goal.returns-in-Err
 returns-in-Err c =
     refused_answers c.args.session.now c.undo.new.self (told_of c.args.session.now Undo []) c.in-Err.refusal
-    c.refused.result c.in-Err.ensures.refused
-    (λ _. told_undo_refused c.args.session.now c.in-Err.refusal c.in-Err.ensures.answered) c.refused.ensures
+    c.refused.result (λ _. c.in-Err.ensures.refused)
+    (λ _. told_undo_refused c.args.session.now c.in-Err.refusal c.in-Err.ensures.answered)
+    (none_made c.args.session.now c.undo.new.self (told_of c.args.session.now Undo []).events c.in-Err.ensures.refused)
+    c.refused.ensures

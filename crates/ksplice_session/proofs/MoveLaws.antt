@@ -1,0 +1,294 @@
+-- A step as a watch sees it.
+use Rattle.std.proofs.Common.{◌≡◌, ◌≢◌, ℕ, zero, suc, ◌+◌, ◌^◌, ◌≤◌, ◌<◌, ◌==◌, min, max, Bool, true, false, if◌then◌else◌, IsTrue, IsSomeAnd, List, [], ◌∷◌, length, set, Option, Some, None, Result, Ok, Err, refl, sym, ◌∙◌, ap, subst, arith, ◌⊎◌}
+use Rattle.std.specs.List.{All, slice_get}
+use Rattle.std.proofs.lemmas.Bool.Decides.{nat_tests}
+use Rattle.std.proofs.lemmas.List.Elements.{All-weaker}
+use Rattle.std.proofs.lemmas.Option.{slice_get_within}
+use Rattle.ks_base.specs.declared.places.Range.{Range}
+use Rattle.ks_base.specs.declared.refusals.Fault.{Fault}
+use Rattle.ks_base.specs.declared.refusals.Refusal.{Refusal}
+use Rattle.image_memory.specs.declared.types.Piece.{Piece}
+use Rattle.image_memory.specs.Ranges.{meets}
+use Rattle.image_memory.specs.Contents.{Contents, IsValid, ArePlaced}
+use Rattle.image_memory.specs.Fetch.{View, Unmapped, AtHome, Stray, Bytes}
+use Rattle.ia32_decode.specs.declared.types.Decoded.{Decoded}
+use Rattle.ia32_decode.specs.declared.types.Width.{Width}
+use Rattle.ia32_decode.specs.declared.types.Width.TheVariants.{Byte, Word, Dword}
+use Rattle.ia32_decode.specs.Widths.{byte_count}
+use Rattle.ia32_step.specs.declared.types.Flow.{Flow}
+use Rattle.ia32_step.specs.declared.types.Flow.TheVariants.{Call}
+use Rattle.ia32_step.specs.declared.types.Frame.{Frame}
+use Rattle.ia32_step.specs.declared.types.Outcome.{Outcome}
+use Rattle.ia32_step.specs.declared.types.Outcome.TheVariants.{Moved, Exited, Stopped}
+use Rattle.ia32_step.specs.declared.types.Store.{Store}
+use Rattle.ia32_step.specs.declared.types.Thread.{Thread}
+use Rattle.ia32_step.specs.Frames.{instruction_at, IsCalled, is_slot, holds_dword}
+use Rattle.ia32_step.specs.Operands.{spelled}
+use Rattle.ia32_step.specs.Step.{Left, exits, done, unless_barred, store_fault, after_store, stepped}
+use Rattle.ia32_step.specs.Threads.{is_running, runs, esp_of}
+use Rattle.image_threads.specs.Program.{if_running, running_at, AreNumbered}
+use Rattle.splice_jump.specs.Jumps.{jumped, jumped_memory}
+use Rattle.update_stack.specs.CallTable.{CallTable, bodies_in, contents_of, view_in, base_of}
+use Rattle.update_stack.specs.Events.{Step, Answer, Spawned, Stepped, Applied, Undone, Happened, happened, step_answered, answered, machine_after}
+use Rattle.update_stack.specs.Jumps.{CanJump, StepsStand, jumped_left}
+use Rattle.update_stack.specs.Stacked.{IsBuilt}
+use Rattle.update_stack.specs.StandsFor.{patched}
+use Rattle.update_stack.specs.Steps.{step_at, step_in, after_step, moved_by, moved}
+use Rattle.frame_watch.specs.Conditions.{HasPushed, IsStepOf, IsStep, touches, HoldBut}
+use Rattle.frame_watch.specs.Discipline.{sight_of, step_noted}
+use Rattle.frame_watch.specs.Frames.{Watched as WatchedThread, Watching, with_frames, without_thread, keeps_slots}
+use Rattle.ksplice_session.specs.Answers.{watched}
+use Rattle.ksplice_session.specs.Watching.{Watched, sight_in, step_seen, watched_by, watched_after}
+use Rattle.ksplice_session.specs.inside.InStep.{IsInStep}
+use Rattle.ksplice_session.proofs.ByteLaws.{holds_same, alike_written}
+use Rattle.ksplice_session.proofs.SightLaws.{IsAlike, step_alike}
+use Rattle.ksplice_session.proofs.SeenLaws.{JumpLaws, jumps_alike, built_sound}
+use Rattle.ksplice_session.proofs.StackLaws.{frames_hold}
+use Rattle.ksplice_session.proofs.TestedLaws.{step_left}
+use Rattle.ksplice_session.proofs.WatchLaws.{RunsIn, some_same, runs_in, slots_in, left_in_step, running_is, running_got, numbered_at, got_set, runs_true, without_runs, frames_run}
+
+-- what other crates say of steps
+pub record StepLaws : Type 0 where
+  pub stand : (k : CallTable) (thread : Thread) → CanJump k → StepsStand k thread
+  pub number : (contents : Contents) (thread : Thread) → (stepped contents thread).thread.number ≡ thread.number
+  pub stack : (contents : Contents) (thread : Thread) → (stepped contents thread).thread.stack ≡ thread.stack
+  pub calls : (contents : Contents) (thread : Thread) → length thread.registers ≡ 8 → (stepped contents thread).outcome ≡ Moved Call
+      → IsSomeAnd (instruction_at contents thread.pc) (λ call. IsCalled thread call (stepped contents thread))
+  pub falls : (thread : Thread) (call : Decoded) (after : Left) → IsCalled thread call after → ArePlaced after.contents.pieces
+      → esp_of thread < 2 ^ 32 → esp_of after.thread + 4 ≡ esp_of thread
+  pub valid : (contents : Contents) (rows : List (ℕ × ℕ)) → IsValid contents → IsValid (jumped_memory rows contents)
+
+-- a thread that is moved by a step goes on as it did
+barred_state : (fault : Option Fault) (contents : Contents) (thread : Thread) (change : _) (flow : Flow)
+    → (unless_barred fault contents thread change).outcome ≡ Moved flow → (unless_barred fault contents thread change).thread.state ≡ thread.state
+barred_state (Some fault) contents thread change flow is = cc
+barred_state None contents thread change flow is = refl
+
+done_state : (contents : Contents) (thread : Thread) (change : Result _ Fault) (flow : Flow)
+    → (done contents thread change).outcome ≡ Moved flow → (done contents thread change).thread.state ≡ thread.state
+done_state contents thread (Err fault) flow is = cc
+done_state contents thread (Ok change) flow is = barred_state (store_fault contents change.store) contents thread change flow is
+
+met_state : (contents : Contents) (thread : Thread) (base : ℕ) (met : View) (flow : Flow)
+    → (step_at contents thread base met).outcome ≡ Moved flow → (step_at contents thread base met).thread.state ≡ thread.state
+met_state contents thread base Unmapped flow is = cc
+met_state contents thread base AtHome flow is = refl
+met_state contents thread base Stray flow is = cc
+met_state contents thread base (Bytes code) flow is = done_state contents thread _ flow is
+
+step_state : (k : CallTable) (thread : Thread) (flow : Flow) → (step_in k thread).outcome ≡ Moved flow → (step_in k thread).thread.state ≡ thread.state
+unfolding step_in
+step_state k thread flow is =
+    elim (thread.pc == 0xFFFF_0000) as (λ b. (if b then exits (contents_of k) thread
+    else step_at (contents_of k) thread (base_of k thread.pc) (view_in k thread.pc)).outcome ≡ Moved flow
+    → (if b then exits (contents_of k) thread else step_at (contents_of k) thread (base_of k thread.pc) (view_in k thread.pc)).thread.state ≡ thread.state) [
+      | true ↦ λ e. cc
+      | false ↦ λ e. met_state (contents_of k) thread (base_of k thread.pc) (view_in k thread.pc) flow e
+    ] is
+
+-- what a step wrote meets no slot outside it
+spelled_length : (width : Width) (n : ℕ) → length (spelled width n) ≡ byte_count width
+spelled_length Byte n = refl
+spelled_length Word n = refl
+spelled_length Dword n = refl
+
+outside : (a n slot x : ℕ) → meets (let r : Range = record { low = a; high = a + n } in r) (let r : Range = record { low = slot; high = slot + 4 } in r) ≡ false
+    → slot ≤ x → x < slot + 4 → (x < a) ⊎ (a + n ≤ x)
+outside a n slot x apart low high = grind (arith, nat_tests)
+
+untouched : (contents : Contents) (store : Option Store) (slot value : ℕ) → touches store slot ≡ false
+    → holds_dword (after_store contents store).pieces slot value ≡ holds_dword contents.pieces slot value
+untouched contents None slot value apart = refl
+untouched contents (Some s) slot value apart =
+    holds_same (after_store contents (Some s)).pieces contents.pieces slot value (λ x low high.
+    alike_written s.address (spelled s.width s.value) contents.pieces x
+    (subst (λ (n : ℕ). (x < s.address) ⊎ (s.address + n ≤ x)) (sym (spelled_length s.width s.value))
+    (outside s.address (byte_count s.width) slot x apart low high)))
+
+-- what is known of a step that is noted, and what comes of it
+pub record IsMade (k now : CallTable) (w : Watching) (before after : Thread) (outcome : Outcome) (store : Option Store) : Type 0 where
+  pub step : IsStep (patched now).pieces before after outcome w.threads
+  pub held : HoldBut (patched now).pieces w.threads store
+  pub same : step_noted (sight_of (patched now)) before after outcome w ≡ step_noted (sight_in now) before after outcome w
+  pub kept : IsInStep now (step_noted (sight_in now) before after outcome w)
+
+module _ (jumps : JumpLaws) (laws : StepLaws) (k : CallTable) (w : Watching) (n : ℕ) (before : Thread) (built : IsBuilt k)
+    (in_step : IsInStep k w) (numbered : AreNumbered 0 k.threads) (got : slice_get k.threads n ≡ Some before)
+    (was : running_at k.threads n ≡ Some before) (registers : length before.registers ≡ 8) (esp : esp_of before < 2 ^ 32) where
+  abbrev left : Left
+  left = step_in k before
+
+  abbrev now : CallTable
+  now = after_step k n left
+
+  stands : stepped (patched k) before ≡ jumped_left (bodies_in k.table) left
+  stands = laws.stand k before (built_sound k built).jumps
+
+  number : left.thread.number ≡ before.number
+  number = sym (ap (λ (l : Left). l.thread.number) stands) ∙ laws.number (patched k) before
+
+  stack : left.thread.stack ≡ before.stack
+  stack = sym (ap (λ (l : Left). l.thread.stack) stands) ∙ laws.stack (patched k) before
+
+  own : before.number ≡ n
+  own = let is : before.number ≡ 0 + n = numbered_at 0 k.threads n before numbered got in omega (arith, is)
+
+  pushed : IsBuilt now → left.outcome ≡ Moved Call → HasPushed (patched now).pieces before left.thread
+  unfolding patched
+  pushed built_now is =
+      by (instruction_at (patched k) before.pc)
+      (laws.calls (patched k) before registers (ap (λ (l : Left). l.outcome) stands ∙ is))
+    where
+      by : (o : Option Decoded) → IsSomeAnd o (λ call. IsCalled before call (stepped (patched k) before))
+          → HasPushed (patched now).pieces before left.thread
+      by None is = absurd is
+      by (Some call) is =
+          let called : IsCalled before call (jumped_left (bodies_in k.table) left) = subst (IsCalled before call) stands is in
+          record {
+            esp = laws.falls before call (jumped_left (bodies_in k.table) left) called
+                (laws.valid (contents_of now) (bodies_in k.table) (built_sound now built_now).jumps.valid).placed esp;
+            readable = called.readable;
+          }
+
+  is_step : IsBuilt now → IsStep (patched now).pieces before left.thread left.outcome w.threads
+  is_step built_now = record {
+    number = number;
+    stepped = All-weaker (RunsIn k.threads) (λ watched. watched.thread ≡ before.number → IsStepOf (patched now).pieces before left.thread left.outcome watched)
+        each w.threads (runs_in k w in_step);
+  }
+    where
+      each : (watched : WatchedThread) → RunsIn k.threads watched → watched.thread ≡ before.number → IsStepOf (patched now).pieces before left.thread left.outcome watched
+      each watched is of =
+          let r = running_is k.threads watched is in
+          let same : before ≡ r.thread = running_got k.threads n before r.thread got (ap (running_at k.threads) (sym (of ∙ own)) ∙ r.found) in
+          record {
+            stack = r.same.stack ∙ ap (λ (t : Thread). t.stack) (sym same);
+            esp = r.same.esp ∙ ap esp_of (sym same);
+            pushed = pushed built_now;
+          }
+
+  is_held : IsBuilt now → (store : Option Store) → now.pieces ≡ (after_store (contents_of k) store).pieces
+      → HoldBut (patched now).pieces w.threads store
+  is_held built_now store wrote =
+      All-weaker (λ watched. IsTrue (keeps_slots k.pieces watched)) (λ watched. All (λ (frame : Frame).
+      touches store frame.slot ≡ false → holds_dword (patched now).pieces frame.slot frame.address ≡ true) watched.frames)
+      (λ watched keeps. All-weaker (λ (frame : Frame). (is_slot watched.stack watched.esp frame.slot ≡ true) × (holds_dword k.pieces frame.slot frame.address ≡ true))
+      (λ (frame : Frame). touches store frame.slot ≡ false → holds_dword (patched now).pieces frame.slot frame.address ≡ true)
+      (each watched.stack watched.esp) watched.frames (frames_hold k.pieces watched keeps)) w.threads (slots_in k w in_step)
+    where
+      each : (s : Range) (e : ℕ) (frame : Frame) → (is_slot s e frame.slot ≡ true) × (holds_dword k.pieces frame.slot frame.address ≡ true)
+          → touches store frame.slot ≡ false → holds_dword (patched now).pieces frame.slot frame.address ≡ true
+      each s e frame is apart =
+          (jumps_alike jumps now built_now).holds frame.slot frame.address
+          ∙ ap (λ (pieces : List Piece). holds_dword pieces frame.slot frame.address) wrote
+          ∙ untouched (contents_of k) store frame.slot frame.address apart ∙ is.1
+
+  goes_on : ((value : ℕ) → left.outcome ≢ Exited value) → ((fault : Fault) → left.outcome ≢ Stopped fault)
+      → running_at (set k.threads n left.thread) n ≡ Some left.thread
+  goes_on not_exited not_stopped = by left.outcome refl
+    where
+      there : (b : Bool) → runs left.thread ≡ b → b ≡ true → running_at (set k.threads n left.thread) n ≡ Some left.thread
+      there b e is =
+          ap if_running (got_set k.threads n left.thread (slice_get_within k.threads n before got))
+          ∙ ap (λ (c : Bool). if c then (let o : Option Thread = Some left.thread in o) else None) (e ∙ is)
+
+      by : (o : Outcome) → left.outcome ≡ o → running_at (set k.threads n left.thread) n ≡ Some left.thread
+      by (Moved flow) is = there (runs left.thread) refl (ap is_running (step_state k before flow is) ∙ runs_true k.threads n before was)
+      by (Exited value) is = absurd (not_exited value is)
+      by (Stopped fault) is = absurd (not_stopped fault is)
+
+  is_kept : IsInStep now (step_noted (sight_in now) before left.thread left.outcome w)
+  is_kept =
+      left_in_step now (step_noted (sight_in now) before left.thread left.outcome w)
+      (step_left (RunsIn (set k.threads n left.thread)) (sight_in now) w in_step.stopped before left.thread left.outcome
+      (λ frames not_exited not_stopped. frames_run k.threads n before left.thread frames w.threads (runs_in k w in_step) was
+      (goes_on not_exited not_stopped) (number ∙ own) stack)
+      (subst (λ (m : ℕ). All (RunsIn (set k.threads n left.thread)) (without_thread w.threads m)) (sym (number ∙ own))
+      (without_runs k.threads n left.thread w.threads (runs_in k w in_step))))
+
+  is_made : IsBuilt now → (store : Option Store) → now.pieces ≡ (after_store (contents_of k) store).pieces
+      → IsMade k now w before left.thread left.outcome store
+  is_made built_now store wrote = record {
+    step = is_step built_now;
+    held = is_held built_now store wrote;
+    same = step_alike (sight_of (patched now)) (sight_in now) (jumps_alike jumps now built_now) before left.thread left.outcome w
+        (λ is. (pushed built_now is).readable);
+    kept = is_kept;
+  }
+
+-- which thread it was that made a step, and what the step left
+pub record IsOf (k now : CallTable) (n : ℕ) (before : Thread) (outcome : Outcome) : Type 0 where
+  pub was : running_at k.threads n ≡ Some before
+  pub left : now ≡ after_step k n (step_in k before)
+  pub came : outcome ≡ (step_in k before).outcome
+
+stepped_in : Answer → Outcome
+stepped_in (Stepped outcome) = outcome
+stepped_in (Spawned thread) = Exited thread
+stepped_in (Applied report) = Exited 0
+stepped_in (Undone name) = Exited 0
+
+outcome_in : Result Happened Refusal → Outcome
+outcome_in (Ok now) = stepped_in now.answer
+outcome_in (Err refusal) = Exited 0
+
+step_of : (k now : CallTable) (n : ℕ) (before : Thread) (outcome : Outcome) → slice_get k.threads n ≡ Some before
+    → answered k (Step n) ≡ Ok (happened now (Stepped outcome)) → IsOf k now n before outcome
+unfolding answered moved outcome_in stepped_in
+step_of k now n before outcome got is = by (running_at k.threads n) refl is
+  where
+    by : (o : Option Thread) → running_at k.threads n ≡ o → step_answered (moved_by k n o) ≡ Ok (happened now (Stepped outcome)) → IsOf k now n before outcome
+    by None none is = cc
+    by (Some t) found is =
+        let same : before ≡ t = running_got k.threads n before t got found in
+        record {
+          was = found ∙ ap (λ (x : Thread). Some x) (sym same);
+          left = sym (ap (machine_after k) is) ∙ ap (λ (x : Thread). after_step k n (step_in k x)) (sym same);
+          came = sym (ap outcome_in is) ∙ ap (λ (x : Thread). (step_in k x).outcome) (sym same);
+        }
+
+after_got : (k now : CallTable) (n : ℕ) (before : Thread) (outcome : Outcome) → slice_get k.threads n ≡ Some before → IsOf k now n before outcome
+    → slice_get now.threads n ≡ Some (step_in k before).thread
+after_got k now n before outcome got of =
+    ap (λ (m : CallTable). slice_get m.threads n) of.left
+    ∙ got_set k.threads n (step_in k before).thread (slice_get_within k.threads n before got)
+
+pub step_made : JumpLaws → StepLaws → (k now : CallTable) (w : Watching) (n : ℕ) (before after : Thread) (outcome : Outcome) (store : Option Store)
+    → IsBuilt k → IsBuilt now → IsInStep k w → AreNumbered 0 k.threads → slice_get k.threads n ≡ Some before
+    → answered k (Step n) ≡ Ok (happened now (Stepped outcome)) → slice_get now.threads n ≡ Some after
+    → length before.registers ≡ 8 → esp_of before < 2 ^ 32 → now.pieces ≡ (after_store (contents_of k) store).pieces
+    → IsMade k now w before after outcome store
+step_made jumps laws k now w n before after outcome store built built_now in_step numbered got is got_after registers esp wrote =
+    let of = step_of k now n before outcome got is in
+    let there : (step_in k before).thread ≡ after = some_same (sym (after_got k now n before outcome got of) ∙ got_after) in
+    subst (λ (m : CallTable). IsMade k m w before after outcome store) (sym of.left)
+    (subst (λ (o : Outcome). IsMade k (after_step k n (step_in k before)) w before after o store) (sym of.came)
+    (subst (λ (t : Thread). IsMade k (after_step k n (step_in k before)) w before t (step_in k before).outcome store) there
+    (is_made jumps laws k w n before built in_step numbered got of.was registers esp (subst IsBuilt of.left built_now) store
+    (ap (λ (m : CallTable). m.pieces) (sym of.left) ∙ wrote))))
+
+-- a step that was made has its thread after it
+pub after_there : (k now : CallTable) (n : ℕ) (before : Thread) (outcome : Outcome) → slice_get k.threads n ≡ Some before
+    → answered k (Step n) ≡ Ok (happened now (Stepped outcome)) → slice_get now.threads n ≡ None → ⊥
+after_there k now n before outcome got is none =
+    let there = after_got k now n before outcome got (step_of k now n before outcome got is) in cc
+
+-- the session after a step
+pub step_watched : (s : Watched) (now : CallTable) (v : Watching) (n : ℕ) (before after : Thread) (outcome : Outcome)
+    → answered s.machine (Step n) ≡ Ok (happened now (Stepped outcome)) → slice_get s.machine.threads n ≡ Some before
+    → slice_get now.threads n ≡ Some after → v ≡ step_noted (sight_in now) before after outcome s.watch
+    → watched now v ≡ watched_after s (Step n)
+unfolding watched_after
+step_watched s now v n before after outcome is got got_after noted =
+    ap (watched now) (noted ∙ sym (ap (λ (o : Option Thread). step_seen (sight_in now) o (Some after) outcome s.watch) got)
+    ∙ sym (ap (λ (o : Option Thread). step_seen (sight_in now) (slice_get s.machine.threads n) o outcome s.watch) got_after))
+    ∙ sym (ap (watched_by s (Step n)) is)
+
+-- where it is refused
+pub step_refused : (s : Watched) (n : ℕ) (refusal : Refusal) → answered s.machine (Step n) ≡ Err refusal → s ≡ watched_after s (Step n)
+unfolding watched_after
+step_refused s n refusal is = sym (ap (watched_by s (Step n)) is)
+
+pub step_missing : (s : Watched) (n : ℕ) → slice_get s.machine.threads n ≡ None → s ≡ watched_after s (Step n)
+unfolding watched_after answered moved
+step_missing s n none = sym (ap (λ (o : Option Thread). watched_by s (Step n) (step_answered (moved_by s.machine n (if_running o)))) none)

@@ -1,0 +1,166 @@
+-- Frames keep the slot rule where the bytes of their stacks stay.
+use Rattle.std.proofs.Common.{◌≡◌, ◌≢◌, ℕ, zero, suc, ◌+◌, ◌-◌, ◌≤◌, ◌<◌, ◌&&◌, Bool, true, false, if◌then◌else◌, cond, IsTrue, List, [], ◌∷◌, length, get_or, Option, Some, None, refl, sym, ◌∙◌, ap, subst, arith, ◌⊎◌, inl, inr}
+use Rattle.std.specs.List.{All, Contains, list_all, list_any, find, fold, filter}
+use Rattle.std.proofs.lemmas.Bool.Decides.{nat_tests}
+use Rattle.std.proofs.lemmas.Bool.{false≢true}
+use Rattle.std.proofs.lemmas.List.Elements.{All-nil, All-cons, All-head, All-tail, All-weaker}
+use Rattle.std.proofs.lemmas.List.{get_or_default}
+use Rattle.std.proofs.lemmas.List.Folds.{Any-from_list_any, list_any_at}
+use Rattle.ks_base.specs.declared.places.Range.{Range}
+use Rattle.image_memory.specs.declared.types.Piece.{Piece}
+use Rattle.image_memory.specs.Ranges.{Ascends, are_same, meets, put_in}
+use Rattle.image_memory.specs.Contents.{piece_range}
+use Rattle.image_memory.proofs.RangeLaws.{one_after}
+use Rattle.image_threads.specs.Spawning.{is_stack, is_writable}
+use Rattle.ia32_step.specs.declared.types.Frame.{Frame}
+use Rattle.ia32_step.specs.Frames.{is_slot, holds_dword, keeps_slot}
+use Rattle.frame_watch.specs.Frames.{Watched, keeps_slots}
+use Rattle.ksplice_session.proofs.ByteLaws.{holds_same, alike_shared}
+
+pub and_parts : (x y : Bool) → (x && y) ≡ true → (x ≡ true) × (y ≡ true)
+and_parts true y h = (refl, h)
+and_parts false y h = cc
+
+pub all_weaker : {X : Type 0} (p q : X → Bool) (xs : List X) → ((x : X) → p x ≡ true → q x ≡ true) → list_all p xs ≡ true → list_all q xs ≡ true
+all_weaker p q [] f all = refl
+all_weaker p q (x ∷ xs) f all =
+    let parts = and_parts (p x) (list_all p xs) all in
+    ap (λ (b : Bool). b && list_all q xs) (f x parts.0) ∙ all_weaker p q xs f parts.1
+
+pub all_pass : {X : Type 0} (p : X → Bool) (xs : List X) → list_all p xs ≡ true → All (λ x. p x ≡ true) xs
+all_pass p [] all = All-nil (λ x. p x ≡ true)
+all_pass p (x ∷ xs) all =
+    let parts = and_parts (p x) (list_all p xs) all in All-cons (λ x. p x ≡ true) x xs parts.0 (all_pass p xs parts.1)
+
+pub none_passes : {X : Type 0} (p : X → Bool) (xs : List X) → list_any p xs ≡ false → All (λ x. p x ≡ false) xs
+none_passes p xs none k d less = by (p (get_or xs k d)) refl
+  where
+    by : (b : Bool) → p (get_or xs k d) ≡ b → p (get_or xs k d) ≡ false
+    by false e = e
+    by true e = absurd (false≢true (sym none ∙ list_any_at p xs k d less e))
+
+-- the two parts of the rule
+pub slot_parts : (pieces : List Piece) (stack : Range) (esp : ℕ) (frame : Frame) → keeps_slot pieces stack esp frame ≡ true
+    → (is_slot stack esp frame.slot ≡ true) × (holds_dword pieces frame.slot frame.address ≡ true)
+unfolding keeps_slot
+slot_parts pieces stack esp frame is = and_parts (is_slot stack esp frame.slot) (holds_dword pieces frame.slot frame.address) is
+
+slot_whole : (pieces : List Piece) (stack : Range) (esp : ℕ) (frame : Frame) → is_slot stack esp frame.slot ≡ true
+    → holds_dword pieces frame.slot frame.address ≡ true → keeps_slot pieces stack esp frame ≡ true
+unfolding keeps_slot
+slot_whole pieces stack esp frame is holds = ap (λ (b : Bool). b && holds_dword pieces frame.slot frame.address) is ∙ holds
+
+-- a slot lies in its stack
+pub slot_within : (stack : Range) (esp slot : ℕ) → is_slot stack esp slot ≡ true → (stack.low ≤ slot) × (slot + 4 ≤ stack.high)
+unfolding is_slot
+slot_within stack esp slot is = grind (arith, nat_tests)
+
+-- frames keep the rule in a memory where what they hold is the same
+pub slots_stay : (p q : List Piece) (watched : Watched)
+    → ((slot value : ℕ) → watched.stack.low ≤ slot → slot + 4 ≤ watched.stack.high → holds_dword p slot value ≡ holds_dword q slot value)
+    → keeps_slots q watched ≡ true → keeps_slots p watched ≡ true
+slots_stay p q watched same keeps =
+    all_weaker (keeps_slot q watched.stack watched.esp) (keeps_slot p watched.stack watched.esp) watched.frames each keeps
+  where
+    each : (frame : Frame) → keeps_slot q watched.stack watched.esp frame ≡ true → keeps_slot p watched.stack watched.esp frame ≡ true
+    each frame is =
+        let parts = slot_parts q watched.stack watched.esp frame is in
+        let within = slot_within watched.stack watched.esp frame.slot parts.0 in
+        slot_whole p watched.stack watched.esp frame parts.0 (same frame.slot frame.address within.0 within.1 ∙ parts.1)
+
+-- what each frame holds that keeps the rule
+pub frames_hold : (pieces : List Piece) (watched : Watched) → keeps_slots pieces watched ≡ true
+    → All (λ (frame : Frame). (is_slot watched.stack watched.esp frame.slot ≡ true) × (holds_dword pieces frame.slot frame.address ≡ true)) watched.frames
+frames_hold pieces watched keeps =
+    All-weaker (λ (frame : Frame). keeps_slot pieces watched.stack watched.esp frame ≡ true)
+    (λ (frame : Frame). (is_slot watched.stack watched.esp frame.slot ≡ true) × (holds_dword pieces frame.slot frame.address ≡ true))
+    (slot_parts pieces watched.stack watched.esp) watched.frames
+    (all_pass (keeps_slot pieces watched.stack watched.esp) watched.frames keeps)
+
+range_is : (a b : Range) → a.low ≡ b.low → a.high ≡ b.high → a ≡ b
+range_is a b low high = λ i. record { low = low i; high = high i }
+
+pub same_range : (a b : Range) → are_same a b ≡ true → a ≡ b
+same_range a b is = range_is a b (grind (arith, nat_tests)) (grind (arith, nat_tests))
+
+-- a stack is one of the pieces
+pub record IsPiece (pieces : List Piece) (stack : Range) : Type 0 where
+  pub piece : Piece
+  pub there : Contains pieces piece
+  pub range : piece_range piece ≡ stack
+
+pub stack_is_piece : (pieces : List Piece) (stack : Range) → IsTrue (is_stack pieces stack) → IsPiece pieces stack
+stack_is_piece pieces stack is = by (Any-from_list_any (λ piece. is_writable piece.kind && are_same (piece_range piece) stack) pieces is)
+  where
+    by : ((k : ℕ) × (piece : Piece) × (k < length pieces) × (get_or pieces k piece ≡ piece)
+        × ((is_writable piece.kind && are_same (piece_range piece) stack) ≡ true)) → IsPiece pieces stack
+    by (k, piece, less, at, passes) = record {
+      piece = piece;
+      there = (k, less, at);
+      range = same_range (piece_range piece) stack (and_parts (is_writable piece.kind) (are_same (piece_range piece) stack) passes).1;
+    }
+
+-- memories that share a stack hold the same in it
+pub stack_shared : (p q : List Piece) (stack : Range) (here : IsPiece p stack) → Contains q here.piece
+    → Ascends piece_range 0 p → Ascends piece_range 0 q
+    → (slot value : ℕ) → stack.low ≤ slot → slot + 4 ≤ stack.high → holds_dword p slot value ≡ holds_dword q slot value
+stack_shared p q stack here there up up' slot value low high =
+    let from : here.piece.base ≡ stack.low = ap (λ (r : Range). r.low) here.range in
+    let to : (piece_range here.piece).high ≡ stack.high = ap (λ (r : Range). r.high) here.range in
+    holds_same p q slot value (λ x above below.
+    alike_shared p q here.piece x up up' here.there there (omega (arith, from)) (omega (arith, to)))
+
+-- members of lists
+Contains-cons : {X : Type 0} (y x : X) (ys : List X) → Contains ys x → Contains (y ∷ ys) x
+Contains-cons y x ys (k, less, at) = (suc k, omega arith, at)
+
+Contains-cases : {X : Type 0} (y x : X) (ys : List X) → Contains (y ∷ ys) x → (y ≡ x) ⊎ Contains ys x
+Contains-cases y x ys (zero, less, at) = inl at
+Contains-cases y x ys (suc k, less, at) = inr (k, omega arith, at)
+
+Contains-first : {X : Type 0} (x : X) (ys : List X) → Contains (x ∷ ys) x
+Contains-first x ys = (0, omega arith, refl)
+
+Contains-either : {X : Type 0} (b : Bool) (x : X) (us vs : List X) → Contains us x → Contains vs x → Contains (if b then us else vs) x
+Contains-either true x us vs one other = one
+Contains-either false x us vs one other = other
+
+pub put_kept : {X : Type 0} (range : X → Range) (p x : X) (ys : List X) → Contains ys x → Contains (put_in range p ys) x
+put_kept range p x [] (k, less, at) = absurd (omega arith)
+put_kept range p x (y ∷ ys) there =
+    Contains-either _ x (p ∷ y ∷ ys) (y ∷ put_in range p ys) (Contains-cons p x (y ∷ ys) there) (elim (Contains-cases y x ys there) [
+      | inl here ↦ subst (λ z. Contains (z ∷ put_in range p ys) x) (sym here) (Contains-first x (put_in range p ys))
+      | inr later ↦ Contains-cons y x (put_in range p ys) (put_kept range p x ys later)
+    ])
+
+pub filter_from : {X : Type 0} (p : X → Bool) (x : X) (ys : List X) → Contains (filter p ys) x → Contains ys x
+filter_from p x [] there = there
+filter_from p x (y ∷ ys) there =
+    elim (p y) as (λ b. Contains (cond b (y ∷ filter p ys) (filter p ys)) x → Contains (y ∷ ys) x) [
+      | true ↦ λ one. elim (Contains-cases y x (filter p ys) one) [
+        | inl here ↦ subst (λ z. Contains (z ∷ ys) x) (sym here) (Contains-first x ys)
+        | inr later ↦ Contains-cons y x ys (filter_from p x ys later)
+      ]
+      | false ↦ λ later. Contains-cons y x ys (filter_from p x ys later)
+    ] there
+
+-- two things whose ranges ascend are one, or apart
+pub same_or_apart : {X : Type 0} (range : X → Range) (xs : List X) (a b : X) → Ascends range 0 xs → Contains xs a → Contains xs b
+    → (a ≡ b) ⊎ (((range a).high ≤ (range b).low) ⊎ ((range b).high ≤ (range a).low))
+same_or_apart range xs a b up (i, less, at) (j, less', at') = elim (which i j) [
+  | inl same ↦ inl (sym at ∙ ap (λ (k : ℕ). get_or xs k a) same ∙ default ∙ at')
+  | inr (inl before) ↦
+      let order = one_after range 0 xs i j a up before less' in
+      inr (inl (subst (λ x. (range x).high ≤ (range b).low) at
+      (subst (λ x. (range (get_or xs i a)).high ≤ (range x).low) (default ∙ at') order)))
+  | inr (inr behind) ↦
+      let order = one_after range 0 xs j i a up behind less in
+      inr (inr (subst (λ x. (range b).high ≤ (range x).low) at
+      (subst (λ x. (range x).high ≤ (range (get_or xs i a)).low) (default ∙ at') order)))
+]
+  where
+    which : (i j : ℕ) → (i ≡ j) ⊎ ((i < j) ⊎ (j < i))
+    which i j = grind arith
+
+    default : get_or xs j a ≡ get_or xs j b
+    default = get_or_default xs j a b less'

@@ -1,0 +1,171 @@
+-- Watched threads of a machine whose threads change.
+use Rattle.std.proofs.Common.{◌≡◌, ◌≢◌, ℕ, zero, suc, ◌+◌, ◌<◌, ◌==◌, not, Bool, true, false, cond, if◌then◌else◌, IsTrue, IsSomeAnd, List, [], ◌∷◌, ◌++◌, map, length, set, Option, Some, None, refl, sym, ◌∙◌, ap, subst, arith}
+use Rattle.std.specs.List.{All, filter, slice_get}
+use Rattle.std.proofs.lemmas.Bool.{eqb-true, false≢true}
+use Rattle.std.proofs.lemmas.Bool.Decides.{nat_tests}
+use Rattle.std.proofs.lemmas.List.Elements.{All-nil, All-cons, All-head, All-tail, All-weaker, All-map}
+use Rattle.std.proofs.lemmas.Option.{slice_get_within}
+use Rattle.image_memory.specs.declared.types.Piece.{Piece}
+use Rattle.image_memory.specs.Ranges.{put_in}
+use Rattle.ia32_step.specs.declared.types.Frame.{Frame}
+use Rattle.ia32_step.specs.declared.types.Thread.{Thread}
+use Rattle.ia32_step.specs.Threads.{runs, esp_of}
+use Rattle.image_threads.specs.Program.{if_running, running_at, AreNumbered}
+use Rattle.update_stack.specs.CallTable.{CallTable}
+use Rattle.frame_watch.specs.Frames.{Watched, Watching, stack_of, started, with_started, is_of, if_of, with_frames, without_thread, keeps_slots}
+use Rattle.ksplice_session.specs.inside.InStep.{IsSame, Runs, IsStopped, IsInStep}
+use Rattle.ksplice_session.proofs.TestedLaws.{IsLeft}
+
+-- a watched thread runs
+abbrev pub RunsIn : List Thread → Watched → Type 0
+RunsIn threads watched = IsSomeAnd (running_at threads watched.thread) (IsSame watched)
+
+pub runs_in : (k : CallTable) (w : Watching) → IsInStep k w → All (RunsIn k.threads) w.threads
+runs_in k w is = All-weaker (Runs k) (RunsIn k.threads) (λ watched r. r.running) w.threads is.each
+
+pub slots_in : (k : CallTable) (w : Watching) → IsInStep k w → All (λ watched. IsTrue (keeps_slots k.pieces watched)) w.threads
+slots_in k w is = All-weaker (Runs k) (λ watched. IsTrue (keeps_slots k.pieces watched)) (λ watched r. r.slots) w.threads is.each
+
+pub left_in_step : (k : CallTable) (w : Watching) → IsLeft (RunsIn k.threads) k.pieces w → IsInStep k w
+left_in_step k w left = record {
+  each = λ i d less. record { running = left.each i d less; slots = left.slots i d less };
+  stopped = left.stopped;
+}
+
+-- the thread of a number, and that it runs
+pub record IsRunning (threads : List Thread) (watched : Watched) : Type 0 where
+  pub thread : Thread
+  pub found : running_at threads watched.thread ≡ Some thread
+  pub same : IsSame watched thread
+
+pub running_is : (threads : List Thread) (watched : Watched) → RunsIn threads watched → IsRunning threads watched
+running_is threads watched is = by (running_at threads watched.thread) refl is
+  where
+    by : (o : Option Thread) → running_at threads watched.thread ≡ o → IsSomeAnd o (IsSame watched) → IsRunning threads watched
+    by None e is = absurd is
+    by (Some thread) e is = record { thread = thread; found = e; same = is }
+
+pub runs_as : (threads : List Thread) (watched : Watched) (thread : Thread) → running_at threads watched.thread ≡ Some thread
+    → IsSame watched thread → RunsIn threads watched
+runs_as threads watched thread found same = subst (λ (o : Option Thread). IsSomeAnd o (IsSame watched)) (sym found) same
+
+some_runs : (thread t : Thread) → (if runs thread then (let o : Option Thread = Some thread in o) else None) ≡ Some t → thread ≡ t
+some_runs thread t is =
+    elim (runs thread) as (λ b. (if b then (let o : Option Thread = Some thread in o) else None) ≡ Some t → thread ≡ t) [
+      | true ↦ λ e. cc
+      | false ↦ λ e. cc
+    ] is
+
+pub some_same : {x y : Thread} → ◌≡◌ {A = Option Thread} (Some x) (Some y) → x ≡ y
+some_same e = cc
+
+-- a running thread is one of the threads
+pub running_got : (threads : List Thread) (n : ℕ) (thread t : Thread) → slice_get threads n ≡ Some thread → running_at threads n ≡ Some t → thread ≡ t
+running_got threads n thread t got found = some_runs thread t (ap if_running (sym got) ∙ found)
+
+pub running_within : (threads : List Thread) (n : ℕ) (t : Thread) → running_at threads n ≡ Some t → slice_get threads n ≡ Some t
+running_within threads n t found = by (slice_get threads n) refl found
+  where
+    by : (o : Option Thread) → slice_get threads n ≡ o → if_running o ≡ Some t → slice_get threads n ≡ Some t
+    by None e none = cc
+    by (Some thread) e is = e ∙ ap (λ (x : Thread). Some x) (some_runs thread t is)
+
+-- a running thread runs
+pub runs_true : (threads : List Thread) (n : ℕ) (t : Thread) → running_at threads n ≡ Some t → runs t ≡ true
+runs_true threads n t found = by (slice_get threads n) found
+  where
+    some : (x : Thread) (b : Bool) → runs x ≡ b → (if b then (let o : Option Thread = Some x in o) else None) ≡ Some t → runs t ≡ true
+    some x true e is = let same : x ≡ t = cc in ap runs (sym same) ∙ e
+    some x false e is = cc
+
+    by : (o : Option Thread) → if_running o ≡ Some t → runs t ≡ true
+    by None is = cc
+    by (Some x) is = some x (runs x) refl is
+
+pub numbered_at : (m : ℕ) (threads : List Thread) (n : ℕ) (thread : Thread) → AreNumbered m threads → slice_get threads n ≡ Some thread
+    → thread.number ≡ m + n
+numbered_at m [] n thread numbered got = cc
+numbered_at m (x ∷ xs) zero thread numbered got =
+    let same : x ≡ thread = cc in ap (λ (t : Thread). t.number) (sym same) ∙ numbered.0 ∙ omega arith
+numbered_at m (x ∷ xs) (suc n) thread numbered got =
+    let later : thread.number ≡ suc m + n = numbered_at (suc m) xs n thread numbered.1 got in omega (arith, later)
+
+pub got_set : (threads : List Thread) (n : ℕ) (x : Thread) → n < length threads → slice_get (set threads n x) n ≡ Some x
+got_set [] n x less = absurd (omega arith)
+got_set (y ∷ ys) zero x less = refl
+got_set (y ∷ ys) (suc n) x less = got_set ys n x (omega arith)
+
+got_set_other : (threads : List Thread) (n m : ℕ) (x : Thread) → m ≢ n → slice_get (set threads n x) m ≡ slice_get threads m
+got_set_other [] n m x other = refl
+got_set_other (y ∷ ys) zero zero x other = absurd (other refl)
+got_set_other (y ∷ ys) zero (suc m) x other = refl
+got_set_other (y ∷ ys) (suc n) zero x other = refl
+got_set_other (y ∷ ys) (suc n) (suc m) x other = got_set_other ys n m x (λ e. other (ap suc e))
+
+pub got_push : (threads : List Thread) (x : Thread) → slice_get (threads ++ x ∷ []) (length threads) ≡ Some x
+got_push [] x = refl
+got_push (y ∷ ys) x = got_push ys x
+
+got_before : (threads : List Thread) (x : Thread) (m : ℕ) → m < length threads → slice_get (threads ++ x ∷ []) m ≡ slice_get threads m
+got_before [] x m less = absurd (omega arith)
+got_before (y ∷ ys) x zero less = refl
+got_before (y ∷ ys) x (suc m) less = got_before ys x m (omega arith)
+
+-- another thread moved
+pub runs_set : (threads : List Thread) (n : ℕ) (x : Thread) (watched : Watched) → watched.thread ≢ n → RunsIn threads watched
+    → RunsIn (set threads n x) watched
+runs_set threads n x watched other is =
+    subst (λ (o : Option Thread). IsSomeAnd (if_running o) (IsSame watched)) (sym (got_set_other threads n watched.thread x other)) is
+
+-- a thread more
+pub runs_push : (threads : List Thread) (x : Thread) (watched : Watched) → RunsIn threads watched → RunsIn (threads ++ x ∷ []) watched
+runs_push threads x watched is =
+    let r = running_is threads watched is in
+    let less : watched.thread < length threads =
+    slice_get_within threads watched.thread r.thread (running_within threads watched.thread r.thread r.found) in
+    subst (λ (o : Option Thread). IsSomeAnd (if_running o) (IsSame watched)) (sym (got_before threads x watched.thread less)) is
+
+-- the threads without one of them
+pub without_runs : (threads : List Thread) (n : ℕ) (x : Thread) (ws : List Watched) → All (RunsIn threads) ws
+    → All (RunsIn (set threads n x)) (without_thread ws n)
+without_runs threads n x [] all = All-nil (RunsIn (set threads n x))
+without_runs threads n x (w ∷ ws) all =
+    elim (w.thread == n) as (λ b. (w.thread == n) ≡ b → All (RunsIn (set threads n x)) (cond (not b) (w ∷ without_thread ws n) (without_thread ws n))) [
+      | true ↦ λ here. without_runs threads n x ws (All-tail (RunsIn threads) w ws all)
+      | false ↦ λ other.
+          All-cons (RunsIn (set threads n x)) w (without_thread ws n)
+          (runs_set threads n x w (λ e. grind (arith, nat_tests)) (All-head (RunsIn threads) w ws all))
+          (without_runs threads n x ws (All-tail (RunsIn threads) w ws all))
+    ] refl
+
+-- the threads with other frames of one that goes on
+pub frames_run : (threads : List Thread) (n : ℕ) (before after : Thread) (frames : List Frame) (ws : List Watched) → All (RunsIn threads) ws
+    → running_at threads n ≡ Some before → running_at (set threads n after) n ≡ Some after → after.number ≡ n → after.stack ≡ before.stack
+    → All (RunsIn (set threads n after)) (with_frames ws after frames)
+frames_run threads n before after frames ws all was now number stack =
+    All-map (RunsIn (set threads n after)) (if_of after.number (esp_of after) frames) ws
+    (All-weaker (RunsIn threads) (λ w. RunsIn (set threads n after) (if_of after.number (esp_of after) frames w)) each ws all)
+  where
+    each : (w : Watched) → RunsIn threads w → RunsIn (set threads n after) (if_of after.number (esp_of after) frames w)
+    each w is =
+        elim (w.thread == after.number) as (λ b. (w.thread == after.number) ≡ b
+        → RunsIn (set threads n after) (if b then record w { esp = esp_of after; frames = frames } else w)) [
+          | true ↦ λ here.
+              let own : w.thread ≡ n = eqb-true w.thread after.number here ∙ number in
+              let r = running_is threads w is in
+              let same : r.thread ≡ before = some_same (sym r.found ∙ ap (running_at threads) own ∙ was) in
+              runs_as (set threads n after) (record w { esp = esp_of after; frames = frames }) after (ap (running_at (set threads n after)) own ∙ now)
+              (record { stack = r.same.stack ∙ ap (λ (t : Thread). t.stack) same ∙ sym stack; esp = refl })
+          | false ↦ λ other. runs_set threads n after w (λ e. let same : w.thread ≡ after.number = e ∙ sym number in grind (arith, nat_tests)) is
+        ] refl
+
+-- a thing put among things
+pub All-put_in : (P : Watched → Type 0) (x : Watched) (ws : List Watched) → P x → All P ws → All P (put_in stack_of x ws)
+All-put_in P x [] p all = All-cons P x [] p all
+All-put_in P x (w ∷ ws) p all =
+    either _ (x ∷ w ∷ ws) (w ∷ put_in stack_of x ws) (All-cons P x (w ∷ ws) p all)
+    (All-cons P w (put_in stack_of x ws) (All-head P w ws all) (All-put_in P x ws p (All-tail P w ws all)))
+  where
+    either : (b : Bool) (us vs : List Watched) → All P us → All P vs → All P (if b then us else vs)
+    either true us vs one other = one
+    either false us vs one other = other

@@ -1,0 +1,33 @@
+-- The machine of a watched run is that of the run.
+use Rattle.std.proofs.Common.{◌≡◌, List, [], ◌∷◌, ◌++◌, Result, Ok, Err, Option, Some, None, refl, sym, ◌∙◌, ap}
+use Rattle.std.proofs.lemmas.List.Sums.{fold-append}
+use Rattle.ks_base.specs.declared.refusals.Refusal.{Refusal}
+use Rattle.image_threads.specs.declared.turns.Turn.{Turn}
+use Rattle.update_stack.specs.Events.{Event, Step, Happened, answered, machine_after, after_event, after_events}
+use Rattle.ksplice_session.specs.Running.{after_taken}
+use Rattle.ksplice_session.specs.Watching.{Watched, watched_by, watched_after, watched_after_all}
+use Rattle.ksplice_session.specs.inside.InStep.{watched_taken}
+
+pub machine_after_one : (s : Watched) (event : Event) → (watched_after s event).machine ≡ after_event s.machine event
+unfolding watched_after after_event
+machine_after_one s event = by (answered s.machine event)
+  where
+    by : (r : Result Happened Refusal) → (watched_by s event r).machine ≡ machine_after s.machine r
+    by (Err refusal) = refl
+    by (Ok now) = refl
+
+pub machine_after_all : (s : Watched) (events : List Event) → (watched_after_all s events).machine ≡ after_events s.machine events
+unfolding watched_after_all after_events
+machine_after_all s [] = refl
+machine_after_all s (e ∷ es) =
+    machine_after_all (watched_after s e) es ∙ ap (λ k. after_events k es) (machine_after_one s e)
+
+-- events after events
+pub watched_after_both : (s : Watched) (gap events : List Event)
+    → watched_after_all s (gap ++ events) ≡ watched_after_all (watched_after_all s gap) events
+unfolding watched_after_all
+watched_after_both s gap events = fold-append watched_after s gap events
+
+pub machine_taken : (s : Watched) (o : Option Turn) → (watched_taken s o).machine ≡ after_taken s.machine o
+machine_taken s None = refl
+machine_taken s (Some turn) = machine_after_one s (Step turn.thread)

@@ -1,0 +1,25 @@
+use Rattle.std.proofs.Common.{◌≡◌, sym, subst}
+use Rattle.update_stack.specs.Events.{Undo}
+use Rattle.ksplice_session.specs.Answers.{watched}
+use Rattle.ksplice_session.specs.Watching.{Watched, watched_after}
+use Rattle.ksplice_session.specs.inside.InStep.{IsInStep}
+use Rattle.ksplice_session.proofs.SeenLaws.{placed_of}
+use Rattle.ksplice_session.proofs.UpdateLaws.{stacks_in_step, undo_stays, undo_watched}
+use Rattle.ksplice_session.proofs.session.Session.undo.Goals as goal
+
+pub invariant_of-self-2 : goal.invariant_of-self-2
+invariant_of-self-2 c =
+    let k = c.self.inside.system in
+    let now = c.undo.new.self in
+    subst (IsInStep now) (sym c.note_update.ensures)
+    (stacks_in_step k now c.self.inside.watch
+    (undo_stays k now c.in_ok-name.name c.in_ok-name.ensures.answered c.machine.ensures.built
+    c.machine-machine.ensures.built)
+    (placed_of c.machine.result.now k c.machine.ensures.stands c.threads-threads.ensures.placed) c.self.invariant)
+
+pub returns-clause-noted : goal.returns-clause-noted
+returns-clause-noted c =
+    let now = c.undo.new.self in
+    subst (λ (s : Watched). watched now c.note_update.new.self ≡ watched_after s Undo) c.self.view_is
+    (undo_watched (watched c.self.inside.system c.self.inside.watch) now c.note_update.new.self c.in_ok-name.name
+    c.in_ok-name.ensures.answered c.note_update.ensures)
