@@ -1,7 +1,7 @@
 """Runs a program and says how long it took and how much memory it used, for the scripts here."""
 import os
 import subprocess
-import sys
+import tempfile
 import time
 
 TOP = os.path.dirname(os.path.dirname(os.path.abspath(__file__)))
@@ -26,8 +26,8 @@ def timed(command, folder, out):
 
 
 def peak(command, folder):
-    """The most memory in use, in bytes, as a process of its own sees it."""
-    report = "import resource,subprocess,sys; subprocess.run(sys.argv[1:], stdout=subprocess.DEVNULL); " \
-             "print(resource.getrusage(resource.RUSAGE_CHILDREN).ru_maxrss * 1024)"
-    return int(subprocess.run([sys.executable, "-c", report] + command, cwd=folder, stdout=subprocess.PIPE,
-                              check=True).stdout)
+    """The most memory in use, in bytes, by GNU time: what Python starts counts as much memory as Python has itself."""
+    with tempfile.NamedTemporaryFile("r") as report:
+        subprocess.run(["/usr/bin/time", "--format=%M", f"--output={report.name}", "--quiet"] + command, cwd=folder,
+                       stdout=subprocess.DEVNULL, stderr=subprocess.DEVNULL, check=False)
+        return int(report.read()) * 1024
