@@ -115,6 +115,16 @@ store_of contents (Ok change) = store_unless (store_fault contents change.store)
 unfoldable pub stored : Contents → Thread → Option Store
 stored contents thread = if thread.pc == 0xFFFF_0000 then None else store_of contents (next_change contents thread)
 
+-- how many bytes a window has, if there is one
+abbrev pub window_length : Result Window Fault → ℕ
+window_length (Err fault) = 0
+window_length (Ok window) = window.length
+
+-- how many bytes one step of a running thread fetches
+unfoldable pub fetched_count : Contents → Thread → ℕ
+fetched_count contents thread =
+    if thread.pc == 0xFFFF_0000 then 0 else window_length (window_at contents thread.pc)
+
 -- the kind of a piece and the addresses that it has
 abbrev pub shape : Piece → Kind × Range
 shape piece = (piece.kind, piece_range piece)

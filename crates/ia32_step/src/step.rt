@@ -1,8 +1,9 @@
 //! One step of a thread.
-ghost use Rattle.std.specs.Prelude.{◌≡◌, Some, OnOk, OnErr};
+ghost use Rattle.std.specs.Prelude.{◌≡◌, ◌≤◌, Some, Ok, OnOk, OnErr};
 ghost use Rattle.ia32_step.specs.Registers.{accumulator};
 ghost use Rattle.ia32_step.specs.Step.{left_by, context_of, resumed, stopped, exited, store_fault, after_store};
-ghost use Rattle.ia32_step.specs.Step.{unless_barred, change_by, next_change, stepped, store_unless, stored};
+ghost use Rattle.ia32_step.specs.Step.{unless_barred, change_by, change_in, stepped, store_unless, stored, done};
+ghost use Rattle.ia32_step.specs.Step.{fetched_count, store_of};
 ghost use Rattle.ia32_decode.specs.declared.types.Width.TheVariants.{Dword};
 ghost use Rattle.ia32_step.specs.declared.types.State.TheVariants.{Running};
 ghost use Rattle.ia32_step.specs.declared.types.Outcome.TheVariants.{Stopped, Exited};
@@ -11,7 +12,7 @@ ghost use Rattle.ia32_step.specs.inside.Comes.{Comes, fault_of};
 use crate::exec::execute;
 use crate::types::{Change, Context, Flow, Outcome, State, Store, Thread, Traced};
 use ia32_decode::{Decoded, Width, decode};
-use image_memory::Space;
+use image_memory::{Space, Window};
 use ks_base::Fault;
 
 impl Thread {
@@ -73,33 +74,36 @@ fn exit(thread: &mut Thread) -> Outcome
 }
 
 /// A step that writes nothing.
-fn unwritten(outcome: Outcome) -> Traced
-    ensures { result ≡ record { outcome = outcome; store = None } }
+fn unwritten(outcome: Outcome, fetched: u32) -> Traced
+    ensures { result ≡ record { outcome = outcome; store = None; fetched = fetched } }
 {
     Traced {
         outcome,
         store: None,
+        fetched,
     }
 }
 
 /// Does what an instruction does, or stops the thread where its number can't be written.
-fn carry_out<S: Space>(space: &mut S, thread: &mut Thread, change: &Change) -> Traced
+fn carry_out<S: Space>(space: &mut S, thread: &mut Thread, change: &Change, fetched: u32) -> Traced
     ensures left { left_by (S.contents space.new) thread.new result.outcome
         ≡ unless_barred (store_fault (S.contents space.old) change.now.store) (S.contents space.old) thread.old
         change.now }
     ensures store { result.store
         ≡ store_unless (store_fault (S.contents space.old) change.now.store) change.now.store }
+    ensures fetched { result.fetched ≡ fetched }
     ensures room { S.room space.new ≡ S.room space.old }
 {
     if let Some(store) = &change.store {
         if let Err(fault) = write_store(space, store) {
-            return unwritten(stop(thread, fault));
+            return unwritten(stop(thread, fault), fetched);
         }
     }
     thread.resume(&change.context);
     Traced {
         outcome: Outcome::Moved(change.flow),
         store: change.store,
+        fetched,
     }
 }
 
@@ -117,18 +121,27 @@ fn do_decoded<S: Space>(
     }
 }
 
-/// What the instruction does that is fetched at a thread's pc, in what the processor holds of the thread.
-#[tactic(auto, unfolding(crate::specs::Step::next_change))]
-fn do_next<S: Space>(space: &S, thread: &Thread, change: &mut Change) -> Result<(), Fault>
-    requires { change.old.context ≡ context_of thread.now }
-    ensures { Comes result change.new (next_change (S.contents space.now) thread.now) }
+/// Carries out the instruction that a window spells, which was fetched at a thread's pc.
+fn carry_out_window<S: Space>(space: &mut S, thread: &mut Thread, window: &Window) -> Traced
+    requires short { window.now.length ≤ 15 }
+    ensures left { left_by (S.contents space.new) thread.new result.outcome
+        ≡ done (S.contents space.old) thread.old
+        (change_in (S.contents space.old).pieces (context_of thread.old) (Ok window.now)) }
+    ensures store { result.store ≡ store_of (S.contents space.old)
+        (change_in (S.contents space.old).pieces (context_of thread.old) (Ok window.now)) }
+    ensures fetched { result.fetched ≡ window.now.length }
+    ensures room { S.room space.new ≡ S.room space.old }
 {
-    let window = space.window(thread.pc)?;
-    do_decoded(
-        space,
-        change,
-        decode(&window.bytes[..window.length as usize]),
-    )
+    let mut change = Change {
+        context: thread.context(),
+        flow: Flow::Plain,
+        store: None,
+    };
+    let decoded = decode(&window.bytes[..window.length as usize]);
+    match do_decoded(space, &mut change, decoded) {
+        Ok(()) => carry_out(space, thread, &change, window.length),
+        Err(fault) => unwritten(stop(thread, fault), window.length),
+    }
 }
 
 /// Carries out the next instruction of a running thread: the one that is fetched at its pc, decoded and executed.
@@ -145,25 +158,21 @@ pub fn step_thread<S: Space>(space: &mut S, thread: &mut Thread) -> Outcome
     step_traced(space, thread).outcome
 }
 
-/// Carries out the next instruction of a running thread, as [`step_thread`] does, and answers what it wrote beside what
-/// it came to.
-#[tactic(auto, unfolding(crate::specs::Step::stepped, crate::specs::Step::stored))]
+/// Carries out the next instruction of a running thread, as [`step_thread`] does, and answers what it wrote and how many
+/// bytes it fetched beside what it came to.
+#[tactic(auto, unfolding(crate::specs::Step::stepped, crate::specs::Step::stored, crate::specs::Step::next_change, crate::specs::Step::fetched_count))]
 pub fn step_traced<S: Space>(space: &mut S, thread: &mut Thread) -> Traced
     requires running { thread.old.state ≡ Running }
     ensures left { left_by (S.contents space.new) thread.new result.outcome ≡ stepped (S.contents space.old) thread.old }
     ensures store { result.store ≡ stored (S.contents space.old) thread.old }
+    ensures fetched { result.fetched ≡ fetched_count (S.contents space.old) thread.old }
     ensures room { S.room space.new ≡ S.room space.old }
 {
     if thread.pc == 0xFFFF_0000 {
-        return unwritten(exit(thread));
+        return unwritten(exit(thread), 0);
     }
-    let mut change = Change {
-        context: thread.context(),
-        flow: Flow::Plain,
-        store: None,
-    };
-    match do_next(space, thread, &mut change) {
-        Ok(()) => carry_out(space, thread, &change),
-        Err(fault) => unwritten(stop(thread, fault)),
+    match space.window(thread.pc) {
+        Ok(window) => carry_out_window(space, thread, &window),
+        Err(fault) => unwritten(stop(thread, fault), 0),
     }
 }

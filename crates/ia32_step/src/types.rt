@@ -67,13 +67,15 @@ pub enum Outcome {
     Stopped(Fault),
 }
 
-/// What a step came to, and what it wrote.
+/// What a step came to, what it wrote, and how much it fetched.
 #[derive(Clone, Copy)]
 pub struct Traced {
     /// What the step came to.
     pub outcome: Outcome,
     /// All that it wrote to memory; nothing where the thread ended or stopped.
     pub store: Option<Store>,
+    /// How many bytes were fetched at the thread's pc, at most 15; none where it ended, or where nothing can be fetched.
+    pub fetched: u32,
 }
 
 /// A call that is open: where the address to which it returns stands, and which it is.

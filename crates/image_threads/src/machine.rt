@@ -1,9 +1,9 @@
 //! A program that runs: its memory, its symbols, its stacks and its threads.
-ghost use Rattle.std.specs.Prelude.{◌≡◌, ◌≢◌, ◌<◌, ◌≤◌, ◌+◌, ◌-◌, ◌++◌, [], ◌∷◌, length, map, IfOk, OnOk, OnErr, IfSome, IsTrue, Contains, MatchResult, Ok, Err, None, false};
+ghost use Rattle.std.specs.Prelude.{◌≡◌, ◌≢◌, ◌<◌, ◌≤◌, ◌+◌, ◌-◌, ◌++◌, [], ◌∷◌, length, map, IfOk, OnOk, OnErr, IfSome, IsSomeAnd, IsTrue, Contains, MatchResult, Ok, Err, None, false};
 ghost use Rattle.std.specs.Borrow.{Lends, sem};
 ghost use Rattle.ks_base.specs.declared.refusals.Refusal.TheVariants.{Memory};
 ghost use Rattle.ia32_step.specs.declared.types.State.TheVariants.{Running};
-ghost use Rattle.ia32_step.specs.Step.{left_by, shape, stepped, stored, store_fault, after_store};
+ghost use Rattle.ia32_step.specs.Step.{left_by, shape, stepped, stored, store_fault, after_store, fetched_count};
 ghost use Rattle.image_memory.specs.Access.{after_write};
 ghost use Rattle.image_threads.specs.Program.{AreNumbered, WellPlaced, running_at, running_numbers};
 ghost use Rattle.image_threads.specs.Spawning.{is_stack, AreStacks, is_taken, free_stack, first_bytes, first_thread, spawned};
@@ -186,7 +186,8 @@ impl<S: Space> Machine<S> {
         Ok(self.step_traced(thread)?.outcome)
     }
 
-    /// Steps the running thread of a number, as [`Machine::step`] does, and answers what it wrote beside what it came to.
+    /// Steps the running thread of a number, as [`Machine::step`] does, and answers what it wrote and how many bytes it
+    /// fetched beside what it came to.
     #[tactic(auto, unfolding(crate::specs::Stepping::moved))]
     pub fn step_traced(&mut self, thread: u32) -> Result<Traced, Refusal>
         ensures moved { MatchResult result
@@ -194,6 +195,8 @@ impl<S: Space> Machine<S> {
             (λ refusal. moved self.old thread ≡ Err refusal) }
         ensures written { IfOk result (λ traced. self.new.contents ≡ after_store self.old.contents traced.store) }
         ensures clear { IfOk result (λ traced. store_fault self.old.contents traced.store ≡ None) }
+        ensures fetched { IfOk result (λ traced. IsSomeAnd (running_at self.old.threads thread)
+            (λ running. traced.fetched ≡ fetched_count self.old.contents running)) }
         ensures refused { OnErr result (self.new ≡ self.old) }
         ensures stacks { AreStacks self.old.contents.pieces self.old.stacks → AreStacks self.new.contents.pieces self.new.stacks }
     {
@@ -219,6 +222,7 @@ fn step_numbered<S: Space>(space: &mut S, thread: &mut Thread) -> Traced
     ensures left { left_by (S.contents space.new) thread.new result.outcome ≡ stepped (S.contents space.old) thread.old }
     ensures written { S.contents space.new ≡ after_store (S.contents space.old) result.store }
     ensures clear { store_fault (S.contents space.old) result.store ≡ None }
+    ensures fetched { result.fetched ≡ fetched_count (S.contents space.old) thread.old }
     ensures room { S.room space.new ≡ S.room space.old }
     ensures number { thread.new.number ≡ thread.old.number }
     ensures stack { thread.new.stack ≡ thread.old.stack }
