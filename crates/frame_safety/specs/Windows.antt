@@ -1,9 +1,11 @@
 -- What events leave of the windows: the addresses at which a thread meets code, or a home.
-use Rattle.std.specs.Prelude.{◌≡◌, ℕ, Bool, IsTrue, IsFalse, List, Ok}
+use Rattle.std.specs.Prelude.{◌≡◌, ℕ, ◌+◌, ◌≤◌, ◌<◌, Bool, IsTrue, IsFalse, List, Ok}
 use Rattle.ks_base.specs.declared.places.Range.{Range}
 use Rattle.image_memory.specs.Fetch.{has_window}
 use Rattle.stack_scan.specs.Standing.{in_one}
-use Rattle.update_stack.specs.CallTable.{CallTable, view_in}
+use Rattle.ia32_step.specs.declared.types.Thread.{Thread}
+use Rattle.ia32_step.specs.Step.{fetched_count}
+use Rattle.update_stack.specs.CallTable.{CallTable, view_in, contents_of}
 use Rattle.update_stack.specs.Stacked.{IsBuilt}
 use Rattle.update_stack.specs.Events.{Spawn, Step, Apply, Undo, Happened, answered}
 use Rattle.frame_safety.specs.Clear.{newest_retired, newest_pieces}
@@ -41,3 +43,9 @@ abbrev pub UndosKeepWindows : Type 0
 UndosKeepWindows =
     (k : CallTable) (now : Happened) → IsBuilt k
     → answered k Undo ≡ Ok now → KeepsWindows (newest_pieces k) k now.machine
+
+-- Where a step fetches more than the five bytes of a jump, they are code: each of their addresses has a window.
+abbrev pub FetchedHaveWindows : Type 0
+FetchedHaveWindows =
+    (k : CallTable) (thread : Thread) (address : ℕ) → IsBuilt k → 5 < fetched_count (contents_of k) thread
+    → thread.pc ≤ address → address < thread.pc + fetched_count (contents_of k) thread → IsTrue (window_in k address)

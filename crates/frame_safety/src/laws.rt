@@ -2,6 +2,7 @@
 ghost use Rattle.frame_safety.specs.Clear.{AcceptedIsClear, TakenBackIsClear};
 ghost use Rattle.frame_safety.specs.Slots.{UpdatesKeepSlots, UndosKeepSlots, UpdatesKeepThreads, UndosKeepThreads};
 ghost use Rattle.frame_safety.specs.Windows.{StartsKeepWindows, StepsKeepWindows, UpdatesKeepWindows, UndosKeepWindows};
+ghost use Rattle.frame_safety.specs.Windows.{FetchedHaveWindows};
 
 use arena_gaps::laws::gaps_are_free;
 use memory_changes::laws::pieces_are_added;
@@ -34,6 +35,11 @@ pub fn updates_keep_windows()
     plans_can_be_made();
     gaps_are_free();
 }
+
+/// Where a step fetches more than the five bytes of a jump, there is a window at each of them.
+pub fn fetched_bytes_have_windows()
+    ensures { FetchedHaveWindows }
+{}
 
 /// An update that is accepted, and one that is taken back, leaves each slot of a stack what it holds, and each thread
 /// as it is.

@@ -222,7 +222,7 @@ marked_by k pc true e all =
     (home_row k.table pc (λ row. IsSpliced (contents_of k) row.0) all e).fence)
 marked_by k pc false e all = none_marked k.table pc k.retired e
 
-met_alike : (k : CallTable) (pc : ℕ) → All (λ row. IsSpliced (contents_of k) row.0) (bodies_in k.table)
+pub met_alike : (k : CallTable) (pc : ℕ) → All (λ row. IsSpliced (contents_of k) row.0) (bodies_in k.table)
     → view_at (contents_of k) pc ≡ view_in k pc
 unfolding view view_in
 met_alike k pc all =

@@ -1,8 +1,8 @@
 //! A running program with its updates.
-ghost use Rattle.std.specs.Prelude.{◌≡◌, ◌≢◌, [], map, IfOk, OnOk, OnErr, MatchResult, Ok, Err, is_some};
+ghost use Rattle.std.specs.Prelude.{◌≡◌, ◌≢◌, ◌<◌, [], map, IfOk, IsSomeAnd, OnOk, OnErr, MatchResult, Ok, Err, is_some};
 ghost use Rattle.std.specs.Result.{is_ok, result_err};
 ghost use Rattle.ks_base.specs.declared.refusals.Refusal.TheVariants.{Memory};
-ghost use Rattle.ia32_step.specs.Step.{after_store};
+ghost use Rattle.ia32_step.specs.Step.{after_store, fetched_count};
 ghost use Rattle.image_threads.specs.Program.{running_at};
 ghost use Rattle.image_threads.specs.Spawning.{AreStacks};
 ghost use Rattle.update_stack.specs.CallTable.{contents_of, shown_update};
@@ -143,18 +143,22 @@ impl<S: Space> System<S> {
         Ok(self.step_traced(thread)?.outcome)
     }
 
-    /// Steps the running thread of a number, as [`System::step`] does, and answers what it wrote beside what it came to.
+    /// Steps the running thread of a number, as [`System::step`] does, and answers what it wrote beside what it
+    /// came to, and how many bytes it fetched, where these are more than the five of a jump.
     pub fn step_traced(&mut self, thread: u32) -> Result<Traced, Refusal>
         ensures answered { MatchResult result
             (λ traced. answered self.old (Step thread) ≡ Ok (happened self.new (Stepped traced.outcome)))
             (λ refusal. answered self.old (Step thread) ≡ Err refusal) }
         ensures written { IfOk result (λ traced.
             self.new.pieces ≡ (after_store (contents_of self.old) traced.store).pieces) }
+        ensures fetched { IfOk result (λ traced. 5 < traced.fetched → IsSomeAnd (running_at self.old.threads thread)
+            (λ running. traced.fetched ≡ fetched_count (contents_of self.old) running)) }
         ensures refused { OnErr result (self.new ≡ self.old) }
         ensures after { self.new ≡ after_event self.old (Step thread) }
         ensures runs { is_ok result ≡ is_some (running_at self.old.threads thread) }
     {
         steps_stand();
+        jumps_leave_views();
         data_are_written_past_jumps();
         code_stays_code();
         homes_stay_spliced();

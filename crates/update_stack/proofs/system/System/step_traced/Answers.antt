@@ -1,6 +1,6 @@
-use Rattle.std.proofs.Common.{◌≡◌, Ok, Err, MatchResult, IfOk, is_ok, is_some, subst, sym, ◌∙◌}
+use Rattle.std.proofs.Common.{◌≡◌, ◌<◌, Ok, Err, MatchResult, IfOk, IsSomeAnd, is_ok, is_some, subst, sym, ◌∙◌}
 use Rattle.ia32_step.specs.declared.types.Traced.{Traced}
-use Rattle.ia32_step.specs.Step.{after_store}
+use Rattle.ia32_step.specs.Step.{after_store, fetched_count}
 use Rattle.image_threads.specs.Program.{running_at}
 use Rattle.update_stack.specs.CallTable.{CallTable, contents_of}
 use Rattle.update_stack.specs.Events.{Step, Stepped, happened, answered, after_event}
@@ -8,6 +8,7 @@ use Rattle.update_stack.specs.Systems.{machine_of}
 use Rattle.update_stack.proofs.HoldsLaws.{Laws}
 use Rattle.update_stack.proofs.StepLaws.{step_holds, step_seen, stepped_after, step_runs}
 use Rattle.update_stack.proofs.TraceLaws.{outcome_of, untraced, traced_too, untraced_refused, untraced_ok, stores_seen}
+use Rattle.update_stack.proofs.TraceLaws.{fetches_seen}
 use Rattle.update_stack.proofs.system.System.step_traced.Goals as goal
 
 pub invariant_of-self : goal.invariant_of-self
@@ -65,6 +66,16 @@ returns-clause-written g c =
     subst P c.self.view_is
     (stores_seen laws inside.arena inside.gaps inside.updates inside.kept inside.machine c.step_traced.new.self
     c.step_traced.result c.self.invariant c.step_traced.ensures.written c.step_traced.ensures.clear)
+
+pub returns-clause-fetched : goal.returns-clause-fetched
+returns-clause-fetched g c =
+    let inside = c.self.inside in
+    let P : CallTable → Type 0 = λ k. IfOk c.step_traced.result (λ traced.
+    5 < traced.fetched → IsSomeAnd (running_at k.threads c.args.thread)
+    (λ running. traced.fetched ≡ fetched_count (contents_of k) running)) in
+    subst P c.self.view_is
+    (fetches_seen c.jumps_leave_views.ensures inside.arena inside.gaps inside.updates inside.kept inside.machine
+    c.args.thread c.step_traced.result c.self.invariant c.step_traced.ensures.fetched)
 
 pub returns-clause-after : goal.returns-clause-after
 returns-clause-after g c =
