@@ -1,8 +1,9 @@
 -- What holds of the watched threads, no two of which have one number.
-use Rattle.std.proofs.Common.{◌≡◌, ℕ, zero, suc, ◌+◌, ◌-◌, ◌<◌, ◌≤◌, Bool, true, false, not, cond, ◌||◌, ◌==◌, nat_lt, List, [], ◌∷◌, length, get_or, map, set, refl, sym, ap, subst, ◌∙◌, arith, ◌⊎◌, inl, inr, Some, None}
+use Rattle.std.proofs.Common.{◌≡◌, ℕ, zero, suc, ◌+◌, ◌-◌, ◌<◌, ◌≤◌, Bool, true, false, not, cond, ◌||◌, ◌==◌, nat_lt, List, [], ◌∷◌, length, get_or, map, set, refl, sym, ap, subst, ◌∙◌, arith, ◌⊎◌, inl, inr, Option, Some, None}
 use Rattle.std.specs.List.{All, list_any, find, filter, remove}
 use Rattle.std.proofs.lemmas.Bool.Decides.{nat_tests}
 use Rattle.std.proofs.lemmas.List.{get_or_default}
+use Rattle.std.proofs.lemmas.Option.{slice_get_cases}
 use Rattle.ks_base.specs.declared.places.Range.{Range}
 use Rattle.image_memory.specs.declared.types.Piece.{Piece}
 use Rattle.image_memory.proofs.RangeLaws.{one_after, each_above, found}
@@ -14,8 +15,8 @@ use Rattle.ia32_step.specs.Threads.{esp_of}
 use Rattle.frame_watch.specs.inside.Events.{moved, flow_frames}
 use Rattle.image_memory.specs.Ranges.{Ascends, put_in}
 use Rattle.ia32_step.specs.declared.types.Frame.{Frame}
-use Rattle.frame_watch.specs.Frames.{Watched, is_of, stack_of, if_of, frames_at, frames_in, without_thread}
-use Rattle.frame_watch.specs.inside.Kept.{AreApart, HasStack}
+use Rattle.frame_watch.specs.Frames.{Watched, is_of, stack_of, if_of, frames_at, frames_in, watched_at, without_thread}
+use Rattle.frame_watch.specs.inside.Kept.{AreApart, AreInPlace, HasStack, IsPlace, is_in_place, number_unless, placed}
 
 -- ---- whether a thread has a number
 pub same_number : (n : ℕ) (w : Watched) → is_of n w ≡ true → w.thread ≡ n
@@ -79,6 +80,31 @@ found_none n (w ∷ ws) none =
     let here = or_left (is_of n w) (list_any (is_of n) ws) none in
     rw here (found_none n ws (or_right (is_of n w) (list_any (is_of n) ws) none))
 
+-- ---- the thread at the place of a number
+pub placed_is : (n : ℕ) (ws : List Watched) (at : Option ℕ) → AreApart ws → IsPlace n ws at
+    → placed ws at ≡ watched_at ws n
+placed_is n ws None apart none = sym (found_none n ws none)
+placed_is n ws (Some i) apart there =
+    elim (slice_get_cases ws i).1 [
+      | inl here ↦
+          let w = here.0 in
+          here.2 ∙ sym (found_at n ws i w apart there.0 there.1 ∙ ap (λ (v : Watched). Some v) here.3)
+      | inr out ↦ absurd (let high = out.0 in let low = there.0 in omega arith)
+    ]
+
+number_kept : (n esp : ℕ) (frames : List Frame) (w : Watched) → (if_of n esp frames w).thread ≡ w.thread
+number_kept n esp frames w =
+    elim (w.thread == n) as (λ b. (cond b (let v : Watched = record w { esp = esp; frames = frames } in v) w).thread
+    ≡ w.thread) [ true ↦ refl | false ↦ refl ]
+
+pub found_set : (n : ℕ) (ws : List Watched) (i : ℕ) (x : Watched) → AreApart ws → i < length ws
+    → ((d : Watched) → is_of n (get_or ws i d) ≡ true) → is_of n x ≡ true → find (is_of n) (set ws i x) ≡ Some x
+found_set n [] i x apart l hit is = absurd (omega arith)
+found_set n (w ∷ ws) zero x apart l hit is = rw is refl
+found_set n (w ∷ ws) (suc i) x apart l hit is =
+    let other = first_other n w ws i apart.0 (omega arith) (λ e. hit e) in
+    rw other (found_set n ws i x apart.1 (omega arith) (λ e. hit e) is)
+
 -- ---- one thread changed, and one taken out
 pub with_none : (n esp : ℕ) (frames : List Frame) (ws : List Watched) → list_any (is_of n) ws ≡ false
     → map (if_of n esp frames) ws ≡ ws
@@ -137,11 +163,6 @@ any_with m n esp frames (w ∷ ws) =
       | true ↦ ap (λ b. is_of m w || b) (any_with m n esp frames ws)
       | false ↦ ap (λ b. is_of m w || b) (any_with m n esp frames ws)
     ]
-
-number_kept : (n esp : ℕ) (frames : List Frame) (w : Watched) → (if_of n esp frames w).thread ≡ w.thread
-number_kept n esp frames w =
-    elim (w.thread == n) as (λ b. (cond b (let v : Watched = record w { esp = esp; frames = frames } in v) w).thread
-    ≡ w.thread) [ true ↦ refl | false ↦ refl ]
 
 stack_kept : (n esp : ℕ) (frames : List Frame) (w : Watched) → (if_of n esp frames w).stack ≡ w.stack
 stack_kept n esp frames w =
@@ -356,3 +377,12 @@ found_holds p q ws w h all =
     let f = found p ws w h in
     let at = f.at w in
     ap q (sym at) ∙ all f.index w f.in_list (ap p at ∙ f.passes)
+
+pub none_displaced : (n : ℕ) (ws : List Watched) → AreInPlace ws → None ≡ number_unless is_in_place (watched_at ws n)
+none_displaced n ws place =
+    elim (find (is_of n) ws) as (λ o. find (is_of n) ws ≡ o → None ≡ number_unless is_in_place o) [
+      | None ↦ λ _. refl
+      | Some w ↦ λ here.
+          let good : is_in_place w ≡ true = found_holds (is_of n) is_in_place ws w here (λ k d l _. place k d l) in
+          rw good refl
+    ] refl

@@ -102,10 +102,17 @@ module _ (pieces : List Piece) where
       (then_address w.stack w.esp x (missed (holds_dword pieces x.slot x.address) (x.slot == slot) (f.fails d)))
 
   -- ---- of all threads
-  module _ (number : ℕ) (stack : Range) (store : Option Store) (ws : List Watched)
-      (known : IsTouched pieces number stack store ws) (up : Ascends stack_of 0 ws) (apart : AreApart ws) where
+  module _ (moved : Option ℕ) (store : Option Store) (ws : List Watched)
+      (known : IsTouched pieces moved store ws) (up : Ascends stack_of 0 ws) (apart : AreApart ws) where
+    abbrev number : ℕ
+    number = known.number
+
     displaced : Option ℕ
     displaced = number_unless is_in_place (watched_at ws number)
+
+    is_displaced : moved ≡ displaced
+    unfolding displaced
+    is_displaced = known.own
 
     overwritten : ℕ → Option ℕ
     overwritten slot = number_unless (keeps_address pieces slot) (stacked_at ws slot)
@@ -190,9 +197,8 @@ module _ (pieces : List Piece) where
         touched_slot s.address (byte_count s.width) hit.slot (bytes_most s.width) hit.aligned (ltb-true _ _ there)
 
     -- where nothing was written, where an aligned number was, and where another was
-    pub by_move : store ≡ None → number_unless is_in_place (watched_at ws number) ≡ least (breaking pieces ws)
-    unfolding displaced
-    by_move none = sym (least_is (keeps_slots pieces) ws displaced displaced_sound
+    pub by_move : store ≡ None → moved ≡ least (breaking pieces ws)
+    by_move none = is_displaced ∙ sym (least_is (keeps_slots pieces) ws displaced displaced_sound
         (λ k d l broke. elim (each k d l broke) [
           | inl most ↦ most
           | inr hit ↦ (let there = ap (λ (o : Option Store). touches o hit.slot) (sym none) ∙ hit.touched in absurd
@@ -203,11 +209,12 @@ module _ (pieces : List Piece) where
     front low = lesser_of displaced (overwritten low)
 
     pub by_one_slot : (s : Store) → store ≡ Some s → s.address % 4 ≡ 0
-        → lesser_of (number_unless is_in_place (watched_at ws number))
+        → lesser_of moved
         (number_unless (keeps_address pieces (s.address - s.address % 4)) (stacked_at ws (s.address - s.address % 4)))
         ≡ least (breaking pieces ws)
-    unfolding displaced overwritten
-    by_one_slot s is rest = sym (least_is (keeps_slots pieces) ws (front (s.address - s.address % 4)) sound complete)
+    unfolding overwritten
+    by_one_slot s is rest = ap (λ o. lesser_of o (overwritten (s.address - s.address % 4))) is_displaced
+        ∙ sym (least_is (keeps_slots pieces) ws (front (s.address - s.address % 4)) sound complete)
       where
         sound : (n : ℕ) → front (s.address - s.address % 4) ≡ Some n → Breaks (keeps_slots pieces) n ws
         sound n same = elim (either_is displaced (overwritten (s.address - s.address % 4)) n same) [
@@ -233,13 +240,15 @@ module _ (pieces : List Piece) where
 
     pub by_two_slots : (s : Store) → store ≡ Some s
         → lesser_of
-        (lesser_of (number_unless is_in_place (watched_at ws number))
+        (lesser_of moved
         (number_unless (keeps_address pieces (s.address - s.address % 4)) (stacked_at ws (s.address - s.address % 4))))
         (number_unless (keeps_address pieces (s.address - s.address % 4 + 4))
         (stacked_at ws (s.address - s.address % 4 + 4)))
         ≡ least (breaking pieces ws)
-    unfolding displaced overwritten
-    by_two_slots s is = sym (least_is (keeps_slots pieces) ws (both (s.address - s.address % 4)) sound complete)
+    unfolding overwritten
+    by_two_slots s is = ap (λ o. lesser_of (lesser_of o (overwritten (s.address - s.address % 4)))
+        (overwritten (s.address - s.address % 4 + 4))) is_displaced
+        ∙ sym (least_is (keeps_slots pieces) ws (both (s.address - s.address % 4)) sound complete)
       where
         sound : (n : ℕ) → both (s.address - s.address % 4) ≡ Some n → Breaks (keeps_slots pieces) n ws
         sound n same = elim (either_is (front (s.address - s.address % 4))

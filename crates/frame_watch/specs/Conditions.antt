@@ -1,9 +1,11 @@
 -- What is known where an event is noted.
-use Rattle.std.specs.Prelude.{◌≡◌, ℕ, ◌+◌, Bool, true, false, List, Option, Some, None}
+use Rattle.std.specs.Prelude.{◌≡◌, ℕ, ◌+◌, ◌≤◌, ◌<◌, Bool, true, false, List, Option, Some, None}
 use Rattle.std.specs.List.{All, list_any}
 use Rattle.image_memory.specs.declared.types.Piece.{Piece}
 use Rattle.image_memory.specs.Ranges.{meets, MeetsNone}
 use Rattle.image_memory.specs.Access.{first_fault, read_fault}
+use Rattle.image_memory.specs.Contents.{Contents}
+use Rattle.image_memory.specs.Fetch.{has_window, view_at}
 use Rattle.ia32_decode.specs.Widths.{byte_count}
 use Rattle.ia32_step.specs.declared.types.Frame.{Frame}
 use Rattle.ia32_step.specs.declared.types.Thread.{Thread}
@@ -43,6 +45,10 @@ pub record IsStep (pieces : List Piece) (before after : Thread) (outcome : Outco
   pub number : after.number ≡ before.number
   pub stepped : All (λ watched. watched.thread ≡ before.number → IsStepOf pieces before after outcome watched) threads
 
+-- a step may be noted; nothing is asked once a rule was broken
+abbrev pub MayStep : List Piece → (before after : Thread) → Outcome → Watching → Type 0
+MayStep pieces before after outcome w = w.verdict ≡ Disciplined → IsStep pieces before after outcome w.threads
+
 -- whether what was written shares an address with the four bytes of a slot
 abbrev pub touches : Option Store → ℕ → Bool
 touches None slot = false
@@ -55,3 +61,16 @@ abbrev pub HoldBut : List Piece → List Watched → Option Store → Type 0
 HoldBut pieces threads store =
     All (λ watched. All (λ (frame : Frame). touches store frame.slot ≡ false
     → holds_dword pieces frame.slot frame.address ≡ true) watched.frames) threads
+
+-- so may what was written; nothing is asked once a rule was broken
+abbrev pub MayHoldBut : List Piece → Watching → Option Store → Type 0
+MayHoldBut pieces w store = w.verdict ≡ Disciplined → HoldBut pieces w.threads store
+
+-- at each of so many addresses from one on there is a window
+abbrev pub HaveWindows : Contents → ℕ → ℕ → Type 0
+HaveWindows contents start count =
+    (address : ℕ) → start ≤ address → address < start + count → has_window (view_at contents address) ≡ true
+
+-- more than five bytes are no jump at a home but code: where so many were fetched there is a window at each
+abbrev pub MayHaveFetched : Contents → (pc count : ℕ) → Watching → Type 0
+MayHaveFetched contents pc count w = w.verdict ≡ Disciplined → 5 < count → HaveWindows contents pc count

@@ -2,7 +2,7 @@
 ghost use Rattle.std.specs.Prelude.{◌≡◌, OnOk, OnErr, None};
 ghost use Rattle.frame_watch.specs.Frames.{first_watching};
 ghost use Rattle.frame_watch.specs.Discipline.{sight_of, spawn_noted, step_noted, update_noted};
-ghost use Rattle.frame_watch.specs.Conditions.{MayStart, IsStep, HoldBut};
+ghost use Rattle.frame_watch.specs.Conditions.{MayStart, MayStep, MayHoldBut, MayHaveFetched};
 ghost use Rattle.frame_watch.specs.inside.Kept as inside;
 
 use crate::memory::esp_of;
@@ -64,17 +64,13 @@ impl Watch {
         space: &S,
     ) -> Result<(), AllocError>
         requires start { MayStart self.old thread.now }
-        requires held { HoldBut (S.contents space.now).pieces self.old.threads None }
+        requires held { MayHoldBut (S.contents space.now).pieces self.old None }
         ensures noted { OnOk result (self.new ≡ spawn_noted (sight_of (S.contents space.now)) thread.now self.old) }
         ensures refused { OnErr result (self.new ≡ self.old) }
     {
         self.notes.begin(self.alloc, thread, space)?;
-        self.notes.test_touched(
-            thread.number,
-            thread.stack,
-            Some(first_store(thread)),
-            space,
-        );
+        self.notes
+            .test_touched(None, Some(first_store(thread)), space);
         Ok(())
     }
 
@@ -86,15 +82,16 @@ impl Watch {
         outcome: Outcome,
         space: &S,
     )
-        requires { IsStep (S.contents space.now).pieces before.now after.now outcome self.old.threads }
+        requires { MayStep (S.contents space.now).pieces before.now after.now outcome self.old }
         ensures { self.new ≡ step_noted (sight_of (S.contents space.now)) before.now after.now outcome self.old }
     {
-        self.notes.advance(before, after, outcome, space);
+        let _ = self.notes.advance(before, after, outcome, 0, space);
         self.notes.test_all(space);
     }
 
-    /// A thread made a step that tells what it wrote. This looks only at frames whose slots these bytes touch, found by
-    /// halving, and takes no memory.
+    /// A thread made a step that tells what it wrote and how many bytes it fetched. This looks only at frames whose slots
+    /// the written bytes touch, found by halving, and at memory for a window only where the thread has left the bytes that
+    /// it fetched. It takes no memory.
     pub fn note_traced<S: Space>(
         &mut self,
         before: &Thread,
@@ -102,14 +99,16 @@ impl Watch {
         traced: &Traced,
         space: &S,
     )
-        requires step { IsStep (S.contents space.now).pieces before.now after.now traced.now.outcome self.old.threads }
-        requires held { HoldBut (S.contents space.now).pieces self.old.threads traced.now.store }
+        requires step { MayStep (S.contents space.now).pieces before.now after.now traced.now.outcome self.old }
+        requires held { MayHoldBut (S.contents space.now).pieces self.old traced.now.store }
+        requires fetched { MayHaveFetched (S.contents space.now) before.now.pc traced.now.fetched self.old }
         ensures { self.new
             ≡ step_noted (sight_of (S.contents space.now)) before.now after.now traced.now.outcome self.old }
     {
-        self.notes.advance(before, after, traced.outcome, space);
-        self.notes
-            .test_touched(before.number, before.stack, traced.store, space);
+        let displaced = self
+            .notes
+            .advance(before, after, traced.outcome, traced.fetched, space);
+        self.notes.test_touched(displaced, traced.store, space);
     }
 
     /// An update was accepted or taken back. This takes no memory.

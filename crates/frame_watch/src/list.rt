@@ -1,20 +1,20 @@
 //! The running threads that are watched.
-ghost use Rattle.std.specs.Prelude.{◌≡◌, ◌≤◌, ◌<◌, [], length, List, Option, true, OnOk, OnErr, None, Some, if◌then◌else◌};
+ghost use Rattle.std.specs.Prelude.{◌≡◌, ◌≤◌, ◌<◌, [], length, List, Option, OnOk, OnErr, None, Some, if◌then◌else◌};
 ghost use Rattle.std.specs.Option.{option_copied};
-ghost use Rattle.std.specs.List.{All, AllWithin, last_or};
+ghost use Rattle.std.specs.List.{AllWithin, last_or};
 ghost use Rattle.ia32_step.specs.Threads as threads;
-ghost use Rattle.frame_watch.specs.Frames.{is_of, stack_of, frames_at, watched_at, with_started};
+ghost use Rattle.frame_watch.specs.Frames.{frames_at, frames_in, watched_at, with_started};
 ghost use Rattle.frame_watch.specs.Discipline as discipline;
 ghost use Rattle.frame_watch.specs.Discipline.{Sight, sight_of, breaking, least};
 ghost use Rattle.image_memory.specs.declared.types.Piece.{Piece};
 ghost use Rattle.ia32_step.specs.declared.types.Store.{Store};
-ghost use Rattle.frame_watch.specs.Conditions.{HoldBut, IsStart, IsStep};
-ghost use Rattle.frame_watch.specs.inside.Kept.{HasStack, IsPlace, AreInPlace, IsTouched, is_in_place, is_based};
-ghost use Rattle.frame_watch.specs.inside.Kept.{first_store, keeps_address, number_unless, stacked_at};
+ghost use Rattle.frame_watch.specs.Conditions.{HaveWindows, HoldBut, IsStart, IsStep};
+ghost use Rattle.frame_watch.specs.inside.Kept.{HasStack, IsPlace, AreInPlace, IsTouched};
+ghost use Rattle.frame_watch.specs.inside.Kept.{first_store, keeps_address, number_unless, placed, stacked_at};
 ghost use Rattle.frame_watch.specs.inside.Events as inside;
 ghost use Rattle.frame_watch.specs.inside.Events.{moved, step_rule};
 
-use crate::memory::{esp_of, has_window};
+use crate::memory::{arrives, esp_of};
 use crate::thread::ThreadFrames;
 use crate::types::Rule;
 use ia32_step::{Flow, Outcome, Store, Thread};
@@ -86,9 +86,10 @@ impl ThreadList {
     }
 
     // The place of the thread of a number, whose stack is known where it is watched. It is found by halving.
-    fn place_of(&self, number: u32, stack: Range) -> Option<usize>
+    pub(crate) fn place_of(&self, number: u32, stack: Range) -> Option<usize>
         requires { HasStack number stack self.now }
-        ensures { IsPlace number self.now result }
+        ensures place { IsPlace number self.now result }
+        ensures thread { placed self.now result ≡ watched_at self.now number }
     {
         let begun = self.begun(u64::from(stack.low));
         if begun == 0 {
@@ -103,13 +104,11 @@ impl ThreadList {
         }
     }
 
-    // The thread of a number, whose stack is known where it is watched.
-    fn own(&self, number: u32, stack: Range) -> Option<&ThreadFrames>
-        requires { HasStack number stack self.now }
-        ensures { option_copied result ≡ watched_at self.now number }
+    // The thread at a place.
+    fn placed(&self, at: Option<usize>) -> Option<&ThreadFrames>
+        ensures { option_copied result ≡ placed self.now at }
     {
-        let at = self.place_of(number, stack)?;
-        Some(&self.threads[at])
+        self.threads.get(at?)
     }
 
     // A thread is started. For want of memory all is as before.
@@ -118,7 +117,7 @@ impl ThreadList {
         requires in_place { AreInPlace self.old }
         ensures ok { OnOk result (self.new ≡ with_started self.old thread.now) }
         ensures touched { OnOk result ((pieces : List Piece) → HoldBut pieces self.old None
-            → IsTouched pieces thread.now.number thread.now.stack (Some (first_store thread.now)) self.new) }
+            → IsTouched pieces None (Some (first_store thread.now)) self.new) }
         ensures err { OnErr result (self.new ≡ self.old) }
     {
         let kept = ThreadFrames::start(alloc, thread)?;
@@ -127,13 +126,12 @@ impl ThreadList {
         Ok(())
     }
 
-    // Whether a thread's return pops its last frame.
-    fn pops(&self, before: &Thread, after: &Thread) -> bool
-        requires { HasStack before.now.number before.now.stack self.now }
+    // Whether a return of the thread at a place pops its last frame.
+    fn pops(&self, at: Option<usize>, before: &Thread, after: &Thread) -> bool
         ensures { result ≡ discipline.pops (threads.esp_of before.now) after.now.pc
-            (last_or None (frames_at self.now before.now.number)) }
+            (last_or None (frames_in (placed self.now at))) }
     {
-        let Some(thread) = self.own(before.number, before.stack) else {
+        let Some(thread) = self.placed(at) else {
             return false;
         };
         match thread.last() {
@@ -142,49 +140,56 @@ impl ThreadList {
         }
     }
 
-    // The first of the rules but the slot rule that a step breaks.
+    // The first of the rules but the slot rule that a step of the thread at a place breaks.
     pub(crate) fn step_rule<S: Space>(
         &self,
+        at: Option<usize>,
         before: &Thread,
         after: &Thread,
         outcome: Outcome,
+        fetched: u32,
         space: &S,
     ) -> Option<Rule>
-        requires { HasStack before.now.number before.now.stack self.now }
+        requires { 5 < fetched → HaveWindows (S.contents space.now) before.now.pc fetched }
         ensures { result ≡ step_rule (sight_of (S.contents space.now)) before.now after.now
-            (frames_at self.now before.now.number) outcome }
+            (frames_in (placed self.now at)) outcome }
     {
         let Outcome::Moved(flow) = outcome else {
             return None;
         };
         match flow {
-            Flow::Return => broken_unless(self.pops(before, after), Rule::Return),
-            Flow::Call | Flow::Plain => broken_unless(has_window(space, after.pc), Rule::Arrival),
+            Flow::Return => broken_unless(self.pops(at, before, after), Rule::Return),
+            Flow::Call | Flow::Plain => {
+                broken_unless(arrives(space, before.pc, fetched, after.pc), Rule::Arrival)
+            }
         }
     }
 
-    // A thread has made a step.
+    // The thread at a place has made a step. Its number is answered, unless it ended or its slots are such.
     pub(crate) fn go<S: Space>(
         &mut self,
+        at: Option<usize>,
         before: &Thread,
         after: &Thread,
         outcome: Outcome,
         space: &S,
-    )
+    ) -> Option<u32>
+        requires place { IsPlace before.now.number self.old at }
         requires step { IsStep (S.contents space.now).pieces before.now after.now outcome self.old }
         requires in_place { AreInPlace self.old }
         ensures moved { self.new ≡ moved (S.contents space.now).pieces after.now outcome
             (frames_at self.old before.now.number) self.old }
         ensures touched { (store : Option Store) → HoldBut (S.contents space.now).pieces self.old store
-            → IsTouched (S.contents space.now).pieces before.now.number before.now.stack store self.new }
+            → IsTouched (S.contents space.now).pieces result store self.new }
     {
-        let Some(at) = self.place_of(before.number, before.stack) else {
-            return;
-        };
+        let at = at?;
         if let Outcome::Moved(flow) = outcome {
-            self.threads[at].go(after, flow, space);
+            let thread = &mut self.threads[at];
+            thread.go(after, flow, space);
+            number_unless(thread.is_in_place(), thread.number())
         } else {
             let _ = self.threads.remove(at);
+            None
         }
     }
 
@@ -199,16 +204,6 @@ impl ThreadList {
         found
     }
 
-    // The number of the thread that has moved, unless its slots are such.
-    fn displaced(&self, number: u32, stack: Range) -> Option<u32>
-        requires stack { HasStack number stack self.now }
-        requires based { All (λ watched. is_of number watched ≡ true → is_based watched ≡ true) self.now }
-        ensures { result ≡ number_unless is_in_place (watched_at self.now number) }
-    {
-        let thread = self.own(number, stack)?;
-        number_unless(thread.is_in_place(), thread.number())
-    }
-
     // The number of the thread whose stack has a slot, unless the frame there finds its address.
     fn overwritten<S: Space>(&self, slot: u64, space: &S) -> Option<u32>
         ensures { result ≡ number_unless (keeps_address (S.contents space.now).pieces slot) (stacked_at self.now slot) }
@@ -217,23 +212,36 @@ impl ThreadList {
         number_unless(thread.keeps_address(slot, space), thread.number())
     }
 
-    // The least-numbered thread that has a broken frame, where only a thread that has moved and what was written can
-    // have broken one. A slot is a multiple of 4, so at most four bytes touch at most two.
+    // The least-numbered thread that has a broken frame, where only one thread, which may be displaced, and what was
+    // written can have broken one.
     pub(crate) fn least_touched<S: Space>(
         &self,
-        number: u32,
-        stack: Range,
+        displaced: Option<u32>,
         store: Option<Store>,
         space: &S,
     ) -> Option<u32>
-        requires { IsTouched (S.contents space.now).pieces number stack store self.now }
+        requires { IsTouched (S.contents space.now).pieces displaced store self.now }
         ensures { result ≡ least (breaking (S.contents space.now).pieces self.now) }
     {
         let _ = &self.threads;
-        let displaced = self.displaced(number, stack);
-        let Some(store) = store else {
-            return displaced;
-        };
+        match store {
+            Some(store) => self.least_written(displaced, &store, space),
+            None => displaced,
+        }
+    }
+
+    // The same where something was written. A slot is a multiple of 4, so at most four bytes touch at most two.
+    #[inline(never)]
+    fn least_written<S: Space>(
+        &self,
+        displaced: Option<u32>,
+        store: &Store,
+        space: &S,
+    ) -> Option<u32>
+        requires { IsTouched (S.contents space.now).pieces displaced (Some store.now) self.now }
+        ensures { result ≡ least (breaking (S.contents space.now).pieces self.now) }
+    {
+        let _ = &self.threads;
         let rest = store.address % 4;
         let slot = u64::from(store.address - rest);
         let found = lesser_of(displaced, self.overwritten(slot, space));

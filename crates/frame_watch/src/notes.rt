@@ -4,7 +4,7 @@ ghost use Rattle.image_memory.specs.declared.types.Piece.{Piece};
 ghost use Rattle.ia32_step.specs.declared.types.Store.{Store};
 ghost use Rattle.frame_watch.specs.Frames.{first_watching};
 ghost use Rattle.frame_watch.specs.Discipline.{sight_of, counted, broken, slot_broken, slots_tested};
-ghost use Rattle.frame_watch.specs.Conditions.{HoldBut, IsStep, MayStart};
+ghost use Rattle.frame_watch.specs.Conditions.{MayHaveFetched, MayHoldBut, MayStart, MayStep};
 ghost use Rattle.frame_watch.specs.inside.Kept.{AreInPlace, IsTouched, StopsAt, first_store};
 ghost use Rattle.frame_watch.specs.inside.Events.{advanced, begun};
 
@@ -13,7 +13,6 @@ use crate::memory::has_window;
 use crate::types::{Rule, Verdict};
 use ia32_step::{Outcome, Store, Thread};
 use image_memory::Space;
-use ks_base::Range;
 use std::alloc::{AllocError, Global};
 use std::marker::Model;
 
@@ -63,6 +62,7 @@ impl Notes {
     }
 
     // The event broke a rule.
+    #[cold]
     fn end(&mut self, thread: u32, rule: Rule)
         ensures { self.new ≡ broken self.old thread rule }
     {
@@ -74,29 +74,39 @@ impl Notes {
         };
     }
 
-    // What a step comes to by all rules but the slot rule.
+    // What a step comes to by all rules but the slot rule, where so many bytes were fetched. The thread's number is
+    // answered, unless it isn't watched after the step or its slots are such.
     #[tactic(auto, unfolding(crate::specs::inside::Events::advanced))]
     pub(crate) fn advance<S: Space>(
         &mut self,
         before: &Thread,
         after: &Thread,
         outcome: Outcome,
+        fetched: u32,
         space: &S,
-    )
-        requires step { IsStep (S.contents space.now).pieces before.now after.now outcome self.old.threads }
+    ) -> Option<u32>
+        requires step { MayStep (S.contents space.now).pieces before.now after.now outcome self.old }
+        requires fetched { MayHaveFetched (S.contents space.now) before.now.pc fetched self.old }
         requires in_place { AreInPlace self.old.threads }
         ensures noted { self.new ≡ advanced (sight_of (S.contents space.now)) before.now after.now outcome self.old }
         ensures stops { StopsAt self.old.verdict self.old.threads }
-        ensures touched { (store : Option Store) → HoldBut (S.contents space.now).pieces self.old.threads store
-            → IsTouched (S.contents space.now).pieces before.now.number before.now.stack store self.new.threads }
+        ensures touched { (store : Option Store) → MayHoldBut (S.contents space.now).pieces self.old store
+            → IsTouched (S.contents space.now).pieces result store self.new.threads }
     {
         self.count();
         let Verdict::Disciplined = self.verdict else {
-            return;
+            return None;
         };
-        match self.threads.step_rule(before, after, outcome, space) {
-            Some(rule) => self.end(after.number, rule),
-            None => self.threads.go(before, after, outcome, space),
+        let at = self.threads.place_of(before.number, before.stack);
+        match self
+            .threads
+            .step_rule(at, before, after, outcome, fetched, space)
+        {
+            Some(rule) => {
+                self.end(after.number, rule);
+                None
+            }
+            None => self.threads.go(at, before, after, outcome, space),
         }
     }
 
@@ -112,8 +122,8 @@ impl Notes {
         requires in_place { AreInPlace self.old.threads }
         ensures ok { OnOk result (self.new ≡ begun (sight_of (S.contents space.now)) thread.now self.old) }
         ensures stops { StopsAt self.old.verdict self.old.threads }
-        ensures touched { OnOk result ((pieces : List Piece) → HoldBut pieces self.old.threads None
-            → IsTouched pieces thread.now.number thread.now.stack (Some (first_store thread.now)) self.new.threads) }
+        ensures touched { OnOk result ((pieces : List Piece) → MayHoldBut pieces self.old None
+            → IsTouched pieces None (Some (first_store thread.now)) self.new.threads) }
         ensures err { OnErr result (self.new ≡ self.old) }
     {
         let Verdict::Disciplined = self.verdict else {
@@ -151,19 +161,18 @@ impl Notes {
         self.end_at(found);
     }
 
-    // Tests the slot rule where only a thread that has moved and what was written can have broken it.
+    // Tests the slot rule where only one thread, which may be displaced, and what was written can have broken it.
     #[tactic(auto, unfolding(crate::specs::Discipline::slots_tested))]
     pub(crate) fn test_touched<S: Space>(
         &mut self,
-        number: u32,
-        stack: Range,
+        displaced: Option<u32>,
         store: Option<Store>,
         space: &S,
     )
-        requires { IsTouched (S.contents space.now).pieces number stack store self.old.threads }
+        requires { IsTouched (S.contents space.now).pieces displaced store self.old.threads }
         ensures { self.new ≡ slots_tested (sight_of (S.contents space.now)) self.old }
     {
-        let found = self.threads.least_touched(number, stack, store, space);
+        let found = self.threads.least_touched(displaced, store, space);
         self.end_at(found);
     }
 }

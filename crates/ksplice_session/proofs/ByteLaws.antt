@@ -1,14 +1,13 @@
 -- When four bytes are the same in two memories.
-use Rattle.std.proofs.Common.{◌≡◌, ℕ, zero, suc, ◌+◌, ◌-◌, ◌≤◌, ◌<◌, ◌&&◌, not, ◌==◌, Bool, true, false, cond, List, [], ◌∷◌, length, get_or, is_some, Option, Some, None, refl, sym, ◌∙◌, ap, subst, arith, ◌⊎◌}
+use Rattle.std.proofs.Common.{◌≡◌, ℕ, zero, suc, ◌+◌, ◌-◌, ◌≤◌, ◌<◌, ◌&&◌, not, ◌==◌, Bool, true, false, cond, List, [], ◌∷◌, length, get_or, is_some, Option, Some, None, refl, sym, ◌∙◌, ap, arith, ◌⊎◌}
 use Rattle.std.specs.Option.{option_map, option_or, unwrap_or}
-use Rattle.std.specs.List.{Contains}
 use Rattle.std.specs.Int.{w32, from_le_bytes}
 use Rattle.ks_base.specs.declared.refusals.Fault.{Fault}
 use Rattle.image_memory.specs.declared.types.Piece.{Piece}
-use Rattle.image_memory.specs.Ranges.{lies_in, Ascends}
+use Rattle.image_memory.specs.Ranges.{lies_in}
 use Rattle.image_memory.specs.Contents.{piece_range, holding, byte_in}
 use Rattle.image_memory.specs.Access.{kind_of, unreadable, read_fault, first_fault, byte_at, bytes_at, dword_at, overlaid, overlaid_piece, new_byte, written}
-use Rattle.image_memory.proofs.RangeLaws.{inside, within, found_here}
+use Rattle.image_memory.proofs.RangeLaws.{inside}
 use Rattle.image_memory.proofs.AccessLaws.{good_at, length-overlaid, get_or-overlaid, new_outside}
 use Rattle.ia32_step.specs.Frames.{holds_dword}
 
@@ -96,22 +95,3 @@ alike_written start bytes pieces x out = record {
   kind = kinds_written start bytes pieces x;
   byte = λ good. byte_outside start bytes pieces x out;
 }
-
--- a piece holds its addresses
-held_by : (pieces : List Piece) (piece : Piece) (x : ℕ) → Ascends piece_range 0 pieces → Contains pieces piece
-    → piece.base ≤ x → x < (piece_range piece).high → holding pieces x ≡ Some piece
-held_by pieces piece x up (k, less, at) low high =
-    let holds : lies_in x (piece_range (get_or pieces k piece)) ≡ true =
-    subst (λ (p : Piece). lies_in x (piece_range p) ≡ true) (sym at) (within x (piece_range piece) low high) in
-    found_here piece_range 0 pieces x k piece up less holds ∙ ap (λ (p : Piece). Some p) at
-
--- two memories that share a piece are alike at its addresses
-pub alike_shared : (p q : List Piece) (piece : Piece) (x : ℕ) → Ascends piece_range 0 p → Ascends piece_range 0 q
-    → Contains p piece → Contains q piece → piece.base ≤ x → x < (piece_range piece).high → IsAlikeAt p q x
-alike_shared p q piece x up up' here there low high =
-    let same : holding p x ≡ holding q x =
-    held_by p piece x up here low high ∙ sym (held_by q piece x up' there low high) in
-    record {
-      kind = ap (option_map kind_of) same;
-      byte = λ good. ap (λ (o : Option Piece). unwrap_or (option_map (byte_in x) o) 0) same;
-    }

@@ -24,7 +24,7 @@ use Rattle.ia32_step.specs.declared.types.Store.{Store}
 use Rattle.ia32_step.specs.declared.types.Thread.{Thread}
 use Rattle.ia32_step.specs.Frames.{instruction_at, IsCalled, is_slot, holds_dword}
 use Rattle.ia32_step.specs.Operands.{spelled}
-use Rattle.ia32_step.specs.Step.{Left, exits, done, unless_barred, store_fault, after_store, stepped}
+use Rattle.ia32_step.specs.Step.{Left, exits, done, unless_barred, store_fault, after_store, stepped, fetched_count}
 use Rattle.ia32_step.specs.Threads.{is_running, runs, esp_of}
 use Rattle.image_threads.specs.Program.{if_running, running_at, AreNumbered}
 use Rattle.splice_jump.specs.Jumps.{jumped, jumped_memory}
@@ -34,7 +34,8 @@ use Rattle.update_stack.specs.Jumps.{CanJump, StepsStand, jumped_left}
 use Rattle.update_stack.specs.Stacked.{IsBuilt}
 use Rattle.update_stack.specs.StandsFor.{patched}
 use Rattle.update_stack.specs.Steps.{step_at, step_in, after_step, moved_by, moved}
-use Rattle.frame_watch.specs.Conditions.{HasPushed, IsStepOf, IsStep, touches, HoldBut}
+use Rattle.frame_safety.specs.Windows.{StepsKeepWindows, FetchedHaveWindows}
+use Rattle.frame_watch.specs.Conditions.{HasPushed, IsStepOf, IsStep, touches, HoldBut, HaveWindows}
 use Rattle.frame_watch.specs.Discipline.{sight_of, step_noted}
 use Rattle.frame_watch.specs.Frames.{Watched as WatchedThread, Watching, with_frames, without_thread, keeps_slots}
 use Rattle.ksplice_session.specs.Answers.{watched}
@@ -252,6 +253,19 @@ after_got : (k now : CallTable) (n : ℕ) (before : Thread) (outcome : Outcome) 
 after_got k now n before outcome got of =
     ap (λ (m : CallTable). slice_get m.threads n) of.left
     ∙ got_set k.threads n (step_in k before).thread (slice_get_within k.threads n before got)
+
+-- Where more than five bytes were fetched there is a window at each of them after the step, in memory with its jumps.
+pub fetched_windows : JumpLaws → StepsKeepWindows → FetchedHaveWindows → (k now : CallTable) (n : ℕ) (before : Thread) (outcome : Outcome) (count : ℕ)
+    → IsBuilt k → IsBuilt now → slice_get k.threads n ≡ Some before → answered k (Step n) ≡ Ok (happened now (Stepped outcome))
+    → (5 < count → IsSomeAnd (running_at k.threads n) (λ running. count ≡ fetched_count (contents_of k) running))
+    → 5 < count → HaveWindows (patched now) before.pc count
+fetched_windows jumps stay fetched k now n before outcome count built built_now got is told many address from to =
+    let of = step_of k now n before outcome got is in
+    let same : count ≡ fetched_count (contents_of k) before =
+    subst (λ (o : Option Thread). IsSomeAnd o (λ running. count ≡ fetched_count (contents_of k) running)) of.was (told many) in
+    (jumps_alike jumps now built_now).windows address ∙ stay k n (happened now (Stepped outcome)) is address
+    ∙ fetched k before address built (subst (λ (m : ℕ). 5 < m) same many) from
+    (subst (λ (m : ℕ). address < before.pc + m) same to)
 
 pub step_made : JumpLaws → StepLaws → (k now : CallTable) (w : Watching) (n : ℕ) (before after : Thread) (outcome : Outcome) (store : Option Store)
     → IsBuilt k → IsBuilt now → IsInStep k w → AreNumbered 0 k.threads → slice_get k.threads n ≡ Some before

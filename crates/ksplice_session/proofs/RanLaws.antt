@@ -1,6 +1,6 @@
 -- A session that ran from the start of an image: which events it made, and what their discipline is good for.
 use Rattle.std.proofs.Common.{◌≡◌, ◌⊎◌, inl, inr, ℕ, List, [], ◌∷◌, ◌++◌, Option, Some, None, Result, Ok, refl, sym}
-use Rattle.std.proofs.Common.{◌∙◌, ap, subst, append_assoc}
+use Rattle.std.proofs.Common.{◌∙◌, ap, subst, append_assoc, append-nil}
 use Rattle.std.specs.List.{fold}
 use Rattle.ks_io.specs.Outside.{Counts}
 use Rattle.ks_io.specs.Loads.{Told as ToldFiles}
@@ -11,42 +11,58 @@ use Rattle.update_stack.specs.CallTable.{CallTable}
 use Rattle.update_stack.specs.Events.{Event, Spawn, Step, after_events}
 use Rattle.ksplice_session.specs.declared.types.SessionEnd.{SessionEnd}
 use Rattle.ksplice_session.specs.Watching.{Watched, first_watched, watched_after_all, IsDisciplined}
-use Rattle.ksplice_session.specs.Replies.{Told, told_of}
+use Rattle.ksplice_session.specs.Replies.{told_of}
 use Rattle.ksplice_session.specs.Answers.{MadeFront, Noted, Unnoted}
-use Rattle.ksplice_session.specs.Session.{Ran, Played, nothing_played, with_told, play_line, played, ran_by, session_played}
+use Rattle.ksplice_session.specs.Session.{Ran, Played, nothing_played, with_told, play_line, played, ran_by}
+use Rattle.ksplice_session.specs.Session.{events_along, session_played, At, told_at}
 use Rattle.ksplice_session.specs.Session.{Ends, AllDone, AllRun, FileStopped, SinkStopped, SinkAtFile, MemoryInLine}
 use Rattle.ksplice_session.specs.Session.{MemoryAfterLine, MemoryAtFile, SessionEnds}
 use Rattle.ksplice_session.specs.Safety.{OpenFramesKeepWindows, NoReturnIsLost, IsSafe, HasStartedMore, RanSafely}
 use Rattle.ksplice_session.proofs.WatchedLaws.{machine_after_all, watched_after_both}
 use Rattle.ksplice_session.proofs.OpenFrames.{front_disciplined}
 
--- the events that were noted, and made
-record Made (s now : Watched) : Type 0 where
+-- the events that were noted, and made, as a front of others
+record Made (s now : Watched) (events : List Event) : Type 0 where
   noted : List Event
+  rest : List Event
+  front : noted ++ rest ≡ events
   watch : now.watch ≡ (watched_after_all s noted).watch
-  machine : (now.machine ≡ after_events s.machine noted) ⊎ HasStartedMore s.machine noted now.machine
+  machine : (now.machine ≡ after_events s.machine noted) ⊎ HasStartedMore s.machine noted rest now.machine
 
-all_made : (s now : Watched) (events : List Event) → now ≡ watched_after_all s events → Made s now
-all_made s now events is =
+all_made : (s now : Watched) (made rest events : List Event) → made ++ rest ≡ events → now ≡ watched_after_all s made
+    → Made s now events
+all_made s now made rest events front is =
     record {
-      noted = events;
+      noted = made;
+      rest = rest;
+      front = front;
       watch = ap (λ (x : Watched). x.watch) is;
-      machine = inl (ap (λ (x : Watched). x.machine) is ∙ machine_after_all s events);
+      machine = inl (ap (λ (x : Watched). x.machine) is ∙ machine_after_all s made);
     }
 
+-- a front of what lies between some events and others
+between : (before made left events rest whole : List Event) → made ++ left ≡ events → before ++ (events ++ rest) ≡ whole
+    → (before ++ made) ++ (left ++ rest) ≡ whole
+between before made left events rest whole front is =
+    append_assoc before made (left ++ rest)
+    ∙ ap (λ (l : List Event). before ++ l) (sym (append_assoc made left rest) ∙ ap (λ (l : List Event). l ++ rest) front)
+    ∙ is
+
 -- a front of some events that were made behind others
-front_made : (s mid now : Watched) (before events : List Event) → mid ≡ watched_after_all s before
-    → MadeFront mid events now → Made s now
-front_made s mid now before events there (Noted made rest whole is) =
-    all_made s now (before ++ made)
+front_made : (s mid now : Watched) (before events rest whole : List Event) → before ++ (events ++ rest) ≡ whole
+    → mid ≡ watched_after_all s before → MadeFront mid events now → Made s now whole
+front_made s mid now before events rest whole of there (Noted made left front is) =
+    all_made s now (before ++ made) (left ++ rest) whole (between before made left events rest whole front of)
     (is ∙ ap (λ (x : Watched). watched_after_all x made) there ∙ sym (watched_after_both s before made))
-front_made s mid now before events there (Unnoted made rest name argument whole is) =
+front_made s mid now before events rest whole of there (Unnoted made left name argument front is) =
     record {
       noted = before ++ made;
+      rest = Spawn name argument ∷ (left ++ rest);
+      front = between before made (Spawn name argument ∷ left) events rest whole front of;
       watch = ap (λ (x : Watched). x.watch) is
           ∙ ap (λ (x : Watched). (watched_after_all x made).watch) there
           ∙ ap (λ (x : Watched). x.watch) (sym (watched_after_both s before made));
-      machine = inr (record { name = name; argument = argument; machine = started });
+      machine = inr (record { name = name; argument = argument; behind = left ++ rest; next = refl; machine = started });
     }
   where
     more : List Event
@@ -60,44 +76,70 @@ front_made s mid now before events there (Unnoted made rest name argument whole 
         ∙ machine_after_all s (before ++ more)
         ∙ ap (after_events s.machine) (sym (append_assoc before made (Spawn name argument ∷ [])))
 
--- the lines that were played have made the events that are told of them
-fold_events : (k : Watched) (p : Played) (ran : List Ran) → p.session ≡ watched_after_all k p.events
-    → (fold play_line p ran).session ≡ watched_after_all k (fold play_line p ran).events
-fold_events k p [] is = is
-fold_events k p (r ∷ ran) is =
+-- what lines leave is what their events leave
+fold_events : (p : Played) (ran : List Ran)
+    → (fold play_line p ran).session ≡ watched_after_all p.session (events_along p.session ran)
+unfolding events_along watched_after_all
+fold_events p [] = refl
+fold_events p (r ∷ ran) =
     let told = told_of p.session r.line r.held in
-    fold_events k (play_line p r) ran
-    (ap (λ (x : Watched). watched_after_all x told.events) is ∙ sym (watched_after_both k p.events told.events))
+    fold_events (play_line p r) ran
+    ∙ sym (watched_after_both p.session told.events (events_along (play_line p r).session ran))
 
-played_events : (k : Watched) (ran : List Ran) → (played k ran).session ≡ watched_after_all k (played k ran).events
-unfolding played watched_after_all
-played_events k ran = fold_events k (nothing_played k) ran refl
+played_events : (k : Watched) (ran : List Ran) → (played k ran).session ≡ watched_after_all k (events_along k ran)
+unfolding played
+played_events k ran = fold_events (nothing_played k) ran
+
+-- the events of lines, and of those behind them
+along-append : (k : Watched) (ran later : List Ran)
+    → events_along k (ran ++ later) ≡ events_along k ran ++ events_along (watched_after_all k (events_along k ran)) later
+unfolding events_along watched_after_all
+along-append k [] later = refl
+along-append k (r ∷ ran) later =
+    let made = (told_of k r.line r.held).events in
+    let mid = watched_after_all k made in
+    let more = events_along mid ran in
+    ap (λ (l : List Event). made ++ l) (along-append mid ran later)
+    ∙ sym (append_assoc made more (events_along (watched_after_all mid more) later))
+    ∙ ap (λ (x : Watched). (made ++ more) ++ events_along x later) (sym (watched_after_both k made more))
+
+-- the events of lines are those before one of them, those of that line, and those behind it
+along-at : (k : Watched) {ran : List Ran} (at : At ran)
+    → events_along k at.before ++ ((told_at k at).events
+    ++ events_along (watched_after_all (played k at.before).session (told_at k at).events) at.behind) ≡ events_along k ran
+unfolding events_along
+along-at k at =
+    ap (λ (x : Watched). events_along k at.before ++ events_along x (at.line ∷ at.behind)) (played_events k at.before)
+    ∙ sym (along-append k at.before (at.line ∷ at.behind)) ∙ ap (events_along k) at.whole
 
 module _ (k now : Watched) (script : List Command) (held : List (List ℕ)) (lost : Option FileFault)
     (old new : Option (List ℕ)) where
-  after_played : now ≡ (session_played k script held).session → Made k now
+  abbrev ran : List Ran
+  ran = ran_by script held
+
+  after_played : now ≡ (session_played k script held).session → Made k now (events_along k ran)
   after_played is =
-      all_made k now (session_played k script held).events (is ∙ played_events k (ran_by script held))
+      all_made k now (events_along k ran) [] (events_along k ran) (append-nil (events_along k ran))
+      (is ∙ played_events k ran)
 
-  after_line : (before : List Ran) (told : Told) → now ≡ watched_after_all (played k before).session told.events
-      → Made k now
-  after_line before told is =
-      all_made k now ((played k before).events ++ told.events)
-      (is ∙ ap (λ (x : Watched). watched_after_all x told.events) (played_events k before)
-      ∙ sym (watched_after_both k (played k before).events told.events))
+  in_line : (at : At ran) → MadeFront (played k at.before).session (told_at k at).events now
+      → Made k now (events_along k ran)
+  in_line at front =
+      front_made k (played k at.before).session now (events_along k at.before) (told_at k at).events _
+      (events_along k ran) (along-at k at) (played_events k at.before) front
 
-  by_end : (end : SessionEnd) → Ends k script held lost old new now end → Made k now
+  after_line : (at : At ran) → now ≡ watched_after_all (played k at.before).session (told_at k at).events
+      → Made k now (events_along k ran)
+  after_line at is = in_line at (Noted (told_at k at).events [] (append-nil (told_at k at).events) is)
+
+  by_end : (end : SessionEnd) → Ends k script held lost old new now end → Made k now (events_along k ran)
   by_end _ (AllDone none unrefused taken is) = after_played is
   by_end _ (AllRun none refused taken is) = after_played is
   by_end _ (FileStopped file fault none is_lost taken is) = after_played is
-  by_end _ (SinkStopped at behind part is) =
-      after_line at.before (told_of (played k at.before).session at.line.line at.line.held) is
+  by_end _ (SinkStopped at behind part is) = after_line at is
   by_end _ (SinkAtFile file fault none is_lost part is) = after_played is
-  by_end _ (MemoryInLine at behind taken front) =
-      front_made k (played k at.before).session now (played k at.before).events
-      (told_of (played k at.before).session at.line.line at.line.held).events (played_events k at.before) front
-  by_end _ (MemoryAfterLine at behind part is) =
-      after_line at.before (told_of (played k at.before).session at.line.line at.line.held) is
+  by_end _ (MemoryInLine at behind taken front) = in_line at front
+  by_end _ (MemoryAfterLine at behind part is) = after_line at is
   by_end _ (MemoryAtFile file none part is) = after_played is
 
 -- what the laws give for one list of events
@@ -123,13 +165,19 @@ safe_list frames returns file image read events now =
 pub ran_safely : OpenFramesKeepWindows → NoReturnIsLost → (file : List ℕ) (image : Image) (now : Watched)
     → image_of file ≡ Ok image → {s : Watched} → s ≡ first_watched image
     → {told : ToldFiles} {script : List Command} {before after : Counts} {old new : Option (List ℕ)} {end : SessionEnd}
-    → SessionEnds told s script before after old new now end → RanSafely (first_watched image) now
+    → SessionEnds told s script before after old new now end
+    → RanSafely told (first_watched image) script before after now
 ran_safely frames returns file image now read {s} is {told} {script} {before} {after} {old} {new} {end} ended =
-    let made : Made (first_watched image) now =
-    subst (λ (x : Watched). Made x now) is
+    let made : Made (first_watched image) now (events_along (first_watched image) (ran_by script ended.held)) =
+    subst (λ (x : Watched). Made x now (events_along x (ran_by script ended.held))) is
     (by_end s now script ended.held ended.lost old new end ended.ends) in
     record {
+      held = ended.held;
+      lost = ended.lost;
+      loads = ended.loads;
       noted = made.noted;
+      rest = made.rest;
+      of_script = made.front;
       watch = made.watch;
       machine = made.machine;
       safe = λ front behind whole disciplined. safe_list frames returns file image read front disciplined;

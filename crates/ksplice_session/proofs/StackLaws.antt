@@ -1,21 +1,18 @@
 -- Frames keep the slot rule where the bytes of their stacks stay.
 use Rattle.std.proofs.Common.{◌≡◌, ◌≢◌, ℕ, zero, suc, ◌+◌, ◌-◌, ◌≤◌, ◌<◌, ◌&&◌, Bool, true, false, if◌then◌else◌, cond, IsTrue, List, [], ◌∷◌, length, get_or, Option, Some, None, refl, sym, ◌∙◌, ap, subst, arith, ◌⊎◌, inl, inr}
-use Rattle.std.specs.List.{All, Contains, list_all, list_any, find, fold, filter}
+use Rattle.std.specs.List.{All, Contains, list_all, list_any}
 use Rattle.std.proofs.lemmas.Bool.Decides.{nat_tests}
 use Rattle.std.proofs.lemmas.Bool.{false≢true}
-use Rattle.std.proofs.lemmas.List.Elements.{All-nil, All-cons, All-head, All-tail, All-weaker}
+use Rattle.std.proofs.lemmas.List.Elements.{All-nil, All-cons, All-weaker}
 use Rattle.std.proofs.lemmas.List.{get_or_default}
-use Rattle.std.proofs.lemmas.List.Folds.{Any-from_list_any, list_any_at}
+use Rattle.std.proofs.lemmas.List.Folds.{list_any_at}
 use Rattle.ks_base.specs.declared.places.Range.{Range}
 use Rattle.image_memory.specs.declared.types.Piece.{Piece}
-use Rattle.image_memory.specs.Ranges.{Ascends, are_same, meets, put_in}
-use Rattle.image_memory.specs.Contents.{piece_range}
+use Rattle.image_memory.specs.Ranges.{Ascends}
 use Rattle.image_memory.proofs.RangeLaws.{one_after}
-use Rattle.image_threads.specs.Spawning.{is_stack, is_writable}
 use Rattle.ia32_step.specs.declared.types.Frame.{Frame}
 use Rattle.ia32_step.specs.Frames.{is_slot, holds_dword, keeps_slot}
 use Rattle.frame_watch.specs.Frames.{Watched, keeps_slots}
-use Rattle.ksplice_session.proofs.ByteLaws.{holds_same, alike_shared}
 
 pub and_parts : (x y : Bool) → (x && y) ≡ true → (x ≡ true) × (y ≡ true)
 and_parts true y h = (refl, h)
@@ -76,73 +73,6 @@ frames_hold pieces watched keeps =
     (λ (frame : Frame). (is_slot watched.stack watched.esp frame.slot ≡ true) × (holds_dword pieces frame.slot frame.address ≡ true))
     (slot_parts pieces watched.stack watched.esp) watched.frames
     (all_pass (keeps_slot pieces watched.stack watched.esp) watched.frames keeps)
-
-range_is : (a b : Range) → a.low ≡ b.low → a.high ≡ b.high → a ≡ b
-range_is a b low high = λ i. record { low = low i; high = high i }
-
-pub same_range : (a b : Range) → are_same a b ≡ true → a ≡ b
-same_range a b is = range_is a b (grind (arith, nat_tests)) (grind (arith, nat_tests))
-
--- a stack is one of the pieces
-pub record IsPiece (pieces : List Piece) (stack : Range) : Type 0 where
-  pub piece : Piece
-  pub there : Contains pieces piece
-  pub range : piece_range piece ≡ stack
-
-pub stack_is_piece : (pieces : List Piece) (stack : Range) → IsTrue (is_stack pieces stack) → IsPiece pieces stack
-stack_is_piece pieces stack is = by (Any-from_list_any (λ piece. is_writable piece.kind && are_same (piece_range piece) stack) pieces is)
-  where
-    by : ((k : ℕ) × (piece : Piece) × (k < length pieces) × (get_or pieces k piece ≡ piece)
-        × ((is_writable piece.kind && are_same (piece_range piece) stack) ≡ true)) → IsPiece pieces stack
-    by (k, piece, less, at, passes) = record {
-      piece = piece;
-      there = (k, less, at);
-      range = same_range (piece_range piece) stack (and_parts (is_writable piece.kind) (are_same (piece_range piece) stack) passes).1;
-    }
-
--- memories that share a stack hold the same in it
-pub stack_shared : (p q : List Piece) (stack : Range) (here : IsPiece p stack) → Contains q here.piece
-    → Ascends piece_range 0 p → Ascends piece_range 0 q
-    → (slot value : ℕ) → stack.low ≤ slot → slot + 4 ≤ stack.high → holds_dword p slot value ≡ holds_dword q slot value
-stack_shared p q stack here there up up' slot value low high =
-    let from : here.piece.base ≡ stack.low = ap (λ (r : Range). r.low) here.range in
-    let to : (piece_range here.piece).high ≡ stack.high = ap (λ (r : Range). r.high) here.range in
-    holds_same p q slot value (λ x above below.
-    alike_shared p q here.piece x up up' here.there there (omega (arith, from)) (omega (arith, to)))
-
--- members of lists
-Contains-cons : {X : Type 0} (y x : X) (ys : List X) → Contains ys x → Contains (y ∷ ys) x
-Contains-cons y x ys (k, less, at) = (suc k, omega arith, at)
-
-Contains-cases : {X : Type 0} (y x : X) (ys : List X) → Contains (y ∷ ys) x → (y ≡ x) ⊎ Contains ys x
-Contains-cases y x ys (zero, less, at) = inl at
-Contains-cases y x ys (suc k, less, at) = inr (k, omega arith, at)
-
-Contains-first : {X : Type 0} (x : X) (ys : List X) → Contains (x ∷ ys) x
-Contains-first x ys = (0, omega arith, refl)
-
-Contains-either : {X : Type 0} (b : Bool) (x : X) (us vs : List X) → Contains us x → Contains vs x → Contains (if b then us else vs) x
-Contains-either true x us vs one other = one
-Contains-either false x us vs one other = other
-
-pub put_kept : {X : Type 0} (range : X → Range) (p x : X) (ys : List X) → Contains ys x → Contains (put_in range p ys) x
-put_kept range p x [] (k, less, at) = absurd (omega arith)
-put_kept range p x (y ∷ ys) there =
-    Contains-either _ x (p ∷ y ∷ ys) (y ∷ put_in range p ys) (Contains-cons p x (y ∷ ys) there) (elim (Contains-cases y x ys there) [
-      | inl here ↦ subst (λ z. Contains (z ∷ put_in range p ys) x) (sym here) (Contains-first x (put_in range p ys))
-      | inr later ↦ Contains-cons y x (put_in range p ys) (put_kept range p x ys later)
-    ])
-
-pub filter_from : {X : Type 0} (p : X → Bool) (x : X) (ys : List X) → Contains (filter p ys) x → Contains ys x
-filter_from p x [] there = there
-filter_from p x (y ∷ ys) there =
-    elim (p y) as (λ b. Contains (cond b (y ∷ filter p ys) (filter p ys)) x → Contains (y ∷ ys) x) [
-      | true ↦ λ one. elim (Contains-cases y x (filter p ys) one) [
-        | inl here ↦ subst (λ z. Contains (z ∷ ys) x) (sym here) (Contains-first x ys)
-        | inr later ↦ Contains-cons y x ys (filter_from p x ys later)
-      ]
-      | false ↦ λ later. Contains-cons y x ys (filter_from p x ys later)
-    ] there
 
 -- two things whose ranges ascend are one, or apart
 pub same_or_apart : {X : Type 0} (range : X → Range) (xs : List X) (a b : X) → Ascends range 0 xs → Contains xs a → Contains xs b

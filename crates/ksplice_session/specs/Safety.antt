@@ -4,6 +4,9 @@ use Rattle.std.specs.Prelude.{◌≡◌, ◌⊎◌, ℕ, Bool, false, IsTrue, Is
 use Rattle.std.specs.Prelude.{Option, Some, None, Result, Ok, Err}
 use Rattle.std.specs.Option.{option_map, unwrap_or}
 use Rattle.std.specs.List.{last_or, All}
+use Rattle.ks_io.specs.Outside.{Counts}
+use Rattle.ks_io.specs.Loads.{Told as ToldFiles, CameTo}
+use Rattle.ks_io.specs.declared.types.FileFault.{FileFault}
 use Rattle.ks_base.specs.declared.refusals.Fault.TheVariants as faults
 use Rattle.ks_base.specs.declared.refusals.Refusal.{Refusal}
 use Rattle.image_file.specs.Reading.{Contents as Image, image_of}
@@ -18,6 +21,8 @@ use Rattle.update_stack.specs.CallTable.{CallTable, view_in}
 use Rattle.update_stack.specs.Events.{Event, Spawn, Step, Answer, Stepped, Happened, answered, after_events}
 use Rattle.frame_watch.specs.Frames.{frames_at}
 use Rattle.frame_safety.specs.Windows.{window_in}
+use Rattle.script_lines.specs.declared.types.Command.{Command}
+use Rattle.ksplice_session.specs.Session.{files_along, ran_by, events_along}
 use Rattle.ksplice_session.specs.Watching.{Watched, first_watched, watched_after, watched_after_all, IsDisciplined}
 
 -- the frames of a thread, how many they are, and the address of the last
@@ -119,16 +124,31 @@ pub record IsSafe (first : Watched) (events : List Event) : Type 0 where
       → StopsAtFetch (watched_after_all first before) thread
       → ReturnedNowhere first before thread
 
--- a machine after some events and the start of one more thread
-pub record HasStartedMore (k : CallTable) (events : List Event) (now : CallTable) : Type 0 where
+-- a machine after some events and the next one, which is the start of a thread
+pub record HasStartedMore (k : CallTable) (events rest : List Event) (now : CallTable) : Type 0 where
   pub name : List ℕ
   pub argument : ℕ
+  pub behind : List Event
+  pub next : Spawn name argument ∷ behind ≡ rest
   pub machine : now ≡ after_events k (events ++ Spawn name argument ∷ [])
 
--- What a session that ran from its start is: the events that its watch has noted, which are all that its machine made
--- but for a start that was left unnoted for want of memory; and of each front of them that is disciplined both hold.
-pub record RanSafely (first now : Watched) : Type 0 where
+-- What a session that ran a script from its start is. The events that its watch has noted are a front of those of the
+-- script's lines, as far as the files of these were loaded. They are all that its machine made, but for the next one
+-- where that is a start that was left unnoted for want of memory. And of each front of them that is disciplined both
+-- hold.
+pub record RanSafely
+    (told : ToldFiles)
+    (first : Watched)
+    (script : List Command)
+    (before after : Counts)
+    (now : Watched)
+    : Type 0 where
+  pub held : List (List ℕ)
+  pub lost : Option FileFault
+  pub loads : CameTo told (files_along script) held lost before after
   pub noted : List Event
+  pub rest : List Event
+  pub of_script : noted ++ rest ≡ events_along first (ran_by script held)
   pub watch : now.watch ≡ (watched_after_all first noted).watch
-  pub machine : (now.machine ≡ after_events first.machine noted) ⊎ HasStartedMore first.machine noted now.machine
+  pub machine : (now.machine ≡ after_events first.machine noted) ⊎ HasStartedMore first.machine noted rest now.machine
   pub safe : (front behind : List Event) → front ++ behind ≡ noted → IsDisciplined first front → IsSafe first front

@@ -20,21 +20,18 @@ pub record Ran : Type 0 where
   pub line : Command
   pub held : List (List ℕ)
 
--- What was done of a script: the machine that the lines leave, their events, their replies together, and whether one
--- was refused.
+-- What was done of a script: the machine that the lines leave, their replies together, and whether one was refused.
 pub record Played : Type 0 where
   pub session : Watched
-  pub events : List Event
   pub output : List ℕ
   pub refused : Bool
 
 abbrev pub nothing_played : Watched → Played
-nothing_played k = record { session = k; events = []; output = []; refused = false }
+nothing_played k = record { session = k; output = []; refused = false }
 
 abbrev pub with_told : Played → Told → Played
 with_told p told = record {
   session = watched_after_all p.session told.events;
-  events = p.events ++ told.events;
   output = p.output ++ told.reply;
   refused = p.refused || told.refused;
 }
@@ -52,6 +49,13 @@ held_along ran = flat_map held_of ran
 -- lines from a machine on
 unfoldable pub played : Watched → List Ran → Played
 played k ran = fold play_line (nothing_played k) ran
+
+-- The events of some lines from a moment on: those of each line at the moment that the lines before it lead to.
+unfoldable pub events_along : Watched → List Ran → List Event
+events_along k [] = []
+events_along k (one ∷ later) =
+    let events = (told_of k one.line one.held).events in
+    events ++ events_along (watched_after_all k events) later
 
 -- all files of a script, in order
 unfoldable pub files_along : List Command → List Needed

@@ -25,8 +25,8 @@ use std::alloc::Global;
 /// Runs the lines of a script one after another. A line's files are loaded before it is run, and its reply is written
 /// when it was run; a refused line changes nothing but by the steps between its tries, and the next is run. The session
 /// ends at a file that can't be loaded, when that file's line was written, at a fault of the sink, or for want of
-/// memory. Where it ran from the start of an image, and its events kept the discipline, no open frame has lost the code
-/// that it returns to.
+/// memory. Where it ran from the start of an image, the events that its watch has noted are a front of those of the
+/// lines; and as long as they kept the discipline, no open frame has lost the code that it returns to.
 pub fn run_session<F: Files, O: Sink>(
     alloc: Global,
     session: &mut Session,
@@ -43,7 +43,8 @@ pub fn run_session<F: Files, O: Sink>(
     ensures steady { result ≢ SessionEnd.SinkEnd → O.faults out.new ≡ O.faults out.old }
     ensures quiet { O.quiet out.old → result ≢ SessionEnd.SinkEnd }
     ensures safe { (file : List ℕ) (image : Image) → image_of file ≡ Ok image → session.old ≡ first_watched image →
-        RanSafely (first_watched image) session.new }
+        RanSafely (F.told files.old) (first_watched image) script.now (F.counts files.old) (F.counts files.new)
+        session.new }
 {
     // The law says what the discipline spares a run.
     disciplined_runs_are_safe();

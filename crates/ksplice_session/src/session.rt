@@ -11,6 +11,7 @@ ghost use Rattle.ksplice_session.specs.Watching.{first_watched, watched_after};
 ghost use Rattle.ksplice_session.specs.Answers.{MadeFront};
 
 use crate::memory::all_pieces;
+use frame_safety::laws::updates_keep_slots;
 use frame_watch::{Verdict, Watch};
 use ia32_step::{State, Thread};
 use image_file::Image;
@@ -109,7 +110,8 @@ impl Session {
         ensures noted { OnOk result (self.new ≡ watched_after self.old (Apply name.now pre.now post.now)) }
         ensures refused { OnErr result (self.new ≡ self.old) }
     {
-        // The stacks of threads are pieces that stay.
+        // Each thread has a stack of its own, and its slots keep what they hold.
+        updates_keep_slots();
         let _threads = self.system.machine().threads();
         let report = self.system.apply(name, pre, post)?;
         let _machine = self.system.machine();
@@ -125,7 +127,8 @@ impl Session {
         ensures noted { OnOk result (self.new ≡ watched_after self.old Undo) }
         ensures refused { OnErr result (self.new ≡ self.old) }
     {
-        // The stacks of threads are pieces that stay.
+        // Each thread has a stack of its own, and its slots keep what they hold.
+        updates_keep_slots();
         let _threads = self.system.machine().threads();
         let name = self.system.undo()?;
         let _machine = self.system.machine();

@@ -8,6 +8,7 @@ ghost use Rattle.ksplice_session.specs.Watching.{watched_after, watched_after_al
 ghost use Rattle.ksplice_session.specs.inside.InStep.{watched_taken};
 
 use crate::session::Session;
+use frame_safety::laws::{fetched_bytes_have_windows, threads_keep_windows};
 use ia32_step::{calls_and_returns, steps_keep};
 use image_threads::Turns;
 use splice_jump::laws::{homes_stay_spliced, jumps_change_their_bytes_alone, jumps_leave_views};
@@ -22,13 +23,15 @@ impl Session {
         let Some(before) = self.thread(thread) else {
             return false;
         };
-        // The laws say what a step does, and that jumps have no say in what is seen of a machine.
+        // The laws say what a step does, which windows stay, and that jumps have no say in what is seen of a machine.
         steps_stand();
         steps_keep();
         calls_and_returns();
         jumps_leave_views();
         jumps_change_their_bytes_alone();
         homes_stay_spliced();
+        threads_keep_windows();
+        fetched_bytes_have_windows();
         registers_fit(&before.registers);
         let _threads = self.system.machine().threads();
         let Ok(traced) = self.system.step_traced(thread) else {

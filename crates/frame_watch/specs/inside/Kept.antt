@@ -1,7 +1,7 @@
 -- What holds of the threads that are kept, and what is tested of one.
 use Rattle.std.specs.Prelude.{◌≡◌, ℕ, ◌+◌, ◌<◌, ◌≤◌, Bool, true, false, not, ◌||◌, ◌==◌, if◌then◌else◌, List, [], ◌∷◌, length, get_or}
 use Rattle.std.specs.Prelude.{Option, Some, None}
-use Rattle.std.specs.List.{All, list_any, list_all, find}
+use Rattle.std.specs.List.{All, list_any, list_all, find, slice_get}
 use Rattle.ks_base.specs.declared.places.Range.{Range}
 use Rattle.image_memory.specs.declared.types.Piece.{Piece}
 use Rattle.image_memory.specs.Ranges.{lies_in}
@@ -11,7 +11,7 @@ use Rattle.ia32_step.specs.declared.types.Thread.{Thread}
 use Rattle.ia32_step.specs.Threads.{esp_of}
 use Rattle.ia32_decode.specs.declared.types.Width.TheVariants.{Dword}
 use Rattle.ia32_step.specs.Frames.{is_slot, holds_dword}
-use Rattle.frame_watch.specs.Frames.{Watched, is_of, stack_of, closed}
+use Rattle.frame_watch.specs.Frames.{Watched, is_of, stack_of, watched_at, closed}
 use Rattle.frame_watch.specs.declared.types.Verdict.{Verdict}
 use Rattle.frame_watch.specs.declared.types.Verdict.TheVariants.{Disciplined, Broken}
 use Rattle.frame_watch.specs.Conditions.{HoldBut}
@@ -30,6 +30,11 @@ AreApart (w ∷ ws) = (list_any (is_of w.thread) ws ≡ false) × AreApart ws
 abbrev pub IsPlace : ℕ → List Watched → Option ℕ → Type 0
 IsPlace number threads None = list_any (is_of number) threads ≡ false
 IsPlace number threads (Some at) = (at < length threads) × ((d : Watched) → is_of number (get_or threads at d) ≡ true)
+
+-- the thread at a place
+abbrev pub placed : List Watched → Option ℕ → Option Watched
+placed threads None = None
+placed threads (Some at) = slice_get threads at
 
 -- the watched thread of a number, if any, has this stack
 abbrev pub HasStack : ℕ → Range → List Watched → Type 0
@@ -60,12 +65,13 @@ number_unless test (Some watched) = if test watched then None else Some watched.
 abbrev pub stacked_at : List Watched → ℕ → Option Watched
 stacked_at threads address = find (λ watched. lies_in address (stack_of watched)) threads
 
--- What is known where a slot rule can be broken only by a thread that has just moved, and by what was written.
-pub record IsTouched (pieces : List Piece) (number : ℕ) (stack : Range) (store : Option Store)
+-- What is known where a slot rule can be broken only by one thread, which is displaced unless its slots are such, and by
+-- what was written.
+pub record IsTouched (pieces : List Piece) (displaced : Option ℕ) (store : Option Store)
     (threads : List Watched) : Type 0 where
-  pub has_stack : HasStack number stack threads
+  pub number : ℕ
+  pub own : displaced ≡ number_unless is_in_place (watched_at threads number)
   pub others : All (λ watched. is_of number watched ≡ false → is_in_place watched ≡ true) threads
-  pub own : All (λ watched. is_of number watched ≡ true → is_based watched ≡ true) threads
   pub hold : HoldBut pieces threads store
 
 -- once a rule was broken no threads are kept

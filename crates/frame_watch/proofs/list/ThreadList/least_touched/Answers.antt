@@ -1,46 +1,15 @@
--- The thread that has moved, and those whose slots were written.
-use Rattle.std.proofs.Common.{◌≡◌, ◌∙◌, ℕ, ◌+◌, List, ap, subst, Option}
+-- Where nothing was written only the thread that has moved can have broken a frame.
+use Rattle.std.proofs.Common.{List, subst}
+use Rattle.frame_watch.specs.Frames.{Watched}
 use Rattle.image_memory.specs.Ranges.{Ascends}
-use Rattle.frame_watch.specs.Frames.{Watched, stack_of}
-use Rattle.frame_watch.specs.inside.Kept.{AreApart, keeps_address, number_unless, stacked_at}
-use Rattle.frame_watch.specs.inside.Events.{lesser_of}
-use Rattle.frame_watch.proofs.TouchedLaws.{by_move, by_one_slot, by_two_slots}
+use Rattle.frame_watch.specs.Frames.{stack_of}
+use Rattle.frame_watch.specs.inside.Kept.{AreApart}
+use Rattle.frame_watch.proofs.TouchedLaws.{by_move}
 use Rattle.frame_watch.proofs.list.ThreadList.least_touched.Goals as goal
 
-both : (a b c d r : Option ℕ) → r ≡ lesser_of a b → a ≡ c → b ≡ d → r ≡ lesser_of c d
-both a b c d r made one two = made ∙ (ap (λ o. lesser_of o b) one ∙ ap (lesser_of c) two)
-
-pub returns-in_default : goal.returns-in_default
-returns-in_default g c =
+pub returns-in-None : goal.returns-in-None
+returns-in-None g c =
     let A : List Watched → Type 0 = λ vs. Ascends stack_of 0 vs in
     let B : List Watched → Type 0 = λ vs. AreApart vs in
-    c.displaced-displaced.ensures
-    ∙ by_move (g.S.Space.contents c.args.space.now).pieces c.args.number c.args.stack c.args.store c.args.self.now
-    c.requires
-    (subst A c.self.view_is c.self.invariant.0) (subst B c.self.view_is c.self.invariant.1) c.in_default.is
-
-pub returns-then-rest-eq0 : goal.returns-then-rest-eq0
-returns-then-rest-eq0 g c =
-    let A : List Watched → Type 0 = λ vs. Ascends stack_of 0 vs in
-    let B : List Watched → Type 0 = λ vs. AreApart vs in
-    let pieces = (g.S.Space.contents c.args.space.now).pieces in
-    let ws = c.args.self.now in
-    both _ _ _ _ _ c.lesser_of-found.ensures c.displaced-displaced.ensures
-    (c.overwritten.ensures ∙ ap (λ i. number_unless (keeps_address pieces i) (stacked_at ws i)) c.from-slot.ensures)
-    ∙ by_one_slot pieces c.args.number c.args.stack c.args.store ws c.requires
-    (subst A c.self.view_is c.self.invariant.0)
-    (subst B c.self.view_is c.self.invariant.1) c.in-Some.store c.in-Some.is c.if-rest-eq0.true
-
-pub returns : goal.returns
-returns g c =
-    let A : List Watched → Type 0 = λ vs. Ascends stack_of 0 vs in
-    let B : List Watched → Type 0 = λ vs. AreApart vs in
-    let pieces = (g.S.Space.contents c.args.space.now).pieces in
-    let ws = c.args.self.now in
-    both _ _ _ _ _ c.lesser_of.ensures
-    (both _ _ _ _ _ c.lesser_of-found.ensures c.displaced-displaced.ensures
-    (c.overwritten.ensures ∙ ap (λ i. number_unless (keeps_address pieces i) (stacked_at ws i)) c.from-slot.ensures))
-    (c.overwritten-2.ensures ∙ ap
-    (λ i. number_unless (keeps_address pieces (i + 4)) (stacked_at ws (i + 4))) c.from-slot.ensures)
-    ∙ by_two_slots pieces c.args.number c.args.stack c.args.store ws c.requires
-    (subst A c.self.view_is c.self.invariant.0) (subst B c.self.view_is c.self.invariant.1) c.in-Some.store c.in-Some.is
+    by_move (g.S.Space.contents c.args.space.now).pieces c.args.displaced c.args.store c.args.self.now c.requires
+    (subst A c.self.view_is c.self.invariant.0) (subst B c.self.view_is c.self.invariant.1) c.in-None.is

@@ -1,20 +1,21 @@
 -- The last stack that begins at or below this one's low is the only one that can be this one.
-use Rattle.std.proofs.Common.{◌≡◌, ◌-◌, ◌<◌, ◌∙◌, arith, List, length, get_or, ap, sym, subst, false, true}
+use Rattle.std.proofs.Common.{◌≡◌, ◌-◌, ◌<◌, ◌∙◌, arith, List, length, get_or, ap, sym, subst, false, true, Some}
 use Rattle.std.proofs.lemmas.Bool.{false_from_ne_true}
 use Rattle.std.proofs.lemmas.List.{get_or_default}
 use Rattle.image_memory.specs.Ranges.{Ascends}
 use Rattle.frame_watch.specs.Frames.{Watched, stack_of, is_of}
-use Rattle.frame_watch.proofs.ListLaws.{none_begun, none_there, has_number, same_number}
+use Rattle.frame_watch.specs.inside.Kept.{AreApart}
+use Rattle.frame_watch.proofs.ListLaws.{none_begun, none_there, has_number, same_number, found_none, placed_is}
 use Rattle.frame_watch.proofs.list.ThreadList.place_of.Goals as goal
 
-pub returns-then-begun-eq0 : goal.returns-then-begun-eq0
-returns-then-begun-eq0 c =
+pub returns-then-begun-eq0-clause-place : goal.returns-then-begun-eq0-clause-place
+returns-then-begun-eq0-clause-place c =
     let low = c.from.ensures in
     none_begun c.args.number c.args.stack c.args.self.now c.requires
     (λ k d l. let h = c.begun-begun.ensures.above k d (omega arith) l in omega arith)
 
-pub returns-then-number : goal.returns-then-number
-returns-then-number c =
+pub returns-then-number-clause-place : goal.returns-then-number-clause-place
+returns-then-number-clause-place c =
     let ws = c.args.self.now in
     let x = c.index-thread.result.now in
     let n = c.begun-begun.result in
@@ -25,8 +26,8 @@ returns-then-number c =
     let hit : is_of c.args.number x ≡ true = has_number c.args.number x (sym c.number.ensures ∙ c.if-number.true) in
     (l, λ d. ap (is_of c.args.number) (get_or_default ws (n - 1) d x l ∙ sym at) ∙ hit)
 
-pub returns-else-number : goal.returns-else-number
-returns-else-number c =
+pub returns-else-number-clause-place : goal.returns-else-number-clause-place
+returns-else-number-clause-place c =
     let ws = c.args.self.now in
     let x = c.index-thread.result.now in
     let n = c.begun-begun.result in
@@ -46,3 +47,17 @@ returns-else-number c =
     let same : k ≡ n - 1 = omega arith in
     ap (λ i. is_of c.args.number (get_or ws i d)) same
     ∙ (ap (is_of c.args.number) (get_or_default ws (n - 1) d x l ∙ sym at) ∙ miss))
+
+pub returns-then-begun-eq0-clause-thread : goal.returns-then-begun-eq0-clause-thread
+returns-then-begun-eq0-clause-thread c =
+    sym (found_none c.args.number c.args.self.now (returns-then-begun-eq0-clause-place c))
+
+pub returns-then-number-clause-thread : goal.returns-then-number-clause-thread
+returns-then-number-clause-thread c =
+    let P : List Watched → Type 0 = λ vs. AreApart vs in
+    placed_is c.args.number c.args.self.now (Some (c.begun-begun.result - 1))
+    (subst P c.self.view_is c.self.invariant.1) (returns-then-number-clause-place c)
+
+pub returns-else-number-clause-thread : goal.returns-else-number-clause-thread
+returns-else-number-clause-thread c =
+    sym (found_none c.args.number c.args.self.now (returns-else-number-clause-place c))

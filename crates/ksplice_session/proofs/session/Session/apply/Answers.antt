@@ -1,20 +1,22 @@
 use Rattle.std.proofs.Common.{◌≡◌, sym, subst}
-use Rattle.update_stack.specs.Events.{Apply}
+use Rattle.update_stack.specs.Events.{Apply, Applied, happened}
 use Rattle.ksplice_session.specs.Answers.{watched}
 use Rattle.ksplice_session.specs.Watching.{Watched, watched_after}
 use Rattle.ksplice_session.specs.inside.InStep.{IsInStep}
 use Rattle.ksplice_session.proofs.SeenLaws.{placed_of}
-use Rattle.ksplice_session.proofs.UpdateLaws.{stacks_in_step, apply_stays, apply_watched}
+use Rattle.ksplice_session.proofs.UpdateLaws.{kept_in_step, apply_watched}
 use Rattle.ksplice_session.proofs.session.Session.apply.Goals as goal
 
 pub invariant_of-self-2 : goal.invariant_of-self-2
 invariant_of-self-2 c =
     let k = c.self.inside.system in
     let now = c.apply.new.self in
+    let left = happened now (Applied c.in_ok-report.report) in
     subst (IsInStep now) (sym c.note_update.ensures)
-    (stacks_in_step k now c.self.inside.watch
-    (apply_stays k now c.args.name.now c.args.pre.now c.args.post.now c.in_ok-report.report c.in_ok-report.ensures.answered
-    c.machine.ensures.built c.machine-machine.ensures.built)
+    (kept_in_step k now c.self.inside.watch
+    (c.updates_keep_slots.ensures.updated_threads k c.args.name.now c.args.pre.now c.args.post.now left c.in_ok-report.ensures.answered)
+    (c.updates_keep_slots.ensures.updates k c.args.name.now c.args.pre.now c.args.post.now left c.machine.ensures.built
+    c.machine-machine.ensures.built c.in_ok-report.ensures.answered)
     (placed_of c.machine.result.now k c.machine.ensures.stands c.threads-threads.ensures.placed) c.self.invariant)
 
 pub returns-clause-noted : goal.returns-clause-noted

@@ -73,7 +73,7 @@ note_spawn_alone-requires-clause-held c =
     spawn_begun jumps k now w name argument number thread c.machine-machine.ensures.built c.self.invariant
     (placed_of c.machine.result.now k c.machine.ensures.stands c.threads-threads.ensures.placed)
     c.in_ok-number.ensures.answered got_after in
-    subst (λ (m : Contents). HoldBut m.pieces w.threads None) (sym (c.space.ensures.contents ∙ memory_of machine now c.machine-machine.ensures.stands)) begun.held
+    λ unbroken. subst (λ (m : Contents). HoldBut m.pieces w.threads None) (sym (c.space.ensures.contents ∙ memory_of machine now c.machine-machine.ensures.stands)) begun.held
 
 pub invariant_of-self-in_err-note_spawn_alone : goal.invariant_of-self-in_err-note_spawn_alone
 invariant_of-self-in_err-note_spawn_alone c =

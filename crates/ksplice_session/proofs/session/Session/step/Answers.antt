@@ -3,7 +3,7 @@ use Rattle.std.specs.List.{slice_get}
 use Rattle.std.specs.Option.{option_copied}
 use Rattle.image_memory.specs.Contents.{Contents}
 use Rattle.ia32_step.specs.declared.types.Thread.{Thread}
-use Rattle.frame_watch.specs.Conditions.{IsStep, HoldBut}
+use Rattle.frame_watch.specs.Conditions.{IsStep, HoldBut, HaveWindows}
 use Rattle.frame_watch.specs.Discipline.{sight_of, step_noted}
 use Rattle.frame_watch.specs.Frames.{Watching}
 use Rattle.update_stack.specs.CallTable.{CallTable}
@@ -13,7 +13,7 @@ use Rattle.ksplice_session.specs.Answers.{watched}
 use Rattle.ksplice_session.specs.Watching.{Watched, watched_after}
 use Rattle.ksplice_session.specs.inside.InStep.{IsInStep}
 use Rattle.ksplice_session.proofs.SeenLaws.{JumpLaws, memory_of, threads_of, numbered_of}
-use Rattle.ksplice_session.proofs.MoveLaws.{StepLaws, IsMade, step_made, after_there, step_watched, step_refused, step_missing}
+use Rattle.ksplice_session.proofs.MoveLaws.{StepLaws, IsMade, step_made, fetched_windows, after_there, step_watched, step_refused, step_missing}
 use Rattle.ksplice_session.proofs.session.Session.step.Goals as goal
 
 pub returns-in_default-clause-after : goal.returns-in_default-clause-after
@@ -61,7 +61,7 @@ note_traced-requires-clause-step c =
     step_made jumps laws k now w n before after traced.outcome traced.store c.machine.ensures.built c.machine-machine.ensures.built
     c.self.invariant (numbered_of c.machine.result.now k c.machine.ensures.stands c.threads-threads.ensures.numbered) got
     c.in-Ok.ensures.answered got_after c.registers_fit.ensures.count c.registers_fit.ensures.esp c.in-Ok.ensures.written in
-    subst (λ (m : Contents). IsStep m.pieces before after traced.outcome w.threads) (sym memory) made.step
+    λ unbroken. subst (λ (m : Contents). IsStep m.pieces before after traced.outcome w.threads) (sym memory) made.step
 
 pub note_traced-requires-clause-held : goal.note_traced-requires-clause-held
 note_traced-requires-clause-held c =
@@ -96,7 +96,27 @@ note_traced-requires-clause-held c =
     step_made jumps laws k now w n before after traced.outcome traced.store c.machine.ensures.built c.machine-machine.ensures.built
     c.self.invariant (numbered_of c.machine.result.now k c.machine.ensures.stands c.threads-threads.ensures.numbered) got
     c.in-Ok.ensures.answered got_after c.registers_fit.ensures.count c.registers_fit.ensures.esp c.in-Ok.ensures.written in
-    subst (λ (m : Contents). HoldBut m.pieces w.threads traced.store) (sym memory) made.held
+    λ unbroken. subst (λ (m : Contents). HoldBut m.pieces w.threads traced.store) (sym memory) made.held
+
+pub note_traced-requires-clause-fetched : goal.note_traced-requires-clause-fetched
+note_traced-requires-clause-fetched c =
+    let jumps : JumpLaws = record {
+      views = c.jumps_leave_views.ensures;
+      held = c.jumps_change_their_bytes_alone.ensures.held;
+      bytes = c.jumps_change_their_bytes_alone.ensures.data_bytes;
+    } in
+    let k = c.self.inside.system in
+    let n = c.args.thread in
+    let before = c.in-Some.before in
+    let got : slice_get k.threads n ≡ Some before =
+    ap (λ (s : Watched). slice_get s.machine.threads n) c.self.view_is ∙ sym c.thread.ensures ∙ c.in-Some.is in
+    let now = c.step_traced.new.self in
+    let machine = c.machine-machine.result.now in
+    let traced = c.in-Ok.traced in
+    let memory = c.space.ensures.contents ∙ memory_of machine now c.machine-machine.ensures.stands in
+    λ unbroken many. subst (λ (m : Contents). HaveWindows m before.pc traced.fetched) (sym memory)
+    (fetched_windows jumps c.threads_keep_windows.ensures.steps c.fetched_bytes_have_windows.ensures k now n before traced.outcome traced.fetched
+    c.machine.ensures.built c.machine-machine.ensures.built got c.in-Ok.ensures.answered c.in-Ok.ensures.fetched many)
 
 pub invariant_of-self-in_default-get : goal.invariant_of-self-in_default-get
 invariant_of-self-in_default-get c =

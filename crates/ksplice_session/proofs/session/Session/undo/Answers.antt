@@ -1,20 +1,22 @@
 use Rattle.std.proofs.Common.{◌≡◌, sym, subst}
-use Rattle.update_stack.specs.Events.{Undo}
+use Rattle.update_stack.specs.Events.{Undo, Undone, happened}
 use Rattle.ksplice_session.specs.Answers.{watched}
 use Rattle.ksplice_session.specs.Watching.{Watched, watched_after}
 use Rattle.ksplice_session.specs.inside.InStep.{IsInStep}
 use Rattle.ksplice_session.proofs.SeenLaws.{placed_of}
-use Rattle.ksplice_session.proofs.UpdateLaws.{stacks_in_step, undo_stays, undo_watched}
+use Rattle.ksplice_session.proofs.UpdateLaws.{kept_in_step, undo_watched}
 use Rattle.ksplice_session.proofs.session.Session.undo.Goals as goal
 
 pub invariant_of-self-2 : goal.invariant_of-self-2
 invariant_of-self-2 c =
     let k = c.self.inside.system in
     let now = c.undo.new.self in
+    let left = happened now (Undone c.in_ok-name.name) in
     subst (IsInStep now) (sym c.note_update.ensures)
-    (stacks_in_step k now c.self.inside.watch
-    (undo_stays k now c.in_ok-name.name c.in_ok-name.ensures.answered c.machine.ensures.built
-    c.machine-machine.ensures.built)
+    (kept_in_step k now c.self.inside.watch
+    (c.updates_keep_slots.ensures.undone_threads k left c.in_ok-name.ensures.answered)
+    (c.updates_keep_slots.ensures.undos k left c.machine.ensures.built c.machine-machine.ensures.built
+    c.in_ok-name.ensures.answered)
     (placed_of c.machine.result.now k c.machine.ensures.stands c.threads-threads.ensures.placed) c.self.invariant)
 
 pub returns-clause-noted : goal.returns-clause-noted
