@@ -1,6 +1,6 @@
 -- What is known of the threads after one has moved or was started: only this thread and what was written can have
 -- broken the slot rule.
-use Rattle.std.proofs.Common.{◌≡◌, ◌≢◌, ℕ, ◌+◌, ◌-◌, ◌<◌, ◌≤◌, Bool, true, false, not, cond, ◌&&◌, ◌==◌, is_some, nat_lt, List, [], ◌∷◌, ◌++◌, length, get_or, take, min, max, refl, sym, ap, subst, ◌∙◌, arith, length-append, Option, Some, None}
+use Rattle.std.proofs.Common.{◌≡◌, ◌≢◌, ℕ, suc, ◌+◌, ◌-◌, ◌<◌, ◌≤◌, Bool, true, false, not, cond, ◌&&◌, ◌==◌, is_some, nat_lt, List, [], ◌∷◌, ◌++◌, length, get_or, map, take, min, max, refl, sym, ap, subst, ◌∙◌, arith, length-append, Option, Some, None}
 use Rattle.std.specs.List.{All, filter}
 use Rattle.std.proofs.lemmas.Bool.Decides.{nat_tests}
 use Rattle.std.proofs.lemmas.List.{get_or_default, get_or-take, get_or_append_left, length-take}
@@ -21,9 +21,12 @@ use Rattle.ia32_step.specs.declared.types.Outcome.TheVariants.{Moved}
 use Rattle.ia32_step.specs.Frames.{is_slot, holds_dword}
 use Rattle.ia32_step.specs.Threads.{esp_of}
 use Rattle.frame_watch.specs.Frames.{Watched, is_of, stack_of, if_of, started, watched_at, with_started, without_thread, frames_at, frames_in, closed, frame}
-use Rattle.frame_watch.specs.Conditions.{HoldBut, IsStart, IsStep, touches}
+use Rattle.image_memory.specs.Contents.{Contents}
+use Rattle.frame_watch.specs.declared.types.Rule.TheVariants as rules
+use Rattle.frame_watch.specs.Discipline.{sight_of}
+use Rattle.frame_watch.specs.Conditions.{HaveWindows, HoldBut, IsStart, IsStep, touches}
 use Rattle.frame_watch.specs.inside.Kept.{AreApart, AreInPlace, IsTouched, is_in_place, is_based, number_unless, first_store}
-use Rattle.frame_watch.specs.inside.Events.{moved, flow_frames}
+use Rattle.frame_watch.specs.inside.Events.{GoesOn, broken_unless, moved, flow_frames, step_rule}
 use Rattle.frame_watch.proofs.FrameLaws.{slot_at}
 use Rattle.frame_watch.proofs.ListLaws.{found_at, has_number, same_number, none_displaced}
 
@@ -119,6 +122,12 @@ module _ (pieces : List Piece) (store : Option Store) where
       ] refl
 
   module _ (before after : Thread) (ws : List Watched) where
+    its_frames : AreApart ws → (k : ℕ) (d : Watched) → k < length ws → (get_or ws k d).thread ≡ before.number
+        → (get_or ws k d).frames ≡ frames_at ws before.number
+    its_frames apart k d l e =
+        ap frames_in (sym (found_at before.number ws k d apart l (λ x.
+        ap (is_of before.number) (get_or_default ws k x d l) ∙ has_number before.number (get_or ws k d) e)))
+
     -- the thread has moved
     pub touched_with : (flow : Flow) (displaced : Option ℕ)
         → displaced ≡ number_unless is_in_place
@@ -146,17 +155,44 @@ module _ (pieces : List Piece) (store : Option Store) where
         change : Watched → Watched
         change = if_of after.number (esp_of after) new
 
-        its_frames : (k : ℕ) (d : Watched) → k < length ws → (get_or ws k d).thread ≡ before.number
-            → (get_or ws k d).frames ≡ frames_at ws before.number
-        its_frames k d l e =
-            ap frames_in (sym (found_at before.number ws k d apart l (λ x.
-            ap (is_of before.number) (get_or_default ws k x d l) ∙ has_number before.number (get_or ws k d) e)))
-
         own_held : (k : ℕ) (d : Watched) → k < length ws → (get_or ws k d).thread ≡ before.number → All Held new
         own_held k d l e =
             let P : List Frame → Type 0 = λ fs. All Held fs in
-            held_flow after flow (frames_at ws before.number) (subst P (its_frames k d l e) (hold k d l))
+            held_flow after flow (frames_at ws before.number) (subst P (its_frames apart k d l e) (hold k d l))
             (λ call. ((step.stepped k d l e).pushed (ap (λ (f : Flow). Moved f) call)).readable)
+
+-- a step that goes on in what it fetched, and leaves ESP as it is
+pub goes_on_rule : (contents : Contents) (before after : Thread) (outcome : Outcome) (fetched : ℕ) (frames : List Frame)
+    → GoesOn before after outcome fetched → HaveWindows contents before.pc fetched
+    → step_rule (sight_of contents) before after frames outcome ≡ None
+goes_on_rule contents before after outcome fetched frames on windows =
+    ap (step_rule (sight_of contents) before after frames) on.plain
+    ∙ ap (λ b. broken_unless b rules.Arrival) (windows after.pc on.within.above on.within.below)
+
+pub goes_on_still : (pieces : List Piece) (before after : Thread) (outcome : Outcome) (fetched : ℕ) (ws : List Watched)
+    → GoesOn before after outcome fetched → IsStep pieces before after outcome ws → AreApart ws
+    → ws ≡ moved pieces after outcome (frames_at ws before.number) ws
+goes_on_still pieces before after outcome fetched ws on step apart =
+    sym (ap (λ o. moved pieces after o (frames_at ws before.number) ws) on.plain
+    ∙ all_same ws (λ k d l e. (
+      (step.stepped k d l (e ∙ step.number)).esp ∙ sym on.esp,
+      its_frames pieces None before after ws apart k d l (e ∙ step.number),
+    )))
+  where
+    all_same : (vs : List Watched)
+        → All (λ w. w.thread ≡ after.number → (w.esp ≡ esp_of after) × (w.frames ≡ frames_at ws before.number)) vs
+        → map (if_of after.number (esp_of after) (frames_at ws before.number)) vs ≡ vs
+    all_same [] all = refl
+    all_same (w ∷ vs) all =
+        let fs = frames_at ws before.number in
+        let here : if_of after.number (esp_of after) fs w ≡ w
+        = if_holds pieces None (λ v. v ≡ w) after.number (esp_of after) fs w
+        (λ e. let same = all 0 w (omega arith) e in
+        ap (λ x. let v : Watched = record w { esp = x; frames = fs } in v) (sym same.0)
+        ∙ ap (λ (x : List Frame). let v : Watched = record w { frames = x } in v) (sym same.1))
+        (λ _. refl) in
+        ap (λ v. v ∷ map (if_of after.number (esp_of after) fs) vs) here
+        ∙ ap (λ (us : List Watched). w ∷ us) (all_same vs (λ k d l. all (suc k) d (omega arith)))
 
 pub touched_left : (pieces : List Piece) (before after : Thread) (ws new : List Watched) (outcome : Outcome)
     (flow : Flow) (displaced : Option ℕ) → outcome ≡ Moved flow

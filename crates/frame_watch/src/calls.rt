@@ -69,8 +69,7 @@ impl Watch {
         ensures refused { OnErr result (self.new ≡ self.old) }
     {
         self.notes.begin(self.alloc, thread, space)?;
-        self.notes
-            .test_touched(None, Some(first_store(thread)), space);
+        self.notes.test_written(None, &first_store(thread), space);
         Ok(())
     }
 
@@ -89,9 +88,9 @@ impl Watch {
         self.notes.test_all(space);
     }
 
-    /// A thread made a step that tells what it wrote and how many bytes it fetched. This looks only at frames whose slots
-    /// the written bytes touch, found by halving, and at memory for a window only where the thread has left the bytes that
-    /// it fetched. It takes no memory.
+    /// A thread made a step that tells what it wrote and how many bytes it fetched. This looks only at frames whose
+    /// slots the written bytes touch, found by halving, and at memory for a window only where the thread has left the
+    /// bytes that it fetched. It takes no memory.
     pub fn note_traced<S: Space>(
         &mut self,
         before: &Thread,

@@ -1,5 +1,5 @@
 //! The running threads that are watched.
-ghost use Rattle.std.specs.Prelude.{◌≡◌, ◌≤◌, ◌<◌, [], length, List, Option, OnOk, OnErr, None, Some, if◌then◌else◌};
+ghost use Rattle.std.specs.Prelude.{◌≡◌, ◌≤◌, ◌<◌, [], length, List, Option, true, IfOk, IfErr, OnOk, OnErr, None, Some, if◌then◌else◌};
 ghost use Rattle.std.specs.Option.{option_copied};
 ghost use Rattle.std.specs.List.{AllWithin, last_or};
 ghost use Rattle.ia32_step.specs.Threads as threads;
@@ -12,9 +12,9 @@ ghost use Rattle.frame_watch.specs.Conditions.{HaveWindows, HoldBut, IsStart, Is
 ghost use Rattle.frame_watch.specs.inside.Kept.{HasStack, IsPlace, AreInPlace, IsTouched};
 ghost use Rattle.frame_watch.specs.inside.Kept.{first_store, keeps_address, number_unless, placed, stacked_at};
 ghost use Rattle.frame_watch.specs.inside.Events as inside;
-ghost use Rattle.frame_watch.specs.inside.Events.{moved, step_rule};
+ghost use Rattle.frame_watch.specs.inside.Events.{GoesOn, moved, step_rule};
 
-use crate::memory::{arrives, esp_of};
+use crate::memory::{arrives, esp_of, was_fetched};
 use crate::thread::ThreadFrames;
 use crate::types::Rule;
 use ia32_step::{Flow, Outcome, Store, Thread};
@@ -86,7 +86,7 @@ impl ThreadList {
     }
 
     // The place of the thread of a number, whose stack is known where it is watched. It is found by halving.
-    pub(crate) fn place_of(&self, number: u32, stack: Range) -> Option<usize>
+    fn place_of(&self, number: u32, stack: Range) -> Option<usize>
         requires { HasStack number stack self.now }
         ensures place { IsPlace number self.now result }
         ensures thread { placed self.now result ≡ watched_at self.now number }
@@ -141,7 +141,7 @@ impl ThreadList {
     }
 
     // The first of the rules but the slot rule that a step of the thread at a place breaks.
-    pub(crate) fn step_rule<S: Space>(
+    fn step_rule<S: Space>(
         &self,
         at: Option<usize>,
         before: &Thread,
@@ -166,7 +166,7 @@ impl ThreadList {
     }
 
     // The thread at a place has made a step. Its number is answered, unless it ended or its slots are such.
-    pub(crate) fn go<S: Space>(
+    fn go<S: Space>(
         &mut self,
         at: Option<usize>,
         before: &Thread,
@@ -190,6 +190,40 @@ impl ThreadList {
         } else {
             let _ = self.threads.remove(at);
             None
+        }
+    }
+
+    // A thread has made a step. The first of the rules but the slot rule that it breaks is answered; or its number,
+    // unless it isn't watched after the step or its slots are such. No thread is looked up where none can change.
+    pub(crate) fn step<S: Space>(
+        &mut self,
+        before: &Thread,
+        after: &Thread,
+        outcome: Outcome,
+        fetched: u32,
+        space: &S,
+    ) -> Result<Option<u32>, Rule>
+        requires step { IsStep (S.contents space.now).pieces before.now after.now outcome self.old }
+        requires fetched { 5 < fetched → HaveWindows (S.contents space.now) before.now.pc fetched }
+        requires in_place { AreInPlace self.old }
+        ensures ok { OnOk result (step_rule (sight_of (S.contents space.now)) before.now after.now
+            (frames_at self.old before.now.number) outcome ≡ None) }
+        ensures err { IfErr result (λ rule. step_rule (sight_of (S.contents space.now)) before.now after.now
+            (frames_at self.old before.now.number) outcome ≡ Some rule) }
+        ensures moved { OnOk result (self.new ≡ moved (S.contents space.now).pieces after.now outcome
+            (frames_at self.old before.now.number) self.old) }
+        ensures touched { IfOk result (λ displaced. (store : Option Store)
+            → HoldBut (S.contents space.now).pieces self.old store
+            → IsTouched (S.contents space.now).pieces displaced store self.new) }
+    {
+        let _ = &self.threads;
+        if goes_on(before, after, outcome, fetched) {
+            return Ok(None);
+        }
+        let at = self.place_of(before.number, before.stack);
+        match self.step_rule(at, before, after, outcome, fetched, space) {
+            Some(rule) => Err(rule),
+            None => Ok(self.go(at, before, after, outcome, space)),
         }
     }
 
@@ -231,8 +265,7 @@ impl ThreadList {
     }
 
     // The same where something was written. A slot is a multiple of 4, so at most four bytes touch at most two.
-    #[inline(never)]
-    fn least_written<S: Space>(
+    pub(crate) fn least_written<S: Space>(
         &self,
         displaced: Option<u32>,
         store: &Store,
@@ -250,6 +283,16 @@ impl ThreadList {
         }
         lesser_of(found, self.overwritten(slot + 4, space))
     }
+}
+
+// Whether a step goes on in the bytes that it fetched, and leaves ESP as it is.
+fn goes_on(before: &Thread, after: &Thread, outcome: Outcome, fetched: u32) -> bool
+    ensures { result ≡ true → GoesOn before.now after.now outcome fetched }
+{
+    let Outcome::Moved(Flow::Plain) = outcome else {
+        return false;
+    };
+    esp_of(after) == esp_of(before) && was_fetched(before.pc, fetched, after.pc)
 }
 
 // The rule, unless it is kept.

@@ -1,10 +1,11 @@
 //! What is asked of a memory, and of the slot of one frame.
-ghost use Rattle.std.specs.Prelude.{◌≡◌, ◌<◌, None, Some, MatchResult};
+ghost use Rattle.std.specs.Prelude.{◌≡◌, ◌<◌, true, None, Some, MatchResult};
 ghost use Rattle.image_memory.specs.Access.{first_fault, read_fault, dword_at};
 ghost use Rattle.image_memory.specs.Fetch.{has_window, view_at};
 ghost use Rattle.ia32_step.specs.Frames as frames;
 ghost use Rattle.ia32_step.specs.Threads as threads;
 ghost use Rattle.frame_watch.specs.Conditions.{HaveWindows};
+ghost use Rattle.frame_watch.specs.inside.Events.{WasFetched};
 
 use ia32_step::{Frame, Thread};
 use image_memory::Space;
@@ -24,13 +25,20 @@ pub(crate) fn has_window<S: Space>(space: &S, pc: u32) -> bool
     space.window(pc).is_ok()
 }
 
-// Whether a thread that comes to an address from a pc has a window there, where so many bytes were fetched at that pc.
-// More than five are no jump at a home, so that each of them has one.
+// Whether an address is that of one of so many bytes that were fetched from a pc on, and these are too many to be a
+// jump at a home, so that each has a window.
+pub(crate) fn was_fetched(from: u32, fetched: u32, address: u32) -> bool
+    ensures { result ≡ true → WasFetched from fetched address }
+{
+    5 < fetched && from <= address && address - from < fetched
+}
+
+// Whether a thread that comes to an address from a pc, where so many bytes were fetched, has a window there.
 pub(crate) fn arrives<S: Space>(space: &S, from: u32, fetched: u32, pc: u32) -> bool
     requires { 5 < fetched → HaveWindows (S.contents space.now) from fetched }
     ensures { result ≡ has_window (view_at (S.contents space.now) pc) }
 {
-    if 5 < fetched && from <= pc && pc - from < fetched {
+    if was_fetched(from, fetched, pc) {
         return true;
     }
     has_window(space, pc)

@@ -97,16 +97,12 @@ impl Notes {
         let Verdict::Disciplined = self.verdict else {
             return None;
         };
-        let at = self.threads.place_of(before.number, before.stack);
-        match self
-            .threads
-            .step_rule(at, before, after, outcome, fetched, space)
-        {
-            Some(rule) => {
+        match self.threads.step(before, after, outcome, fetched, space) {
+            Ok(displaced) => displaced,
+            Err(rule) => {
                 self.end(after.number, rule);
                 None
             }
-            None => self.threads.go(at, before, after, outcome, space),
         }
     }
 
@@ -173,6 +169,21 @@ impl Notes {
         ensures { self.new ≡ slots_tested (sight_of (S.contents space.now)) self.old }
     {
         let found = self.threads.least_touched(displaced, store, space);
+        self.end_at(found);
+    }
+
+    // The same where something was written.
+    #[tactic(auto, unfolding(crate::specs::Discipline::slots_tested))]
+    pub(crate) fn test_written<S: Space>(
+        &mut self,
+        displaced: Option<u32>,
+        store: &Store,
+        space: &S,
+    )
+        requires { IsTouched (S.contents space.now).pieces displaced (Some store.now) self.old.threads }
+        ensures { self.new ≡ slots_tested (sight_of (S.contents space.now)) self.old }
+    {
+        let found = self.threads.least_written(displaced, store, space);
         self.end_at(found);
     }
 }

@@ -1,5 +1,5 @@
 -- Events in two parts: what they come to by the rules of start, return and arrival; the slot rule is tested after that.
-use Rattle.std.specs.Prelude.{ℕ, Bool, true, false, List, Option, Some, None}
+use Rattle.std.specs.Prelude.{◌≡◌, ℕ, ◌+◌, ◌<◌, ◌≤◌, Bool, true, false, List, Option, Some, None}
 use Rattle.std.specs.List.{last_or}
 use Rattle.image_memory.specs.declared.types.Piece.{Piece}
 use Rattle.image_memory.specs.Fetch.{has_window}
@@ -30,6 +30,18 @@ abbrev pub step_rule : Sight → (before after : Thread) → List Frame → Outc
 step_rule sight before after frames (Moved flow) = flow_rule sight before after frames flow
 step_rule sight before after frames (Exited value) = None
 step_rule sight before after frames (Stopped fault) = None
+
+-- an address of one of so many bytes from another on, which are more than a jump at a home has
+pub record WasFetched (start count address : ℕ) : Type 0 where
+  pub many : 5 < count
+  pub above : start ≤ address
+  pub below : address < start + count
+
+-- a step that goes on in the bytes that it fetched, and leaves ESP as it is
+pub record GoesOn (before after : Thread) (outcome : Outcome) (fetched : ℕ) : Type 0 where
+  pub plain : outcome ≡ Moved Plain
+  pub esp : esp_of after ≡ esp_of before
+  pub within : WasFetched before.pc fetched after.pc
 
 -- the frames that a step leaves, and the threads
 abbrev pub flow_frames : List Piece → Thread → Flow → List Frame → List Frame

@@ -65,8 +65,8 @@ number_unless test (Some watched) = if test watched then None else Some watched.
 abbrev pub stacked_at : List Watched → ℕ → Option Watched
 stacked_at threads address = find (λ watched. lies_in address (stack_of watched)) threads
 
--- What is known where a slot rule can be broken only by one thread, which is displaced unless its slots are such, and by
--- what was written.
+-- What is known where a slot rule can be broken only by one thread, which is displaced unless its slots are such, and
+-- by what was written.
 pub record IsTouched (pieces : List Piece) (displaced : Option ℕ) (store : Option Store)
     (threads : List Watched) : Type 0 where
   pub number : ℕ

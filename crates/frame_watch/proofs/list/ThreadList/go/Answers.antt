@@ -14,6 +14,7 @@ use Rattle.frame_watch.proofs.ListLaws.{moved_none, moved_at, dropped_at, droppe
 use Rattle.frame_watch.proofs.list.ThreadList.go.Given.{Over}
 use Rattle.frame_watch.proofs.list.ThreadList.go.Goals as goal
 
+-- the place of a number, said of an equal one
 at_same : (n : ℕ) (ws : List Watched) (a b : Option ℕ) → a ≡ b → IsPlace n ws a → IsPlace n ws b
 at_same n ws a b same place =
     let P : Option ℕ → Type 0 = λ at. IsPlace n ws at in
@@ -35,7 +36,8 @@ step_of : (g : Over) (c : goal.After-go-arg-1 g)
     → IsStepOf (g.S.Space.contents c.args.space.now).pieces c.args.before.now c.args.after.now c.args.outcome
     c.index_mut-thread.result.now
 step_of g c =
-    let place = at_same c.args.before.now.number c.args.self.now c.args.at (Some c.in_ok-at.at) c.in_ok-at.was c.requires.place in
+    let place = at_same c.args.before.now.number c.args.self.now c.args.at (Some c.in_ok-at.at) c.in_ok-at.was
+    c.requires.place in
     let P : Watched → Type 0 = λ w. IsStepOf
     (g.S.Space.contents c.args.space.now).pieces c.args.before.now c.args.after.now c.args.outcome w in
     let x = c.index_mut-thread.result.now in
@@ -46,7 +48,8 @@ step_of g c =
 
 pub go-requires-clause-in_place : goal.go-requires-clause-in_place
 go-requires-clause-in_place g c =
-    let place = at_same c.args.before.now.number c.args.self.now c.args.at (Some c.in_ok-at.at) c.in_ok-at.was c.requires.place in
+    let place = at_same c.args.before.now.number c.args.self.now c.args.at (Some c.in_ok-at.at) c.in_ok-at.was
+    c.requires.place in
     let x = c.index_mut-thread.result.now in
     let at = at_place c.args.before.now.number c.self.inside.threads.items c.args.self.now c.in_ok-at.at x
     c.self.view_is c.index_mut-thread.ensures.value place in
@@ -54,7 +57,8 @@ go-requires-clause-in_place g c =
 
 pub is_in_place-requires : goal.is_in_place-requires
 is_in_place-requires g c =
-    let place = at_same c.args.before.now.number c.args.self.now c.args.at (Some c.in_ok-at.at) c.in_ok-at.was c.requires.place in
+    let place = at_same c.args.before.now.number c.args.self.now c.args.at (Some c.in_ok-at.at) c.in_ok-at.was
+    c.requires.place in
     let x = c.index_mut-thread.result.now in
     let at = at_place c.args.before.now.number c.self.inside.threads.items c.args.self.now c.in_ok-at.at x
     c.self.view_is c.index_mut-thread.ensures.value place in
@@ -72,7 +76,8 @@ go-requires-clause-readable g c = λ call.
 
 pub returns-in-Moved-clause-moved : goal.returns-in-Moved-clause-moved
 returns-in-Moved-clause-moved g c =
-    let place = at_same c.args.before.now.number c.args.self.now c.args.at (Some c.in_ok-at.at) c.in_ok-at.was c.requires.place in
+    let place = at_same c.args.before.now.number c.args.self.now c.args.at (Some c.in_ok-at.at) c.in_ok-at.was
+    c.requires.place in
     let ws = c.args.self.now in
     let pieces = (g.S.Space.contents c.args.space.now).pieces in
     moved_at pieces c.args.after.now c.in-Moved.flow c.args.before.now.number c.self.inside.threads.items ws
@@ -99,7 +104,8 @@ invariant_of-self g c =
 
 pub returns-in_default-clause-moved : goal.returns-in_default-clause-moved
 returns-in_default-clause-moved g c =
-    let place = at_same c.args.before.now.number c.args.self.now c.args.at (Some c.in_ok-at.at) c.in_ok-at.was c.requires.place in
+    let place = at_same c.args.before.now.number c.args.self.now c.args.at (Some c.in_ok-at.at) c.in_ok-at.was
+    c.requires.place in
     let ws = c.args.self.now in
     let n = c.args.before.now.number in
     c.remove.ensures.items
@@ -135,7 +141,8 @@ unless_is r passed number w made one two =
 
 pub returns-in-Moved-clause-touched : goal.returns-in-Moved-clause-touched
 returns-in-Moved-clause-touched g c =
-    let place = at_same c.args.before.now.number c.args.self.now c.args.at (Some c.in_ok-at.at) c.in_ok-at.was c.requires.place in
+    let place = at_same c.args.before.now.number c.args.self.now c.args.at (Some c.in_ok-at.at) c.in_ok-at.was
+    c.requires.place in
     let n = c.args.before.now.number in
     let i = c.in_ok-at.at in
     let x = c.index_mut-thread.result.now in
