@@ -88,7 +88,19 @@ fn read_sections<'a>(
         let own = take_objects(alloc, source.object, &mut objects, i);
         add_section(alloc, &mut read, source, i, functions, own)?;
     }
-    Ok(read)
+    Ok(Read {
+        sections: fitted(read.sections),
+        targets: fitted(read.targets),
+    })
+}
+
+/// The same list, with no more room than it needs.
+fn fitted<T: Drop>(list: ListOf<T>) -> ListOf<T>
+    ensures { result ≡ list }
+{
+    let mut items = list.into_vec();
+    items.shrink_to_fit();
+    ListOf::from_vec(items)
 }
 
 /// Adds section `i`, if it is loaded.

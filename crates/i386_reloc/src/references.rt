@@ -27,11 +27,11 @@ pub(crate) fn references<'a>(
     requires fields { All (IsField source.now.object.now i) fields.now }
     ensures { IfOk result (λ refs. refs ≡ map (reference_of source.now.object.now i) fields.now) }
 {
-    let mut refs = ListOf::new(alloc);
+    let mut refs = Vec::with_capacity(alloc, fields.len())?;
     for r in fields {
         refs.push(reference(source, i, section, *r))?;
     }
-    Ok(refs)
+    Ok(ListOf::from_vec(refs))
 }
 
 /// The reference that a field makes, by the table of targets.

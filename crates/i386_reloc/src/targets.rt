@@ -19,11 +19,11 @@ pub(crate) fn places(
     requires { All (IsField source.now.object.now i) fields.now }
     ensures { IfOk result (λ places. places ≡ map (place_by_index source.now.object.now) fields.now) }
 {
-    let mut places = ListOf::new(alloc);
+    let mut places = Vec::with_capacity(alloc, fields.len())?;
     for r in fields {
         places.push(place(source, i, *r))?;
     }
-    Ok(places)
+    Ok(ListOf::from_vec(places))
 }
 
 /// The place to which a field's reference goes, `None` where its symbol lies in no section.
