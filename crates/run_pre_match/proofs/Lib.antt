@@ -29,6 +29,7 @@ mod OutcomeLaws
 mod PairLaws
 mod PlaceLaws
 mod PreLists
+mod Reached
 mod Rising
 mod RunLaws
 mod SameNumber

@@ -1,17 +1,16 @@
--- What is said by one field more, and by one section more.
-use Rattle.std.proofs.Common.{◌≡◌, Option, Some, None, ℕ, suc, ◌+◌, ◌<◌, List, [], ◌∷◌, ◌++◌, map, length, take, get_or}
-use Rattle.std.proofs.Common.{append_assoc, refl, sym, ◌∙◌, ap, arith}
+-- What is said by one field more.
+use Rattle.std.proofs.Common.{◌≡◌, Option, Some, None, ℕ, ◌+◌, ◌<◌, List, [], ◌∷◌, ◌++◌, map, length, take, get_or}
+use Rattle.std.proofs.Common.{append_assoc, refl, sym, ◌∙◌, ap}
 use Rattle.std.specs.List.{filter_map}
 use Rattle.std.specs.Option.{option_to_list}
-use Rattle.std.proofs.lemmas.List.{append-nil, map-append, take_more, length-take-le}
+use Rattle.std.proofs.lemmas.List.{map-append, take_more}
 use Rattle.std.proofs.lemmas.List.Elements.{filter_map-append}
 use Rattle.i386_reloc.specs.declared.types.NormalSection.{NormalSection}
 use Rattle.i386_reloc.specs.declared.types.Ref.{Ref}
-use Rattle.run_pre_match.specs.declared.goals.Goal.TheVariants.{Constant}
 use Rattle.run_pre_match.specs.declared.goals.Given.{Given}
 use Rattle.run_pre_match.specs.Candidate.{Candidate, Pair}
-use Rattle.run_pre_match.specs.Found.{Found, first_value, given_in_constant, given_in_pair}
-use Rattle.run_pre_match.specs.Matched.{Statement, spot_at, stated_in_pair, stated_in_constant, stated_at, stated_from}
+use Rattle.run_pre_match.specs.Found.{given_in_constant, given_in_pair}
+use Rattle.run_pre_match.specs.Matched.{Statement, spot_at, stated_in_pair, stated_in_constant}
 
 filter_map-one : {X Y : Type 0} (f : X → Option Y) (x : X) (o : Option Y) → f x ≡ o →
     filter_map f (x ∷ []) ≡ option_to_list o
@@ -24,21 +23,6 @@ pub one_stated : {X Y : Type 0} (f : X → Option Y) (xs : List X) (x : X) →
 one_stated f xs x =
     ap (λ ys. filter_map f xs ++ ys) (sym (filter_map-one f x (f x) refl)) ∙ sym (filter_map-append f xs (x ∷ []))
 
--- one more section
-pub stated_from-snoc : (c : Candidate) (found : List Found) (place n : ℕ) (xs : List NormalSection)
-    (x : NormalSection) → n ≡ place + length xs →
-    stated_from c found place (xs ++ x ∷ []) ≡ stated_from c found place xs
-    ++ stated_at c x (first_value found (Constant n))
-unfolding stated_from
-stated_from-snoc c found place n [] x is =
-    append-nil (stated_at c x (first_value found (Constant place)))
-    ∙ ap (λ k. stated_at c x (first_value found (Constant k))) (sym (omega (arith, is)))
-stated_from-snoc c found place n (y ∷ ys) x is =
-    let long : n ≡ suc place + length ys = omega (arith, is) in
-    ap (λ rest. stated_at c y (first_value found (Constant place)) ++ rest)
-    (stated_from-snoc c found (suc place) n ys x long)
-    ∙ sym (append_assoc (stated_at c y (first_value found (Constant place))) _ _)
-
 -- what is said by the first references, and by one more
 pub said_more : {R X Y : Type 0} (f : X → Option Y) (g : R → X) (refs : List R) (k : ℕ) (r : R) (s : X)
     (old now new : List Y) → k < length refs → r ≡ get_or refs k r → s ≡ g r →
@@ -50,31 +34,6 @@ said_more f g refs k r s old now new lt at is here more =
     ∙ ap (λ x. map g (take k refs) ++ x ∷ []) (ap g (sym at) ∙ sym is) in
     more ∙ ap (λ ys. ys ++ option_to_list (f s)) here ∙ append_assoc old _ _
     ∙ ap (λ ys. old ++ ys) (one_stated f (map g (take k refs)) s) ∙ ap (λ xs. old ++ filter_map f xs) (sym front)
-
--- what is said by the first sections, and by one more
-pub sections_more : {Y : Type 0} (f : Statement → Option Y) (c : Candidate) (found : List Found)
-    (sections : List NormalSection) (place : ℕ) (x : NormalSection) (old now new : List Y) → place < length sections →
-    x ≡ get_or sections place x →
-    now ≡ old ++ filter_map f (stated_from c found 0 (take place sections)) →
-    new ≡ now ++ filter_map f (stated_at c x (first_value found (Constant place))) →
-    new ≡ old ++ filter_map f (stated_from c found 0 (take (place + 1) sections))
-sections_more f c found sections place x old now new lt at here more =
-    let front : List NormalSection = take place sections in
-    let last : List Statement = stated_at c x (first_value found (Constant place)) in
-    let long : length front ≡ place = length-take-le place sections (omega arith) in
-    let first : take (place + 1) sections ≡ front ++ x ∷ [] =
-    take_more sections place x lt ∙ ap (λ y. front ++ y ∷ []) (sym at) in
-    let whole : stated_from c found 0 (take (place + 1) sections) ≡ stated_from c found 0 front ++ last =
-    ap (stated_from c found 0) first ∙ stated_from-snoc c found 0 place front x (omega (arith, long)) in
-    more ∙ ap (λ ys. ys ++ filter_map f last) here ∙ append_assoc old _ _
-    ∙ ap (λ ys. old ++ ys) (sym (filter_map-append f (stated_from c found 0 front) last))
-    ∙ ap (λ xs. old ++ filter_map f xs) (sym whole)
-
--- what is said by no section
-pub sections_none : {Y : Type 0} (f : Statement → Option Y) (c : Candidate) (found : List Found)
-    (sections : List NormalSection) (old : List Y) → old ≡ old ++ filter_map f (stated_from c found 0 (take 0 sections))
-unfolding stated_from
-sections_none f c found sections old = sym (append-nil old)
 
 -- what is said, where a field of a section gives something
 abbrev pub statement : NormalSection → Ref → Given → Statement

@@ -7,4 +7,5 @@ pub mod Met
 pub mod Named
 pub mod Places
 pub mod PreLists
+pub mod Reached
 pub mod Texts

@@ -1,11 +1,11 @@
 //! What the fields of a candidate say: the claims that they make, and the interiors of other code sections.
 ghost use Rattle.std.specs.Prelude.{◌≡◌, ◌++◌, ◌∷◌, [], List, Some, OnOk, IfOk, map, option_to_list};
 ghost use Rattle.std.specs.List.{filter_map, slice_get};
-ghost use Rattle.run_pre_match.specs.declared.goals.Goal.TheVariants.{Constant};
-ghost use Rattle.run_pre_match.specs.Found.{Found, first_value};
-ghost use Rattle.run_pre_match.specs.Matched.{spot_at, stated_in_constant, stated_at, stated_from, name_at, unknown_of};
+ghost use Rattle.run_pre_match.specs.Found.{Found};
+ghost use Rattle.run_pre_match.specs.Matched.{spot_at, stated_in_constant, stated_from, name_at, unknown_of};
 ghost use Rattle.run_pre_match.specs.Matched.{claim_of, interior_of, home_claim};
 ghost use Rattle.run_pre_match.specs.inside.Kept.{Keeps};
+ghost use Rattle.run_pre_match.specs.inside.Reached.{stated_in};
 
 use crate::candidate::Candidate;
 use crate::goals::{Given, Goal};
@@ -161,26 +161,21 @@ impl<'m, 'a, S: Space> Candidate<'m, 'a, S> {
         Ok(())
     }
 
-    /// Adds what the fields of the section at a place say, where a value was found for it as read-only data.
+    /// Adds what the fields of the section at a place say, where it lies at a base: nothing where there is no section.
     fn state_reached(
         &self,
         alloc: Global,
         said: &mut Said,
         place: usize,
-        section: &NormalSection<'a>,
-        values: &Values<'a>,
+        base: u32,
     ) -> Result<(), AllocError>
-        requires { slice_get self.now.object place ≡ Some section.now }
-        ensures claims { OnOk result ((found : List Found) → Keeps self.now found values.now
-            → said.new.claims ≡ said.old.claims
-            ++ filter_map (claim_of self.now) (stated_at self.now section.now (first_value found (Constant place)))) }
-        ensures interiors { OnOk result ((found : List Found) → Keeps self.now found values.now
-            → said.new.interiors ≡ said.old.interiors
-            ++ filter_map (interior_of self.now)
-            (stated_at self.now section.now (first_value found (Constant place)))) }
+        ensures claims { OnOk result (said.new.claims ≡ said.old.claims
+            ++ filter_map (claim_of self.now) (stated_in self.now base (slice_get self.now.object place))) }
+        ensures interiors { OnOk result (said.new.interiors ≡ said.old.interiors
+            ++ filter_map (interior_of self.now) (stated_in self.now base (slice_get self.now.object place))) }
     {
-        match values.constants.get(&place) {
-            Some(first) => self.state_constant(alloc, said, place, section, first.value),
+        match self.section(place) {
+            Some(section) => self.state_constant(alloc, said, place, section, base),
             None => Ok(()),
         }
     }
@@ -199,9 +194,8 @@ impl<'m, 'a, S: Space> Candidate<'m, 'a, S> {
             → said.new.interiors ≡ said.old.interiors
             ++ filter_map (interior_of self.now) (stated_from self.now found 0 self.now.object)) }
     {
-        let sections = self.normal.as_slice();
-        for place in 0..sections.len() {
-            self.state_reached(alloc, said, place, &sections[place], values)?;
+        for (place, first) in values.constants.iter() {
+            self.state_reached(alloc, said, *place, first.value)?;
         }
         Ok(())
     }

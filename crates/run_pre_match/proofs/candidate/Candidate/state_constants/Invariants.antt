@@ -1,17 +1,15 @@
--- What the fields of the sections so far say is added.
-use Rattle.std.proofs.Common.{◌≡◌, ◌++◌, List, take}
-use Rattle.std.specs.List.{filter_map}
-use Rattle.run_pre_match.specs.Found.{Found}
-use Rattle.run_pre_match.specs.Matched.{stated_from, claim_of, interior_of}
-use Rattle.run_pre_match.specs.inside.Kept.{Keeps}
+-- What was said so far, and then what the fields of the other sections say, is what is to be said.
+use Rattle.std.proofs.Common.{◌≡◌, ◌++◌}
+use Rattle.std.specs.List.{filter_map, flat_map}
+use Rattle.run_pre_match.specs.Matched.{claim_of, interior_of}
+use Rattle.run_pre_match.specs.inside.Reached.{stated_by}
 use Rattle.run_pre_match.proofs.candidate.Candidate.state_constants.Given as goal
 
 abbrev pub invariant-loop-place : goal.invariant-loop-place
 invariant-loop-place g l = record {
-  claims : (found : List Found) → Keeps l.self found l.values →
-      l.said.claims ≡ l.fn.said.claims ++ filter_map (claim_of l.self)
-      (stated_from l.self found 0 (take l.place l.sections));
-  interiors : (found : List Found) → Keeps l.self found l.values →
-      l.said.interiors ≡ l.fn.said.interiors
-      ++ filter_map (interior_of l.self) (stated_from l.self found 0 (take l.place l.sections));
+  claims : l.said.claims ++ filter_map (claim_of l.self) (flat_map (stated_by l.self) l.place-iterator)
+      ≡ l.fn.said.claims ++ filter_map (claim_of l.self) (flat_map (stated_by l.self) l.values.constants.entries);
+  interiors : l.said.interiors ++ filter_map (interior_of l.self) (flat_map (stated_by l.self) l.place-iterator)
+      ≡ l.fn.said.interiors
+      ++ filter_map (interior_of l.self) (flat_map (stated_by l.self) l.values.constants.entries);
 }
