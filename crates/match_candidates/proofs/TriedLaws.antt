@@ -1,5 +1,5 @@
 -- What is kept of homes that are tried, beside the candidates at them.
-use Rattle.std.proofs.Common.{◌≡◌, ℕ, zero, suc, ◌+◌, ◌<◌, List, [], ◌∷◌, ◌++◌, length, get_or, drop, Some, None, Result, map, refl, sym, ap, ◌∙◌, append_assoc, add-one}
+use Rattle.std.proofs.Common.{◌≡◌, ℕ, zero, suc, ◌+◌, ◌<◌, List, [], ◌∷◌, ◌++◌, length, get_or, drop, Some, None, Result, Ok, Err, map, refl, sym, ap, ◌∙◌, append_assoc, add-one}
 use Rattle.std.specs.Prelude.{if◌then◌else◌, ◌||◌}
 use Rattle.std.specs.List.{slice_get, list_any, flat_map, AllZip}
 use Rattle.std.proofs.Math.Seq.{drop-length}
@@ -8,26 +8,38 @@ use Rattle.run_pre_match.specs.Candidate.{Candidate}
 use Rattle.symbol_table.specs.Bodies.{newest}
 use Rattle.run_pre_match.specs.declared.types.Matched.{Matched}
 use Rattle.run_pre_match.specs.declared.types.MatchFault.{MatchFault}
-use Rattle.run_pre_match.specs.Matched.{PreSection, outcome}
+use Rattle.run_pre_match.specs.declared.types.MatchFault.TheVariants.{Differs, Undecoded, Memory}
+use Rattle.run_pre_match.specs.Matched.{PreSection, candidate, outcome}
 use Rattle.match_candidates.specs.declared.trials.Tried.{Tried}
-use Rattle.match_candidates.specs.Candidates.{Running, candidate_at, candidates_of, homes_of, matches}
-use Rattle.match_candidates.specs.OwnFaults.{difference_in, mismatch_in, IsTried}
+use Rattle.match_candidates.specs.Candidates.{Running, candidate_at, candidates_of, homes_of, is_match, matches}
+use Rattle.match_candidates.specs.OwnFaults.{difference_in, length_of, mismatch_in, IsTried}
 use Rattle.match_candidates.specs.inside.Trying.{tried_at, all_tried, tried_of, tried_from, has_matched, mismatch_by}
 use Rattle.match_candidates.proofs.FirstLaws.{drop_next}
+
+same_test : (o : Result Matched MatchFault) → is_match (length_of o) ≡ is_match o
+same_test (Ok matched) = refl
+same_test (Err fault) = refl
+
+same_difference : (pre : PreSection) (o : Result Matched MatchFault)
+    → difference_in pre (length_of o) ≡ difference_in pre o
+same_difference pre (Ok matched) = refl
+same_difference pre (Err (Differs difference)) = refl
+same_difference pre (Err (Undecoded offset)) = refl
+same_difference pre (Err Memory) = refl
 
 any_same : (running : Running) (pre : PreSection) (number : ℕ) (homes : List ℕ)
     → list_any has_matched (all_tried running pre number homes)
     ≡ list_any matches (map (candidate_at running pre) homes)
 any_same running pre number [] = refl
 any_same running pre number (h ∷ hs) =
-    ap (λ b. matches (candidate_at running pre h) || b) (any_same running pre number hs)
+    λ i. same_test (outcome (candidate_at running pre h)) i || any_same running pre number hs i
 
 mismatch_same : (running : Running) (pre : PreSection) (number : ℕ) (homes : List ℕ)
     → mismatch_by pre (all_tried running pre number homes) ≡ mismatch_in pre (map (candidate_at running pre) homes)
 mismatch_same running pre number [] = refl
 mismatch_same running pre number (h ∷ hs) =
-    ap (λ b. if b then None else difference_in pre (outcome (candidate_at running pre h)))
-    (any_same running pre number (h ∷ hs))
+    λ i. if any_same running pre number (h ∷ hs) i then None
+    else same_difference pre (outcome (candidate_at running pre h)) i
 
 pub mismatch_kept : (running : Running) (pre : PreSection) (number : ℕ) (homes : List ℕ) (own : List Tried)
     → own ≡ all_tried running pre number homes → homes ≡ homes_of running pre
@@ -37,13 +49,14 @@ mismatch_kept running pre number homes own kept all =
     ∙ sym (mismatch_same running pre number homes) ∙ ap (λ l. mismatch_by pre l) (sym kept)
 
 abbrev pub kept : ℕ → ℕ → ℕ → Result Matched MatchFault → Tried
-kept number home base found = record { section = number; home = home; base = base; outcome = found }
+kept number home base found = record { section = number; home = home; base = base; outcome = length_of found }
 
 pub tried_is : (running : Running) (pre : PreSection) (number home base : ℕ) (found : Result Matched MatchFault)
-    → base ≡ newest running.bodies home → found ≡ outcome (candidate_at running pre home)
+    → base ≡ newest running.bodies home → found ≡ outcome (candidate pre running.contents running.symbols home base)
     → kept number home base found ≡ tried_at running pre number home
 tried_is running pre number home base found newest_is outcome_is =
-    ap (λ b. kept number home b found) newest_is ∙ ap (λ o. kept number home (newest running.bodies home) o) outcome_is
+    let come = outcome_is ∙ ap (λ b. outcome (candidate pre running.contents running.symbols home b)) newest_is in
+    λ i. kept number home (newest_is i) (come i)
 
 pub tried_next : (running : Running) (codes : List PreSection) (tried now : List Tried) (number : ℕ)
     (pre : PreSection) → number < length codes → pre ≡ get_or codes number pre

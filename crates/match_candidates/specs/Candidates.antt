@@ -9,7 +9,6 @@ use Rattle.image_memory.specs.Fetch.{View, Unmapped, AtHome, Stray, Bytes, view_
 use Rattle.symbol_table.specs.declared.symbols.Symbol.{Symbol}
 use Rattle.symbol_table.specs.Symbols.{function_addresses}
 use Rattle.symbol_table.specs.Bodies.{newest}
-use Rattle.run_pre_match.specs.declared.types.Matched.{Matched}
 use Rattle.run_pre_match.specs.declared.types.MatchFault.{MatchFault}
 use Rattle.run_pre_match.specs.Candidate.{Candidate}
 use Rattle.run_pre_match.specs.Matched.{PreSection, candidate, outcome}
@@ -65,8 +64,8 @@ candidates running object = flat_map (candidates_of running) (code_sections obje
 abbrev pub is_of : ℕ → Candidate → Bool
 is_of place c = c.place == place
 
-abbrev pub is_match : Result Matched MatchFault → Bool
-is_match (Ok matched) = true
+abbrev pub is_match : {X : Type 0} → Result X MatchFault → Bool
+is_match (Ok found) = true
 is_match (Err fault) = false
 
 -- whether a candidate matches by itself

@@ -1,6 +1,6 @@
 -- What is wrong with one code section of an object by itself: its code can't be matched, it has no candidate, or no
 -- candidate matches.
-use Rattle.std.specs.Prelude.{◌≡◌, if◌then◌else◌, List, [], ◌∷◌, Option, Some, None, Result, Ok, Err}
+use Rattle.std.specs.Prelude.{◌≡◌, ℕ, if◌then◌else◌, List, [], ◌∷◌, Option, Some, None, Result, Ok, Err}
 use Rattle.std.specs.Option.{option_map, option_or}
 use Rattle.std.specs.List.{list_any, slice_get, AllZip}
 use Rattle.ks_base.specs.declared.refusals.Refusal.{Refusal}
@@ -11,7 +11,7 @@ use Rattle.run_pre_match.specs.declared.types.MatchFault.{MatchFault}
 use Rattle.run_pre_match.specs.declared.types.MatchFault.TheVariants.{Differs, Undecoded, Memory}
 use Rattle.run_pre_match.specs.Candidate.{Candidate}
 use Rattle.run_pre_match.specs.Landing.{undecoded_offset}
-use Rattle.run_pre_match.specs.Matched.{PreSection, outcome}
+use Rattle.run_pre_match.specs.Matched.{PreSection, candidate, outcome}
 use Rattle.propagation.specs.Conflicts.{first_some}
 use Rattle.match_candidates.specs.declared.trials.Tried.{Tried}
 use Rattle.match_candidates.specs.Candidates.{Running, code_sections, function_name, candidates_of, candidates, matches}
@@ -32,8 +32,8 @@ abbrev pub first_missing : Running → List NormalSection → Option Refusal
 first_missing running object = first_some (λ pre. missing_in pre (candidates_of running pre)) (code_sections object)
 
 -- the first code section of which every candidate differs by itself, with the difference of the lowest home
-abbrev pub difference_in : PreSection → Result Matched MatchFault → Option Refusal
-difference_in pre (Ok matched) = None
+abbrev pub difference_in : {X : Type 0} → PreSection → Result X MatchFault → Option Refusal
+difference_in pre (Ok found) = None
 difference_in pre (Err (Differs difference)) = Some (Mismatch pre.section.name difference)
 difference_in pre (Err (Undecoded offset)) = None
 difference_in pre (Err Memory) = None
@@ -50,16 +50,28 @@ unfoldable pub own_fault : Running → List NormalSection → Option Refusal
 own_fault running object =
     option_or (first_undecoded object) (option_or (first_missing running object) (first_mismatch running object))
 
+-- what is kept of what came of a candidate: how many bytes its running body has, or why it doesn't match
+abbrev pub length_of : Result Matched MatchFault → Result ℕ MatchFault
+length_of (Ok matched) = Ok matched.length
+length_of (Err fault) = Err fault
+
 -- What is kept of a candidate of one of some sections: which section it is of, its home and base, and what came of it.
 pub record IsTried (codes : List PreSection) (c : Candidate) (t : Tried) : Type 0 where
   pub code : slice_get codes t.section ≡ Some (record { object = c.object; place = c.place; section = c.section })
   pub home : t.home ≡ c.home
   pub base : t.base ≡ c.base
-  pub outcome : outcome c ≡ t.outcome
+  pub outcome : length_of (outcome c) ≡ t.outcome
 
 -- the same of all candidates of an object, in order
 abbrev pub AreTried : Running → List NormalSection → List Tried → Type 0
 AreTried running object tried = AllZip (IsTried (code_sections object)) (candidates running object) tried
+
+-- the candidate of a section of which something is kept, and what comes of it
+abbrev pub candidate_of : Running → PreSection → Tried → Candidate
+candidate_of running pre t = candidate pre running.contents running.symbols t.home t.base
+
+abbrev pub outcome_of : Running → PreSection → Tried → Result Matched MatchFault
+outcome_of running pre t = outcome (candidate_of running pre t)
 
 -- code sections, and what is kept of all that they may be
 pub record Trials : Type 0 where

@@ -11,3 +11,4 @@ mod trying;
 pub use laws::alike_programs_have_alike_candidates;
 pub use running::Running;
 pub use trials::{Trials, Tried, try_all};
+pub use trying::outcome_of;

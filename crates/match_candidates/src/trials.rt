@@ -11,7 +11,7 @@ use crate::trying::try_sections;
 use i386_reloc::Normal;
 use image_memory::Space;
 use ks_base::Refusal;
-use run_pre_match::{MatchFault, Matched, PreCode};
+use run_pre_match::{MatchFault, PreCode};
 use std::alloc::Global;
 use std::marker::Model;
 
@@ -24,8 +24,9 @@ pub struct Tried {
     pub home: u32,
     /// Where its newest version begins.
     pub base: u32,
-    /// What came of matching it.
-    pub outcome: Result<Matched, MatchFault>,
+    /// How many bytes its running body has, or why it doesn't match. What a match says takes more memory than all
+    /// else, and [`outcome_of`](crate::outcome_of) tells it again.
+    pub outcome: Result<u32, MatchFault>,
 }
 
 /// The code sections of an object, and all that each may be, section by section and in each by home.

@@ -2,11 +2,10 @@
 ghost use Rattle.std.specs.Prelude.{◌≡◌, ◌≢◌, ◌++◌, None, Some, map, IfOk, IfErr, OnOk};
 ghost use Rattle.std.specs.List.{list_any};
 ghost use Rattle.ks_base.specs.declared.refusals.Refusal.TheVariants.{Memory};
-ghost use Rattle.symbol_table.specs.Bodies.{newest};
-ghost use Rattle.run_pre_match.specs.Matched.{outcome};
-ghost use Rattle.match_candidates.specs.Candidates.{candidate_at, homes_of, candidates_of};
-ghost use Rattle.match_candidates.specs.OwnFaults.{difference_in, mismatch_in};
-ghost use Rattle.match_candidates.specs.inside.Trying.{all_tried, tried_of, tried_from, has_matched, mismatch_by, mismatch_among};
+ghost use Rattle.run_pre_match.specs.Matched.{candidate, outcome};
+ghost use Rattle.match_candidates.specs.Candidates.{homes_of, candidates_of};
+ghost use Rattle.match_candidates.specs.OwnFaults.{difference_in, length_of, mismatch_in, outcome_of};
+ghost use Rattle.match_candidates.specs.inside.Trying.{all_tried, tried_at, tried_of, tried_from, has_matched, mismatch_by, mismatch_among};
 
 use crate::homes::Homes;
 use crate::running::Running;
@@ -16,7 +15,7 @@ use ks_base::{Name, Refusal};
 use run_pre_match::{MatchFault, Matched, PreCode};
 use std::alloc::{AllocError, Global};
 
-/// What comes of matching a section with the newest version of the function at a home.
+/// What comes of matching a section with the code at a base, for a function whose home is given.
 fn outcome_at<S: Space>(
     alloc: Global,
     running: &Running<'_, S>,
@@ -24,8 +23,8 @@ fn outcome_at<S: Space>(
     home: u32,
     base: u32,
 ) -> Result<Result<Matched, MatchFault>, AllocError>
-    requires { base ≡ newest running.now.bodies home }
-    ensures { IfOk result (λ found. found ≡ outcome (candidate_at running.now code.now home)) }
+    ensures { IfOk result (λ found. found
+        ≡ outcome (candidate code.now running.now.contents running.now.symbols home base)) }
 {
     match code.matched(alloc, running.space, running.table, home, base) {
         Ok(matched) => Ok(Ok(matched)),
@@ -33,6 +32,50 @@ fn outcome_at<S: Space>(
         Err(MatchFault::Undecoded(offset)) => Ok(Err(MatchFault::Undecoded(offset))),
         Err(MatchFault::Memory) => Err(AllocError),
     }
+}
+
+/// What comes of matching once more one that was tried, given the code of its section: what the match says, or why it
+/// doesn't match. `Err` comes for want of memory alone.
+pub fn outcome_of<S: Space>(
+    alloc: Global,
+    running: &Running<'_, S>,
+    code: &PreCode<'_, '_>,
+    tried: &Tried,
+) -> Result<Result<Matched, MatchFault>, AllocError>
+    ensures { IfOk result (λ found. found ≡ outcome_of running.now code.now tried.now) }
+{
+    outcome_at(alloc, running, code, tried.home, tried.base)
+}
+
+/// What is kept of what came of matching.
+fn length_of(outcome: Result<Matched, MatchFault>) -> Result<u32, MatchFault>
+    ensures { result ≡ length_of outcome }
+{
+    match outcome {
+        Ok(matched) => Ok(matched.length),
+        Err(fault) => Err(fault),
+    }
+}
+
+/// What is kept of a home of the section of a number, when it is tried.
+#[tactic(auto, using(crate::proofs::TriedLaws::tried_is))]
+fn tried_at<S: Space>(
+    alloc: Global,
+    running: &Running<'_, S>,
+    code: &PreCode<'_, '_>,
+    number: usize,
+    home: u32,
+) -> Result<Tried, AllocError>
+    ensures { IfOk result (λ tried. tried ≡ tried_at running.now code.now number home) }
+{
+    let base = running.bodies.newest(home);
+    let outcome = outcome_at(alloc, running, code, home, base)?;
+    Ok(Tried {
+        section: number,
+        home,
+        base,
+        outcome: length_of(outcome),
+    })
 }
 
 /// Tries the homes of the section of a number, in order.
@@ -47,14 +90,7 @@ fn try_homes<S: Space>(
 {
     let mut tried = Vec::new(alloc);
     for home in homes {
-        let base = running.bodies.newest(*home);
-        let outcome = outcome_at(alloc, running, code, *home, base)?;
-        tried.push(Tried {
-            section: number,
-            home: *home,
-            base,
-            outcome,
-        })?;
+        tried.push(tried_at(alloc, running, code, number, *home)?)?;
     }
     Ok(tried)
 }

@@ -1,5 +1,5 @@
 -- What holds of all candidates of an object.
-use Rattle.std.proofs.Common.{◌≡◌, ℕ, suc, ◌+◌, ◌<◌, ◌≤◌, true, false, cond, List, [], ◌∷◌, length, take, get_or, Option, Some, None, refl, sym, ◌∙◌, ap, subst, add-zero, zero-add, suc-add, add-suc}
+use Rattle.std.proofs.Common.{◌≡◌, ℕ, suc, ◌+◌, ◌<◌, ◌≤◌, true, false, cond, List, [], ◌∷◌, length, take, get_or, Option, Some, None, Ok, refl, sym, ◌∙◌, ap, subst, add-zero, zero-add, suc-add, add-suc}
 use Rattle.std.specs.Option.{MatchOption, IsSomeAnd}
 use Rattle.std.specs.List.{All, AllZip, slice_get, flat_map}
 use Rattle.std.proofs.lemmas.List.{take_all}
@@ -9,10 +9,11 @@ use Rattle.std.proofs.lemmas.Slice.Zip.{AllZip-right}
 use Rattle.i386_reloc.specs.declared.types.NormalSection.{NormalSection}
 use Rattle.i386_reloc.specs.Classes.{is_code_class}
 use Rattle.run_pre_match.specs.Candidate.{Candidate}
-use Rattle.run_pre_match.specs.Matched.{PreSection}
+use Rattle.run_pre_match.specs.Matched.{PreSection, outcome}
 use Rattle.match_candidates.specs.declared.trials.Tried.{Tried}
-use Rattle.match_candidates.specs.OwnFaults.{AreTried, IsTried}
+use Rattle.match_candidates.specs.OwnFaults.{AreTried, IsTried, outcome_of}
 use Rattle.match_candidates.specs.Candidates.{Running, code_from, code_sections, candidate_at, homes_of, candidates_of, candidates}
+use Rattle.symbol_solve.specs.inside.Left.{IsOf, RunsIn}
 
 -- a section with its place in an object
 abbrev pub placed : List NormalSection → ℕ → NormalSection → PreSection
@@ -27,6 +28,40 @@ pub record IsPlaced (object : List NormalSection) (pre : PreSection) : Type 0 wh
 pub record IsHere (running : Running) (object : List NormalSection) (c : Candidate) : Type 0 where
   pub own : c ≡ candidate_at running (placed object c.place c.section) c.home
   pub at : slice_get object c.place ≡ Some c.section
+
+-- ---- what comes of a candidate, by what is kept of it
+pub runs_here : (running : Running) (object : List NormalSection) (c : Candidate) → IsHere running object c → RunsIn running c
+runs_here running object c here = record {
+  memory = ap (λ (d : Candidate). d.contents) here.own;
+  symbols = ap (λ (d : Candidate). d.symbols) here.own;
+}
+
+again : (running : Running) (pre : PreSection) (c : Candidate) (t : Tried) → c.object ≡ pre.object → c.section ≡ pre.section → c.place ≡ pre.place → t.home ≡ c.home → t.base ≡ c.base → RunsIn running c
+    → outcome c ≡ outcome_of running pre t
+again running pre c t object section place home base runs =
+    λ i. outcome (record {
+      object = object i;
+      place = place i;
+      section = section i;
+      contents = runs.memory i;
+      symbols = runs.symbols i;
+      home = sym home i;
+      base = sym base i;
+    })
+
+pub again_of : (running : Running) (pre : PreSection) (c : Candidate) (t : Tried) → IsOf pre c t → RunsIn running c → outcome c ≡ outcome_of running pre t
+again_of running pre c t is runs = again running pre c t is.object is.section is.place is.home is.base runs
+
+-- the code of a candidate's section
+pub code_here : (codes : List PreSection) (k : ℕ) (code pre : PreSection) → k < length codes → code ≡ get_or codes k code → slice_get codes k ≡ Some pre → code ≡ pre
+code_here codes k code pre within is at =
+    is ∙ get_or_from_slice_get codes k pre code at
+
+pub again_tried : (running : Running) (codes : List PreSection) (code : PreSection) (c : Candidate) (t : Tried) → t.section < length codes → code ≡ get_or codes t.section code → IsTried codes c t → RunsIn running c
+    → outcome c ≡ outcome_of running code t
+again_tried running codes code c t within is tried runs =
+    let same : placed c.object c.place c.section ≡ code = sym (code_here codes t.section code (placed c.object c.place c.section) within is tried.code) in
+    again running code c t (ap (λ (p : PreSection). p.object) same) (ap (λ (p : PreSection). p.section) same) (ap (λ (p : PreSection). p.place) same) tried.home tried.base runs
 
 -- ---- code sections stand at their places
 Stand : List NormalSection → ℕ → List NormalSection → Type 0
@@ -88,11 +123,24 @@ zip_length R (x ∷ xs) [] each = absurd each
 zip_length R (x ∷ xs) (y ∷ ys) each = ap suc (zip_length R xs ys each.1)
 
 -- what was tried at a place is the candidate there
-pub tried_here : (running : Running) (object : List NormalSection) (codes : List PreSection) (tried items : List Tried) (i : ℕ) (t : Tried) → AreTried running object tried → items ≡ tried → codes ≡ code_sections object → i < length items → t ≡ get_or items i t
+tried_here : (running : Running) (object : List NormalSection) (codes : List PreSection) (tried items : List Tried) (i : ℕ) (t : Tried) → AreTried running object tried → items ≡ tried → codes ≡ code_sections object → i < length items → t ≡ get_or items i t
     → (c : Candidate) × (slice_get (candidates running object) i ≡ Some c) × IsTried codes c t
 tried_here running object codes tried items i t each is codes_are within at =
     let found = zip_here (IsTried (code_sections object)) (candidates running object) tried i t each (subst (λ (l : List Tried). i < length l) is within) (at ∙ ap (λ (l : List Tried). get_or l i t) is) in
     (found.0, found.1, subst (λ (l : List PreSection). IsTried l found.0 t) (sym codes_are) found.2)
+
+-- the item that is read of what was tried
+abbrev pub unread : Tried
+unread = record { section = 0; home = 0; base = 0; outcome = Ok 0 }
+
+abbrev pub read : List Tried → ℕ → Tried
+read items i = get_or items i unread
+
+pub tried_read : (running : Running) (object : List NormalSection) (codes : List PreSection) (tried items : List Tried) (i : ℕ) → AreTried running object tried → items ≡ tried → codes ≡ code_sections object → i < length items
+    → (c : Candidate) × (slice_get (candidates running object) i ≡ Some c) × IsTried codes c (read items i)
+tried_read running object codes tried items i each is codes_are within =
+    tried_here running object codes tried items i (read items i) each is codes_are within
+    (sym (get_or_from_slice_get items i (read items i) (read items i) (slice_get-get_or items i unread within)))
 
 pub tried_section : (codes : List PreSection) (c : Candidate) (t : Tried) → IsTried codes c t → t.section < length codes
 tried_section codes c t is = slice_get_within codes t.section _ is.code

@@ -11,6 +11,7 @@ use Rattle.i386_reloc.specs.declared.types.NormalSection.{NormalSection}
 use Rattle.image_memory.specs.Contents.{Contents}
 use Rattle.run_pre_match.specs.Bodies.{Body, body_at, body_of}
 use Rattle.run_pre_match.specs.declared.types.Matched.{Matched}
+use Rattle.run_pre_match.specs.declared.types.MatchFault.{MatchFault}
 use Rattle.run_pre_match.specs.Match.{Valuation, Match}
 use Rattle.run_pre_match.specs.Candidate.{Candidate, same_number}
 use Rattle.run_pre_match.specs.Matched.{PreSection, outcome}
@@ -19,7 +20,7 @@ use Rattle.propagation.specs.declared.choice.Choice.{Choice}
 use Rattle.match_candidates.specs.OwnFaults.{IsTried}
 use Rattle.symbol_solve.specs.declared.numbers.Point.{Point}
 use Rattle.symbol_solve.specs.inside.Numbers.{Numbers, is_at, points_at, stands, standing, meets, met_among, choice_from, choice_of, AreListed}
-use Rattle.symbol_solve.proofs.CandidateLaws.{placed}
+use Rattle.symbol_solve.proofs.CandidateLaws.{placed, code_here}
 use Rattle.symbol_solve.specs.inside.Points.{LiesIn}
 use Rattle.symbol_solve.proofs.PointLaws.{own_here}
 use Rattle.symbol_solve.proofs.WithinLaws.{AreMet, match_lies}
@@ -42,39 +43,34 @@ met_by_standing numbers c =
     filter_twice (λ n. stands (body_of c) (slice_get numbers.points n)) (λ n. is_at c.place (slice_get numbers.points n)) _
     ∙ filter_agree _ _ (λ n. meets_by c (slice_get numbers.points n)) _
 
-pub choice_is : (object : List NormalSection) (numbers : Numbers) (c : Candidate) (code : PreSection) (t : Tried) (contents : Contents) (own : List ℕ) → own ≡ points_at numbers.points code.place → code ≡ placed c.object c.place c.section → t.home ≡ c.home → t.base ≡ c.base
-    → outcome c ≡ t.outcome → c.contents ≡ contents → choice_from object numbers code.place t.home t.outcome (standing numbers.points (body_at code contents t.base) own) ≡ choice_of object numbers c
+pub choice_is : (object : List NormalSection) (numbers : Numbers) (c : Candidate) (code : PreSection) (t : Tried) (came : Result Matched MatchFault) (contents : Contents) (own : List ℕ) → own ≡ points_at numbers.points code.place → code ≡ placed c.object c.place c.section → t.home ≡ c.home → t.base ≡ c.base
+    → outcome c ≡ came → c.contents ≡ contents → choice_from object numbers code.place t.home came (standing numbers.points (body_at code contents t.base) own) ≡ choice_of object numbers c
 unfolding choice_of
-choice_is object numbers c code t contents own own_is code_is home base came there =
+choice_is object numbers c code t came contents own own_is code_is home base comes there =
     let place : code.place ≡ c.place = ap (λ (p : PreSection). p.place) code_is in
     let body : body_at code contents t.base ≡ body_of c =
     λ i. body_at (code_is i) (sym there i) (base i) in
     let met = (λ i. standing numbers.points (body i) ((own_is ∙ ap (points_at numbers.points) place) i)) ∙ met_by_standing numbers c in
-    λ i. choice_from object numbers (place i) (home i) (sym came i) (met i)
-
--- the code of a candidate's section
-pub code_here : (codes : List PreSection) (k : ℕ) (code pre : PreSection) → k < length codes → code ≡ get_or codes k code → slice_get codes k ≡ Some pre → code ≡ pre
-code_here codes k code pre within is at =
-    is ∙ get_or_from_slice_get codes k pre code at
+    λ i. choice_from object numbers (place i) (home i) (sym comes i) (met i)
 
 -- where a candidate that was tried and matches lies
-pub lies_tried : ((c : Candidate) (m : Matched) → outcome c ≡ Ok m → (v : Valuation) × Match c v) → ((contents : Contents) → AreMet contents) → (codes : List PreSection) (c : Candidate) (code : PreSection) (t : Tried) (contents : Contents) (m : Matched) → t.section < length codes
-    → code ≡ get_or codes t.section code → IsTried codes c t → c.contents ≡ contents → t.outcome ≡ Ok m → LiesIn (body_at code contents t.base) t.base (t.base + m.length)
-lies_tried some met codes c code t contents m section code_is tried there is =
+pub lies_tried : ((c : Candidate) (m : Matched) → outcome c ≡ Ok m → (v : Valuation) × Match c v) → ((contents : Contents) → AreMet contents) → (codes : List PreSection) (c : Candidate) (code : PreSection) (t : Tried) (came : Result Matched MatchFault) (contents : Contents) (m : Matched) → t.section < length codes
+    → code ≡ get_or codes t.section code → IsTried codes c t → outcome c ≡ came → c.contents ≡ contents → came ≡ Ok m → LiesIn (body_at code contents t.base) t.base (t.base + m.length)
+lies_tried some met codes c code t came contents m section code_is tried comes there is =
     let same : code ≡ placed c.object c.place c.section = code_here codes t.section code (placed c.object c.place c.section) section code_is tried.code in
     let body : body_at code contents t.base ≡ body_of c = λ i. body_at (same i) (sym there i) (tried.base i) in
-    let lies = match_lies some c m (met c.contents) (tried.outcome ∙ is) in
+    let lies = match_lies some c m (met c.contents) (comes ∙ is) in
     subst (λ (b : ℕ). LiesIn (body_at code contents t.base) b (b + m.length)) (sym tried.base)
     (subst (λ (y : Body). LiesIn y c.base (c.base + m.length)) (sym body) lies)
 
-pub choice_of_tried : (object : List NormalSection) (numbers : Numbers) (table : List (List ℕ)) (codes : List PreSection) (c : Candidate) (code : PreSection) (place : ℕ) (t : Tried) (contents : Contents) (own : List ℕ) → t.section < length codes → code ≡ get_or codes t.section code → length table ≡ length object
-    → AreListed numbers.points (length numbers.points) table → own ≡ unwrap_or (slice_get table place) [] → place ≡ code.place → IsTried codes c t → c.contents ≡ contents → slice_get object c.place ≡ Some c.section
-    → choice_from object numbers code.place t.home t.outcome (standing numbers.points (body_at code contents t.base) own) ≡ choice_of object numbers c
-choice_of_tried object numbers table codes c code place t contents own section code_is count lists own_is place_is tried there at =
+pub choice_of_tried : (object : List NormalSection) (numbers : Numbers) (table : List (List ℕ)) (codes : List PreSection) (c : Candidate) (code : PreSection) (place : ℕ) (t : Tried) (came : Result Matched MatchFault) (contents : Contents) (own : List ℕ) → t.section < length codes → code ≡ get_or codes t.section code → length table ≡ length object
+    → AreListed numbers.points (length numbers.points) table → own ≡ unwrap_or (slice_get table place) [] → place ≡ code.place → IsTried codes c t → outcome c ≡ came → c.contents ≡ contents → slice_get object c.place ≡ Some c.section
+    → choice_from object numbers code.place t.home came (standing numbers.points (body_at code contents t.base) own) ≡ choice_of object numbers c
+choice_of_tried object numbers table codes c code place t came contents own section code_is count lists own_is place_is tried comes there at =
     let same : code ≡ placed c.object c.place c.section = code_here codes t.section code (placed c.object c.place c.section) section code_is tried.code in
     let place_same : code.place ≡ c.place = ap (λ (p : PreSection). p.place) same in
     let within : code.place < length table = let low = slice_get_within object c.place c.section at in omega (arith, low, place_same, count) in
-    choice_is object numbers c code t contents own (own_here numbers.points table place code.place own own_is place_is lists within) same tried.home tried.base tried.outcome there
+    choice_is object numbers c code t came contents own (own_here numbers.points table place code.place own own_is place_is lists within) same tried.home tried.base comes there
 
 -- one more
 map_more : {X Y : Type 0} (f : X → Y) (xs : List X) (i : ℕ) (x : X) → slice_get xs i ≡ Some x → map f (take (i + 1) xs) ≡ map f (take i xs) ++ f x ∷ []

@@ -1,6 +1,7 @@
 -- Which candidates have a mark, one candidate after another.
 use Rattle.std.proofs.Common.{arith, ◌≡◌, ℕ, zero, suc, ◌<◌, Bool, true, false, cond, List, [], ◌∷◌, ◌++◌, take, length, get_or, Some, None, refl, sym, ap, subst, le_of_lt, le_of_eq, ◌∙◌}
-use Rattle.std.specs.List.{AllZip, slice_get}
+use Rattle.std.specs.List.{All, AllZip, slice_get}
+use Rattle.std.proofs.lemmas.List.Elements.{All-head, All-tail}
 use Rattle.std.proofs.Math.Seq.{take-suc}
 use Rattle.std.proofs.lemmas.List.{append-nil, take_all, length-take-le}
 use Rattle.std.proofs.lemmas.Option.{same_Some}
@@ -60,6 +61,13 @@ module _ {A B : Type 0} (R : A → B → Type 0) where
   zip_none (a ∷ xs) [] i all at = absurd all
   zip_none (a ∷ xs) (b ∷ ys) zero all at = absurd cc
   zip_none (a ∷ xs) (b ∷ ys) (suc i) all at = zip_none xs ys i all.1 at
+
+-- what holds of each of the first list, too
+pub zip_and : {A B : Type 0} (R : A → B → Type 0) (P : A → Type 0) (xs : List A) (ys : List B) → AllZip R xs ys → All P xs → AllZip (λ x y. R x y × P x) xs ys
+zip_and R P [] [] all each = tt
+zip_and R P [] (y ∷ ys) all each = absurd all
+zip_and R P (x ∷ xs) [] all each = absurd all
+zip_and R P (x ∷ xs) (y ∷ ys) all each = ((all.0, All-head P x xs each), zip_and R P xs ys all.1 (All-tail P x xs each))
 
 module _ {H T : Type 0} (R : Candidate → H → Type 0) (Q : Candidate → T → Type 0) where
   -- one that has a mark goes last

@@ -1,24 +1,22 @@
 -- What propagation of choices says of the candidates.
 use Rattle.std.proofs.Common.{◌≡◌, ℕ, zero, suc, ◌<◌, Bool, true, false, cond, List, [], ◌∷◌, length, map, get_or, Option, Some, None, refl, sym, ◌∙◌, ap, subst}
-use Rattle.std.specs.List.{All, AllByRecursion, AllZip, IsDistinct, filter, range_with_len, slice_get}
+use Rattle.std.specs.List.{All, AllByRecursion, IsDistinct, filter, range_with_len, slice_get}
 use Rattle.std.specs.Option.{option_map, option_or, option_and_then}
-use Rattle.std.proofs.lemmas.List.Elements.{All-nil, All-cons, All-head, All-tail, All-map, All-filter}
+use Rattle.std.proofs.lemmas.List.Elements.{All-head, All-tail, All-map, All-filter}
 use Rattle.std.proofs.lemmas.Option.{same_Some, slice_get-map, slice_get_within, get_or_from_slice_get}
 use Rattle.std.proofs.lemmas.Cmp.{nat_list_eq_equiv}
 use Rattle.i386_reloc.specs.declared.types.NormalSection.{NormalSection}
 use Rattle.i386_reloc.specs.Normal.{same_bytes, name_of}
 use Rattle.i386_reloc.specs.Places.{place_named}
 use Rattle.run_pre_match.specs.Candidate.{Candidate}
-use Rattle.run_pre_match.specs.Matched.{PreSection, outcome}
+use Rattle.run_pre_match.specs.Matched.{outcome}
 use Rattle.propagation.specs.declared.choice.Choice.{Choice}
 use Rattle.propagation.specs.Rounds.{Rules, remaining, forced, is_among}
 use Rattle.propagation.specs.Conflicts.{first_some, first_of_two, first_between, clashing, conflict}
 use Rattle.propagation.specs.RoundLaws.{both, remaining_maps, remaining_each, forced_maps, forced_each, conflict_maps}
 use Rattle.propagation.specs.Choices as chosen
 use Rattle.propagation.specs.Choices.{AreChoices, choice_rules, by_section}
-use Rattle.match_candidates.specs.declared.trials.Tried.{Tried}
-use Rattle.match_candidates.specs.OwnFaults.{AreTried, IsTried}
-use Rattle.match_candidates.specs.Candidates.{Running, candidate_at, code_sections, candidates, is_of}
+use Rattle.match_candidates.specs.Candidates.{Running, candidate_at, candidates, is_of}
 use Rattle.symbol_solve.specs.Clashes.{candidate_rules}
 use Rattle.symbol_solve.specs.Conflicts.{by_place}
 use Rattle.symbol_solve.specs.inside.Numbers.{Numbers, choice_of, IsNumbered}
@@ -175,23 +173,14 @@ place_of_distinct (x ∷ xs) (suc j) s distinct at =
     ap (λ b. cond b (Some 0) (option_map suc (place_named xs s.name))) (place_at x.name xs j s distinct.0 at)
     ∙ ap (option_map suc) (place_of_distinct xs j s distinct.1 at)
 
-zip_numbered : (object : List NormalSection) (numbers : Numbers) (codes : List PreSection) (cs : List Candidate) (tried : List Tried) → AllZip (IsTried codes) cs tried → All (λ t. IsNumbered object numbers t.outcome) tried → All (λ c. IsNumbered object numbers (outcome c)) cs
-zip_numbered object numbers codes [] [] pairs each = All-nil (λ c. IsNumbered object numbers (outcome c))
-zip_numbered object numbers codes [] (t ∷ tried) pairs each = absurd pairs
-zip_numbered object numbers codes (c ∷ cs) [] pairs each = absurd pairs
-zip_numbered object numbers codes (c ∷ cs) (t ∷ tried) pairs each =
-    All-cons (λ d. IsNumbered object numbers (outcome d)) c cs
-    (subst (IsNumbered object numbers) (sym pairs.0.outcome) (All-head (λ u. IsNumbered object numbers u.outcome) t tried each))
-    (zip_numbered object numbers codes cs tried pairs.1 (All-tail (λ u. IsNumbered object numbers u.outcome) t tried each))
-
-pub all_known : (running : Running) (object : List NormalSection) (numbers : Numbers) (tried items : List Tried) → AreTried running object tried → items ≡ tried → IsDistinct same_bytes (map name_of object) → All (λ t. IsNumbered object numbers t.outcome) items
+pub all_known : (running : Running) (object : List NormalSection) (numbers : Numbers) → IsDistinct same_bytes (map name_of object) → All (λ c. IsNumbered object numbers (outcome c)) (candidates running object)
     → All (IsKnown running object numbers) (candidates running object)
-all_known running object numbers tried items pairs is distinct each = λ k d lt.
+all_known running object numbers distinct each = λ k d lt.
     let here = candidates_here running object k d lt in
     record {
       here = here;
       named = place_of_distinct object _ _ distinct here.at;
-      numbered = zip_numbered object numbers (code_sections object) (candidates running object) tried pairs (subst (All (λ t. IsNumbered object numbers t.outcome)) is each) k d lt;
+      numbered = each k d lt;
     }
 
 -- the section of each choice is one of the object's
@@ -205,20 +194,20 @@ choices_within running object numbers choices count is count_is =
     subst (λ n. c.place < n) (sym count_is) (slice_get_within object c.place c.section ((candidates_here running object k d lt).at))))
 
 -- ---- what is propagated, for choices that are those of all candidates
-module _ (running : Running) (object : List NormalSection) (numbers : Numbers) (tried items : List Tried) (choices : List Choice) (pairs : AreTried running object tried) (is : items ≡ tried) (distinct : IsDistinct same_bytes (map name_of object))
-    (each : All (λ t. IsNumbered object numbers t.outcome) items) (are : choices ≡ map (choice_of object numbers) (candidates running object)) where
+module _ (running : Running) (object : List NormalSection) (numbers : Numbers) (choices : List Choice) (distinct : IsDistinct same_bytes (map name_of object))
+    (each : All (λ c. IsNumbered object numbers (outcome c)) (candidates running object)) (are : choices ≡ map (choice_of object numbers) (candidates running object)) where
   pub choices_ready : MatchesAgree → AreChoices choices
   choices_ready agree =
-      subst AreChoices (sym are) (are_choices agree running object numbers distinct (all_known running object numbers tried items pairs is distinct each))
+      subst AreChoices (sym are) (are_choices agree running object numbers distinct (all_known running object numbers distinct each))
 
   pub left_told : (marks : List Bool) → marks ≡ map (is_among choice_rules (remaining choice_rules choices)) choices → marks ≡ map (is_among candidate_rules (remaining candidate_rules (candidates running object))) (candidates running object)
   left_told marks same =
       same ∙ ap (λ (l : List Choice). map (is_among choice_rules (remaining choice_rules l)) l) are
-      ∙ left_alike running object numbers (candidates running object) (all_known running object numbers tried items pairs is distinct each)
+      ∙ left_alike running object numbers (candidates running object) (all_known running object numbers distinct each)
 
   pub conflict_told : (count : ℕ) (places : Option (ℕ × ℕ)) → count ≡ length object → option_and_then (chosen.pair_at choices) places ≡ conflict choice_rules (by_section count (forced choice_rules choices))
       → option_and_then (pair_at (candidates running object)) places ≡ conflict candidate_rules (by_place (length object) (forced candidate_rules (candidates running object)))
   conflict_told count places count_is same =
-      conflict_alike running object numbers (candidates running object) (all_known running object numbers tried items pairs is distinct each) count places
+      conflict_alike running object numbers (candidates running object) (all_known running object numbers distinct each) count places
       (subst (λ (l : List Choice). option_and_then (chosen.pair_at l) places ≡ conflict choice_rules (by_section count (forced choice_rules l))) are same)
       ∙ ap (λ n. conflict candidate_rules (by_place n (forced candidate_rules (candidates running object)))) count_is

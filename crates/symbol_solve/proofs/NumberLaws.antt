@@ -1,6 +1,6 @@
 -- What has a number, and what keeps it.
 use Rattle.std.proofs.Common.{◌≡◌, ℕ, ◌+◌, ◌<◌, ◌≤◌, arith, true, ◌&&◌, eqb, List, length, take, get_or, Option, Some, None, Result, Ok, Contains, refl, sym, ◌∙◌, ap, subst}
-use Rattle.std.specs.List.{All, each_same}
+use Rattle.std.specs.List.{All, each_same, slice_get}
 use Rattle.std.specs.Cmp.Lexicographic.{bytes_decides}
 use Rattle.std.proofs.lemmas.Bool.{and_parts, eqb-true}
 use Rattle.std.proofs.lemmas.List.{take_all}
@@ -13,12 +13,13 @@ use Rattle.symbol_table.specs.contracts.values.UnknownPartialEq.TheImpl as unkno
 use Rattle.symbol_table.specs.contracts.values.UnknownClone.TheImpl as cloned
 use Rattle.i386_reloc.specs.NamedPlaces.{section_at_place}
 use Rattle.i386_reloc.specs.Places.{place_named}
-use Rattle.std.proofs.lemmas.Option.{slice_get_within}
+use Rattle.std.proofs.lemmas.Option.{slice_get_within, get_or_from_slice_get}
 use Rattle.run_pre_match.specs.declared.types.Claim.{Claim}
 use Rattle.run_pre_match.specs.declared.types.Interior.{Interior}
 use Rattle.run_pre_match.specs.declared.types.Matched.{Matched}
 use Rattle.run_pre_match.specs.declared.types.MatchFault.{MatchFault}
-use Rattle.match_candidates.specs.declared.trials.Tried.{Tried}
+use Rattle.run_pre_match.specs.Candidate.{Candidate}
+use Rattle.run_pre_match.specs.Matched.{outcome}
 use Rattle.symbol_solve.specs.Clashes.{claims_in, interiors_in}
 use Rattle.symbol_solve.specs.declared.numbers.Point.{Point}
 use Rattle.symbol_solve.specs.contracts.numbers.PointPartialEq.TheImpl as points
@@ -134,12 +135,12 @@ pub interiors_more : (object : List NormalSection) (a b : Numbers) (interiors : 
 interiors_more object a b interiors i d within at grows own each =
     All-more (IsInteriorNumbered object b) interiors i d within (interiors_kept object a b (take i interiors) grows each) (subst (IsInteriorNumbered object b) at own)
 
-pub outcomes_more : (object : List NormalSection) (a b : Numbers) (tried : List Tried) (i : ℕ) (d : Tried) → i < length tried → d ≡ get_or tried i d → Grows a b → IsNumbered object b d.outcome → All (λ t. IsNumbered object a t.outcome) (take i tried) → All (λ t. IsNumbered object b t.outcome) (take (i + 1) tried)
-outcomes_more object a b tried i d within at grows own each =
-    All-more (λ t. IsNumbered object b t.outcome) tried i d within
-    (All-weaker (λ t. IsNumbered object a t.outcome) (λ t. IsNumbered object b t.outcome) (λ t. numbers_kept object a b t.outcome grows) (take i tried) each)
-    (subst (λ t. IsNumbered object b t.outcome) at own)
+pub outcomes_more : (object : List NormalSection) (a b : Numbers) (cs : List Candidate) (i : ℕ) (c : Candidate) → slice_get cs i ≡ Some c → Grows a b → IsNumbered object b (outcome c) → All (λ d. IsNumbered object a (outcome d)) (take i cs) → All (λ d. IsNumbered object b (outcome d)) (take (i + 1) cs)
+outcomes_more object a b cs i c at grows own each =
+    All-more (λ d. IsNumbered object b (outcome d)) cs i c (slice_get_within cs i c at)
+    (All-weaker (λ d. IsNumbered object a (outcome d)) (λ d. IsNumbered object b (outcome d)) (λ d. numbers_kept object a b (outcome d) grows) (take i cs) each)
+    (subst (λ d. IsNumbered object b (outcome d)) (sym (get_or_from_slice_get cs i c c at)) own)
 
-pub outcomes_kept : (object : List NormalSection) (a b : Numbers) (tried : List Tried) → Grows a b → All (λ t. IsNumbered object a t.outcome) tried → All (λ t. IsNumbered object b t.outcome) tried
-outcomes_kept object a b tried grows each =
-    All-weaker (λ t. IsNumbered object a t.outcome) (λ t. IsNumbered object b t.outcome) (λ t. numbers_kept object a b t.outcome grows) tried each
+pub outcomes_kept : (object : List NormalSection) (a b : Numbers) (cs : List Candidate) → Grows a b → All (λ d. IsNumbered object a (outcome d)) cs → All (λ d. IsNumbered object b (outcome d)) cs
+outcomes_kept object a b cs grows each =
+    All-weaker (λ d. IsNumbered object a (outcome d)) (λ d. IsNumbered object b (outcome d)) (λ d. numbers_kept object a b (outcome d) grows) cs each

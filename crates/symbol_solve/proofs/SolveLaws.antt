@@ -18,8 +18,8 @@ use Rattle.propagation.specs.Conflicts.{conflict}
 use Rattle.symbol_solve.specs.Clashes.{same_candidate, candidate_rules}
 use Rattle.symbol_solve.specs.Conflicts.{by_place, clash_between, reported}
 use Rattle.symbol_solve.specs.Solve.{values, values_unless}
-use Rattle.symbol_solve.specs.inside.Left.{IsOneOf, HasMemory, marked, pair_at}
-use Rattle.symbol_solve.proofs.CandidateLaws.{IsHere, candidates_here}
+use Rattle.symbol_solve.specs.inside.Left.{IsOneOf, RunsIn, marked, pair_at}
+use Rattle.symbol_solve.proofs.CandidateLaws.{IsHere, candidates_here, runs_here}
 use Rattle.symbol_solve.proofs.OrderLaws.{Before, Ordered, candidates_ordered}
 use Rattle.symbol_solve.proofs.RemainLaws.{AreApart, AllApart, remaining_among, marked_test}
 
@@ -28,7 +28,7 @@ one_of : (codes : List PreSection) (c : Candidate) (t : Tried) → IsTried codes
 one_of codes c t it = record {
   pre = record { object = c.object; place = c.place; section = c.section };
   code = it.code;
-  held = record { section = refl; place = refl; home = it.home; base = it.base; outcome = it.outcome };
+  held = record { object = refl; section = refl; place = refl; home = it.home; base = it.base };
 }
 
 zip_of : (codes : List PreSection) (cs : List Candidate) (tried : List Tried) → AllZip (IsTried codes) cs tried → AllZip (IsOneOf codes) cs tried
@@ -53,9 +53,8 @@ module _ (running : Running) (object : List NormalSection) where
   are_within codes tried is all =
       within_of codes (candidates running object) tried (subst (λ (l : List PreSection). AllZip (IsTried l) (candidates running object) tried) (sym is) all)
 
-  pub have_memory : All (HasMemory running.contents) (candidates running object)
-  have_memory =
-      All-weaker (IsHere running object) (HasMemory running.contents) (λ c here. ap (λ (d : Candidate). d.contents) here.own) (candidates running object) (candidates_here running object)
+  pub all_run : All (RunsIn running) (candidates running object)
+  all_run = All-weaker (IsHere running object) (RunsIn running) (runs_here running object) (candidates running object) (candidates_here running object)
 
 -- ---- no two candidates are the same
 self : (c : Candidate) → same_candidate c c ≡ true

@@ -8,19 +8,21 @@ ghost use Rattle.run_pre_match.specs.declared.types.Matched.{Matched};
 ghost use Rattle.match_candidates.specs.Candidates.{code_sections, candidates};
 ghost use Rattle.match_candidates.specs.OwnFaults.{AreTried, IsTried};
 ghost use Rattle.symbol_solve.specs.inside.Numbers.{claim_of, demand_of, stands, standing, choice_of};
-ghost use Rattle.symbol_solve.specs.inside.Numbers.{choice_from, AreListed};
+ghost use Rattle.symbol_solve.specs.inside.Numbers.{choice_from, AreListed, AreNumbered};
+ghost use Rattle.symbol_solve.specs.inside.Left.{RunsIn};
 ghost use Rattle.symbol_solve.specs.inside.Points.{AreInOrder, Ascend, LiesIn};
 
-use crate::numbers::{Numbers, Point, word};
+use crate::numbers::{Numbers, Point, number_all, word};
 use crate::points::{points_by_section, points_of};
 use crate::ranges::points_within;
 use i386_reloc::Normal;
 use image_memory::Space;
 use ks_base::ListOf;
-use match_candidates::{Running, Trials, Tried};
+use match_candidates::{Running, Trials, Tried, outcome_of};
 use propagation::{Choice, Demand};
 use run_pre_match::{
-    Body, Claim, Interior, Matched, PreCode, matches_have_one_valuation, run_code_goes_on,
+    Body, Claim, Interior, MatchFault, Matched, PreCode, matches_have_one_valuation,
+    run_code_goes_on,
 };
 use std::alloc::{AllocError, Global};
 
@@ -32,11 +34,11 @@ fn numbered_claims(
 ) -> Result<ListOf<propagation::Claim>, AllocError>
     ensures { IfOk result (λ list. list ≡ map (claim_of numbers.now) claims.now) }
 {
-    let mut list = ListOf::new(alloc);
+    let mut list = Vec::with_capacity(alloc, claims.len())?;
     for claim in claims {
         list.push(numbers.claim(claim)?)?;
     }
-    Ok(list)
+    Ok(ListOf::from_vec(list))
 }
 
 /// What interiors ask of the sections that they are in.
@@ -169,23 +171,24 @@ fn choice_of_match<S: Space>(
     })
 }
 
-/// The choice of a candidate, given the code of its section.
+/// The choice of a candidate, given the code of its section and what came of matching it.
 fn choice_at<S: Space>(
     alloc: Global,
     naming: &Naming<'_, '_>,
-    running: &Running<'_, S>,
+    space: &S,
     code: &PreCode<'_, '_>,
     t: &Tried,
+    outcome: &Result<Matched, MatchFault>,
 ) -> Result<Choice, AllocError>
-    ensures { ((matched : Matched) → t.now.outcome ≡ Ok matched
-        → LiesIn (body_at code.now running.now.contents t.now.base) t.now.base (t.now.base + matched.length))
+    ensures { ((matched : Matched) → outcome.now ≡ Ok matched
+        → LiesIn (body_at code.now (S.contents space.now) t.now.base) t.now.base (t.now.base + matched.length))
         → IfOk result (λ choice. choice
-        ≡ choice_from naming.now.object.now naming.now.numbers.now code.now.place t.now.home t.now.outcome
-        (standing naming.now.numbers.now.points (body_at code.now running.now.contents t.now.base)
+        ≡ choice_from naming.now.object.now naming.now.numbers.now code.now.place t.now.home outcome.now
+        (standing naming.now.numbers.now.points (body_at code.now (S.contents space.now) t.now.base)
         (unwrap_or (slice_get naming.now.own.items code.now.place) []))) }
 {
-    match &t.outcome {
-        Ok(matched) => choice_of_match(alloc, naming, running.space, code, t, matched),
+    match outcome {
+        Ok(matched) => choice_of_match(alloc, naming, space, code, t, matched),
         Err(_) => Ok(no_choice(alloc, word(code.place())?, t.home)),
     }
 }
@@ -199,18 +202,35 @@ fn choice_among<S: Space>(
     t: &Tried,
 ) -> Result<Choice, AllocError>
     requires { t.now.section < length codes.now }
-    ensures { (c : Candidate) → IsTried codes.now c t.now → c.contents ≡ running.now.contents
+    ensures { (c : Candidate) → IsTried codes.now c t.now → RunsIn running.now c
         → slice_get naming.now.object.now c.place ≡ Some c.section
         → IfOk result (λ choice. choice ≡ choice_of naming.now.object.now naming.now.numbers.now c) }
 {
     // Nothing is done here: the laws say that a match lies in its bytes.
     matches_have_one_valuation();
     run_code_goes_on();
-    choice_at(alloc, naming, running, &codes[t.section], t)
+    let code = &codes[t.section];
+    let outcome = outcome_of(alloc, running, code, t)?;
+    choice_at(alloc, naming, running.space, code, t, &outcome)
+}
+
+/// The candidates as choices, by numbers that aren't kept.
+pub(crate) fn numbered_choices<S: Space>(
+    alloc: Global,
+    object: &Normal<'_>,
+    running: &Running<'_, S>,
+    trials: &Trials<'_, '_>,
+) -> Result<Vec<Choice>, AllocError>
+    requires codes { trials.now.codes ≡ code_sections object.now }
+    requires tried { AreTried running.now object.now trials.now.tried }
+    ensures { IfOk result (λ choices. AreNumbered object.now (candidates running.now object.now) choices.items) }
+{
+    let numbers = number_all(alloc, object, running, trials)?;
+    choices_of(alloc, object, running, trials, &numbers)
 }
 
 /// The candidates as choices.
-pub(crate) fn choices_of<S: Space>(
+fn choices_of<S: Space>(
     alloc: Global,
     object: &Normal<'_>,
     running: &Running<'_, S>,

@@ -1,15 +1,21 @@
 //! Numbers of what candidates claim and refer to.
-ghost use Rattle.std.specs.Prelude.{◌≡◌, All, IfOk, OnOk};
+ghost use Rattle.std.specs.Prelude.{◌≡◌, ◌<◌, All, length, IfOk, OnOk};
+ghost use Rattle.run_pre_match.specs.Candidate.{Candidate};
+ghost use Rattle.run_pre_match.specs.Matched.{outcome};
+ghost use Rattle.match_candidates.specs.Candidates.{code_sections, candidates};
+ghost use Rattle.match_candidates.specs.OwnFaults.{AreTried, IsTried};
 ghost use Rattle.symbol_solve.specs.Clashes.{claims_in, interiors_in};
 ghost use Rattle.symbol_solve.specs.inside.Numbers.{claim_of, demand_of, point_of};
 ghost use Rattle.symbol_solve.specs.inside.Numbers.{IsNumbered, IsUnknownNumbered, IsInteriorNumbered, Grows};
+ghost use Rattle.symbol_solve.specs.inside.Left.{RunsIn};
 ghost use Rattle.symbol_solve.specs.inside.Points.{AreInOrder};
 
 use i386_reloc::Normal;
+use image_memory::Space;
 use indexmap::IndexSet;
-use match_candidates::Tried;
+use match_candidates::{Running, Trials, Tried, outcome_of};
 use propagation::Demand;
-use run_pre_match::{Claim, Interior, MatchFault, Matched};
+use run_pre_match::{Claim, Interior, MatchFault, Matched, PreCode};
 use std::alloc::{AllocError, Global};
 use std::marker::Model;
 use symbol_table::Unknown;
@@ -122,7 +128,7 @@ impl Numbers {
         Ok(())
     }
 
-    /// Numbers what a candidate claims and refers to.
+    /// Numbers what a candidate claims and refers to that comes to this.
     fn add_outcome(
         &mut self,
         object: &Normal<'_>,
@@ -136,6 +142,24 @@ impl Numbers {
             self.add_interiors(object, matched.interiors.as_slice())?;
         }
         Ok(())
+    }
+
+    /// Numbers what a candidate of one of some sections claims and refers to.
+    fn add_tried<S: Space>(
+        &mut self,
+        alloc: Global,
+        object: &Normal<'_>,
+        running: &Running<'_, S>,
+        codes: &[PreCode<'_, '_>],
+        tried: &Tried,
+    ) -> Result<(), AllocError>
+        requires { tried.now.section < length codes.now }
+        ensures grows { OnOk result (Grows self.old self.new) }
+        ensures numbered { OnOk result ((c : Candidate) → IsTried codes.now c tried.now → RunsIn running.now c
+            → IsNumbered object.now self.new (outcome c)) }
+    {
+        let outcome = outcome_of(alloc, running, &codes[tried.section], tried)?;
+        self.add_outcome(object, &outcome)
     }
 
     /// Gives the points numbers in the order of their addresses.
@@ -171,20 +195,25 @@ fn point_of(object: &Normal<'_>, interior: &Interior) -> Option<Point>
 }
 
 /// Numbers for all that candidates claim and refer to.
-pub(crate) fn number_all(
+pub(crate) fn number_all<S: Space>(
     alloc: Global,
     object: &Normal<'_>,
-    tried: &[Tried],
+    running: &Running<'_, S>,
+    trials: &Trials<'_, '_>,
 ) -> Result<Numbers, AllocError>
-    ensures numbered { IfOk result (λ numbers. All (λ t. IsNumbered object.now numbers t.outcome) tried.now) }
+    requires codes { trials.now.codes ≡ code_sections object.now }
+    requires tried { AreTried running.now object.now trials.now.tried }
+    ensures numbered { IfOk result (λ numbers. All (λ c. IsNumbered object.now numbers (outcome c))
+        (candidates running.now object.now)) }
     ensures order { IfOk result (λ numbers. AreInOrder numbers.points) }
 {
     let mut numbers = Numbers {
         unknowns: IndexSet::new(alloc),
         points: IndexSet::new(alloc),
     };
-    for t in tried {
-        numbers.add_outcome(object, &t.outcome)?;
+    let codes = trials.codes();
+    for t in trials.tried() {
+        numbers.add_tried(alloc, object, running, codes, t)?;
     }
     numbers.sort_points()?;
     Ok(numbers)

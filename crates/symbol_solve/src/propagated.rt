@@ -10,8 +10,7 @@ ghost use Rattle.symbol_solve.specs.Conflicts.{by_place};
 ghost use Rattle.symbol_solve.specs.inside.Claims.{IsAtOne};
 ghost use Rattle.symbol_solve.specs.inside.Left.{pair_at};
 
-use crate::choices::choices_of;
-use crate::numbers::number_all;
+use crate::choices::numbered_choices;
 use i386_reloc::Normal;
 use image_memory::Space;
 use match_candidates::{Running, Trials};
@@ -47,8 +46,7 @@ pub(crate) fn propagate_candidates<S: Space>(
     // Nothing is done here: the law says that the claims of a match agree.
     claims_agree();
     let sections = object.as_slice();
-    let numbers = number_all(alloc, object, trials.tried())?;
-    let choices = choices_of(alloc, object, running, trials, &numbers)?;
+    let choices = numbered_choices(alloc, object, running, trials)?;
     let left = propagate(alloc, &choices)?;
     let conflict = first_conflict(alloc, &choices, &left, sections.len() as u32)?;
     Ok(Propagated { left, conflict })

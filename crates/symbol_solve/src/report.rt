@@ -4,20 +4,21 @@ ghost use Rattle.std.specs.Option.{option_copied, option_map};
 ghost use Rattle.std.specs.List.{find};
 ghost use Rattle.run_pre_match.specs.Bodies.{body_of};
 ghost use Rattle.run_pre_match.specs.Candidate.{Candidate};
+ghost use Rattle.run_pre_match.specs.Matched.{outcome};
 ghost use Rattle.propagation.specs.Conflicts.{first_some};
 ghost use Rattle.symbol_solve.specs.Clashes.{contradict, is_unmet, claims_in, interiors_in};
 ghost use Rattle.symbol_solve.specs.Conflicts.{unknown_name, claims_conflict, interior_conflict, clash_between};
 ghost use Rattle.symbol_solve.specs.Conflicts.{conflict_of_claims, conflict_of_interiors};
 ghost use Rattle.symbol_solve.specs.inside.Claims.{GiveOneValue, IsAtOne};
-ghost use Rattle.symbol_solve.specs.inside.Left.{IsOf, is_unmet_in};
+ghost use Rattle.symbol_solve.specs.inside.Left.{IsOf, RunsIn, is_unmet_in};
 
 use crate::copies::copied_spot;
 use crate::first_claims::{contradiction, first_claims};
 use crate::left::Held;
 use image_memory::Space;
 use ks_base::{ConflictName, Name, Refusal, Spot};
-use match_candidates::Tried;
-use run_pre_match::{Body, Claim, Interior, PreCode};
+use match_candidates::{Running, outcome_of};
+use run_pre_match::{Body, Claim, Interior, MatchFault, Matched, PreCode};
 use std::alloc::{AllocError, Global};
 use symbol_table::Unknown;
 
@@ -131,20 +132,20 @@ fn conflict_of_interiors<S: Space>(
 }
 
 /// The claims of a candidate, none where it doesn't match.
-fn claims_of(tried: &Tried) -> &[Claim]
-    ensures { result.now ≡ claims_in tried.now.outcome }
+fn claims_of(outcome: &Result<Matched, MatchFault>) -> &[Claim]
+    ensures { result.now ≡ claims_in outcome.now }
 {
-    match &tried.outcome {
+    match outcome {
         Ok(matched) => matched.claims.as_slice(),
         Err(_) => &[],
     }
 }
 
 /// Its references to interiors of other sections.
-fn interiors_of(tried: &Tried) -> &[Interior]
-    ensures { result.now ≡ interiors_in tried.now.outcome }
+fn interiors_of(outcome: &Result<Matched, MatchFault>) -> &[Interior]
+    ensures { result.now ≡ interiors_in outcome.now }
 {
-    match &tried.outcome {
+    match outcome {
         Ok(matched) => matched.interiors.as_slice(),
         Err(_) => &[],
     }
@@ -152,54 +153,72 @@ fn interiors_of(tried: &Tried) -> &[Interior]
 
 fn claims_between(
     alloc: Global,
-    one: &Held<'_, '_, '_>,
-    other: &Held<'_, '_, '_>,
+    one: &Result<Matched, MatchFault>,
+    other: &Result<Matched, MatchFault>,
 ) -> Result<Option<Refusal>, AllocError>
-    ensures { IfOk result (λ report. (c d : Candidate) → IsOf one.now.code.now c one.now.tried.now
-        → IsOf other.now.code.now d other.now.tried.now → IsAtOne d → report ≡ conflict_of_claims c d) }
+    ensures { IfOk result (λ report. (c d : Candidate) → outcome c ≡ one.now → outcome d ≡ other.now → IsAtOne d
+        → report ≡ conflict_of_claims c d) }
 {
-    conflict_of_claims(alloc, claims_of(one.tried), claims_of(other.tried))
+    conflict_of_claims(alloc, claims_of(one), claims_of(other))
 }
 
 fn interiors_between<S: Space>(
     alloc: Global,
     space: &S,
-    one: &Held<'_, '_, '_>,
+    one: &Result<Matched, MatchFault>,
     other: &Held<'_, '_, '_>,
 ) -> Result<Option<Refusal>, AllocError>
-    ensures { IfOk result (λ report. (c d : Candidate) → IsOf one.now.code.now c one.now.tried.now
+    ensures { IfOk result (λ report. (c d : Candidate) → outcome c ≡ one.now
         → IsOf other.now.code.now d other.now.tried.now → d.contents ≡ S.contents space.now
         → report ≡ conflict_of_interiors c d) }
 {
     conflict_of_interiors(
         alloc,
         space,
-        interiors_of(one.tried),
+        interiors_of(one),
         other.code,
         other.tried.base,
     )
+}
+
+/// What is reported of two candidates, given what came of matching them.
+fn clash_of<S: Space>(
+    alloc: Global,
+    space: &S,
+    one: &Held<'_, '_, '_>,
+    of_one: &Result<Matched, MatchFault>,
+    other: &Held<'_, '_, '_>,
+    of_other: &Result<Matched, MatchFault>,
+) -> Result<Option<Refusal>, AllocError>
+    ensures { IfOk result (λ report. (c d : Candidate) → IsOf one.now.code.now c one.now.tried.now
+        → c.contents ≡ S.contents space.now → outcome c ≡ of_one.now
+        → IsOf other.now.code.now d other.now.tried.now → d.contents ≡ S.contents space.now
+        → outcome d ≡ of_other.now → IsAtOne d → report ≡ clash_between (c, d)) }
+{
+    let report = claims_between(alloc, of_one, of_other)?;
+    if report.is_some() {
+        return Ok(report);
+    }
+    let report = interiors_between(alloc, space, of_one, other)?;
+    if report.is_some() {
+        return Ok(report);
+    }
+    interiors_between(alloc, space, of_other, one)
 }
 
 /// What is reported of two candidates: the first claim of the first one that the second contradicts, or else the first
 /// interior of either that isn't met in the other.
 pub(crate) fn clash_between<S: Space>(
     alloc: Global,
-    space: &S,
+    running: &Running<'_, S>,
     one: &Held<'_, '_, '_>,
     other: &Held<'_, '_, '_>,
 ) -> Result<Option<Refusal>, AllocError>
     ensures { IfOk result (λ report. (c d : Candidate) → IsOf one.now.code.now c one.now.tried.now
-        → c.contents ≡ S.contents space.now
-        → IsOf other.now.code.now d other.now.tried.now → d.contents ≡ S.contents space.now → IsAtOne d
+        → RunsIn running.now c → IsOf other.now.code.now d other.now.tried.now → RunsIn running.now d → IsAtOne d
         → report ≡ clash_between (c, d)) }
 {
-    let report = claims_between(alloc, one, other)?;
-    if report.is_some() {
-        return Ok(report);
-    }
-    let report = interiors_between(alloc, space, one, other)?;
-    if report.is_some() {
-        return Ok(report);
-    }
-    interiors_between(alloc, space, other, one)
+    let of_one = outcome_of(alloc, running, one.code, one.tried)?;
+    let of_other = outcome_of(alloc, running, other.code, other.tried)?;
+    clash_of(alloc, running.space, one, &of_one, other, &of_other)
 }

@@ -9,7 +9,7 @@ ghost use Rattle.match_candidates.specs.OwnFaults.{AreTried};
 ghost use Rattle.symbol_solve.specs.Conflicts.{clash_between, reported};
 ghost use Rattle.symbol_solve.specs.Solve.{first_twins, left_of, values, values_unless, solved};
 ghost use Rattle.symbol_solve.specs.inside.Claims.{IsAtOne};
-ghost use Rattle.symbol_solve.specs.inside.Left.{IsOf, IsOneOf, HasMemory, pair_at};
+ghost use Rattle.symbol_solve.specs.inside.Left.{IsOf, IsOneOf, RunsIn, pair_at};
 
 use crate::left::{Held, held_at, marked};
 use crate::propagated::propagate_candidates;
@@ -27,12 +27,12 @@ use symbol_table::{Bodies, SymbolTable, Values};
 /// What is reported of two candidates at two places.
 fn reported<S: Space>(
     alloc: Global,
-    space: &S,
+    running: &Running<'_, S>,
     trials: &Trials<'_, '_>,
     places: Option<(usize, usize)>,
 ) -> Result<Option<Refusal>, AllocError>
     ensures { IfOk result (λ report. (cs : List Candidate) → AllZip (IsOneOf trials.now.codes) cs trials.now.tried
-        → All (HasMemory (S.contents space.now)) cs → All IsAtOne cs
+        → All (RunsIn running.now) cs → All IsAtOne cs
         → report ≡ option_and_then clash_between (option_and_then (pair_at cs) places)) }
 {
     let Some((first, second)) = places else {
@@ -44,7 +44,7 @@ fn reported<S: Space>(
     let Some(other) = held_at(trials.codes(), trials.tried(), second) else {
         return Ok(None);
     };
-    clash_between(alloc, space, &one, &other)
+    clash_between(alloc, running, &one, &other)
 }
 
 /// The refusal of the first two neighbours that are of one section.
@@ -61,13 +61,17 @@ fn first_twins(alloc: Global, held: &[Held<'_, '_, '_>]) -> Result<Option<Refusa
 }
 
 /// The values of candidates.
-fn values_of(alloc: Global, held: &[Held<'_, '_, '_>]) -> Result<Values, AllocError>
-    ensures { IfOk result (λ found. (cs : List Candidate) → AllZip (λ c h. IsOf h.code.now c h.tried.now) cs held.now
-        → found.entries ≡ values cs) }
+fn values_of<S: Space>(
+    alloc: Global,
+    running: &Running<'_, S>,
+    held: &[Held<'_, '_, '_>],
+) -> Result<Values, AllocError>
+    ensures { IfOk result (λ found. (cs : List Candidate)
+        → AllZip (λ c h. IsOf h.code.now c h.tried.now × RunsIn running.now c) cs held.now → found.entries ≡ values cs) }
 {
     let mut found = IndexMap::new(alloc);
     for one in held {
-        put_candidate(alloc, &mut found, one.code, one.tried)?;
+        put_candidate(alloc, &mut found, running, one.code, one.tried)?;
     }
     Ok(found)
 }
@@ -86,14 +90,14 @@ fn solve_trials<S: Space>(
         (left_of running.now pre.now)) }
 {
     let found = propagate_candidates(alloc, pre, running, trials)?;
-    if let Some(refusal) = reported(alloc, running.space, trials, found.conflict)? {
+    if let Some(refusal) = reported(alloc, running, trials, found.conflict)? {
         return Err(refusal);
     }
     let held = marked(alloc, trials.codes(), trials.tried(), found.left.as_slice())?;
     if let Some(refusal) = first_twins(alloc, held.as_slice())? {
         return Err(refusal);
     }
-    Ok(values_of(alloc, held.as_slice())?)
+    Ok(values_of(alloc, running, held.as_slice())?)
 }
 
 /// The values of an object's code sections in a running program, and of what they and the read-only data that they reach refer to: of

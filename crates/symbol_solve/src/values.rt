@@ -3,12 +3,13 @@ ghost use Rattle.std.specs.Prelude.{◌≡◌, ◌++◌, ◌∷◌, [], false, O
 ghost use Rattle.std.specs.List.{flat_map, fold};
 ghost use Rattle.run_pre_match.specs.Candidate.{Candidate};
 ghost use Rattle.symbol_solve.specs.Solve.{has_value, with_value, is_code_unknown, address_value, values_with, values_of};
-ghost use Rattle.symbol_solve.specs.inside.Left.{IsOf};
+ghost use Rattle.symbol_solve.specs.inside.Left.{IsOf, RunsIn};
 
 use crate::copies::copied_unknown;
+use image_memory::Space;
 use ks_base::Name;
-use match_candidates::Tried;
-use run_pre_match::{Claim, Matched, PreCode};
+use match_candidates::{Running, Tried, outcome_of};
+use run_pre_match::{Claim, MatchFault, Matched, PreCode};
 use std::alloc::{AllocError, Global};
 use symbol_table::{Solved, Unknown, Values};
 
@@ -87,18 +88,34 @@ fn put_match(
     put_claims(alloc, values, matched.claims.as_slice())
 }
 
-/// Adds the values of a candidate.
-pub(crate) fn put_candidate(
+/// Adds the values of a candidate, given what came of matching it.
+fn put_outcome(
     alloc: Global,
     values: &mut Values,
     code: &PreCode<'_, '_>,
     tried: &Tried,
+    outcome: &Result<Matched, MatchFault>,
 ) -> Result<(), AllocError>
     ensures { OnOk result ((c : Candidate) → IsOf code.now c tried.now
-        → values.new.entries ≡ fold with_value values.old.entries (values_of c)) }
+        → values.new.entries ≡ fold with_value values.old.entries (values_with c outcome.now)) }
 {
-    match &tried.outcome {
+    match outcome {
         Ok(matched) => put_match(alloc, values, code, tried, matched),
         Err(_) => Ok(()),
     }
+}
+
+/// Adds the values of a candidate.
+pub(crate) fn put_candidate<S: Space>(
+    alloc: Global,
+    values: &mut Values,
+    running: &Running<'_, S>,
+    code: &PreCode<'_, '_>,
+    tried: &Tried,
+) -> Result<(), AllocError>
+    ensures { OnOk result ((c : Candidate) → IsOf code.now c tried.now → RunsIn running.now c
+        → values.new.entries ≡ fold with_value values.old.entries (values_of c)) }
+{
+    let outcome = outcome_of(alloc, running, code, tried)?;
+    put_outcome(alloc, values, code, tried, &outcome)
 }

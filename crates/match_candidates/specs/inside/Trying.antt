@@ -8,7 +8,7 @@ use Rattle.run_pre_match.specs.Matched.{PreSection, outcome}
 use Rattle.propagation.specs.Conflicts.{first_some}
 use Rattle.match_candidates.specs.declared.trials.Tried.{Tried}
 use Rattle.match_candidates.specs.Candidates.{Running, homes_of, candidates_of, candidate_at, code_from, is_match}
-use Rattle.match_candidates.specs.OwnFaults.{undecoded_in, missing_in, difference_in, mismatch_in}
+use Rattle.match_candidates.specs.OwnFaults.{undecoded_in, missing_in, difference_in, mismatch_in, length_of}
 
 -- the first fault of each kind in some sections
 abbrev pub undecoded_from : List NormalSection → ℕ → List NormalSection → Option Refusal
@@ -26,7 +26,7 @@ tried_at running pre number home = record {
   section = number;
   home = home;
   base = newest running.bodies home;
-  outcome = outcome (candidate_at running pre home);
+  outcome = length_of (outcome (candidate_at running pre home));
 }
 
 -- some homes of it, and all of them

@@ -2,12 +2,12 @@
 use Rattle.std.specs.Prelude.{◌≡◌, ℕ, Bool, not, ◌&&◌, if◌then◌else◌, List, [], ◌∷◌, ◌++◌, take, length, Option, Some, None}
 use Rattle.std.specs.List.{slice_get, AllZip}
 use Rattle.i386_reloc.specs.Normal.{same_bytes}
-use Rattle.image_memory.specs.Contents.{Contents}
 use Rattle.run_pre_match.specs.declared.types.Interior.{Interior}
 use Rattle.run_pre_match.specs.Bodies.{Body, is_number_of}
 use Rattle.run_pre_match.specs.Candidate.{Candidate}
-use Rattle.run_pre_match.specs.Matched.{PreSection, outcome}
+use Rattle.run_pre_match.specs.Matched.{PreSection}
 use Rattle.match_candidates.specs.declared.trials.Tried.{Tried}
+use Rattle.match_candidates.specs.Candidates.{Running}
 
 abbrev pub pair_with : Candidate → Option Candidate → Option (Candidate × Candidate)
 pair_with c None = None
@@ -29,11 +29,11 @@ marked (mark ∷ marks) (c ∷ cs) = if mark then c ∷ marked marks cs else mar
 
 -- What is kept of a candidate of a code section.
 pub record IsOf (pre : PreSection) (c : Candidate) (t : Tried) : Type 0 where
+  pub object : c.object ≡ pre.object
   pub section : c.section ≡ pre.section
   pub place : c.place ≡ pre.place
   pub home : t.home ≡ c.home
   pub base : t.base ≡ c.base
-  pub outcome : outcome c ≡ t.outcome
 
 -- the same of one of several code sections
 pub record IsOneOf (codes : List PreSection) (c : Candidate) (t : Tried) : Type 0 where
@@ -57,6 +57,7 @@ module _ {H T : Type 0} (R : Candidate → H → Type 0) (Q : Candidate → T �
       (marks : List Bool) (cs : List Candidate) (c : Candidate) → length marks ≡ length cs → Q c t
       → AllZip R (marked marks cs) old → AllZip R (marked (marks ++ mark ∷ []) (cs ++ c ∷ [])) new
 
--- a candidate runs in a memory
-abbrev pub HasMemory : Contents → Candidate → Type 0
-HasMemory contents c = c.contents ≡ contents
+-- a candidate is one of a running program
+pub record RunsIn (running : Running) (c : Candidate) : Type 0 where
+  pub memory : c.contents ≡ running.contents
+  pub symbols : c.symbols ≡ running.symbols

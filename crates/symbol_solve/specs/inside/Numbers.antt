@@ -125,3 +125,9 @@ pub record IsNumbered (object : List NormalSection) (numbers : Numbers) (came : 
 pub record Grows (old new : Numbers) : Type 0 where
   pub unknowns : (unknown : Unknown) → Contains old.unknowns unknown → Contains new.unknowns unknown
   pub points : (point : Point) → Contains old.points point → Contains new.points point
+
+-- that choices are those of candidates, by numbers that all of them have
+pub record AreNumbered (object : List NormalSection) (cs : List Candidate) (choices : List Choice) : Type 0 where
+  pub numbers : Numbers
+  pub numbered : All (λ c. IsNumbered object numbers (outcome c)) cs
+  pub are : choices ≡ map (choice_of object numbers) cs

@@ -3,6 +3,7 @@ use Rattle.run_pre_match.specs.Candidate.{Candidate}
 use Rattle.match_candidates.specs.declared.trials.Tried.{Tried}
 use Rattle.symbol_solve.specs.declared.left.Held.{Held}
 use Rattle.symbol_solve.specs.inside.Left.{IsOf, IsOneOf, AreHeldUpTo}
+use Rattle.symbol_solve.proofs.CandidateLaws.{read, unread}
 use Rattle.symbol_solve.proofs.HeldLaws.{none_held, one_more_held}
 use Rattle.symbol_solve.proofs.left.marked.Goals as goal
 
@@ -19,4 +20,4 @@ loop-i-preserved c =
     let R : Candidate → Held → Type 0 = λ a (h : Held). IsOf h.code.now a h.tried.now in
     let Q : Candidate → Tried → Type 0 = IsOneOf c.args.codes.now in
     subst (λ n. AreHeldUpTo R Q c.args.tried.now c.args.left.now n c.take_one.new.held.items) (after c.loop-i.i)
-    (one_more_held R Q c.args.tried.now c.args.left.now c.loop-i.i c.index-tried-i.result (get_or c.args.left.now c.loop-i.i false) false c.index-tried-i.result c.loop-i.held.items c.take_one.new.held.items (search rules) c.requires.marks c.index-tried-i.is refl c.loop-i.invariant c.in_ok-take_one.ensures)
+    (one_more_held R Q c.args.tried.now c.args.left.now c.loop-i.i (read c.args.tried.now c.loop-i.i) (get_or c.args.left.now c.loop-i.i false) false unread c.loop-i.held.items c.take_one.new.held.items (search rules) c.requires.marks refl refl c.loop-i.invariant c.in_ok-take_one.ensures)

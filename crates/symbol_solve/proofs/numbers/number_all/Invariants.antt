@@ -1,6 +1,8 @@
 use Rattle.std.proofs.Common.{All, take}
+use Rattle.run_pre_match.specs.Matched.{outcome}
+use Rattle.match_candidates.specs.Candidates.{candidates}
 use Rattle.symbol_solve.specs.inside.Numbers.{IsNumbered}
 use Rattle.symbol_solve.proofs.numbers.number_all.Given as goal
 
 abbrev pub invariant-loop-t : goal.invariant-loop-t
-invariant-loop-t l = All (λ t. IsNumbered l.object l.numbers t.outcome) (take l.t-index l.tried)
+invariant-loop-t g l = All (λ c. IsNumbered l.object l.numbers (outcome c)) (take l.t-index (candidates l.running l.object))
