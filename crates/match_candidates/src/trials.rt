@@ -1,7 +1,7 @@
 //! Candidates for code sections, each matched by itself.
 ghost use Rattle.std.specs.Prelude.{◌≡◌, ◌≢◌, None, Some, IfOk, IfErr};
 ghost use Rattle.ks_base.specs.declared.refusals.Refusal.TheVariants.{Memory};
-ghost use Rattle.match_candidates.specs.Candidates.{code_sections};
+ghost use Rattle.match_candidates.specs.Candidates.{code_sections, is_match};
 ghost use Rattle.match_candidates.specs.OwnFaults.{own_fault, AreTried};
 
 use crate::codes::{Codes, all_codes};
@@ -27,6 +27,15 @@ pub struct Tried {
     /// How many bytes its running body has, or why it doesn't match. What a match says takes more memory than all
     /// else, and [`outcome_of`](crate::outcome_of) tells it again.
     pub outcome: Result<u32, MatchFault>,
+}
+
+impl Tried {
+    /// Whether it matches.
+    pub fn matches(&self) -> bool
+        ensures { result ≡ is_match self.now.outcome }
+    {
+        self.outcome.is_ok()
+    }
 }
 
 /// The code sections of an object, and all that each may be, section by section and in each by home.

@@ -99,7 +99,7 @@ fn try_homes<S: Space>(
 fn one_matches(tried: &[Tried]) -> bool
     ensures { result ≡ list_any has_matched tried.now }
 {
-    tried.iter().any(|one| one.outcome.is_ok())
+    tried.iter().any(|one| one.matches())
 }
 
 /// Refuses a section with the difference of one that was tried.

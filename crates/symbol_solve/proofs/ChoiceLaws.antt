@@ -1,8 +1,9 @@
 -- The choice of a candidate.
-use Rattle.std.proofs.Common.{◌≡◌, ℕ, ◌+◌, ◌<◌, Bool, true, false, ◌&&◌, cond, List, [], ◌∷◌, ◌++◌, length, map, take, get_or, Option, Some, None, Result, Ok, refl, subst, sym, ◌∙◌, ap, arith}
+use Rattle.std.proofs.Common.{◌≡◌, ℕ, ◌+◌, ◌<◌, Bool, true, false, ◌&&◌, cond, List, [], ◌∷◌, ◌++◌, length, map, take, get_or, Option, Some, None, Result, Ok, Err, refl, subst, sym, ◌∙◌, ap, arith}
 use Rattle.std.specs.List.{filter, slice_get}
 use Rattle.std.specs.Option.{unwrap_or}
 use Rattle.std.specs.Result.{IfOk}
+use Rattle.std.proofs.lemmas.Bool.{false≢true}
 use Rattle.std.proofs.lemmas.Result.{IfOk-weaker}
 use Rattle.std.proofs.lemmas.List.{take_more, map-append}
 use Rattle.std.proofs.lemmas.Option.{slice_get_within, get_or_from_slice_get}
@@ -17,7 +18,8 @@ use Rattle.run_pre_match.specs.Candidate.{Candidate, same_number}
 use Rattle.run_pre_match.specs.Matched.{PreSection, outcome}
 use Rattle.match_candidates.specs.declared.trials.Tried.{Tried}
 use Rattle.propagation.specs.declared.choice.Choice.{Choice}
-use Rattle.match_candidates.specs.OwnFaults.{IsTried}
+use Rattle.match_candidates.specs.Candidates.{is_match}
+use Rattle.match_candidates.specs.OwnFaults.{IsTried, length_of}
 use Rattle.symbol_solve.specs.declared.numbers.Point.{Point}
 use Rattle.symbol_solve.specs.inside.Numbers.{Numbers, is_at, points_at, stands, standing, meets, met_among, choice_from, choice_of, AreListed}
 use Rattle.symbol_solve.proofs.CandidateLaws.{placed, code_here}
@@ -52,6 +54,21 @@ choice_is object numbers c code t came contents own own_is code_is home base com
     λ i. body_at (code_is i) (sym there i) (base i) in
     let met = (λ i. standing numbers.points (body i) ((own_is ∙ ap (points_at numbers.points) place) i)) ∙ met_by_standing numbers c in
     λ i. choice_from object numbers (place i) (home i) (sym comes i) (met i)
+
+-- what doesn't match says nothing
+says_nothing : (object : List NormalSection) (numbers : Numbers) (place home : ℕ) (came : Result Matched MatchFault) (kept : Result ℕ MatchFault) (met : List ℕ) → length_of came ≡ kept → is_match kept ≡ false
+    → choice_from object numbers place home came met ≡ record { section = place; home = home; matches = false; claims = []; demands = []; met = [] }
+says_nothing object numbers place home (Ok matched) kept met is none = absurd (false≢true (sym none ∙ ap is_match (sym is)))
+says_nothing object numbers place home (Err fault) kept met is none = refl
+
+pub no_choice_of : (object : List NormalSection) (numbers : Numbers) (codes : List PreSection) (c : Candidate) (code : PreSection) (t : Tried) (choice : Choice) (place : ℕ) → t.section < length codes → code ≡ get_or codes t.section code → IsTried codes c t → is_match t.outcome ≡ false → place ≡ code.place
+    → choice ≡ record { section = place; home = t.home; matches = false; claims = []; demands = []; met = [] } → choice ≡ choice_of object numbers c
+unfolding choice_of
+no_choice_of object numbers codes c code t choice place section code_is tried none place_is is =
+    let same : code ≡ placed c.object c.place c.section = code_here codes t.section code (placed c.object c.place c.section) section code_is tried.code in
+    let there : place ≡ c.place = place_is ∙ ap (λ (p : PreSection). p.place) same in
+    is ∙ (λ i. record { section = there i; home = tried.home i; matches = false; claims = []; demands = []; met = [] })
+    ∙ sym (says_nothing object numbers c.place c.home (outcome c) t.outcome (met_among numbers c) tried.outcome none)
 
 -- where a candidate that was tried and matches lies
 pub lies_tried : ((c : Candidate) (m : Matched) → outcome c ≡ Ok m → (v : Valuation) × Match c v) → ((contents : Contents) → AreMet contents) → (codes : List PreSection) (c : Candidate) (code : PreSection) (t : Tried) (came : Result Matched MatchFault) (contents : Contents) (m : Matched) → t.section < length codes

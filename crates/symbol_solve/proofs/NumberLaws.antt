@@ -1,10 +1,10 @@
 -- What has a number, and what keeps it.
-use Rattle.std.proofs.Common.{◌≡◌, ℕ, ◌+◌, ◌<◌, ◌≤◌, arith, true, ◌&&◌, eqb, List, length, take, get_or, Option, Some, None, Result, Ok, Contains, refl, sym, ◌∙◌, ap, subst}
+use Rattle.std.proofs.Common.{◌≡◌, ℕ, ◌+◌, ◌<◌, ◌≤◌, arith, true, false, ◌&&◌, eqb, List, length, take, get_or, Option, Some, None, Result, Ok, Err, Contains, refl, sym, ◌∙◌, ap, subst}
 use Rattle.std.specs.List.{All, each_same, slice_get}
 use Rattle.std.specs.Cmp.Lexicographic.{bytes_decides}
-use Rattle.std.proofs.lemmas.Bool.{and_parts, eqb-true}
+use Rattle.std.proofs.lemmas.Bool.{and_parts, eqb-true, false≢true}
 use Rattle.std.proofs.lemmas.List.{take_all}
-use Rattle.std.proofs.lemmas.List.Elements.{All-weaker, All-more}
+use Rattle.std.proofs.lemmas.List.Elements.{All-nil, All-weaker, All-more}
 use Rattle.i386_reloc.specs.declared.types.NormalSection.{NormalSection}
 use Rattle.symbol_table.specs.declared.values.Unknown.{Unknown}
 use Rattle.symbol_table.specs.declared.values.Unknown.TheVariants.{Code, Data, Outside}
@@ -20,6 +20,8 @@ use Rattle.run_pre_match.specs.declared.types.Matched.{Matched}
 use Rattle.run_pre_match.specs.declared.types.MatchFault.{MatchFault}
 use Rattle.run_pre_match.specs.Candidate.{Candidate}
 use Rattle.run_pre_match.specs.Matched.{outcome}
+use Rattle.match_candidates.specs.Candidates.{is_match}
+use Rattle.match_candidates.specs.OwnFaults.{length_of}
 use Rattle.symbol_solve.specs.Clashes.{claims_in, interiors_in}
 use Rattle.symbol_solve.specs.declared.numbers.Point.{Point}
 use Rattle.symbol_solve.specs.contracts.numbers.PointPartialEq.TheImpl as points
@@ -111,6 +113,14 @@ matched_numbered object a b claims interiors outcome matched is claims_is interi
       claims = claims_kept a b matched.claims grows (subst (All (IsUnknownNumbered a)) claims_is numbered);
       interiors = subst (All (IsInteriorNumbered object b)) interiors_is met;
     })
+
+-- what doesn't match has nothing to number
+pub none_numbered : (object : List NormalSection) (n : Numbers) (came : Result Matched MatchFault) (kept : Result ℕ MatchFault) → length_of came ≡ kept → is_match kept ≡ false → IsNumbered object n came
+none_numbered object n (Ok matched) kept is none = absurd (false≢true (sym none ∙ ap is_match (sym is)))
+none_numbered object n (Err fault) kept is none = record {
+  claims = All-nil (IsUnknownNumbered n);
+  interiors = All-nil (IsInteriorNumbered object n);
+}
 
 -- a place in an object of few sections fits a word
 pub place_fits : (object : List NormalSection) (name : List ℕ) (place : ℕ) → Some place ≡ place_named object name → length object ≤ 4096 → place < 4294967296

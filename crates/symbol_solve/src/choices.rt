@@ -210,6 +210,9 @@ fn choice_among<S: Space>(
     matches_have_one_valuation();
     run_code_goes_on();
     let code = &codes[t.section];
+    if !t.matches() {
+        return Ok(no_choice(alloc, word(code.place())?, t.home));
+    }
     let outcome = outcome_of(alloc, running, code, t)?;
     choice_at(alloc, naming, running.space, code, t, &outcome)
 }

@@ -144,7 +144,7 @@ impl Numbers {
         Ok(())
     }
 
-    /// Numbers what a candidate of one of some sections claims and refers to.
+    /// Numbers what a candidate of one of some sections claims and refers to, if it matches.
     fn add_tried<S: Space>(
         &mut self,
         alloc: Global,
@@ -158,6 +158,9 @@ impl Numbers {
         ensures numbered { OnOk result ((c : Candidate) → IsTried codes.now c tried.now → RunsIn running.now c
             → IsNumbered object.now self.new (outcome c)) }
     {
+        if !tried.matches() {
+            return Ok(());
+        }
         let outcome = outcome_of(alloc, running, &codes[tried.section], tried)?;
         self.add_outcome(object, &outcome)
     }

@@ -5,8 +5,13 @@ use Rattle.run_pre_match.specs.Matched.{outcome}
 use Rattle.match_candidates.specs.Candidates.{Running}
 use Rattle.symbol_solve.specs.inside.Numbers.{choice_of}
 use Rattle.symbol_solve.proofs.CandidateLaws.{again_tried}
-use Rattle.symbol_solve.proofs.ChoiceLaws.{choice_of_tried, lies_tried, told_as}
+use Rattle.symbol_solve.proofs.ChoiceLaws.{choice_of_tried, lies_tried, no_choice_of, told_as}
 use Rattle.symbol_solve.proofs.choices.choice_among.Goals as goal
+
+pub returns-then-not-matches : goal.returns-then-not-matches
+returns-then-not-matches g c = λ d tried runs at.
+    no_choice_of c.args.naming.now.object.now c.args.naming.now.numbers.now c.args.codes.now d c.index-codes-t.result c.args.t.now c.no_choice.result c.in_ok-word.field-0
+    c.requires c.index-codes-t.is tried (sym c.matches.ensures ∙ c.if-not-matches.true) (c.in_ok-word.ensures ∙ c.place.ensures) c.no_choice.ensures
 
 pub returns : goal.returns
 returns g c = λ d tried runs at.
