@@ -33,7 +33,7 @@ pub record HasPushed (pieces : List Piece) (before after : Thread) : Type 0 wher
   pub esp : esp_of after + 4 ≡ esp_of before
   pub readable : first_fault (read_fault pieces) (esp_of after) 4 ≡ None
 
--- a watched thread stood where the step began
+-- A watched thread has the stack and the ESP with which the step began, and a call pushed its return address.
 pub record IsStepOf (pieces : List Piece) (before after : Thread) (outcome : Outcome) (watched : Watched) : Type 0 where
   pub stack : watched.stack ≡ before.stack
   pub esp : watched.esp ≡ esp_of before
@@ -62,7 +62,7 @@ HoldBut pieces threads store =
     All (λ watched. All (λ (frame : Frame). touches store frame.slot ≡ false
     → holds_dword pieces frame.slot frame.address ≡ true) watched.frames) threads
 
--- so may what was written; nothing is asked once a rule was broken
+-- the same while no rule was broken, so that what was written may be told; after that nothing is asked
 abbrev pub MayHoldBut : List Piece → Watching → Option Store → Type 0
 MayHoldBut pieces w store = w.verdict ≡ Disciplined → HoldBut pieces w.threads store
 

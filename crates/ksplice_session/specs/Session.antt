@@ -20,7 +20,8 @@ pub record Ran : Type 0 where
   pub line : Command
   pub held : List (List ℕ)
 
--- What was done of a script: the machine that the lines leave, their replies together, and whether one was refused.
+-- What was done of a script: the machine with its watch that the lines leave, their replies together, and whether one
+-- was refused.
 pub record Played : Type 0 where
   pub session : Watched
   pub output : List ℕ
@@ -46,7 +47,7 @@ held_of ran = ran.held
 abbrev pub held_along : List Ran → List (List ℕ)
 held_along ran = flat_map held_of ran
 
--- lines from a machine on
+-- lines from a machine with its watch on
 unfoldable pub played : Watched → List Ran → Played
 played k ran = fold play_line (nothing_played k) ran
 
@@ -116,7 +117,7 @@ pub record NoneBehind (held : List (List ℕ)) (lost : Option FileFault) {ran : 
   pub none_lost : lost ≡ None
 
 -- How a session ends that began at k, given the files that were held and the fault for which the next was not: what
--- came out, and the machine that it leaves.
+-- came out, and the machine with its watch that it leaves.
 pub data Ends
     (k : Watched)
     (script : List Command)

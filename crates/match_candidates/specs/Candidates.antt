@@ -40,12 +40,12 @@ is_stray AtHome = false
 is_stray Stray = true
 is_stray (Bytes bytes) = false
 
--- whether the newest version of the function at a home was retired
+-- whether a range is retired at the newest base of a home, and no jump stands there
 abbrev pub is_gone : Running → ℕ → Bool
 is_gone running home = is_stray (view_at running.contents (newest running.bodies home))
 
--- the distinct addresses of function symbols of the section's function name, ascending, where the newest version is
--- still there
+-- the distinct addresses of function symbols of the section's function name, ascending, but for those at whose newest
+-- base a range is retired
 abbrev pub homes_of : Running → PreSection → List ℕ
 homes_of running pre =
     filter (λ home. not (is_gone running home)) (function_addresses running.symbols (function_name pre))

@@ -1,5 +1,5 @@
 -- What is wrong with one code section of an object by itself: its code can't be matched, it has no candidate, or no
--- candidate matches.
+-- candidate matches. Then what is kept of the candidates that were tried.
 use Rattle.std.specs.Prelude.{◌≡◌, ℕ, if◌then◌else◌, List, [], ◌∷◌, Option, Some, None, Result, Ok, Err}
 use Rattle.std.specs.Option.{option_map, option_or}
 use Rattle.std.specs.List.{list_any, slice_get, AllZip}
@@ -55,7 +55,8 @@ abbrev pub length_of : Result Matched MatchFault → Result ℕ MatchFault
 length_of (Ok matched) = Ok matched.length
 length_of (Err fault) = Err fault
 
--- What is kept of a candidate of one of some sections: which section it is of, its home and base, and what came of it.
+-- What is kept of a candidate of one of some code sections: the number of its section among these, its home and base,
+-- and its length or why it doesn't match.
 pub record IsTried (codes : List PreSection) (c : Candidate) (t : Tried) : Type 0 where
   pub code : slice_get codes t.section ≡ Some (record { object = c.object; place = c.place; section = c.section })
   pub home : t.home ≡ c.home
@@ -66,7 +67,7 @@ pub record IsTried (codes : List PreSection) (c : Candidate) (t : Tried) : Type 
 abbrev pub AreTried : Running → List NormalSection → List Tried → Type 0
 AreTried running object tried = AllZip (IsTried (code_sections object)) (candidates running object) tried
 
--- the candidate of a section of which something is kept, and what comes of it
+-- the candidate that was tried, given its section, and what comes of it
 abbrev pub candidate_of : Running → PreSection → Tried → Candidate
 candidate_of running pre t = candidate pre running.contents running.symbols t.home t.base
 

@@ -16,8 +16,8 @@ abbrev pub is_about : Unknown → Value → Bool
 is_about unknown value = same_unknown unknown value.0
 
 -- The values have one of the section, and no second: the home and the newest base of a function of the section's
--- function name, and how many bytes its body has there. That version isn't retired, and its body isn't empty and ends
--- where a piece of code does or before.
+-- function name, and how many bytes its body has there. No range is retired at that base, and the body isn't empty and
+-- ends at 0xFFFF0000 or below.
 pub record IsAnswered (running : Running) (values : List Value) (pre : PreSection) : Type 0 where
   pub home : ℕ
   pub base : ℕ

@@ -20,7 +20,7 @@ missing_among running codes = first_some (λ pre. missing_in pre (candidates_of 
 abbrev pub mismatch_among : Running → List PreSection → Option Refusal
 mismatch_among running codes = first_some (λ pre. mismatch_in pre (candidates_of running pre)) codes
 
--- a home of the section of a number, when it is tried
+-- what is kept of a home of the code section of a number, when it is tried
 abbrev pub tried_at : Running → PreSection → ℕ → ℕ → Tried
 tried_at running pre number home = record {
   section = number;

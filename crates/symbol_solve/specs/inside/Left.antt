@@ -27,7 +27,7 @@ marked [] cs = []
 marked (mark ∷ marks) [] = []
 marked (mark ∷ marks) (c ∷ cs) = if mark then c ∷ marked marks cs else marked marks cs
 
--- What is kept of a candidate of a code section.
+-- That a candidate is of a code section, and has the home and the base that are kept of one that was tried.
 pub record IsOf (pre : PreSection) (c : Candidate) (t : Tried) : Type 0 where
   pub object : c.object ≡ pre.object
   pub section : c.section ≡ pre.section
