@@ -122,6 +122,11 @@ fn difference(
     Ok(extract(alloc, &pre, &post))
 }
 
+// What is taken of two objects that differ.
+fn taken(alloc: Global, pre: &[Section], post: &[Section]) -> Result<Extract, Fail> {
+    Ok(difference(alloc, pre, post)?.ok().ok_or("refused")?)
+}
+
 // Whether names are one name alone.
 fn is_one(names: &Names, name: &[u8]) -> bool {
     match names.as_slice() {
@@ -131,21 +136,24 @@ fn is_one(names: &Names, name: &[u8]) -> bool {
 }
 
 #[test]
-fn functions_are_changed_and_dropped(rt: HostRuntime) -> Result<(), Fail> {
-    let alloc = rt.alloc();
-    let one = difference(alloc, &[F], &[F_CHANGED])?
-        .ok()
-        .ok_or("refused")?;
+fn a_function_is_changed(rt: HostRuntime) -> Result<(), Fail> {
+    let one = taken(rt.alloc(), &[F], &[F_CHANGED])?;
     assert!(rt; is_one(&one.changed, b".text.f"));
     assert!(rt; one.added.is_empty() && one.carried.is_empty());
-    let two = difference(alloc, &[WORK, COLD], &[WORK_ALONE])?
-        .ok()
-        .ok_or("refused")?;
+    Ok(())
+}
+
+#[test]
+fn a_function_is_dropped(rt: HostRuntime) -> Result<(), Fail> {
+    let two = taken(rt.alloc(), &[WORK, COLD], &[WORK_ALONE])?;
     assert!(rt; is_one(&two.changed, b".text.work"));
     assert!(rt; is_one(&two.dropped, b".text.unlikely.work"));
-    let three = difference(alloc, &[WORK_ALONE], &[WORK, COLD])?
-        .ok()
-        .ok_or("refused")?;
+    Ok(())
+}
+
+#[test]
+fn a_function_is_added(rt: HostRuntime) -> Result<(), Fail> {
+    let three = taken(rt.alloc(), &[WORK_ALONE], &[WORK, COLD])?;
     assert!(rt; is_one(&three.changed, b".text.work"));
     assert!(rt; is_one(&three.added, b".text.unlikely.work"));
     Ok(())
@@ -153,10 +161,7 @@ fn functions_are_changed_and_dropped(rt: HostRuntime) -> Result<(), Fail> {
 
 #[test]
 fn new_data_come_with_a_new_function(rt: HostRuntime) -> Result<(), Fail> {
-    let alloc = rt.alloc();
-    let all = difference(alloc, &[WORK, COLD], &[F, NUMBER])?
-        .ok()
-        .ok_or("refused")?;
+    let all = taken(rt.alloc(), &[WORK, COLD], &[F, NUMBER])?;
     assert!(rt; is_one(&all.added, b".text.f"));
     assert!(rt; is_one(&all.new_data, b".data.t"));
     assert!(rt; all.changed.is_empty() && all.dropped.is_empty());
@@ -177,14 +182,26 @@ fn is_refused(
     Ok(line.bytes() == wanted.as_bytes())
 }
 
+/// Two objects, and the refusal's line.
+static REFUSED: [(&[Section], &[Section], &str); 3] = [
+    (&[F], &[F], "refused 12 no change\n"),
+    (
+        &[F, POINTER],
+        &[F_CHANGED, POINTER],
+        "refused 13 interior .data.t 0x0\n",
+    ),
+    (
+        &[F, NUMBER],
+        &[F, NUMBER_CHANGED],
+        "refused 11 data changed .data.t\n",
+    ),
+];
+
 #[test]
 fn differences_are_refused(rt: HostRuntime) -> Result<(), Fail> {
-    let alloc = rt.alloc();
-    assert!(rt; is_refused(alloc, &[F], &[F], "refused 12 no change\n")?);
-    let wanted = "refused 13 interior .data.t 0x0\n";
-    assert!(rt; is_refused(alloc, &[F, POINTER], &[F_CHANGED, POINTER], wanted)?);
-    let wanted = "refused 11 data changed .data.t\n";
-    assert!(rt; is_refused(alloc, &[F, NUMBER], &[F, NUMBER_CHANGED], wanted)?);
+    for (pre, post, wanted) in REFUSED.iter() {
+        assert!(rt; is_refused(rt.alloc(), pre, post, wanted)?);
+    }
     Ok(())
 }
 
@@ -194,9 +211,7 @@ fn differences_are_refused(rt: HostRuntime) -> Result<(), Fail> {
 fn a_section_is_of_its_class_where_it_is_reached(rt: HostRuntime) -> Result<(), Fail> {
     let alloc = rt.alloc();
     let before = [F, TEXT_OF_X, X, Y];
-    let same = difference(alloc, &before, &[F_CHANGED, TEXT_OF_Y, X, Y])?
-        .ok()
-        .ok_or("refused")?;
+    let same = taken(alloc, &before, &[F_CHANGED, TEXT_OF_Y, X, Y])?;
     assert!(rt; is_one(&same.changed, b".text.f"));
     let after = [F_CHANGED, TEXT_OF_Y, X_NO_TEXT, Y];
     assert!(rt;

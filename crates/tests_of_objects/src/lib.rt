@@ -9,6 +9,8 @@ mod link_post_files;
 #[cfg(test)]
 mod linking;
 #[cfg(test)]
+mod normals;
+#[cfg(test)]
 mod objects;
 #[cfg(test)]
 mod placing;

@@ -1,8 +1,7 @@
 //! New code at its places: the values of its references and its bytes.
 
 use crate::link_post_files::{NEW, OLD};
-use elf32_object::read_object;
-use i386_reloc::{Normal, normalise};
+use crate::normals::normal_of;
 use ks_base::{Line, Name, Names, Refusal};
 use link_post::{Placed, Placement, in_order, linked, resolve_post};
 use std::alloc::Global;
@@ -19,11 +18,6 @@ static PLACES: [(&str, u32); 7] = [
     (".rodata.str1.1", 0x0080_0080),
     (".text.g", 0x0080_0090),
 ];
-
-fn normal_of(alloc: Global, file: &'static [u8]) -> Result<Normal<'static>, Fail> {
-    let object = read_object(alloc, file).ok().ok_or("not read")?;
-    Ok(normalise(alloc, &object).ok().ok_or("no sections")?)
-}
 
 // A table of symbols: whether each is a function, its name and its address.
 fn table_of(alloc: Global, symbols: &[(bool, &str, u32)]) -> Result<SymbolTable, Fail> {
@@ -89,6 +83,11 @@ fn resolved(
     Ok(resolve_post(alloc, &pre, &post, &sections, &values, &table))
 }
 
+// The same, where none is missing.
+fn values_of(alloc: Global, symbols: &[(bool, &str, u32)]) -> Result<Values, Fail> {
+    Ok(resolved(alloc, symbols, true)?.ok().ok_or("refused")?)
+}
+
 #[test]
 fn new_sections_are_linked(rt: HostRuntime) -> Result<(), Fail> {
     let alloc = rt.alloc();
@@ -97,7 +96,7 @@ fn new_sections_are_linked(rt: HostRuntime) -> Result<(), Fail> {
         (true, "spin", 0x0010_0020),
         (true, "x", 0x0010_0030),
     ];
-    let values = resolved(alloc, &symbols, true)?.ok().ok_or("refused")?;
+    let values = values_of(alloc, &symbols)?;
     let rows: [(&str, &[u8]); 8] = [
         (".text.main", &[0xe8, 0xeb, 0xff, 0x8f, 0xff, 0xc3]),
         (
@@ -140,58 +139,83 @@ fn is_at(values: &Values, index: usize, which: &Unknown, address: u32) -> bool {
         && values.get(which).copied() == Some(Solved::Address(address))
 }
 
+/// What stands in the values behind the home of `f`: the index, whether it is an outside name, the name and the address.
+static IN_ORDER: [(usize, bool, &str, u32); 3] = [
+    (1, false, ".data.y", 0x0020_0100),
+    (2, false, ".data.x", 0xffff_fffe),
+    (3, true, "spin", 0x0010_0020),
+];
+
+fn unknown_of(alloc: Global, outside: bool, name: &str) -> Result<Unknown, Fail> {
+    let name = Name::from_slice(alloc, name.as_bytes())?;
+    Ok(if outside {
+        Unknown::Outside(name)
+    } else {
+        Unknown::Data(name)
+    })
+}
+
 #[test]
 fn values_stand_in_the_order_of_the_references(rt: HostRuntime) -> Result<(), Fail> {
     let alloc = rt.alloc();
     let symbols = [(true, "spin", 0x0010_0020), (false, "x", 2)];
-    let values = resolved(alloc, &symbols, true)?.ok().ok_or("refused")?;
+    let values = values_of(alloc, &symbols)?;
     assert!(rt; values.len() == 4);
-    let known = Unknown::Data(Name::from_slice(alloc, b".data.y")?);
-    assert!(rt; is_at(&values, 1, &known, 0x0020_0100));
-    let first = Unknown::Data(Name::from_slice(alloc, b".data.x")?);
-    assert!(rt; is_at(&values, 2, &first, 0xffff_fffe));
-    let second = Unknown::Outside(Name::from_slice(alloc, b"spin")?);
-    assert!(rt; is_at(&values, 3, &second, 0x0010_0020));
+    for (index, outside, name, address) in IN_ORDER.iter() {
+        let unknown = unknown_of(alloc, *outside, *name)?;
+        assert!(rt; is_at(&values, *index, &unknown, *address));
+    }
     Ok(())
+}
+
+/// Symbols, whether it is known where `.data.y` begins, and the refusal's line.
+static MISSING: [(&[(bool, &str, u32)], bool, &str); 5] = [
+    (&[], true, "refused 18 unresolved x\n"),
+    (
+        &[(false, "x", 0x0020_0014)],
+        true,
+        "refused 18 unresolved spin\n",
+    ),
+    (
+        &[
+            (false, "x", 0x0020_0014),
+            (true, "spin", 0x0010_0030),
+            (true, "spin", 0x0010_0020),
+            (true, "spin", 0x0010_0040),
+        ],
+        true,
+        "refused 19 two names spin 0x00100020 0x00100030\n",
+    ),
+    (
+        &[(false, "x", 0x0020_0014), (false, "x", 0x0020_0018)],
+        true,
+        "refused 19 two names x 0x00200014 0x00200018\n",
+    ),
+    (
+        &[(false, "x", 0x0020_0014), (true, "spin", 0x0010_0020)],
+        false,
+        "refused 18 unresolved .data.y\n",
+    ),
+];
+
+// Whether values are refused with this line.
+fn is_refused(
+    alloc: Global,
+    symbols: &[(bool, &str, u32)],
+    with_data: bool,
+    wanted: &str,
+) -> Result<bool, Fail> {
+    let mut line = Line::new(alloc);
+    if let Err(refusal) = resolved(alloc, symbols, with_data)? {
+        line.put_refusal(&refusal)?;
+    }
+    Ok(line.bytes() == wanted.as_bytes())
 }
 
 #[test]
 fn values_that_are_missing_are_refused(rt: HostRuntime) -> Result<(), Fail> {
-    let alloc = rt.alloc();
-    let rows: [(&[(bool, &str, u32)], bool, &str); 5] = [
-        (&[], true, "refused 18 unresolved x\n"),
-        (
-            &[(false, "x", 0x0020_0014)],
-            true,
-            "refused 18 unresolved spin\n",
-        ),
-        (
-            &[
-                (false, "x", 0x0020_0014),
-                (true, "spin", 0x0010_0030),
-                (true, "spin", 0x0010_0020),
-                (true, "spin", 0x0010_0040),
-            ],
-            true,
-            "refused 19 two names spin 0x00100020 0x00100030\n",
-        ),
-        (
-            &[(false, "x", 0x0020_0014), (false, "x", 0x0020_0018)],
-            true,
-            "refused 19 two names x 0x00200014 0x00200018\n",
-        ),
-        (
-            &[(false, "x", 0x0020_0014), (true, "spin", 0x0010_0020)],
-            false,
-            "refused 18 unresolved .data.y\n",
-        ),
-    ];
-    for (symbols, with_data, text) in rows {
-        let mut line = Line::new(alloc);
-        if let Err(refusal) = resolved(alloc, symbols, with_data)? {
-            line.put_refusal(&refusal)?;
-        }
-        assert!(rt; line.bytes() == text.as_bytes());
+    for (symbols, with_data, wanted) in MISSING.iter() {
+        assert!(rt; is_refused(rt.alloc(), symbols, *with_data, wanted)?);
     }
     Ok(())
 }

@@ -56,64 +56,90 @@ fn has_bases(placement: &Placement, bases: &[u32]) -> bool {
     true
 }
 
+const ARENA: &[(u32, u32)] = &[(0x0080_0000, 0x0081_0000)];
+
+const THREE: &[(u32, u32)] = &[(0x1000, 0x1010), (0x2000, 0x2020), (0x3000, 0x3010)];
+
+/// Sizes and alignments, gaps, and the bases.
+static LOWEST: [(&[(u32, u32)], &[(u32, u32)], &[u32]); 7] = [
+    (
+        &[(6, 16), (5, 16), (8, 4)],
+        ARENA,
+        &[0x0080_0000, 0x0080_0010, 0x0080_0020],
+    ),
+    (&[(16, 4)], &[(0x0080_0008, 0x0080_0020)], &[0x0080_0010]),
+    (
+        &[(1, 1), (1, 64), (1, 16)],
+        ARENA,
+        &[0x0080_0000, 0x0080_0040, 0x0080_0010],
+    ),
+    (
+        &[(32, 16), (8, 16), (8, 16)],
+        THREE,
+        &[0x2000, 0x1000, 0x3000],
+    ),
+    (&[(1, 4096)], &[(0x0080_0001, 0x0081_0000)], &[0x0080_1000]),
+    (&[(0, 0), (16, 0)], THREE, &[0x1000, 0x1000]),
+    (&[], THREE, &[]),
+];
+
+// Whether sections among gaps come to these bases.
+fn are_placed(
+    alloc: Global,
+    sizes: &[(u32, u32)],
+    gaps: &[(u32, u32)],
+    bases: &[u32],
+) -> Result<bool, Fail> {
+    let placement = places(alloc, sizes, gaps)?.ok().ok_or("refused")?;
+    Ok(has_bases(&placement, bases))
+}
+
 #[test]
 fn sections_take_the_lowest_addresses(rt: HostRuntime) -> Result<(), Fail> {
-    let arena = [(0x0080_0000, 0x0081_0000)];
-    let three = [(0x1000, 0x1010), (0x2000, 0x2020), (0x3000, 0x3010)];
-    let rows: [(&[(u32, u32)], &[(u32, u32)], &[u32]); 7] = [
-        (
-            &[(6, 16), (5, 16), (8, 4)],
-            &arena,
-            &[0x0080_0000, 0x0080_0010, 0x0080_0020],
-        ),
-        (&[(16, 4)], &[(0x0080_0008, 0x0080_0020)], &[0x0080_0010]),
-        (
-            &[(1, 1), (1, 64), (1, 16)],
-            &arena,
-            &[0x0080_0000, 0x0080_0040, 0x0080_0010],
-        ),
-        (
-            &[(32, 16), (8, 16), (8, 16)],
-            &three,
-            &[0x2000, 0x1000, 0x3000],
-        ),
-        (&[(1, 4096)], &[(0x0080_0001, 0x0081_0000)], &[0x0080_1000]),
-        (&[(0, 0), (16, 0)], &three, &[0x1000, 0x1000]),
-        (&[], &three, &[]),
-    ];
-    for (sizes, gaps, bases) in rows {
-        let placement = places(rt.alloc(), sizes, gaps)?.ok().ok_or("refused")?;
-        assert!(rt; has_bases(&placement, bases));
+    for (sizes, gaps, bases) in LOWEST.iter() {
+        assert!(rt; are_placed(rt.alloc(), sizes, gaps, bases)?);
     }
     Ok(())
 }
 
+/// Sizes and alignments, gaps, and the refusal's line.
+static WITHOUT_ROOM: [(&[(u32, u32)], &[(u32, u32)], &str); 4] = [
+    (
+        &[(16, 4), (1, 1)],
+        &[(0x0080_0008, 0x0080_0020)],
+        "refused 23 no room 1\n",
+    ),
+    (&[(6, 16)], &[], "refused 23 no room 6\n"),
+    (
+        &[(17, 16), (33, 16)],
+        &[(0x1000, 0x1010), (0x2000, 0x2020)],
+        "refused 23 no room 33\n",
+    ),
+    (
+        &[(1, 64)],
+        &[(0x1001, 0x1040), (0xffff_ffc1, 0xffff_ffff)],
+        "refused 23 no room 1\n",
+    ),
+];
+
+// Whether sections among gaps are refused with this line.
+fn is_refused(
+    alloc: Global,
+    sizes: &[(u32, u32)],
+    gaps: &[(u32, u32)],
+    wanted: &str,
+) -> Result<bool, Fail> {
+    let mut line = Line::new(alloc);
+    if let Err(refusal) = places(alloc, sizes, gaps)? {
+        line.put_refusal(&refusal)?;
+    }
+    Ok(line.bytes() == wanted.as_bytes())
+}
+
 #[test]
 fn sections_without_room_are_refused(rt: HostRuntime) -> Result<(), Fail> {
-    let rows: [(&[(u32, u32)], &[(u32, u32)], &str); 4] = [
-        (
-            &[(16, 4), (1, 1)],
-            &[(0x0080_0008, 0x0080_0020)],
-            "refused 23 no room 1\n",
-        ),
-        (&[(6, 16)], &[], "refused 23 no room 6\n"),
-        (
-            &[(17, 16), (33, 16)],
-            &[(0x1000, 0x1010), (0x2000, 0x2020)],
-            "refused 23 no room 33\n",
-        ),
-        (
-            &[(1, 64)],
-            &[(0x1001, 0x1040), (0xffff_ffc1, 0xffff_ffff)],
-            "refused 23 no room 1\n",
-        ),
-    ];
-    for (sizes, gaps, text) in rows {
-        let mut line = Line::new(rt.alloc());
-        if let Err(refusal) = places(rt.alloc(), sizes, gaps)? {
-            line.put_refusal(&refusal)?;
-        }
-        assert!(rt; line.bytes() == text.as_bytes());
+    for (sizes, gaps, wanted) in WITHOUT_ROOM.iter() {
+        assert!(rt; is_refused(rt.alloc(), sizes, gaps, wanted)?);
     }
     Ok(())
 }
@@ -144,10 +170,7 @@ fn a_thousand_gaps_are_filled_in_order(rt: HostRuntime) -> Result<(), Fail> {
     bases.push(0x0090_0040)?;
     sizes.push((32, 16))?;
     bases.push(0x0090_0020)?;
-    let placement = places(rt.alloc(), sizes.as_slice(), gaps.as_slice())?
-        .ok()
-        .ok_or("refused")?;
-    assert!(rt; has_bases(&placement, bases.as_slice()));
+    assert!(rt; are_placed(alloc, sizes.as_slice(), gaps.as_slice(), bases.as_slice())?);
     Ok(())
 }
 
@@ -166,9 +189,7 @@ fn one_gap_is_split_a_thousand_times(rt: HostRuntime) -> Result<(), Fail> {
     }
     sizes.push((33, 16))?;
     bases.push(0x0010_fa00)?;
-    let placement = places(alloc, sizes.as_slice(), &[(0x0010_0000, 0x0011_0000)])?
-        .ok()
-        .ok_or("refused")?;
-    assert!(rt; has_bases(&placement, bases.as_slice()));
+    let gap = [(0x0010_0000, 0x0011_0000)];
+    assert!(rt; are_placed(alloc, sizes.as_slice(), &gap, bases.as_slice())?);
     Ok(())
 }

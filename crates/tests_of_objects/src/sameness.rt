@@ -1,7 +1,6 @@
 //! Sections that are the same, and sections that are not for one thing alone.
 
-use elf32_object::read_object;
-use i386_reloc::normalise;
+use crate::normals::normal_of;
 use section_equal::{equal_bytes, same_section, same_sections};
 use std::alloc::{AllocError, Global};
 use std::test::Fail;
@@ -56,17 +55,29 @@ fn changed(alloc: Global, place: usize, value: u8) -> Result<Vec<u8>, AllocError
     Ok(bytes)
 }
 
-// Whether the section of a name is the same in the object and in one with a byte changed; and how many sections of the second are.
-fn compared(alloc: Global, place: usize, value: u8, name: &str) -> Result<(bool, usize), Fail> {
-    let other = changed(alloc, place, value)?;
-    let pre = read_object(alloc, &TEXTS).ok().ok_or("not read")?;
-    let post = read_object(alloc, other.as_slice()).ok().ok_or("not read")?;
-    let pre = normalise(alloc, &pre).ok().ok_or("no sections")?;
-    let post = normalise(alloc, &post).ok().ok_or("no sections")?;
+// How many sections are the same.
+fn count(same: &[bool]) -> usize {
+    same.iter().filter(|same| **same).count()
+}
+
+// Whether the section of a name is the same in two objects, and how many sections of the second are.
+fn same_in<'a>(
+    alloc: Global,
+    pre: &'a [u8],
+    post: &'a [u8],
+    name: &str,
+) -> Result<(bool, usize), Fail> {
+    let pre = normal_of(alloc, pre)?;
+    let post = normal_of(alloc, post)?;
     let one = same_section(&pre, &post, name.as_bytes());
     let all = same_sections(alloc, &pre, &post)?;
-    let count = all.post.iter().filter(|same| **same).count();
-    Ok((one, count))
+    Ok((one, count(all.post.as_slice())))
+}
+
+// The same of the object and one with a byte changed.
+fn compared(alloc: Global, place: usize, value: u8, name: &str) -> Result<(bool, usize), Fail> {
+    let other = changed(alloc, place, value)?;
+    same_in(alloc, &TEXTS, other.as_slice(), name)
 }
 
 #[test]
