@@ -139,7 +139,7 @@ fn is_at(values: &Values, index: usize, which: &Unknown, address: u32) -> bool {
         && values.get(which).copied() == Some(Solved::Address(address))
 }
 
-/// What stands in the values behind the home of `f`: the index, whether it is an outside name, the name and the address.
+/// What stands in the values behind the home of `f`: index, whether it is an outside name, name and address.
 static IN_ORDER: [(usize, bool, &str, u32); 3] = [
     (1, false, ".data.y", 0x0020_0100),
     (2, false, ".data.x", 0xffff_fffe),
