@@ -33,7 +33,7 @@ pub fn load_all<F: Files>(
     Ok(held)
 }
 
-// The bytes of a file.
+// The bytes of a file, in no more room than they need.
 fn load_one<F: Files>(alloc: Global, files: &mut F, file: &Wanted<'_>) -> Result<Vec<u8>, FileFault>
     ensures held { IfOk result (λ bytes. CameTo (F.told files.old) (needed_by file.now ∷ []) (bytes.items ∷ []) None (F.counts files.old) (F.counts files.new)) }
     ensures lost { IfErr result (λ fault. CameTo (F.told files.old) (needed_by file.now ∷ []) [] (outside_fault fault) (F.counts files.old) (F.counts files.new)) }
@@ -42,7 +42,10 @@ fn load_one<F: Files>(alloc: Global, files: &mut F, file: &Wanted<'_>) -> Result
 {
     let mut bytes = Vec::new(alloc);
     match files.load(file.name, file.limit, &mut bytes) {
-        Ok(()) => Ok(bytes),
+        Ok(()) => {
+            bytes.shrink_to_fit();
+            Ok(bytes)
+        }
         Err(fault) => Err(fault),
     }
 }

@@ -4,8 +4,9 @@ use Rattle.ks_io.proofs.loading.load_one.Goals as goal
 
 pub returns-in-Ok-clause-held : goal.returns-in-Ok-clause-held
 returns-in-Ok-clause-held g c =
-    one_held (g.F.Files.told c.args.files.now) (needed_by c.args.file.now) c.load.new.into.items (g.F.Files.counts c.args.files.now) (g.F.Files.counts c.load.new.self)
-    c.in-Ok.ensures.at_most c.in-Ok.ensures.gives c.load.ensures.never_fall c.load.ensures.rises
+    rw (c.shrink_to_fit.ensures.items)
+    (one_held (g.F.Files.told c.args.files.now) (needed_by c.args.file.now) c.load.new.into.items (g.F.Files.counts c.args.files.now) (g.F.Files.counts c.load.new.self)
+    c.in-Ok.ensures.at_most c.in-Ok.ensures.gives c.load.ensures.never_fall c.load.ensures.rises)
 
 pub returns-in-Err-clause-lost : goal.returns-in-Err-clause-lost
 returns-in-Err-clause-lost g c =
