@@ -1,6 +1,7 @@
 -- How what the loads of a call came to, and what comes after them, make its answer.
 use Rattle.std.specs.Prelude.{zero, suc}
-use Rattle.std.proofs.Common.{◌≡◌, ℕ, ◌<◌, List, [], ◌∷◌, length, map, get_or, Option, Some, None, refl, sym, subst, arith}
+use Rattle.std.proofs.Common.{◌≡◌, ◌∙◌, ℕ, ◌+◌, ◌<◌, List, [], ◌∷◌, ◌++◌, length, map, get_or, Option, Some, None, refl, sym, ap, subst, arith}
+use Rattle.std.proofs.lemmas.List.{length_push}
 use Rattle.std.specs.Global.{Vec}
 use Rattle.ks_io.specs.Outside.{Counts, NeverFall}
 use Rattle.ks_io.specs.Loads.{Needed, Told, CameTo, IsLostAfter, first_lacking, needed_by, outside_fault, bytes_of}
@@ -63,6 +64,14 @@ two_held [] file other bytes others two is same is' same' = absurd (omega (arith
 two_held (x ∷ []) file other bytes others two is same is' same' = absurd (omega (arith, two))
 two_held (x ∷ y ∷ []) file other bytes others two is same is' same' = cc
 two_held (x ∷ y ∷ z ∷ files) file other bytes others two is same is' same' = absurd (omega (arith, two))
+
+-- the same of two files that are taken from the end of those that were held
+pub two_taken : (files rest none : List (Vec ℕ)) (one other : Vec ℕ) → length files ≡ 2 → files ≡ rest ++ other ∷ [] → rest ≡ none ++ one ∷ [] → bytes_of files ≡ one.items ∷ other.items ∷ []
+two_taken files rest [] one other two last first = ap bytes_of (last ∙ ap (λ l. l ++ other ∷ []) first)
+two_taken files rest (x ∷ none) one other two last first =
+    let all : length files ≡ length rest + 1 = ap length last ∙ length_push rest other in
+    let most : length rest ≡ length (x ∷ none) + 1 = ap length first ∙ length_push (x ∷ none) one in
+    absurd (omega (arith, two, all, most))
 
 -- Both objects were held, and their reply came out.
 pub diff_answers : (pre post bytes others : List ℕ) (held : List (List ℕ)) {told : Told} {before now : Counts} {old new : Option (List ℕ)} {status : ℕ}

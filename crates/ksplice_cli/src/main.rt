@@ -5,6 +5,7 @@ pub mod answering;
 mod command;
 mod comparing;
 mod diffing;
+mod held;
 mod image_code;
 pub mod laws;
 mod limits;

@@ -7,6 +7,7 @@ ghost use Rattle.ksplice_cli.specs.Calls.{Answers, is_carried_out};
 ghost use Rattle.ksplice_cli.specs.Reply.{match_answer};
 ghost use Rattle.ksplice_cli.specs.Words.{Match};
 
+use crate::held::two_files;
 use crate::limits::IMAGE_LIMIT;
 use crate::saying::{end_with_file, refuse, say};
 use crate::solution::list_solution;
@@ -43,15 +44,18 @@ pub fn match_object<F: Files, O: Sink>(
         },
     ];
     match load_all(alloc, files, &wanted) {
-        Ok(held) => print_solution(alloc, &held[0], &held[1], out),
+        Ok(held) => {
+            let (image, pre) = two_files(held);
+            print_solution(alloc, image, &pre, out)
+        }
         Err(lost) => end_with_file(alloc, &wanted[lost.index], lost.fault, out),
     }
 }
 
 // Writes the values of an object in an image, or why there are none.
 #[tactic(auto, using(ks_io::specs::Fronts::nothing_taken))]
-fn print_solution<O: Sink>(alloc: Global, image: &[u8], pre: &[u8], out: &mut O) -> Status
-    ensures answer { OneComesOut (λ answer. answer ≡ match_answer image.now pre.now) (O.taken out.old) (O.taken out.new)
+fn print_solution<O: Sink>(alloc: Global, image: Vec<u8>, pre: &[u8], out: &mut O) -> Status
+    ensures answer { OneComesOut (λ answer. answer ≡ match_answer image.items pre.now) (O.taken out.old) (O.taken out.new)
         result.code }
     ensures status { is_carried_out result.code ≡ true }
     ensures out { SinkKept O.faults O.quiet out.old out.new }

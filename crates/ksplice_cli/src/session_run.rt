@@ -9,6 +9,7 @@ ghost use Rattle.ksplice_cli.specs.Calls.{Answers, RunAnswers, end_status, is_ca
 ghost use Rattle.ksplice_cli.specs.Reply.{session_of};
 ghost use Rattle.ksplice_cli.specs.Words.{Run};
 
+use crate::held::two_files;
 use crate::limits::{IMAGE_LIMIT, SCRIPT_LIMIT};
 use crate::saying::{end_with_file, refuse};
 use crate::status::Status;
@@ -47,7 +48,10 @@ pub fn run<F: Files, O: Sink>(
         },
     ];
     match load_all(alloc, files, &wanted) {
-        Ok(held) => print_session(alloc, &held[0], &held[1], files, out),
+        Ok(held) => {
+            let (image, script) = two_files(held);
+            print_session(alloc, image, script, files, out)
+        }
         Err(lost) => end_with_file(alloc, &wanted[lost.index], lost.fault, out),
     }
 }
@@ -56,12 +60,12 @@ pub fn run<F: Files, O: Sink>(
 #[tactic(auto, using(ks_io::specs::Fronts::nothing_taken))]
 fn print_session<F: Files, O: Sink>(
     alloc: Global,
-    image: &[u8],
-    script: &[u8],
+    image: Vec<u8>,
+    script: Vec<u8>,
     files: &mut F,
     out: &mut O,
 ) -> Status
-    ensures answers { RunAnswers image.now script.now (F.told files.old) (F.counts files.old) (F.counts files.new)
+    ensures answers { RunAnswers image.items script.items (F.told files.old) (F.counts files.old) (F.counts files.new)
         (O.taken out.old) (O.taken out.new) result.code }
     ensures status { is_carried_out result.code ≡ true }
     ensures files { FilesKept F.told F.counts F.quiet files.old files.new }
@@ -82,14 +86,18 @@ fn print_session<F: Files, O: Sink>(
     }
 }
 
-// The session of an image file, and the lines of a script file. The image is read first.
+// The session of an image file, and the lines of a script file. The image is read first. Their bytes are gone then.
 #[tactic(auto, unfolding(crate::specs::Reply::session_of))]
-fn read_session(alloc: Global, image: &[u8], script: &[u8]) -> Result<(Session, Script), Refusal>
-    ensures session { Gives (λ both. both) result (session_of image.now script.now) }
+fn read_session(
+    alloc: Global,
+    image: Vec<u8>,
+    script: Vec<u8>,
+) -> Result<(Session, Script), Refusal>
+    ensures session { Gives (λ both. both) result (session_of image.items script.items) }
     ensures allowed { IfOk result (λ both. All IsAllowed both.1) }
 {
-    let image = read_image(alloc, image)?;
-    let script = read_script(alloc, script)?;
+    let image = read_image(alloc, &image)?;
+    let script = read_script(alloc, &script)?;
     let session = Session::new(alloc, image)?;
     Ok((session, script))
 }

@@ -2,6 +2,7 @@
 ghost use Rattle.std.specs.Prelude.{◌≡◌, ◌++◌, [], Ok, IfOk, OnOk};
 ghost use Rattle.ks_base.specs.Gives.{Gives};
 ghost use Rattle.ks_base.specs.Text.{shown_name};
+ghost use Rattle.image_file.specs.Reading.{image_of};
 ghost use Rattle.image_file.specs.Seen.{contents_of};
 ghost use Rattle.ksplice_cli.specs.Reply.{match_reply, matched_in};
 ghost use Rattle.ksplice_cli.specs.Solution.{place_of, unknown_text, value_line, value_lines};
@@ -17,14 +18,22 @@ use symbol_solve::solve;
 use symbol_table::{Bodies, Solved, Unknown, Values};
 
 /// The lines of which functions of an image the code sections of an object file are, and of what they refer to. Refuses
-/// what is wrong with the image, else what is wrong with the object, else why the object has no one reading there.
+/// what is wrong with the image, else what is wrong with the object, else why the object has no one reading there. The
+/// image's bytes are gone once it is read.
 #[tactic(auto, unfolding(crate::specs::Reply::match_reply))]
-pub fn list_solution(alloc: Global, image: &[u8], pre: &[u8]) -> Result<Line, Refusal>
-    ensures { Gives (λ lines. lines) result (match_reply image.now pre.now) }
+pub fn list_solution(alloc: Global, image: Vec<u8>, pre: &[u8]) -> Result<Line, Refusal>
+    ensures { Gives (λ lines. lines) result (match_reply image.items pre.now) }
 {
-    let image = read_image(alloc, image)?;
+    let image = image_of(alloc, image)?;
     let object = read_sections(alloc, pre)?;
     list_matched(alloc, image, &object)
+}
+
+// The image that a file holds, whose bytes are gone then.
+fn image_of(alloc: Global, bytes: Vec<u8>) -> Result<Image, Refusal>
+    ensures { Gives contents_of result (image_of bytes.items) }
+{
+    read_image(alloc, &bytes)
 }
 
 // The lines of an object in an image in which nothing was replaced.

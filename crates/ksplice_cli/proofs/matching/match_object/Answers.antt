@@ -1,15 +1,15 @@
-use Rattle.std.proofs.Common.{[], ◌∷◌, refl}
+use Rattle.std.proofs.Common.{[], ◌∷◌, ◌∙◌, ap, refl, sym}
 use Rattle.ks_io.specs.Loads.{bytes_of}
 use Rattle.ksplice_session.specs.Replies.{object_limit}
 use Rattle.ksplice_cli.specs.Calls.{image_limit}
 use Rattle.ksplice_cli.specs.Words.{Match}
-use Rattle.ksplice_cli.proofs.CallAnswers.{lost_answers, two_held, match_answers}
+use Rattle.ksplice_cli.proofs.CallAnswers.{lost_answers, match_answers}
 use Rattle.ksplice_cli.proofs.matching.match_object.Goals as goal
 
 pub returns-in-Ok-clause-answers : goal.returns-in-Ok-clause-answers
 returns-in-Ok-clause-answers g c =
-    match_answers c.args.image.now c.args.pre.now c.deref.result.now c.deref-in-Ok.result.now (bytes_of c.in-Ok.held.items)
-    (two_held c.in-Ok.held.items c.index.result.now c.index-in-Ok.result.now _ _ c.in-Ok.ensures.loads.0 c.index.ensures c.deref.ensures.value c.index-in-Ok.ensures c.deref-in-Ok.ensures.value)
+    match_answers c.args.image.now c.args.pre.now c.two_files-image.result.0.items c.deref.result.now (bytes_of c.in-Ok.held.items)
+    (c.two_files-image.ensures ∙ ap (λ bytes. c.two_files-image.result.0.items ∷ bytes ∷ []) (sym c.deref.ensures.value))
     c.in-Ok.ensures.loads.1 c.print_solution.ensures.answer
 
 pub returns-in-Err-clause-answers : goal.returns-in-Err-clause-answers

@@ -2,13 +2,12 @@ use Rattle.std.proofs.Common.{[], ◌∷◌, refl}
 use Rattle.ks_io.specs.Loads.{bytes_of}
 use Rattle.ksplice_cli.specs.Calls.{image_limit, script_limit}
 use Rattle.ksplice_cli.specs.Words.{Run}
-use Rattle.ksplice_cli.proofs.CallAnswers.{lost_answers, two_held, run_answers}
+use Rattle.ksplice_cli.proofs.CallAnswers.{lost_answers, run_answers}
 use Rattle.ksplice_cli.proofs.session_run.run.Goals as goal
 
 pub returns-in-Ok-clause-answers : goal.returns-in-Ok-clause-answers
 returns-in-Ok-clause-answers g c =
-    run_answers c.args.image.now c.args.script.now c.deref.result.now c.deref-in-Ok.result.now (bytes_of c.in-Ok.held.items)
-    (two_held c.in-Ok.held.items c.index.result.now c.index-in-Ok.result.now _ _ c.in-Ok.ensures.loads.0 c.index.ensures c.deref.ensures.value c.index-in-Ok.ensures c.deref-in-Ok.ensures.value)
+    run_answers c.args.image.now c.args.script.now c.two_files-image.result.0.items c.two_files-image.result.1.items (bytes_of c.in-Ok.held.items) c.two_files-image.ensures
     c.in-Ok.ensures.loads.1 c.load_all.ensures.kept.never_fall c.load_all.ensures.kept.told_kept c.print_session.ensures.answers
 
 pub returns-in-Err-clause-answers : goal.returns-in-Err-clause-answers
