@@ -1,5 +1,5 @@
 -- Why each line is answered as it is to be.
-use Rattle.std.proofs.Common.{◌≡◌, ◌≢◌, ℕ, Bool, true, false, List, [], ◌∷◌, ◌++◌, length, map, is_some, arith, Result, Ok, Err, IfOk, refl, sym, ◌∙◌, ap, append-nil}
+use Rattle.std.proofs.Common.{◌≡◌, ◌≢◌, ℕ, Bool, true, false, List, [], ◌∷◌, ◌++◌, length, map, is_some, arith, Result, Ok, Err, IfOk, refl, sym, ◌∙◌, ap, subst, append-nil}
 use Rattle.std.specs.declared.alloc.AllocError.{AllocError}
 use Rattle.std.specs.Global.{Vec}
 use Rattle.ks_io.specs.Loads.{bytes_of}
@@ -38,16 +38,26 @@ all_made s now events is = Noted events [] (append-nil events) is
 pub none_made : (s now : Watched) (events : List Event) → now ≡ s → MadeFront s events now
 none_made s now events same = Noted [] events refl (nothing_made s now events same)
 
--- a line that was run
-pub told_answers : (s now : Watched) (told : Told) (line : Result (List ℕ) AllocError) (r : Result Answer AllocError)
-    → told.refused ≡ false → IfOk line (λ l. l ≡ told.reply) → now ≡ watched_after_all s told.events
+-- a line that was run, by what it tells
+pub told_answers : (s now : Watched) {told came : Told} (line : Result (List ℕ) AllocError) (r : Result Answer AllocError)
+    → told ≡ came → came.refused ≡ false → IfOk line (λ l. l ≡ came.reply) → now ≡ watched_after_all s came.events
     → IfOk r (λ answer. (line ≡ Ok answer.line) × (answer.refused ≡ false)) → Answers s told now r
-told_answers s now told line (Ok answer) done made session is = (
-  ap (λ (l : List ℕ). let a : Answer = record { line = l; refused = answer.refused } in a) (same_line line told.reply answer.line made is.0)
-      ∙ ap (λ (b : Bool). let a : Answer = record { line = told.reply; refused = b } in a) (is.1 ∙ sym done),
-  session,
-)
-told_answers s now told line (Err e) done made session is = all_made s now told.events session
+told_answers s now {told = told} {came = came} line r same done made session is = subst (λ (t : Told). Answers s t now r) (sym same) (by r is)
+  where
+    by : (r : Result Answer AllocError) → IfOk r (λ answer. (line ≡ Ok answer.line) × (answer.refused ≡ false)) → Answers s came now r
+    by (Ok answer) is = (
+      ap (λ (l : List ℕ). let a : Answer = record { line = l; refused = answer.refused } in a) (same_line line came.reply answer.line made is.0)
+          ∙ ap (λ (b : Bool). let a : Answer = record { line = came.reply; refused = b } in a) (is.1 ∙ sym done),
+      session,
+    )
+    by (Err e) is = all_made s now came.events session
+
+-- a line that only tells something
+pub read_answers : (s : Watched) {told : Told} {reply : List ℕ} (line : Result (List ℕ) AllocError) (r : Result Answer AllocError)
+    → told ≡ replied [] reply → IfOk line (λ l. l ≡ reply)
+    → IfOk r (λ answer. (line ≡ Ok answer.line) × (answer.refused ≡ false)) → Answers s told s r
+read_answers s {told = told} {reply = reply} line r same made is =
+    told_answers s s {told = told} {came = replied [] reply} line r same refl made (nothing_done s) is
 
 -- a line that is refused, and changes nothing
 pub refused_answers : (s now : Watched) (told : Told) (refusal : Refusal) (r : Result Answer AllocError)

@@ -21,23 +21,22 @@ use Rattle.frame_watch.specs.declared.types.Verdict.TheVariants.{Disciplined}
 use Rattle.frame_watch.specs.Frames.{Watched as WatchedThread, Watching, started, with_started, watched_at}
 use Rattle.frame_watch.specs.Frames.{frames_in, frames_at, keeps_slots}
 use Rattle.frame_watch.specs.Discipline.{spawn_noted}
+use Rattle.ksplice_session.specs.Answers.{watched}
 use Rattle.ksplice_session.specs.Watching.{Watched, sight_in}
 use Rattle.ksplice_session.specs.Safety.{frames_of}
-use Rattle.ksplice_session.proofs.Lookups.{All-of_list_all, All-at, read_last, read_more}
+use Rattle.ksplice_session.proofs.Lookups.{IsOneOf, is_contained, All-of_list_all, All-at, read_last, read_more}
 use Rattle.ksplice_session.proofs.Lookups.{one_more, all_pass}
 use Rattle.ksplice_session.proofs.RuleLaws.{here_or_not}
 use Rattle.ksplice_session.proofs.RuleLaws.{others_started, it_is_started, KeepRule, GoesOn}
 use Rattle.ksplice_session.proofs.RuleLaws.{start_goes_on}
-use Rattle.ksplice_session.proofs.MomentLaws.{IsOneOf, is_contained, Agree, IsMoment, Change, Stays, Begins}
+use Rattle.ksplice_session.proofs.MomentLaws.{Agree, IsMoment, Change, Stays, Begins}
 use Rattle.ksplice_session.proofs.MomentLaws.{Keeps, IsNext, agree_none, agree_some}
-use Rattle.ksplice_session.proofs.MomentLaws.{running_is, runs_at, no_frames, with_frame}
+use Rattle.ksplice_session.proofs.MomentLaws.{no_frames, with_frame}
+use Rattle.ksplice_session.proofs.EventAnswers.{running_is, runs_at}
 
 -- what an event leaves
 abbrev pub Next : Watched → Event → Watched → Type 0
 Next s event new = IsMoment new × IsNext s new event
-
-abbrev pub watched : CallTable → Watching → Watched
-watched k w = record { machine = k; watch = w }
 
 pub agree_by : (o p : Option Thread) (a b : Option WatchedThread) → p ≡ o → b ≡ a → Agree o a → Agree p b
 agree_by o p a b same_thread same_watch agree =

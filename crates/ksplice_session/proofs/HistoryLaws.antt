@@ -18,10 +18,11 @@ use Rattle.frame_watch.specs.Frames.{frame}
 use Rattle.ksplice_session.specs.Watching.{Watched, first_watched, watched_after, watched_after_all, IsDisciplined}
 use Rattle.ksplice_session.specs.Safety.{frames_of, depth_of, return_address, stays_open, step_outcome, is_step_of}
 use Rattle.ksplice_session.specs.Safety.{ReturnedNowhere}
-use Rattle.ksplice_session.proofs.Lookups.{All-at, read_more, read_front, last_at, nothing_read}
+use Rattle.ksplice_session.proofs.Lookups.{both_hold, All-at, read_more, read_front, last_at, nothing_read}
 use Rattle.ksplice_session.proofs.RuleLaws.{same_number}
 use Rattle.ksplice_session.proofs.MomentLaws.{Premises, Change, Stays, Begins, Arrives, Calls, Returns, Ends, IsNext}
-use Rattle.ksplice_session.proofs.OpenFrames.{after_more, after_one, front_disciplined, one_deeper, last_address, along}
+use Rattle.ksplice_session.proofs.WatchedLaws.{watched_after_both, after_one}
+use Rattle.ksplice_session.proofs.OpenFrames.{front_disciplined, one_deeper, last_address, along}
 use Rattle.ksplice_session.proofs.OpenFrames.{next_from, open_frames_keep}
 
 -- A frame of a thread was opened by a call in a list of events, and has stayed open since.
@@ -57,14 +58,9 @@ unfolding stays_open watched_after_all
 stays_more n depth s [] event stays deep =
     ap (λ (b : Bool). b && nat_le depth (depth_of (watched_after s event) n)) stays ∙ deep
 stays_more n depth s (one ∷ events) event stays deep =
-    by_test (nat_le depth (depth_of s n)) (stays_open n depth (watched_after s one) events) stays
-    (λ rest. stays_more n depth (watched_after s one) events event rest deep)
-  where
-    by_test : (b c : Bool) → (b && c) ≡ true
-        → (c ≡ true → stays_open n depth (watched_after s one) (events ++ event ∷ []) ≡ true)
-        → (b && stays_open n depth (watched_after s one) (events ++ event ∷ [])) ≡ true
-    by_test true c stays later = later stays
-    by_test false c stays later = absurd (cc)
+    let parts = both_hold (nat_le depth (depth_of s n)) (stays_open n depth (watched_after s one) events) stays in
+    ap (λ (b : Bool). b && stays_open n depth (watched_after s one) (events ++ event ∷ [])) parts.0
+    ∙ stays_more n depth (watched_after s one) events event parts.1 deep
 
 none_later : (n depth : ℕ) (s : Watched) → IsTrue (nat_le depth (depth_of s n)) → IsTrue (stays_open n depth s [])
 unfolding stays_open
@@ -99,7 +95,7 @@ module _ (start : Watched) where
       → watched_after_all was.called was.during ≡ watched_after_all start events
   reached events n i one was =
       ap (λ (s : Watched). watched_after_all s was.during) was.at
-      ∙ sym (after_more start (was.before ++ Step n ∷ []) was.during)
+      ∙ sym (watched_after_both start (was.before ++ Step n ∷ []) was.during)
       ∙ ap (watched_after_all start) (append_assoc was.before (Step n ∷ []) was.during ∙ was.whole)
 
   called_more : (events : List Event) (event : Event) (n i : ℕ) (one : Frame) → WasCalled start events n i one

@@ -7,6 +7,7 @@ pub mod TryLaws
 pub mod SessionLaws
 pub mod Lookups
 pub mod RuleLaws
+pub mod EventAnswers
 pub mod MomentLaws
 pub mod EventLaws
 pub mod ThreadSteps

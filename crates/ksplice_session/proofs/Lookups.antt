@@ -3,14 +3,26 @@ use Rattle.std.proofs.Common.{◌≡◌, ℕ, zero, suc, ◌<◌, Bool, true, fa
 use Rattle.std.proofs.Common.{List, [], ◌∷◌, ◌++◌, map, length, set, take, Option, Some, None}
 use Rattle.std.proofs.Common.{refl, sym, ◌∙◌, ap, subst, arith, if◌then◌else◌}
 use Rattle.std.specs.Option.{option_map}
-use Rattle.std.specs.List.{All, find, filter, last_or, list_all, slice_get}
+use Rattle.std.specs.List.{All, Contains, find, filter, last_or, list_all, slice_get}
 use Rattle.std.proofs.lemmas.Option.{none-some, same_Some, slice_get_within, get_or_from_slice_get}
 use Rattle.std.proofs.lemmas.List.Elements.{All-cons}
 use Rattle.ks_base.specs.declared.places.Range.{Range}
 use Rattle.image_memory.specs.Ranges.{put_in}
 
+-- one of some things
+abbrev pub IsOneOf : {X : Type 0} → List X → X → Type 0
+IsOneOf xs x = (i : ℕ) × (slice_get xs i ≡ Some x)
+
+pub is_contained : {X : Type 0} (xs : List X) (x : X) → IsOneOf xs x → Contains xs x
+is_contained xs x one = (one.0, slice_get_within xs one.0 x one.1, get_or_from_slice_get xs one.0 x x one.1)
+
 pub true_false : (b : Bool) → b ≡ true → b ≡ false → ⊥
 true_false b yes_is no_is = cc
+
+-- a test of two things, taken apart
+pub both_hold : (a b : Bool) → (a && b) ≡ true → (a ≡ true) × (b ≡ true)
+both_hold true b is = (refl, is)
+both_hold false b is = absurd (cc)
 
 module _ {X : Type 0} (p : X → Bool) where
   pub found_is : (xs : List X) (x : X) → find p xs ≡ Some x → p x ≡ true
@@ -89,12 +101,9 @@ module _ {X : Type 0} (p : X → Bool) where
 
   pub All-of_list_all : (xs : List X) → list_all p xs ≡ true → All (λ x. p x ≡ true) xs
   All-of_list_all [] all = λ i d l. absurd (omega arith)
-  All-of_list_all (x ∷ xs) all = by_test (p x) refl (λ rest. All-of_list_all xs rest) all
-    where
-      by_test : (b : Bool) → p x ≡ b → (list_all p xs ≡ true → All (λ x. p x ≡ true) xs)
-          → (b && list_all p xs) ≡ true → All (λ x. p x ≡ true) (x ∷ xs)
-      by_test true holds later rest = All-cons (λ x. p x ≡ true) x xs holds (later rest)
-      by_test false fails later rest = absurd (cc)
+  All-of_list_all (x ∷ xs) all =
+      let parts = both_hold (p x) (list_all p xs) all in
+      All-cons (λ x. p x ≡ true) x xs parts.0 (All-of_list_all xs parts.1)
 
   pub all_pass : (xs : List X) → ((i : ℕ) (x : X) → slice_get xs i ≡ Some x → p x ≡ true) → list_all p xs ≡ true
   all_pass [] each = refl

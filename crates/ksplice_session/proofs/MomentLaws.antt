@@ -32,15 +32,9 @@ use Rattle.frame_watch.specs.Frames.{watched_at, frames_in, frames_at, closed}
 use Rattle.frame_watch.specs.Frames.{keeps_slots}
 use Rattle.ksplice_session.specs.Watching.{Watched}
 use Rattle.ksplice_session.specs.Safety.{frames_of, step_outcome}
-use Rattle.ksplice_session.proofs.Lookups.{All-of_list_all}
+use Rattle.ksplice_session.specs.inside.InStep.{IsSame}
+use Rattle.ksplice_session.proofs.Lookups.{IsOneOf, All-of_list_all}
 use Rattle.ksplice_session.proofs.RuleLaws.{KeepRule}
-
--- one of some things
-abbrev pub IsOneOf : {X : Type 0} → List X → X → Type 0
-IsOneOf xs x = (i : ℕ) × (slice_get xs i ≡ Some x)
-
-pub is_contained : {X : Type 0} (xs : List X) (x : X) → IsOneOf xs x → Contains xs x
-is_contained xs x one = (one.0, slice_get_within xs one.0 x one.1, get_or_from_slice_get xs one.0 x x one.1)
 
 -- the laws that are used here
 pub record Premises : Type 0 where
@@ -57,16 +51,12 @@ pub record Premises : Type 0 where
   pub update_slots : UpdatesKeepSlots
   pub undo_slots : UndosKeepSlots
 
--- a running thread, and the same thread as it is watched
-pub record IsWatched (thread : Thread) (one : WatchedThread) : Type 0 where
-  pub stack : one.stack ≡ thread.stack
-  pub esp : one.esp ≡ esp_of thread
-
+-- a running thread is the one that is watched, and where none runs none is
 abbrev pub Agree : Option Thread → Option WatchedThread → Type 0
 Agree None None = Unit {0}
 Agree None (Some one) = ⊥
 Agree (Some thread) None = ⊥
-Agree (Some thread) (Some one) = IsWatched thread one
+Agree (Some thread) (Some one) = IsSame one thread
 
 -- What holds at every moment at which no rule was broken: each running thread is watched, and no other; threads have
 -- their places as numbers; the frames keep the slot rule.
@@ -114,33 +104,11 @@ agree_none None (Some one) is agree = absurd agree
 agree_none (Some thread) p is agree = absurd (none-some thread (sym is))
 
 pub agree_some : (o : Option Thread) (p : Option WatchedThread) (thread : Thread) → o ≡ Some thread → Agree o p
-    → (one : WatchedThread) × (p ≡ Some one) × IsWatched thread one
+    → (one : WatchedThread) × (p ≡ Some one) × IsSame one thread
 agree_some None p thread is agree = absurd (none-some thread is)
 agree_some (Some t) None thread is agree = absurd agree
 agree_some (Some t) (Some one) thread is agree =
-    (one, refl, subst (λ (u : Thread). IsWatched u one) (same_Some t thread is) agree)
-
--- a thread that runs is one
-pub running_is : (o : Option Thread) (thread : Thread) → if_running o ≡ Some thread
-    → (o ≡ Some thread) × (runs thread ≡ true)
-running_is None thread is = absurd (none-some thread is)
-running_is (Some t) thread is = by_state (runs t) refl is
-  where
-    by_state : (b : Bool) → runs t ≡ b → (if b then Some t else None) ≡ Some thread
-        → (Some t ≡ Some thread) × (runs thread ≡ true)
-    by_state true yes_runs is = (is, subst (λ (u : Thread). runs u ≡ true) (same_Some t thread is) yes_runs)
-    by_state false not_runs is = absurd (none-some thread is)
-
-pub runs_at : (threads : List Thread) (n : ℕ) (thread : Thread) → slice_get threads n ≡ Some thread → runs thread ≡ true
-    → running_at threads n ≡ Some thread
-runs_at threads n thread is yes_runs =
-    ap if_running is ∙ ap (λ (b : Bool). let o : Option Thread = (if b then Some thread else None) in o) yes_runs
-
-pub rests_at : (threads : List Thread) (n : ℕ) (thread : Thread) → slice_get threads n ≡ Some thread
-    → runs thread ≡ false
-    → running_at threads n ≡ None
-rests_at threads n thread is not_runs =
-    ap if_running is ∙ ap (λ (b : Bool). let o : Option Thread = (if b then Some thread else None) in o) not_runs
+    (one, refl, subst (IsSame one) (same_Some t thread is) agree)
 
 -- the frames of a thread that isn't watched, and of one that is
 pub no_frames : (threads : List WatchedThread) (n : ℕ) → watched_at threads n ≡ None → frames_at threads n ≡ []

@@ -3,7 +3,7 @@ use Rattle.std.proofs.Common.{◌≡◌, ◌≢◌, ℕ, zero, suc, ◌+◌, ◌
 use Rattle.std.specs.List.{All, slice_get}
 use Rattle.std.proofs.lemmas.Bool.Decides.{nat_tests}
 use Rattle.std.proofs.lemmas.List.Elements.{All-weaker}
-use Rattle.std.proofs.lemmas.Option.{slice_get_within}
+use Rattle.std.proofs.lemmas.Option.{same_Some}
 use Rattle.ks_base.specs.declared.places.Range.{Range}
 use Rattle.ks_base.specs.declared.refusals.Fault.{Fault}
 use Rattle.ks_base.specs.declared.refusals.Refusal.{Refusal}
@@ -46,46 +46,18 @@ use Rattle.ksplice_session.proofs.SightLaws.{IsAlike, step_alike}
 use Rattle.ksplice_session.proofs.SeenLaws.{JumpLaws, jumps_alike, built_sound}
 use Rattle.ksplice_session.proofs.StackLaws.{frames_hold}
 use Rattle.ksplice_session.proofs.TestedLaws.{step_left}
-use Rattle.ksplice_session.proofs.WatchLaws.{RunsIn, some_same, runs_in, slots_in, left_in_step, running_is, running_got, numbered_at, got_set, runs_true, without_runs, frames_run}
+use Rattle.ksplice_session.proofs.WatchLaws.{RunsIn, runs_in, slots_in, left_in_step, its_thread, running_got, numbered_at, without_runs, frames_run}
+use Rattle.ksplice_session.proofs.EventAnswers.{running_is, runs_at, IsThread, left_thread, step_gives}
+use Rattle.ksplice_session.proofs.Lookups.{set_here}
 
 -- what other crates say of steps
 pub record StepLaws : Type 0 where
   pub stand : (k : CallTable) (thread : Thread) → CanJump k → StepsStand k thread
-  pub number : (contents : Contents) (thread : Thread) → (stepped contents thread).thread.number ≡ thread.number
-  pub stack : (contents : Contents) (thread : Thread) → (stepped contents thread).thread.stack ≡ thread.stack
   pub calls : (contents : Contents) (thread : Thread) → length thread.registers ≡ 8 → (stepped contents thread).outcome ≡ Moved Call
       → IsSomeAnd (instruction_at contents thread.pc) (λ call. IsCalled thread call (stepped contents thread))
   pub falls : (thread : Thread) (call : Decoded) (after : Left) → IsCalled thread call after → ArePlaced after.contents.pieces
       → esp_of thread < 2 ^ 32 → esp_of after.thread + 4 ≡ esp_of thread
   pub valid : (contents : Contents) (rows : List (ℕ × ℕ)) → IsValid contents → IsValid (jumped_memory rows contents)
-
--- a thread that is moved by a step goes on as it did
-barred_state : (fault : Option Fault) (contents : Contents) (thread : Thread) (change : _) (flow : Flow)
-    → (unless_barred fault contents thread change).outcome ≡ Moved flow → (unless_barred fault contents thread change).thread.state ≡ thread.state
-barred_state (Some fault) contents thread change flow is = cc
-barred_state None contents thread change flow is = refl
-
-done_state : (contents : Contents) (thread : Thread) (change : Result _ Fault) (flow : Flow)
-    → (done contents thread change).outcome ≡ Moved flow → (done contents thread change).thread.state ≡ thread.state
-done_state contents thread (Err fault) flow is = cc
-done_state contents thread (Ok change) flow is = barred_state (store_fault contents change.store) contents thread change flow is
-
-met_state : (contents : Contents) (thread : Thread) (base : ℕ) (met : View) (flow : Flow)
-    → (step_at contents thread base met).outcome ≡ Moved flow → (step_at contents thread base met).thread.state ≡ thread.state
-met_state contents thread base Unmapped flow is = cc
-met_state contents thread base AtHome flow is = refl
-met_state contents thread base Stray flow is = cc
-met_state contents thread base (Bytes code) flow is = done_state contents thread _ flow is
-
-step_state : (k : CallTable) (thread : Thread) (flow : Flow) → (step_in k thread).outcome ≡ Moved flow → (step_in k thread).thread.state ≡ thread.state
-unfolding step_in
-step_state k thread flow is =
-    elim (thread.pc == 0xFFFF_0000) as (λ b. (if b then exits (contents_of k) thread
-    else step_at (contents_of k) thread (base_of k thread.pc) (view_in k thread.pc)).outcome ≡ Moved flow
-    → (if b then exits (contents_of k) thread else step_at (contents_of k) thread (base_of k thread.pc) (view_in k thread.pc)).thread.state ≡ thread.state) [
-      | true ↦ λ e. cc
-      | false ↦ λ e. met_state (contents_of k) thread (base_of k thread.pc) (view_in k thread.pc) flow e
-    ] is
 
 -- what a step wrote meets no slot outside it
 spelled_length : (width : Width) (n : ℕ) → length (spelled width n) ≡ byte_count width
@@ -107,10 +79,10 @@ untouched contents (Some s) slot value apart =
     (outside s.address (byte_count s.width) slot x apart low high)))
 
 -- what is known of a step that is noted, and what comes of it
-pub record IsMade (k now : CallTable) (w : Watching) (before after : Thread) (outcome : Outcome) (store : Option Store) : Type 0 where
-  pub step : IsStep (patched now).pieces before after outcome w.threads
-  pub held : HoldBut (patched now).pieces w.threads store
-  pub same : step_noted (sight_of (patched now)) before after outcome w ≡ step_noted (sight_in now) before after outcome w
+pub record IsMade (memory : Contents) (k now : CallTable) (w : Watching) (before after : Thread) (outcome : Outcome) (store : Option Store) : Type 0 where
+  pub step : IsStep memory.pieces before after outcome w.threads
+  pub held : HoldBut memory.pieces w.threads store
+  pub same : step_noted (sight_of memory) before after outcome w ≡ step_noted (sight_in now) before after outcome w
   pub kept : IsInStep now (step_noted (sight_in now) before after outcome w)
 
 module _ (jumps : JumpLaws) (laws : StepLaws) (k : CallTable) (w : Watching) (n : ℕ) (before : Thread) (built : IsBuilt k)
@@ -125,11 +97,8 @@ module _ (jumps : JumpLaws) (laws : StepLaws) (k : CallTable) (w : Watching) (n 
   stands : stepped (patched k) before ≡ jumped_left (bodies_in k.table) left
   stands = laws.stand k before (built_sound k built).jumps
 
-  number : left.thread.number ≡ before.number
-  number = sym (ap (λ (l : Left). l.thread.number) stands) ∙ laws.number (patched k) before
-
-  stack : left.thread.stack ≡ before.stack
-  stack = sym (ap (λ (l : Left). l.thread.stack) stands) ∙ laws.stack (patched k) before
+  kept : IsThread before left
+  kept = left_thread k before (running_is (slice_get k.threads n) before was).1
 
   own : before.number ≡ n
   own = let is : before.number ≡ 0 + n = numbered_at 0 k.threads n before numbered got in omega (arith, is)
@@ -153,14 +122,14 @@ module _ (jumps : JumpLaws) (laws : StepLaws) (k : CallTable) (w : Watching) (n 
 
   is_step : IsBuilt now → IsStep (patched now).pieces before left.thread left.outcome w.threads
   is_step built_now = record {
-    number = number;
+    number = kept.number;
     stepped = All-weaker (RunsIn k.threads) (λ watched. watched.thread ≡ before.number → IsStepOf (patched now).pieces before left.thread left.outcome watched)
         each w.threads (runs_in k w in_step);
   }
     where
       each : (watched : WatchedThread) → RunsIn k.threads watched → watched.thread ≡ before.number → IsStepOf (patched now).pieces before left.thread left.outcome watched
       each watched is of =
-          let r = running_is k.threads watched is in
+          let r = its_thread k.threads watched is in
           let same : before ≡ r.thread = running_got k.threads n before r.thread got (ap (running_at k.threads) (sym (of ∙ own)) ∙ r.found) in
           record {
             stack = r.same.stack ∙ ap (λ (t : Thread). t.stack) (sym same);
@@ -184,31 +153,18 @@ module _ (jumps : JumpLaws) (laws : StepLaws) (k : CallTable) (w : Watching) (n 
           ∙ ap (λ (pieces : List Piece). holds_dword pieces frame.slot frame.address) wrote
           ∙ untouched (contents_of k) store frame.slot frame.address apart ∙ is.1
 
-  goes_on : ((value : ℕ) → left.outcome ≢ Exited value) → ((fault : Fault) → left.outcome ≢ Stopped fault)
-      → running_at (set k.threads n left.thread) n ≡ Some left.thread
-  goes_on not_exited not_stopped = by left.outcome refl
-    where
-      there : (b : Bool) → runs left.thread ≡ b → b ≡ true → running_at (set k.threads n left.thread) n ≡ Some left.thread
-      there b e is =
-          ap if_running (got_set k.threads n left.thread (slice_get_within k.threads n before got))
-          ∙ ap (λ (c : Bool). if c then (let o : Option Thread = Some left.thread in o) else None) (e ∙ is)
-
-      by : (o : Outcome) → left.outcome ≡ o → running_at (set k.threads n left.thread) n ≡ Some left.thread
-      by (Moved flow) is = there (runs left.thread) refl (ap is_running (step_state k before flow is) ∙ runs_true k.threads n before was)
-      by (Exited value) is = absurd (not_exited value is)
-      by (Stopped fault) is = absurd (not_stopped fault is)
-
   is_kept : IsInStep now (step_noted (sight_in now) before left.thread left.outcome w)
   is_kept =
       left_in_step now (step_noted (sight_in now) before left.thread left.outcome w)
       (step_left (RunsIn (set k.threads n left.thread)) (sight_in now) w in_step.stopped before left.thread left.outcome
-      (λ frames not_exited not_stopped. frames_run k.threads n before left.thread frames w.threads (runs_in k w in_step) was
-      (goes_on not_exited not_stopped) (number ∙ own) stack)
-      (subst (λ (m : ℕ). All (RunsIn (set k.threads n left.thread)) (without_thread w.threads m)) (sym (number ∙ own))
+      (λ frames moves. frames_run k.threads n before left.thread frames w.threads (runs_in k w in_step) was
+      (runs_at (set k.threads n left.thread) n left.thread (set_here k.threads n left.thread before got) (kept.state ∙ moves))
+      (kept.number ∙ own) kept.stack)
+      (subst (λ (m : ℕ). All (RunsIn (set k.threads n left.thread)) (without_thread w.threads m)) (sym (kept.number ∙ own))
       (without_runs k.threads n left.thread w.threads (runs_in k w in_step))))
 
   is_made : IsBuilt now → (store : Option Store) → now.pieces ≡ (after_store (contents_of k) store).pieces
-      → IsMade k now w before left.thread left.outcome store
+      → IsMade (patched now) k now w before left.thread left.outcome store
   is_made built_now store wrote = record {
     step = is_step built_now;
     held = is_held built_now store wrote;
@@ -223,36 +179,24 @@ pub record IsOf (k now : CallTable) (n : ℕ) (before : Thread) (outcome : Outco
   pub left : now ≡ after_step k n (step_in k before)
   pub came : outcome ≡ (step_in k before).outcome
 
-stepped_in : Answer → Outcome
-stepped_in (Stepped outcome) = outcome
-stepped_in (Spawned thread) = Exited thread
-stepped_in (Applied report) = Exited 0
-stepped_in (Undone name) = Exited 0
-
-outcome_in : Result Happened Refusal → Outcome
-outcome_in (Ok now) = stepped_in now.answer
-outcome_in (Err refusal) = Exited 0
-
 step_of : (k now : CallTable) (n : ℕ) (before : Thread) (outcome : Outcome) → slice_get k.threads n ≡ Some before
     → answered k (Step n) ≡ Ok (happened now (Stepped outcome)) → IsOf k now n before outcome
-unfolding answered moved outcome_in stepped_in
-step_of k now n before outcome got is = by (running_at k.threads n) refl is
-  where
-    by : (o : Option Thread) → running_at k.threads n ≡ o → step_answered (moved_by k n o) ≡ Ok (happened now (Stepped outcome)) → IsOf k now n before outcome
-    by None none is = cc
-    by (Some t) found is =
-        let same : before ≡ t = running_got k.threads n before t got found in
-        record {
-          was = found ∙ ap (λ (x : Thread). Some x) (sym same);
-          left = sym (ap (machine_after k) is) ∙ ap (λ (x : Thread). after_step k n (step_in k x)) (sym same);
-          came = sym (ap outcome_in is) ∙ ap (λ (x : Thread). (step_in k x).outcome) (sym same);
-        }
+step_of k now n before outcome got is =
+    let gives = step_gives k n (happened now (Stepped outcome)) is in
+    let same : before ≡ gives.before = running_got k.threads n before gives.before got gives.running in
+    let answer : Stepped outcome ≡ Stepped (step_in k gives.before).outcome = gives.answer in
+    let came : outcome ≡ (step_in k gives.before).outcome = cc in
+    record {
+      was = gives.running ∙ ap (λ (x : Thread). Some x) (sym same);
+      left = gives.machine ∙ ap (λ (x : Thread). after_step k n (step_in k x)) (sym same);
+      came = came ∙ ap (λ (x : Thread). (step_in k x).outcome) (sym same);
+    }
 
 after_got : (k now : CallTable) (n : ℕ) (before : Thread) (outcome : Outcome) → slice_get k.threads n ≡ Some before → IsOf k now n before outcome
     → slice_get now.threads n ≡ Some (step_in k before).thread
 after_got k now n before outcome got of =
     ap (λ (m : CallTable). slice_get m.threads n) of.left
-    ∙ got_set k.threads n (step_in k before).thread (slice_get_within k.threads n before got)
+    ∙ set_here k.threads n (step_in k before).thread before got
 
 -- Where more than five bytes were fetched there is a window at each of them after the step, in memory with its jumps.
 pub fetched_windows : JumpLaws → StepsKeepWindows → FetchedHaveWindows → (k now : CallTable) (n : ℕ) (before : Thread) (outcome : Outcome) (count : ℕ)
@@ -268,18 +212,21 @@ fetched_windows jumps stay fetched k now n before outcome count built built_now 
     (subst (λ (m : ℕ). address < before.pc + m) same to)
 
 pub step_made : JumpLaws → StepLaws → (k now : CallTable) (w : Watching) (n : ℕ) (before after : Thread) (outcome : Outcome) (store : Option Store)
-    → IsBuilt k → IsBuilt now → IsInStep k w → AreNumbered 0 k.threads → slice_get k.threads n ≡ Some before
+    (memory : Contents) → IsBuilt k → IsBuilt now → IsInStep k w → AreNumbered 0 k.threads → slice_get k.threads n ≡ Some before
     → answered k (Step n) ≡ Ok (happened now (Stepped outcome)) → slice_get now.threads n ≡ Some after
     → length before.registers ≡ 8 → esp_of before < 2 ^ 32 → now.pieces ≡ (after_store (contents_of k) store).pieces
-    → IsMade k now w before after outcome store
-step_made jumps laws k now w n before after outcome store built built_now in_step numbered got is got_after registers esp wrote =
+    → memory ≡ patched now → IsMade memory k now w before after outcome store
+step_made jumps laws k now w n before after outcome store memory built built_now in_step numbered got is got_after registers esp wrote there =
     let of = step_of k now n before outcome got is in
-    let there : (step_in k before).thread ≡ after = some_same (sym (after_got k now n before outcome got of) ∙ got_after) in
-    subst (λ (m : CallTable). IsMade k m w before after outcome store) (sym of.left)
-    (subst (λ (o : Outcome). IsMade k (after_step k n (step_in k before)) w before after o store) (sym of.came)
-    (subst (λ (t : Thread). IsMade k (after_step k n (step_in k before)) w before t (step_in k before).outcome store) there
+    let left = step_in k before in
+    let next = after_step k n left in
+    let same : left.thread ≡ after = same_Some left.thread after (sym (after_got k now n before outcome got of) ∙ got_after) in
+    subst (λ (m : Contents). IsMade m k now w before after outcome store) (sym there)
+    (subst (λ (m : CallTable). IsMade (patched m) k m w before after outcome store) (sym of.left)
+    (subst (λ (o : Outcome). IsMade (patched next) k next w before after o store) (sym of.came)
+    (subst (λ (t : Thread). IsMade (patched next) k next w before t left.outcome store) same
     (is_made jumps laws k w n before built in_step numbered got of.was registers esp (subst IsBuilt of.left built_now) store
-    (ap (λ (m : CallTable). m.pieces) (sym of.left) ∙ wrote))))
+    (ap (λ (m : CallTable). m.pieces) (sym of.left) ∙ wrote)))))
 
 -- a step that was made has its thread after it
 pub after_there : (k now : CallTable) (n : ℕ) (before : Thread) (outcome : Outcome) → slice_get k.threads n ≡ Some before

@@ -33,165 +33,15 @@ use Rattle.frame_safety.specs.Clear.{newest_retired, newest_pieces}
 use Rattle.frame_watch.specs.declared.types.Verdict.TheVariants.{Disciplined}
 use Rattle.frame_watch.specs.Frames.{Watching}
 use Rattle.frame_watch.specs.Discipline.{spawn_noted, step_noted, counted}
+use Rattle.ksplice_session.specs.Answers.{watched}
 use Rattle.ksplice_session.specs.Watching.{Watched, sight_in, start_seen, step_seen, seen, watched_by, watched_after}
 use Rattle.ksplice_session.specs.Safety.{frames_of, outcome_in, outcome_by, step_outcome}
 use Rattle.ksplice_session.proofs.Lookups.{set_here, read_last, found_at}
 use Rattle.ksplice_session.proofs.RuleLaws.{start_was_unbroken, step_was_unbroken}
-use Rattle.ksplice_session.proofs.MomentLaws.{Premises, IsOneOf, IsMoment, keep_slots, running_is}
-use Rattle.ksplice_session.proofs.EventLaws.{Next, watched, refused_next, update_next, start_next}
-use Rattle.ksplice_session.proofs.ThreadSteps.{goes_on, IsStep, step_next}
-
-same_Ok : {X Y : Type 0} (x y : X) → (let a : Result X Y = Ok x in a) ≡ Ok y → x ≡ y
-same_Ok x y is = cc
-
-not_Ok : {X Y : Type 0} (e : Y) (y : X) → (let a : Result X Y = Err e in a) ≡ Ok y → ⊥
-not_Ok e y is = cc
-
--- what a step leaves of its thread
-record IsThread (thread : Thread) (left : Left) : Type 0 where
-  pub number : left.thread.number ≡ thread.number
-  pub stack : left.thread.stack ≡ thread.stack
-  pub state : runs left.thread ≡ goes_on left.outcome
-
-module _ (contents : Contents) (thread : Thread) (running : runs thread ≡ true) where
-  by_fault : (fault : Option Fault) (change : _) → IsThread thread (unless_barred fault contents thread change)
-  by_fault (Some fault) change = record { number = refl; stack = refl; state = refl }
-  by_fault None change = record { number = refl; stack = refl; state = running }
-
-  by_change : (change : Result _ Fault) → IsThread thread (done contents thread change)
-  by_change (Err fault) = record { number = refl; stack = refl; state = refl }
-  by_change (Ok change) = by_fault (store_fault contents change.store) change
-
-  by_view : (base : ℕ) (met : View) → IsThread thread (step_at contents thread base met)
-  by_view base Unmapped = record { number = refl; stack = refl; state = refl }
-  by_view base AtHome = record { number = refl; stack = refl; state = running }
-  by_view base Stray = record { number = refl; stack = refl; state = refl }
-  by_view base (Bytes code) = by_change (change_by contents.pieces (context_of thread) (decoded_from code))
-
-  by_end : (base : ℕ) (met : View) (ends : Bool)
-      → IsThread thread (if ends then exits contents thread else step_at contents thread base met)
-  by_end base met true = record { number = refl; stack = refl; state = refl }
-  by_end base met false = by_view base met
-
-left_thread : (k : CallTable) (thread : Thread) → runs thread ≡ true → IsThread thread (step_in k thread)
-unfolding step_in
-left_thread k thread running =
-    by_end (contents_of k) thread running (base_of k thread.pc) (view_in k thread.pc) (thread.pc == 0xFFFF_0000)
-
--- what is answered to a step
-record HasStepped (k : CallTable) (n : ℕ) (now : Happened) : Type 0 where
-  pub before : Thread
-  pub running : running_at k.threads n ≡ Some before
-  pub machine : now.machine ≡ after_step k n (step_in k before)
-  pub answer : now.answer ≡ Stepped (step_in k before).outcome
-
-step_gives : (k : CallTable) (n : ℕ) (now : Happened) → answered k (Step n) ≡ Ok now → HasStepped k n now
-unfolding answered moved
-step_gives k n now is = by_running (running_at k.threads n) refl is
-  where
-    by_running : (o : Option Thread) → running_at k.threads n ≡ o → step_answered (moved_by k n o) ≡ Ok now
-        → HasStepped k n now
-    by_running None rests is = absurd (not_Ok (NoThread n) now is)
-    by_running (Some before) runs is =
-        let left = happened (after_step k n (step_in k before)) (Stepped (step_in k before).outcome) in
-        subst (HasStepped k n) (same_Ok left now is)
-        (record { before = before; running = runs; machine = refl; answer = refl })
-
-step_refused : (k : CallTable) (n : ℕ) (refusal : Refusal) → answered k (Step n) ≡ Err refusal
-    → running_at k.threads n ≡ None
-unfolding answered moved
-step_refused k n refusal is = by_running (running_at k.threads n) is
-  where
-    by_running : (o : Option Thread) → step_answered (moved_by k n o) ≡ Err refusal → o ≡ None
-    by_running None is = refl
-    by_running (Some before) is =
-        let left = happened (after_step k n (step_in k before)) (Stepped (step_in k before).outcome) in
-        absurd (not_Ok refusal left (sym is))
-
--- what is answered to a start
-record HasStarted (k : CallTable) (now : Happened) : Type 0 where
-  pub stack : Range
-  pub pc : ℕ
-  pub threads : now.machine.threads ≡ k.threads ++ first_thread (length k.threads) stack pc ∷ []
-  pub stacks : now.machine.stacks ≡ k.stacks
-  pub listed : IsOneOf k.stacks stack
-  pub answer : now.answer ≡ Spawned (length k.threads)
-
-spawn_gives : (k : CallTable) (name : List ℕ) (argument : ℕ) (now : Happened)
-    → answered k (Spawn name argument) ≡ Ok now → HasStarted k now
-unfolding answered spawned started
-spawn_gives k name argument now is = by_place (function_named k.symbols name) is
-  where
-    on_stack : (pc : ℕ) (o : Option Range) → free_stack k.stacks k.threads ≡ o
-        → spawn_answered (length k.threads) (after_start k (started_on k.pieces k.threads pc argument o)) ≡ Ok now
-        → HasStarted k now
-    on_stack pc None free is = absurd (cc)
-    on_stack pc (Some stack) free is =
-        subst (HasStarted k) (same_Ok _ now is) (record {
-          stack = stack;
-          pc = pc;
-          threads = refl;
-          stacks = refl;
-          listed = found_at (λ range. not (is_taken k.threads range)) k.stacks stack free;
-          answer = refl;
-        })
-
-    by_count : (pc : ℕ) (full : Bool)
-        → spawn_answered (length k.threads) (after_start k (if full then Err TooManyThreads
-        else started_on k.pieces k.threads pc argument (free_stack k.stacks k.threads))) ≡ Ok now
-        → HasStarted k now
-    by_count pc true is = absurd (cc)
-    by_count pc false is = on_stack pc (free_stack k.stacks k.threads) refl is
-
-    by_place : (pc : Result ℕ Refusal)
-        → spawn_answered (length k.threads) (after_start k (started_at k.pieces k.stacks k.threads argument pc))
-        ≡ Ok now
-        → HasStarted k now
-    by_place (Err refusal) is = absurd (cc)
-    by_place (Ok pc) is = by_count pc (nat_le 4096 (length k.threads)) is
-
--- what an update leaves, and one taken back
-record IsUpdated (k : CallTable) (now : Happened) : Type 0 where
-  pub threads : now.machine.threads ≡ k.threads
-  pub stacks : now.machine.stacks ≡ k.stacks
-  pub seen : (event : Event) (w : Watching) → seen k event now.machine now.answer w ≡ counted w
-
-apply_gives : (k : CallTable) (name pre post : List ℕ) (now : Happened) → answered k (Apply name pre post) ≡ Ok now
-    → IsUpdated k now
-unfolding answered applied committed
-apply_gives k name pre post now is = by_plan (planned_in k name pre post) is
-  where
-    by_threads : (plan : Plan) (o : Option Refusal)
-        → apply_answered (unless o plan >>= λ (clear : Plan).
-        let r : Result (CallTable × Report) Refusal = Ok (committed k name clear, clear.report) in r) ≡ Ok now
-        → IsUpdated k now
-    by_threads plan (Some refusal) is = absurd (cc)
-    by_threads plan None is =
-        subst (IsUpdated k) (same_Ok _ now is) (record { threads = refl; stacks = refl; seen = λ event w. refl })
-
-    by_plan : (r : Result Plan Refusal)
-        → apply_answered (r >>= λ (plan : Plan). unless (thread_refusal k.pieces plan.guarded k.threads) plan
-        >>= λ (clear : Plan).
-        let r : Result (CallTable × Report) Refusal = Ok (committed k name clear, clear.report) in r) ≡ Ok now
-        → IsUpdated k now
-    by_plan (Err refusal) is = absurd (cc)
-    by_plan (Ok plan) is = by_threads plan (thread_refusal k.pieces plan.guarded k.threads) is
-
-undo_gives : (k : CallTable) (now : Happened) → answered k Undo ≡ Ok now → IsUpdated k now
-unfolding answered undone withdrawn
-undo_gives k now is = by_update (newest_update k) is
-  where
-    by_threads : (update : Update) (o : Option Refusal)
-        → undo_answered (unless o update >>= λ (clear : Update).
-        let r : Result (CallTable × List ℕ) Refusal = Ok (withdrawn k clear, clear.name) in r) ≡ Ok now
-        → IsUpdated k now
-    by_threads update (Some refusal) is = absurd (cc)
-    by_threads update None is =
-        subst (IsUpdated k) (same_Ok _ now is) (record { threads = refl; stacks = refl; seen = λ event w. refl })
-
-    by_update : (o : Option Update) → undo_answered (undone_by k o) ≡ Ok now → IsUpdated k now
-    by_update None is = absurd (cc)
-    by_update (Some update) is = by_threads update (thread_refusal k.pieces (ranges_in k update) k.threads) is
+use Rattle.ksplice_session.proofs.EventAnswers.{running_is, left_thread, step_gives, step_refused, spawn_gives, apply_gives, undo_gives}
+use Rattle.ksplice_session.proofs.MomentLaws.{Premises, IsMoment, keep_slots}
+use Rattle.ksplice_session.proofs.EventLaws.{Next, refused_next, update_next, start_next}
+use Rattle.ksplice_session.proofs.ThreadSteps.{IsStep, step_next}
 
 module _ (laws : Premises) (s : Watched) (moment : IsMoment s) (built : IsBuilt s.machine) where
   -- what an event leaves, by its answer
@@ -208,14 +58,16 @@ module _ (laws : Premises) (s : Watched) (moment : IsMoment s) (built : IsBuilt 
       let gives = spawn_gives s.machine name argument now is in
       let thread = first_thread (length s.machine.threads) gives.stack gives.pc in
       let at : slice_get now.machine.threads (length s.machine.threads) ≡ Some thread =
-      ap (λ (ts : List Thread). slice_get ts (length s.machine.threads)) gives.threads
+      ap (λ (k : CallTable). slice_get k.threads (length s.machine.threads)) gives.machine
       ∙ read_last s.machine.threads thread in
       let same : seen s.machine event now.machine now.answer s.watch
       ≡ spawn_noted (sight_in now.machine) thread s.watch =
       ap (λ (a : Answer). seen s.machine event now.machine a s.watch) gives.answer
       ∙ ap (λ (o : Option Thread). start_seen (sight_in now.machine) o s.watch) at in
       subst (λ (w : Watching). Next s event (watched now.machine w)) (sym same)
-      (start_next s event moment now.machine thread gives.threads gives.stacks refl refl gives.listed
+      (start_next s event moment now.machine thread (ap (λ (k : CallTable). k.threads) gives.machine)
+      (ap (λ (k : CallTable). k.stacks) gives.machine) refl refl
+      (found_at (λ range. not (is_taken s.machine.threads range)) s.machine.stacks gives.stack gives.free)
       (laws.starts s.machine name argument now is) (λ n steps. absurd (cc))
       (subst (λ (w : Watching). w.verdict ≡ Disciplined) same unbroken))
 
@@ -303,16 +155,6 @@ module _ (laws : Premises) (s : Watched) (moment : IsMoment s) (built : IsBuilt 
       → (watched_after s event).watch.verdict ≡ Disciplined → Next s event (watched_after s event)
   unfolding watched_after
   next event later unbroken = leaves event (answered s.machine event) refl later unbroken
-
--- the machine goes its own way
-pub same_machine : (s : Watched) (event : Event) → (watched_after s event).machine ≡ after_event s.machine event
-unfolding watched_after after_event
-same_machine s event = by_result (answered s.machine event)
-  where
-    by_result : (result : Result Happened Refusal)
-        → (watched_by s event result).machine ≡ machine_after s.machine result
-    by_result (Err refusal) = refl
-    by_result (Ok now) = refl
 
 -- where no rule was broken after an event, none was before it
 pub was_unbroken : (s : Watched) (event : Event) → (watched_after s event).watch.verdict ≡ Disciplined

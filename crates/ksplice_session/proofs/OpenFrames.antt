@@ -23,21 +23,11 @@ use Rattle.frame_watch.specs.declared.types.Verdict.TheVariants.{Disciplined}
 use Rattle.ksplice_session.specs.Watching.{Watched, first_watched, watched_after, watched_after_all, IsDisciplined}
 use Rattle.ksplice_session.specs.Safety.{frames_of, depth_of, address_of, return_address, stays_open, outcome_by}
 use Rattle.ksplice_session.specs.Safety.{step_outcome, OpenFramesKeepWindows}
-use Rattle.ksplice_session.proofs.Lookups.{more_behind, read_last, front_reads, last_behind, nothing_read}
+use Rattle.ksplice_session.proofs.Lookups.{both_hold, more_behind, read_last, front_reads, last_behind, nothing_read}
 use Rattle.ksplice_session.proofs.MomentLaws.{Premises, IsMoment, Change, Stays, Begins, Arrives, Calls, Returns, Ends}
 use Rattle.ksplice_session.proofs.EventLaws.{Next}
-use Rattle.ksplice_session.proofs.NextLaws.{next, same_machine, was_unbroken}
-
--- a list of events in two parts, and one event more
-pub after_more : (s : Watched) (events later : List Event)
-    → watched_after_all s (events ++ later) ≡ watched_after_all (watched_after_all s events) later
-unfolding watched_after_all
-after_more s events later = fold-append watched_after s events later
-
-pub after_one : (s : Watched) (events : List Event) (event : Event)
-    → watched_after_all s (events ++ event ∷ []) ≡ watched_after (watched_after_all s events) event
-unfolding watched_after_all
-after_one s events event = fold-append watched_after s events (event ∷ [])
+use Rattle.ksplice_session.proofs.NextLaws.{next, was_unbroken}
+use Rattle.ksplice_session.proofs.WatchedLaws.{machine_after_all, watched_after_both, after_one}
 
 -- where no rule is broken at the end, none was before
 start_unbroken : (s : Watched) (events : List Event) → IsDisciplined s events → s.watch.verdict ≡ Disciplined
@@ -49,15 +39,7 @@ pub front_disciplined : (s : Watched) (events later : List Event) → IsDiscipli
     → IsDisciplined s events
 front_disciplined s events later now =
     start_unbroken (watched_after_all s events) later
-    (subst (λ (x : Watched). x.watch.verdict ≡ Disciplined) (after_more s events later) now)
-
-machine_along : (s : Watched) (events : List Event)
-    → (watched_after_all s events).machine ≡ after_events s.machine events
-unfolding watched_after_all after_events
-machine_along s [] = refl
-machine_along s (event ∷ events) =
-    machine_along (watched_after s event) events
-    ∙ ap (λ (k : CallTable). fold after_event k events) (same_machine s event)
+    (subst (λ (x : Watched). x.watch.verdict ≡ Disciplined) (watched_after_both s events later) now)
 
 none_that_low : (i : ℕ) → IsTrue (nat_le (suc i) 0) → ⊥
 none_that_low i low = grind (arith, nat_tests)
@@ -134,21 +116,14 @@ open_now : (n depth : ℕ) (s : Watched) (later : List Event) → IsTrue (stays_
     → IsTrue (nat_le depth (depth_of s n))
 unfolding stays_open
 open_now n depth s [] stays = stays
-open_now n depth s (event ∷ later) stays = by_test (nat_le depth (depth_of s n)) stays
-  where
-    by_test : (b : Bool) → (b && stays_open n depth (watched_after s event) later) ≡ true → b ≡ true
-    by_test true stays = refl
-    by_test false stays = absurd (cc)
+open_now n depth s (event ∷ later) stays =
+    (both_hold (nat_le depth (depth_of s n)) (stays_open n depth (watched_after s event) later) stays).0
 
 open_later : (n depth : ℕ) (s : Watched) (event : Event) (later : List Event)
     → IsTrue (stays_open n depth s (event ∷ later)) → IsTrue (stays_open n depth (watched_after s event) later)
 unfolding stays_open
-open_later n depth s event later stays = by_test (nat_le depth (depth_of s n)) stays
-  where
-    by_test : (b : Bool) → (b && stays_open n depth (watched_after s event) later) ≡ true
-        → stays_open n depth (watched_after s event) later ≡ true
-    by_test true stays = stays
-    by_test false stays = absurd (cc)
+open_later n depth s event later stays =
+    (both_hold (nat_le depth (depth_of s n)) (stays_open n depth (watched_after s event) later) stays).1
 
 module _ (laws : Premises) (file : List ℕ) (image : Image) (read : image_of file ≡ Ok image) where
   abbrev pub at_end : List Event → Watched
@@ -156,7 +131,7 @@ module _ (laws : Premises) (file : List ℕ) (image : Image) (read : image_of fi
 
   built_at : (s : Watched) (events : List Event) → s ≡ at_end events → IsBuilt s.machine
   built_at s events is =
-      subst IsBuilt (sym (ap (λ (x : Watched). x.machine) is ∙ machine_along (first_watched image) events))
+      subst IsBuilt (sym (ap (λ (x : Watched). x.machine) is ∙ machine_after_all (first_watched image) events))
       (laws.built file image events read)
 
   -- What holds at first, and after each event that leaves the list disciplined, holds at the end.

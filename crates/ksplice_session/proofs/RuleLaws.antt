@@ -23,7 +23,8 @@ use Rattle.frame_watch.specs.Frames.{frames_at, if_of, with_frames, without_thre
 use Rattle.frame_watch.specs.Discipline.{Sight, counted, broken, number_of, breaking, lesser, least, slot_broken}
 use Rattle.frame_watch.specs.Discipline.{slots_tested, after_start, pops, after_outcome}
 use Rattle.frame_watch.specs.Discipline.{unless_broken, spawn_noted, step_noted}
-use Rattle.ksplice_session.proofs.Lookups.{true_false, found_is, find_mapped, find_without, find_past_filter}
+use Rattle.ksplice_session.proofs.TestedLaws.{all_keep}
+use Rattle.ksplice_session.proofs.Lookups.{All-at, found_at, true_false, found_is, find_mapped, find_without, find_past_filter}
 use Rattle.ksplice_session.proofs.Lookups.{find_put_other, find_put_new}
 
 pub same_number : (n m : ℕ) → (n == m) ≡ true → n ≡ m
@@ -120,30 +121,11 @@ it_is_started threads thread none =
 abbrev pub KeepRule : List Piece → List Watched → Type 0
 KeepRule pieces threads = (n : ℕ) (one : Watched) → watched_at threads n ≡ Some one → IsTrue (keeps_slots pieces one)
 
-some_least : (numbers : List ℕ) (m : ℕ) → fold lesser (Some m) numbers ≡ None → ⊥
-some_least [] m none = none-some m (sym none)
-some_least (n ∷ numbers) m none = some_least numbers (min m n) none
-
 none_breaks : (pieces : List Piece) (threads : List Watched) → least (breaking pieces threads) ≡ None
     → KeepRule pieces threads
-none_breaks pieces [] none n one is = absurd (none-some one is)
-none_breaks pieces (x ∷ xs) none n one is =
-    by_keeping (keeps_slots pieces x) refl none (λ rest. none_breaks pieces xs rest n one)
-  where
-    by_number : (b : Bool) → is_of n x ≡ b → keeps_slots pieces x ≡ true
-        → (watched_at xs n ≡ Some one → IsTrue (keeps_slots pieces one)) → cond b (Some x) (watched_at xs n) ≡ Some one
-        → IsTrue (keeps_slots pieces one)
-    by_number true here keeps later is =
-        subst (λ (w : Watched). IsTrue (keeps_slots pieces w)) (same_Some x one is) keeps
-    by_number false elsewhere keeps later is = later is
-
-    by_keeping : (b : Bool) → keeps_slots pieces x ≡ b
-        → least (map number_of (cond (not b) (x ∷ filter (λ w. not (keeps_slots pieces w)) xs)
-        (filter (λ w. not (keeps_slots pieces w)) xs))) ≡ None
-        → (least (breaking pieces xs) ≡ None → watched_at xs n ≡ Some one → IsTrue (keeps_slots pieces one))
-        → IsTrue (keeps_slots pieces one)
-    by_keeping true keeps none later = by_number (is_of n x) refl keeps (later none) is
-    by_keeping false breaks none later = absurd (some_least (breaking pieces xs) x.thread none)
+none_breaks pieces threads none n one is =
+    let at = found_at (is_of n) threads one is in
+    All-at (λ w. IsTrue (keeps_slots pieces w)) threads at.0 one (all_keep pieces threads none) at.1
 
 -- A watch that goes on with some threads: it has these, and their frames keep the slot rule.
 pub record GoesOn (pieces : List Piece) (threads : List Watched) (w : Watching) : Type 0 where

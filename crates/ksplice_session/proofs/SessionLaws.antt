@@ -217,35 +217,25 @@ module _ (files : ToldFiles) (k : Watched) (script : List Command) (line : Comma
     unfolding total r here
     none_behind = record { through = refl; none_lost = refl }
 
+    cut_by : (new' : Option (List ℕ)) (now' : Watched) (end : SessionEnd) → Ends k whole total None old new' now' end
+        → TookFront (grown old (played k run.ran).output) (told_of (played k run.ran).session line held).reply new'
+        → SessionEnds files k whole before after old new' now' end
+    cut_by new' now' end ends took =
+        record { held = total; lost = None; loads = loads; ends = ends; front = front_of new' took }
+
     pub cut_exit : (new' : Option (List ℕ)) (now' : Watched) (end : SessionEnd) → CutAt now (told_of now line held) new new' now' end
         → SessionEnds files k whole before after old new' now' end
     unfolding r here
     cut_exit new' now' _ (SinkCut part is) =
-        record {
-          held = total;
-          lost = None;
-          loads = loads;
-          ends = SinkStopped here none_behind (part_of new' part) (events_made now' is);
-          front = front_of new' (front_of_part _ new' _ (part_of new' part));
-        }
+        cut_by new' now' _ (SinkStopped here none_behind (part_of new' part) (events_made now' is)) (front_of_part _ new' _ (part_of new' part))
     cut_exit new' now' _ (MemoryCut part is) =
-        record {
-          held = total;
-          lost = None;
-          loads = loads;
-          ends = MemoryAfterLine here none_behind (part_of new' part) (events_made now' is);
-          front = front_of new' (front_of_part _ new' _ (part_of new' part));
-        }
+        cut_by new' now' _ (MemoryAfterLine here none_behind (part_of new' part) (events_made now' is)) (front_of_part _ new' _ (part_of new' part))
     cut_exit new' now' _ (EventsCut untouched made) =
-        record {
-          held = total;
-          lost = None;
-          loads = loads;
-          ends = MemoryInLine here none_behind (untouched ∙ run.taken)
-              (subst (λ (n : Watched). MadeFront n (told_of n line held).events now') run.session made);
-          front = front_of new' (subst (λ (t : Option (List ℕ)). TookFront (grown old (played k run.ran).output) (told_of (played k run.ran).session line held).reply t) (sym (untouched ∙ run.taken))
-              (nothing_taken (grown old (played k run.ran).output) (told_of (played k run.ran).session line held).reply));
-        }
+        let same = untouched ∙ run.taken in
+        cut_by new' now' _
+        (MemoryInLine here none_behind same (subst (λ (n : Watched). MadeFront n (told_of n line held).events now') run.session made))
+        (subst (TookFront (grown old (played k run.ran).output) (told_of (played k run.ran).session line held).reply) (sym same)
+        (nothing_taken (grown old (played k run.ran).output) (told_of (played k run.ran).session line held).reply))
 
   -- a line that lacks a file
   module _ (held : List (List ℕ)) (lost : Option FileFault) (file : Needed) (came : CameTo files (files_of line) held lost between after)
@@ -289,34 +279,29 @@ module _ (files : ToldFiles) (k : Watched) (script : List Command) (line : Comma
         → TookFront new (lost_line (Some file) lost) new'
     at_line new' fault is took = subst (λ (l : Option FileFault). TookFront new (lost_line (Some file) l) new') (sym is) took
 
+    lost_by : (new' : Option (List ℕ)) (now' : Watched) (end : SessionEnd) → Ends k whole total_lost lost old new' now' end
+        → TookFront new (lost_line (Some file) lost) new' → SessionEnds files k whole before after old new' now' end
+    lost_by new' now' end ends took =
+        record { held = total_lost; lost = lost; loads = loads_lost; ends = ends; front = front_lost new' took }
+
     pub lost_exit : (new' : Option (List ℕ)) (now' : Watched) (end : SessionEnd) → LostAt file lost new new' end → now' ≡ now
         → SessionEnds files k whole before after old new' now' end
     lost_exit new' now' _ (LineWritten fault is out) same =
-        record {
-          held = total_lost;
-          lost = lost;
-          loads = loads_lost;
-          ends = FileStopped file fault lacking_is is
-              (out ∙ ap (λ (t : Option (List ℕ)). grown t (file_line file.name fault)) output_before ∙ grown-append old (played k (ran_by whole total_lost)).output (file_line file.name fault))
-              (machine_before now' same);
-          front = front_lost new' (at_line new' fault is (TookFront-whole (file_line file.name fault) out));
-        }
+        let text = file_line file.name fault in
+        lost_by new' now' _
+        (FileStopped file fault lacking_is is
+        (out ∙ ap (λ (t : Option (List ℕ)). grown t text) output_before ∙ grown-append old (played k (ran_by whole total_lost)).output text)
+        (machine_before now' same))
+        (at_line new' fault is (TookFront-whole text out))
     lost_exit new' now' _ (SinkLost fault is part) same =
-        record {
-          held = total_lost;
-          lost = lost;
-          loads = loads_lost;
-          ends = SinkAtFile file fault lacking_is is (subst (λ (t : Option (List ℕ)). TookPart t (file_line file.name fault) new') output_before part) (machine_before now' same);
-          front = front_lost new' (at_line new' fault is (front_of_part new new' (file_line file.name fault) part));
-        }
+        let text = file_line file.name fault in
+        lost_by new' now' _
+        (SinkAtFile file fault lacking_is is (subst (λ (t : Option (List ℕ)). TookPart t text new') output_before part) (machine_before now' same))
+        (at_line new' fault is (front_of_part new new' text part))
     lost_exit new' now' _ (MemoryLost took) same =
-        record {
-          held = total_lost;
-          lost = lost;
-          loads = loads_lost;
-          ends = MemoryAtFile file lacking_is (subst (λ (t : Option (List ℕ)). TookFront t (lost_line (Some file) lost) new') output_before took) (machine_before now' same);
-          front = front_lost new' took;
-        }
+        lost_by new' now' _
+        (MemoryAtFile file lacking_is (subst (λ (t : Option (List ℕ)). TookFront t (lost_line (Some file) lost) new') output_before took)
+        (machine_before now' same)) took
 
   -- the session ends at a line
   pub line_exit : (new' : Option (List ℕ)) (now' : Watched) (end : SessionEnd) → EndedBy files now line between after new new' now' end

@@ -13,21 +13,13 @@ use Rattle.image_memory.proofs.RangeLaws.{one_after}
 use Rattle.ia32_step.specs.declared.types.Frame.{Frame}
 use Rattle.ia32_step.specs.Frames.{is_slot, holds_dword, keeps_slot}
 use Rattle.frame_watch.specs.Frames.{Watched, keeps_slots}
-
-pub and_parts : (x y : Bool) → (x && y) ≡ true → (x ≡ true) × (y ≡ true)
-and_parts true y h = (refl, h)
-and_parts false y h = cc
+use Rattle.ksplice_session.proofs.Lookups.{both_hold, All-of_list_all}
 
 pub all_weaker : {X : Type 0} (p q : X → Bool) (xs : List X) → ((x : X) → p x ≡ true → q x ≡ true) → list_all p xs ≡ true → list_all q xs ≡ true
 all_weaker p q [] f all = refl
 all_weaker p q (x ∷ xs) f all =
-    let parts = and_parts (p x) (list_all p xs) all in
+    let parts = both_hold (p x) (list_all p xs) all in
     ap (λ (b : Bool). b && list_all q xs) (f x parts.0) ∙ all_weaker p q xs f parts.1
-
-pub all_pass : {X : Type 0} (p : X → Bool) (xs : List X) → list_all p xs ≡ true → All (λ x. p x ≡ true) xs
-all_pass p [] all = All-nil (λ x. p x ≡ true)
-all_pass p (x ∷ xs) all =
-    let parts = and_parts (p x) (list_all p xs) all in All-cons (λ x. p x ≡ true) x xs parts.0 (all_pass p xs parts.1)
 
 pub none_passes : {X : Type 0} (p : X → Bool) (xs : List X) → list_any p xs ≡ false → All (λ x. p x ≡ false) xs
 none_passes p xs none k d less = by (p (get_or xs k d)) refl
@@ -40,7 +32,7 @@ none_passes p xs none k d less = by (p (get_or xs k d)) refl
 pub slot_parts : (pieces : List Piece) (stack : Range) (esp : ℕ) (frame : Frame) → keeps_slot pieces stack esp frame ≡ true
     → (is_slot stack esp frame.slot ≡ true) × (holds_dword pieces frame.slot frame.address ≡ true)
 unfolding keeps_slot
-slot_parts pieces stack esp frame is = and_parts (is_slot stack esp frame.slot) (holds_dword pieces frame.slot frame.address) is
+slot_parts pieces stack esp frame is = both_hold (is_slot stack esp frame.slot) (holds_dword pieces frame.slot frame.address) is
 
 slot_whole : (pieces : List Piece) (stack : Range) (esp : ℕ) (frame : Frame) → is_slot stack esp frame.slot ≡ true
     → holds_dword pieces frame.slot frame.address ≡ true → keeps_slot pieces stack esp frame ≡ true
@@ -72,7 +64,7 @@ frames_hold pieces watched keeps =
     All-weaker (λ (frame : Frame). keeps_slot pieces watched.stack watched.esp frame ≡ true)
     (λ (frame : Frame). (is_slot watched.stack watched.esp frame.slot ≡ true) × (holds_dword pieces frame.slot frame.address ≡ true))
     (slot_parts pieces watched.stack watched.esp) watched.frames
-    (all_pass (keeps_slot pieces watched.stack watched.esp) watched.frames keeps)
+    (All-of_list_all (keeps_slot pieces watched.stack watched.esp) watched.frames keeps)
 
 -- two things whose ranges ascend are one, or apart
 pub same_or_apart : {X : Type 0} (range : X → Range) (xs : List X) (a b : X) → Ascends range 0 xs → Contains xs a → Contains xs b

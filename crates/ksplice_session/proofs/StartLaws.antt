@@ -5,14 +5,14 @@ use Rattle.std.proofs.lemmas.Bool.Decides.{nat_tests}
 use Rattle.std.proofs.lemmas.Bool.{false≢true}
 use Rattle.std.proofs.lemmas.List.Elements.{All-weaker, All-contains}
 use Rattle.std.proofs.lemmas.List.Folds.{list_any_none}
-use Rattle.std.proofs.lemmas.Option.{slice_get_within, get_or_from_slice_get}
+use Rattle.std.proofs.lemmas.Option.{same_Some, slice_get_within}
 use Rattle.ks_base.specs.declared.places.Range.{Range}
 use Rattle.ks_base.specs.declared.refusals.Refusal.{Refusal}
 use Rattle.ks_base.specs.declared.refusals.Refusal.TheVariants.{TooManyThreads}
 use Rattle.image_memory.specs.declared.types.Piece.{Piece}
 use Rattle.image_memory.specs.Ranges.{meets, MeetsNone, are_same}
 use Rattle.image_memory.specs.Access.{written}
-use Rattle.image_memory.proofs.RangeLaws.{found}
+use Rattle.image_memory.specs.Contents.{Contents}
 use Rattle.image_file.specs.Rules.{own_range}
 use Rattle.ia32_step.specs.declared.types.Frame.{Frame}
 use Rattle.ia32_step.specs.declared.types.Outcome.{Outcome}
@@ -39,58 +39,9 @@ use Rattle.ksplice_session.proofs.SightLaws.{spawn_alike}
 use Rattle.ksplice_session.proofs.SeenLaws.{JumpLaws, jumps_alike}
 use Rattle.ksplice_session.proofs.StackLaws.{none_passes, slot_within, slots_stay, frames_hold, same_or_apart}
 use Rattle.ksplice_session.proofs.TestedLaws.{spawn_left}
-use Rattle.ksplice_session.proofs.WatchLaws.{RunsIn, some_same, runs_in, slots_in, left_in_step, running_is, runs_as, running_within, runs_true, got_push, runs_push, All-put_in}
-
--- what the start of a thread leaves
-pub record IsSpawned (k now : CallTable) (number : ℕ) : Type 0 where
-  pub stack : Range
-  pub pc : ℕ
-  pub argument : ℕ
-  pub free : free_stack k.stacks k.threads ≡ Some stack
-  pub left : now ≡ record k {
-    pieces = written stack.low (first_bytes stack argument) k.pieces;
-    threads = k.threads ++ first_thread (length k.threads) stack pc ∷ [];
-  }
-  pub count : number ≡ length k.threads
-
-spawned_in : Answer → ℕ
-spawned_in (Spawned thread) = thread
-spawned_in (Stepped outcome) = 0
-spawned_in (Applied report) = 0
-spawned_in (Undone name) = 0
-
-number_in : Result Happened Refusal → ℕ
-number_in (Ok now) = spawned_in now.answer
-number_in (Err refusal) = 0
-
-spawn_is : (k now : CallTable) (name : List ℕ) (argument number : ℕ) → answered k (Spawn name argument) ≡ Ok (happened now (Spawned number))
-    → IsSpawned k now number
-unfolding answered spawned program_started number_in spawned_in
-spawn_is k now name argument number is = by_pc (function_named k.symbols name) is
-  where
-    by_stack : (pc : ℕ) (o : Option Range) → free_stack k.stacks k.threads ≡ o
-        → spawn_answered (length k.threads) (after_start k (started_on k.pieces k.threads pc argument o)) ≡ Ok (happened now (Spawned number))
-        → IsSpawned k now number
-    by_stack pc None free is = cc
-    by_stack pc (Some stack) free is = record {
-      stack = stack;
-      pc = pc;
-      argument = argument;
-      free = free;
-      left = sym (ap (machine_after k) is);
-      count = sym (ap number_in is);
-    }
-
-    by_room : (pc : ℕ) (b : Bool) → spawn_answered (length k.threads) (after_start k
-        (if b then Err TooManyThreads else started_on k.pieces k.threads pc argument (free_stack k.stacks k.threads))) ≡ Ok (happened now (Spawned number))
-        → IsSpawned k now number
-    by_room pc true is = cc
-    by_room pc false is = by_stack pc (free_stack k.stacks k.threads) refl is
-
-    by_pc : (r : Result ℕ Refusal) → spawn_answered (length k.threads) (after_start k (started_at k.pieces k.stacks k.threads argument r))
-        ≡ Ok (happened now (Spawned number)) → IsSpawned k now number
-    by_pc (Err refusal) is = cc
-    by_pc (Ok pc) is = by_room pc (nat_le 4096 (length k.threads)) is
+use Rattle.ksplice_session.proofs.WatchLaws.{RunsIn, runs_in, slots_in, left_in_step, its_thread, stack_listed, runs_as, runs_push, All-put_in}
+use Rattle.ksplice_session.proofs.EventAnswers.{running_is, HasStarted, spawn_gives}
+use Rattle.ksplice_session.proofs.Lookups.{All-at, is_contained, found_is, found_at, read_last}
 
 first_slot : (stack : Range) → IsStackRange stack → is_slot stack (first_top stack) (first_top stack) ≡ true
 unfolding is_slot
@@ -99,11 +50,6 @@ first_slot stack is =
     let high = is.high in
     let tall = is.tall in
     grind (arith, nat_tests)
-
-not_first : (a b : Bool) → (a ≡ true) → (not b ≡ true) → (a ≡ b) → ⊥
-not_first true true a b e = cc
-not_first true false a b e = cc
-not_first false b a b' e = cc
 
 apart_stacks : (a b : Range) → ((a.high ≤ b.low) ⊎ (b.high ≤ a.low)) → meets a b ≡ false
 apart_stacks a b apart = grind (arith, nat_tests)
@@ -116,10 +62,10 @@ abbrev has_this : Range → Thread → Bool
 has_this stack t = runs t && are_same t.stack stack
 
 -- what is known of a start that is noted, and what comes of it, or where it isn't noted
-pub record IsBegun (k now : CallTable) (w : Watching) (thread : Thread) : Type 0 where
+pub record IsBegun (memory : Contents) (k now : CallTable) (w : Watching) (thread : Thread) : Type 0 where
   pub start : MayStart w thread
-  pub held : HoldBut (patched now).pieces w.threads None
-  pub same : spawn_noted (sight_of (patched now)) thread w ≡ spawn_noted (sight_in now) thread w
+  pub held : HoldBut memory.pieces w.threads None
+  pub same : spawn_noted (sight_of memory) thread w ≡ spawn_noted (sight_in now) thread w
   pub kept : IsInStep now (spawn_noted (sight_in now) thread w)
   pub unnoted : IsInStep now w
 
@@ -131,15 +77,14 @@ module _ (jumps : JumpLaws) (k : CallTable) (w : Watching) (stack : Range) (pc a
   abbrev now : CallTable
   now = record k { pieces = written stack.low (first_bytes stack argument) k.pieces; threads = k.threads ++ thread ∷ [] }
 
+  abbrev is_free : Range → Bool
+  is_free range = not (is_taken k.threads range)
+
   listed : Contains k.stacks stack
-  listed =
-      let f = found (λ stack. not (is_taken k.threads stack)) k.stacks stack free in
-      (f.index, f.in_list, f.at stack)
+  listed = is_contained k.stacks stack (found_at is_free k.stacks stack free)
 
   not_taken : is_taken k.threads stack ≡ false
-  not_taken =
-      let f = found (λ stack. not (is_taken k.threads stack)) k.stacks stack free in
-      by (is_taken k.threads stack) f.passes
+  not_taken = by (is_taken k.threads stack) (found_is is_free k.stacks stack free)
     where
       by : (b : Bool) → not b ≡ true → b ≡ false
       by true is = cc
@@ -151,19 +96,16 @@ module _ (jumps : JumpLaws) (k : CallTable) (w : Watching) (stack : Range) (pc a
   -- the stack of a watched thread isn't this one, and meets it nowhere
   apart : (watched : WatchedThread) → RunsIn k.threads watched → (stack.high ≤ watched.stack.low) ⊎ (watched.stack.high ≤ stack.low)
   apart watched is =
-      let r = running_is k.threads watched is in
-      let got = running_within k.threads watched.thread r.thread r.found in
-      let less = slice_get_within k.threads watched.thread r.thread got in
-      let at : get_or k.threads watched.thread r.thread ≡ r.thread = get_or_from_slice_get k.threads watched.thread r.thread r.thread got in
-      let theirs : Contains k.stacks r.thread.stack =
-      subst (λ (t : Thread). Contains k.stacks t.stack) at (placed.listed watched.thread r.thread less) in
+      let r = its_thread k.threads watched is in
       let other : has_this stack r.thread ≡ false =
-      subst (λ (t : Thread). has_this stack t ≡ false) at (none_passes (has_this stack) k.threads not_taken watched.thread r.thread less) in
-      subst (λ (s : Range). (stack.high ≤ s.low) ⊎ (s.high ≤ stack.low)) (sym r.same.stack)
-      (elim (same_or_apart own_range k.stacks stack r.thread.stack placed.ascend listed theirs) [
-        | inl same ↦ absurd (false≢true (sym other ∙ taken r.thread (runs_true k.threads watched.thread r.thread r.found) (sym same)))
+      All-at (λ (t : Thread). has_this stack t ≡ false) k.threads watched.thread r.thread
+      (none_passes (has_this stack) k.threads not_taken) r.got in
+      elim (same_or_apart own_range k.stacks stack watched.stack placed.ascend listed (stack_listed k.stacks k.threads watched placed is)) [
+        | inl same ↦
+            let run = (running_is (slice_get k.threads watched.thread) r.thread r.found).1 in
+            absurd (false≢true (sym other ∙ taken r.thread run (sym r.same.stack ∙ sym same)))
         | inr off ↦ off
-      ])
+      ]
     where
       same_self : (r : Range) → are_same r r ≡ true
       same_self r = grind (arith, nat_tests)
@@ -183,8 +125,8 @@ module _ (jumps : JumpLaws) (k : CallTable) (w : Watching) (stack : Range) (pc a
     where
       earlier : (watched : WatchedThread) → RunsIn k.threads watched → is_of (length k.threads) watched ≡ false
       earlier watched is =
-          let r = running_is k.threads watched is in
-          let less = slice_get_within k.threads watched.thread r.thread (running_within k.threads watched.thread r.thread r.found) in
+          let r = its_thread k.threads watched is in
+          let less = slice_get_within k.threads watched.thread r.thread r.got in
           grind (arith, nat_tests)
 
   -- what the stack of a watched thread holds stays
@@ -231,10 +173,10 @@ module _ (jumps : JumpLaws) (k : CallTable) (w : Watching) (stack : Range) (pc a
       left_in_step now (spawn_noted (sight_in now) thread w)
       (spawn_left (RunsIn now.threads) (sight_in now) w in_step.stopped thread
       (All-put_in (RunsIn now.threads) (started thread) w.threads
-      (runs_as now.threads (started thread) thread (ap if_running (got_push k.threads thread)) (record { stack = refl; esp = refl }))
+      (runs_as now.threads (started thread) thread (ap if_running (read_last k.threads thread)) (record { stack = refl; esp = refl }))
       (All-weaker (RunsIn k.threads) (RunsIn now.threads) (runs_push k.threads thread) w.threads (runs_in k w in_step))))
 
-  is_begun : IsBuilt now → IsBegun k now w thread
+  is_begun : IsBuilt now → IsBegun (patched now) k now w thread
   is_begun built_now = record {
     start = λ well. is_start;
     held = is_held built_now;
@@ -243,30 +185,35 @@ module _ (jumps : JumpLaws) (k : CallTable) (w : Watching) (stack : Range) (pc a
     unnoted = is_unnoted;
   }
 
-pub spawn_begun : JumpLaws → (k now : CallTable) (w : Watching) (name : List ℕ) (argument number : ℕ) (thread : Thread)
-    → IsBuilt now → IsInStep k w → WellPlaced k.stacks k.threads → answered k (Spawn name argument) ≡ Ok (happened now (Spawned number))
-    → slice_get now.threads number ≡ Some thread → IsBegun k now w thread
-spawn_begun jumps k now w name argument number thread built_now in_step placed is got_after =
-    let of = spawn_is k now name argument number is in
-    let first : Thread = first_thread (length k.threads) of.stack of.pc in
-    let there : slice_get now.threads number ≡ Some first =
-    ap (λ (m : CallTable). slice_get m.threads number) of.left ∙ ap (slice_get (k.threads ++ first ∷ [])) of.count ∙ got_push k.threads first in
-    let same : first ≡ thread = some_same (sym there ∙ got_after) in
-    subst (λ (m : CallTable). IsBegun k m w thread) (sym of.left)
-    (subst (IsBegun k (record k {
-      pieces = written of.stack.low (first_bytes of.stack of.argument) k.pieces;
-      threads = k.threads ++ first ∷ [];
-    }) w) same (is_begun jumps k w of.stack of.pc of.argument in_step placed of.free (subst IsBuilt of.left built_now)))
-
 -- a thread that was started is there
+thread_there : (k now : CallTable) (argument number : ℕ) (gives : HasStarted k argument (happened now (Spawned number)))
+    → slice_get now.threads number ≡ Some (first_thread (length k.threads) gives.stack gives.pc)
+thread_there k now argument number gives =
+    let first : Thread = first_thread (length k.threads) gives.stack gives.pc in
+    let answer : Spawned number ≡ Spawned (length k.threads) = gives.answer in
+    let count : number ≡ length k.threads = cc in
+    ap (λ (m : CallTable). slice_get m.threads number) gives.machine ∙ ap (slice_get (k.threads ++ first ∷ [])) count
+    ∙ read_last k.threads first
+
+pub spawn_begun : JumpLaws → (k now : CallTable) (w : Watching) (name : List ℕ) (argument number : ℕ) (thread : Thread) (memory : Contents)
+    → IsBuilt now → IsInStep k w → WellPlaced k.stacks k.threads → answered k (Spawn name argument) ≡ Ok (happened now (Spawned number))
+    → slice_get now.threads number ≡ Some thread → memory ≡ patched now → IsBegun memory k now w thread
+spawn_begun jumps k now w name argument number thread memory built_now in_step placed is got_after there =
+    let gives = spawn_gives k name argument (happened now (Spawned number)) is in
+    let first : Thread = first_thread (length k.threads) gives.stack gives.pc in
+    let same : first ≡ thread = same_Some first thread (sym (thread_there k now argument number gives) ∙ got_after) in
+    subst (λ (m : Contents). IsBegun m k now w thread) (sym there)
+    (subst (λ (m : CallTable). IsBegun (patched m) k m w thread) (sym gives.machine)
+    (subst (λ (t : Thread). let m : CallTable = record k {
+      pieces = written gives.stack.low (first_bytes gives.stack argument) k.pieces;
+      threads = k.threads ++ first ∷ [];
+    } in IsBegun (patched m) k m w t) same
+    (is_begun jumps k w gives.stack gives.pc argument in_step placed gives.free (subst IsBuilt gives.machine built_now))))
+
 pub started_there : (k now : CallTable) (name : List ℕ) (argument number : ℕ) → answered k (Spawn name argument) ≡ Ok (happened now (Spawned number))
     → slice_get now.threads number ≡ None → ⊥
 started_there k now name argument number is none =
-    let of = spawn_is k now name argument number is in
-    let first : Thread = first_thread (length k.threads) of.stack of.pc in
-    let there : slice_get now.threads number ≡ Some first =
-    ap (λ (m : CallTable). slice_get m.threads number) of.left ∙ ap (slice_get (k.threads ++ first ∷ [])) of.count ∙ got_push k.threads first in
-    cc
+    let there = thread_there k now argument number (spawn_gives k name argument (happened now (Spawned number)) is) in cc
 
 -- the session after a start
 pub spawn_watched : (s : Watched) (now : CallTable) (v : Watching) (name : List ℕ) (argument number : ℕ) (thread : Thread)

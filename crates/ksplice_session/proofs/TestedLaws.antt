@@ -17,6 +17,7 @@ use Rattle.frame_watch.specs.declared.types.Verdict.TheVariants.{Disciplined, Br
 use Rattle.frame_watch.specs.Frames.{Watched, Watching, with_started, frames_at, with_frames, without_thread, opened, closed, keeps_slots}
 use Rattle.frame_watch.specs.Discipline.{Sight, counted, broken, number_of, breaking, lesser, least, slot_broken, slots_tested, after_start, pops, after_outcome, unless_broken, spawn_noted, step_noted}
 use Rattle.ksplice_session.specs.inside.InStep.{IsStopped}
+use Rattle.ksplice_session.proofs.EventAnswers.{goes_on}
 
 some_stays : (m : ℕ) (ns : List ℕ) → fold lesser (Some m) ns ≡ None → ⊥
 some_stays m [] none = cc
@@ -39,6 +40,9 @@ none_breaking keeps (w ∷ ws) none =
       | false ↦ λ is rest. cc
     ] refl none
 
+pub all_keep : (pieces : List Piece) (ws : List Watched) → least (breaking pieces ws) ≡ None → All (λ w. IsTrue (keeps_slots pieces w)) ws
+all_keep pieces ws none = none_breaking (keeps_slots pieces) ws (map_nil number_of _ (least_none _ none))
+
 -- Of the threads that are watched something holds, each keeps the slot rule, and there are none once a rule was broken.
 pub record IsLeft (R : Watched → Type 0) (pieces : List Piece) (w : Watching) : Type 0 where
   pub each : All R w.threads
@@ -59,7 +63,7 @@ tested_left R sight w well all = by (least (breaking sight.pieces w.threads)) re
     by : (o : Option ℕ) → least (breaking sight.pieces w.threads) ≡ o → IsLeft R sight.pieces (slot_broken w o)
     by None none = record {
       each = all;
-      slots = none_breaking (keeps_slots sight.pieces) w.threads (map_nil number_of _ (least_none _ none));
+      slots = all_keep sight.pieces w.threads none;
       stopped = subst (λ (verdict : Verdict). IsStopped verdict w.threads) (sym well) tt;
     }
     by (Some thread) some = broken_left R sight.pieces w thread rules.Slot
@@ -85,7 +89,7 @@ unless_left R pieces w next stopped here = by w.verdict refl stopped
 module _ (R : Watched → Type 0) (sight : Sight) (w : Watching) (stopped : IsStopped w.verdict w.threads) where
   -- a step, where something holds of the threads with any frames of the one that moved, or without it
   pub step_left : (before after : Thread) (outcome : Outcome)
-      → ((frames : List Frame) → ((value : ℕ) → outcome ≢ Exited value) → ((fault : _) → outcome ≢ Stopped fault) → All R (with_frames w.threads after frames))
+      → ((frames : List Frame) → goes_on outcome ≡ true → All R (with_frames w.threads after frames))
       → All R (without_thread w.threads after.number)
       → IsLeft R sight.pieces (step_noted sight before after outcome w)
   unfolding step_noted
@@ -103,16 +107,16 @@ module _ (R : Watched → Type 0) (sight : Sight) (w : Watching) (stopped : IsSt
           (broken_left R sight.pieces (counted w) after.number rules.Arrival)
 
       by : (frames : List Frame) (outcome : Outcome) → w.verdict ≡ Disciplined
-          → ((frames : List Frame) → ((value : ℕ) → outcome ≢ Exited value) → ((fault : _) → outcome ≢ Stopped fault) → All R (with_frames w.threads after frames))
+          → ((frames : List Frame) → goes_on outcome ≡ true → All R (with_frames w.threads after frames))
           → IsLeft R sight.pieces (after_outcome sight before after frames outcome (counted w))
       by frames (Moved Return) well moved =
           either_left R sight.pieces (pops (esp_of before) after.pc (last_or None frames)) _ _
           (tested_left R sight (record (counted w) { threads = with_frames w.threads after (closed frames) }) well
-          (moved (closed frames) (λ value e. cc) (λ fault e. cc)))
+          (moved (closed frames) refl))
           (broken_left R sight.pieces (counted w) after.number rules.Return)
       by frames (Moved Call) well moved =
-          arrived (opened sight.pieces after frames) well (moved (opened sight.pieces after frames) (λ value e. cc) (λ fault e. cc))
-      by frames (Moved Plain) well moved = arrived frames well (moved frames (λ value e. cc) (λ fault e. cc))
+          arrived (opened sight.pieces after frames) well (moved (opened sight.pieces after frames) refl)
+      by frames (Moved Plain) well moved = arrived frames well (moved frames refl)
       by frames (Exited value) well moved = tested_left R sight (record (counted w) { threads = without_thread w.threads after.number }) well gone
       by frames (Stopped fault) well moved = tested_left R sight (record (counted w) { threads = without_thread w.threads after.number }) well gone
 

@@ -19,20 +19,17 @@ use Rattle.frame_watch.specs.declared.types.Verdict.TheVariants.{Disciplined}
 use Rattle.frame_watch.specs.Frames.{Watched as WatchedThread, Watching, frame, watched_at, frames_in, frames_at}
 use Rattle.frame_watch.specs.Frames.{with_frames, without_thread, opened, closed}
 use Rattle.frame_watch.specs.Discipline.{pops, step_noted}
+use Rattle.ksplice_session.specs.Answers.{watched}
 use Rattle.ksplice_session.specs.Watching.{Watched, sight_in}
 use Rattle.ksplice_session.specs.Safety.{frames_of, step_outcome}
-use Rattle.ksplice_session.proofs.Lookups.{set_here, set_elsewhere}
+use Rattle.ksplice_session.specs.inside.InStep.{IsSame}
+use Rattle.ksplice_session.proofs.Lookups.{IsOneOf, both_hold, set_here, set_elsewhere}
 use Rattle.ksplice_session.proofs.RuleLaws.{same_number, others_stay, it_has, here_or_not, others_without, it_is_gone}
 use Rattle.ksplice_session.proofs.RuleLaws.{KeepRule, GoesOn, LeavesWatch, step_goes_on}
-use Rattle.ksplice_session.proofs.MomentLaws.{IsOneOf, IsWatched, Agree, IsMoment, Change, Stays, Arrives, Calls}
-use Rattle.ksplice_session.proofs.MomentLaws.{Returns, Ends, agree_some, running_is, runs_at, rests_at}
-use Rattle.ksplice_session.proofs.EventLaws.{Next, watched, agree_by, same_windows}
-
--- whether a step's thread goes on
-abbrev pub goes_on : Outcome → Bool
-goes_on (Moved flow) = true
-goes_on (Exited value) = false
-goes_on (Stopped fault) = false
+use Rattle.ksplice_session.proofs.MomentLaws.{Agree, IsMoment, Change, Stays, Arrives, Calls}
+use Rattle.ksplice_session.proofs.MomentLaws.{Returns, Ends, agree_some}
+use Rattle.ksplice_session.proofs.EventAnswers.{running_is, runs_at, rests_at, goes_on}
+use Rattle.ksplice_session.proofs.EventLaws.{Next, agree_by, same_windows}
 
 -- the machine after a step of a running thread, which has its number as its place
 pub record IsStep (s : Watched) (event : Event) (before after : Thread) (outcome : Outcome) (now : CallTable)
@@ -46,11 +43,6 @@ pub record IsStep (s : Watched) (event : Event) (before after : Thread) (outcome
   pub state : runs after ≡ goes_on outcome
   pub comes : step_outcome s after.number ≡ Some outcome
   pub windows : SameWindows s.machine now
-
--- a test of two numbers, taken apart
-both_hold : (a b : Bool) → (a && b) ≡ true → (a ≡ true) × (b ≡ true)
-both_hold true b is = (refl, is)
-both_hold false b is = absurd (cc)
 
 popped_to : (esp pc : ℕ) (last : Option Frame) → IsTrue (pops esp pc last)
     → (one : Frame) × (last ≡ Some one) × (one.address ≡ pc)
@@ -93,7 +85,7 @@ module _ (s : Watched) (event : Event) (moment : IsMoment s) (before after : Thr
       ))
 
   -- the thread as it was watched
-  was_watched : (one : WatchedThread) × (watched_at s.watch.threads after.number ≡ Some one) × IsWatched before one
+  was_watched : (one : WatchedThread) × (watched_at s.watch.threads after.number ≡ Some one) × IsSame one before
   was_watched =
       agree_some (running_at s.machine.threads after.number) (watched_at s.watch.threads after.number) before
       step.running (moment.agree after.number)

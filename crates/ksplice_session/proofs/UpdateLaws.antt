@@ -16,7 +16,7 @@ use Rattle.ksplice_session.specs.Answers.{watched}
 use Rattle.ksplice_session.specs.Watching.{Watched, watched_by, watched_after}
 use Rattle.ksplice_session.specs.inside.InStep.{Runs, IsInStep}
 use Rattle.ksplice_session.proofs.StackLaws.{all_weaker}
-use Rattle.ksplice_session.proofs.WatchLaws.{RunsIn, runs_in, slots_in, running_is, running_within}
+use Rattle.ksplice_session.proofs.WatchLaws.{RunsIn, runs_in, slots_in, stack_listed}
 
 pub kept_in_step : (k now : CallTable) (w : Watching) → SameThreads k now → KeepsSlots k now → WellPlaced k.stacks k.threads
     → IsInStep k w → IsInStep now (update_noted w)
@@ -24,19 +24,10 @@ kept_in_step k now w same keep placed in_step = record {
   each = All-weaker (λ watched. RunsIn k.threads watched × IsTrue (keeps_slots k.pieces watched)) (Runs now) (λ watched p. record {
     running = subst (λ (threads : List Thread). RunsIn threads watched) (sym same.threads) p.0;
     slots = all_weaker (keeps_slot k.pieces watched.stack watched.esp) (keeps_slot now.pieces watched.stack watched.esp)
-        watched.frames (λ frame. keep watched.stack watched.esp frame (listed watched p.0)) p.1;
+        watched.frames (λ frame. keep watched.stack watched.esp frame (stack_listed k.stacks k.threads watched placed p.0)) p.1;
   }) w.threads (λ i d less. (runs_in k w in_step i d less, slots_in k w in_step i d less));
   stopped = in_step.stopped;
 }
-  where
-    listed : (watched : WatchedThread) → RunsIn k.threads watched → Contains k.stacks watched.stack
-    listed watched is =
-        let r = running_is k.threads watched is in
-        let got = running_within k.threads watched.thread r.thread r.found in
-        let less = slice_get_within k.threads watched.thread r.thread got in
-        subst (Contains k.stacks) (sym r.same.stack)
-        (subst (λ (t : Thread). Contains k.stacks t.stack) (get_or_from_slice_get k.threads watched.thread r.thread r.thread got)
-        (placed.listed watched.thread r.thread less))
 
 -- the session after an update or an undo
 pub apply_watched : (s : Watched) (now : CallTable) (v : Watching) (name pre post : List ℕ) (report : Report)

@@ -1,19 +1,22 @@
 -- Watched threads of a machine whose threads change.
 use Rattle.std.proofs.Common.{◌≡◌, ◌≢◌, ℕ, zero, suc, ◌+◌, ◌<◌, ◌==◌, not, Bool, true, false, cond, if◌then◌else◌, IsTrue, IsSomeAnd, List, [], ◌∷◌, ◌++◌, map, length, set, Option, Some, None, refl, sym, ◌∙◌, ap, subst, arith}
-use Rattle.std.specs.List.{All, filter, slice_get}
+use Rattle.std.specs.List.{All, Contains, filter, slice_get}
 use Rattle.std.proofs.lemmas.Bool.{eqb-true, false≢true}
 use Rattle.std.proofs.lemmas.Bool.Decides.{nat_tests}
 use Rattle.std.proofs.lemmas.List.Elements.{All-nil, All-cons, All-head, All-tail, All-weaker, All-map}
-use Rattle.std.proofs.lemmas.Option.{slice_get_within}
+use Rattle.std.proofs.lemmas.Option.{same_Some, slice_get_within}
+use Rattle.ks_base.specs.declared.places.Range.{Range}
 use Rattle.image_memory.specs.declared.types.Piece.{Piece}
 use Rattle.image_memory.specs.Ranges.{put_in}
 use Rattle.ia32_step.specs.declared.types.Frame.{Frame}
 use Rattle.ia32_step.specs.declared.types.Thread.{Thread}
 use Rattle.ia32_step.specs.Threads.{runs, esp_of}
-use Rattle.image_threads.specs.Program.{if_running, running_at, AreNumbered}
+use Rattle.image_threads.specs.Program.{if_running, running_at, AreNumbered, WellPlaced}
 use Rattle.update_stack.specs.CallTable.{CallTable}
 use Rattle.frame_watch.specs.Frames.{Watched, Watching, stack_of, started, with_started, is_of, if_of, with_frames, without_thread, keeps_slots}
 use Rattle.ksplice_session.specs.inside.InStep.{IsSame, Runs, IsStopped, IsInStep}
+use Rattle.ksplice_session.proofs.Lookups.{All-at, set_elsewhere, one_more}
+use Rattle.ksplice_session.proofs.EventAnswers.{running_is}
 use Rattle.ksplice_session.proofs.TestedLaws.{IsLeft}
 
 -- a watched thread runs
@@ -36,51 +39,36 @@ left_in_step k w left = record {
 pub record IsRunning (threads : List Thread) (watched : Watched) : Type 0 where
   pub thread : Thread
   pub found : running_at threads watched.thread ≡ Some thread
+  pub got : slice_get threads watched.thread ≡ Some thread
   pub same : IsSame watched thread
 
-pub running_is : (threads : List Thread) (watched : Watched) → RunsIn threads watched → IsRunning threads watched
-running_is threads watched is = by (running_at threads watched.thread) refl is
+pub its_thread : (threads : List Thread) (watched : Watched) → RunsIn threads watched → IsRunning threads watched
+its_thread threads watched is = by (running_at threads watched.thread) refl is
   where
     by : (o : Option Thread) → running_at threads watched.thread ≡ o → IsSomeAnd o (IsSame watched) → IsRunning threads watched
     by None e is = absurd is
-    by (Some thread) e is = record { thread = thread; found = e; same = is }
+    by (Some thread) e is = record {
+      thread = thread;
+      found = e;
+      got = (running_is (slice_get threads watched.thread) thread e).0;
+      same = is;
+    }
+
+-- the stack of a watched thread is one of the machine's
+pub stack_listed : (stacks : List Range) (threads : List Thread) (watched : Watched) → WellPlaced stacks threads → RunsIn threads watched
+    → Contains stacks watched.stack
+stack_listed stacks threads watched placed is =
+    let r = its_thread threads watched is in
+    subst (Contains stacks) (sym r.same.stack)
+    (All-at (λ (t : Thread). Contains stacks t.stack) threads watched.thread r.thread placed.listed r.got)
 
 pub runs_as : (threads : List Thread) (watched : Watched) (thread : Thread) → running_at threads watched.thread ≡ Some thread
     → IsSame watched thread → RunsIn threads watched
 runs_as threads watched thread found same = subst (λ (o : Option Thread). IsSomeAnd o (IsSame watched)) (sym found) same
 
-some_runs : (thread t : Thread) → (if runs thread then (let o : Option Thread = Some thread in o) else None) ≡ Some t → thread ≡ t
-some_runs thread t is =
-    elim (runs thread) as (λ b. (if b then (let o : Option Thread = Some thread in o) else None) ≡ Some t → thread ≡ t) [
-      | true ↦ λ e. cc
-      | false ↦ λ e. cc
-    ] is
-
-pub some_same : {x y : Thread} → ◌≡◌ {A = Option Thread} (Some x) (Some y) → x ≡ y
-some_same e = cc
-
 -- a running thread is one of the threads
 pub running_got : (threads : List Thread) (n : ℕ) (thread t : Thread) → slice_get threads n ≡ Some thread → running_at threads n ≡ Some t → thread ≡ t
-running_got threads n thread t got found = some_runs thread t (ap if_running (sym got) ∙ found)
-
-pub running_within : (threads : List Thread) (n : ℕ) (t : Thread) → running_at threads n ≡ Some t → slice_get threads n ≡ Some t
-running_within threads n t found = by (slice_get threads n) refl found
-  where
-    by : (o : Option Thread) → slice_get threads n ≡ o → if_running o ≡ Some t → slice_get threads n ≡ Some t
-    by None e none = cc
-    by (Some thread) e is = e ∙ ap (λ (x : Thread). Some x) (some_runs thread t is)
-
--- a running thread runs
-pub runs_true : (threads : List Thread) (n : ℕ) (t : Thread) → running_at threads n ≡ Some t → runs t ≡ true
-runs_true threads n t found = by (slice_get threads n) found
-  where
-    some : (x : Thread) (b : Bool) → runs x ≡ b → (if b then (let o : Option Thread = Some x in o) else None) ≡ Some t → runs t ≡ true
-    some x true e is = let same : x ≡ t = cc in ap runs (sym same) ∙ e
-    some x false e is = cc
-
-    by : (o : Option Thread) → if_running o ≡ Some t → runs t ≡ true
-    by None is = cc
-    by (Some x) is = some x (runs x) refl is
+running_got threads n thread t got found = same_Some thread t (sym got ∙ (running_is (slice_get threads n) t found).0)
 
 pub numbered_at : (m : ℕ) (threads : List Thread) (n : ℕ) (thread : Thread) → AreNumbered m threads → slice_get threads n ≡ Some thread
     → thread.number ≡ m + n
@@ -90,40 +78,18 @@ numbered_at m (x ∷ xs) zero thread numbered got =
 numbered_at m (x ∷ xs) (suc n) thread numbered got =
     let later : thread.number ≡ suc m + n = numbered_at (suc m) xs n thread numbered.1 got in omega (arith, later)
 
-pub got_set : (threads : List Thread) (n : ℕ) (x : Thread) → n < length threads → slice_get (set threads n x) n ≡ Some x
-got_set [] n x less = absurd (omega arith)
-got_set (y ∷ ys) zero x less = refl
-got_set (y ∷ ys) (suc n) x less = got_set ys n x (omega arith)
-
-got_set_other : (threads : List Thread) (n m : ℕ) (x : Thread) → m ≢ n → slice_get (set threads n x) m ≡ slice_get threads m
-got_set_other [] n m x other = refl
-got_set_other (y ∷ ys) zero zero x other = absurd (other refl)
-got_set_other (y ∷ ys) zero (suc m) x other = refl
-got_set_other (y ∷ ys) (suc n) zero x other = refl
-got_set_other (y ∷ ys) (suc n) (suc m) x other = got_set_other ys n m x (λ e. other (ap suc e))
-
-pub got_push : (threads : List Thread) (x : Thread) → slice_get (threads ++ x ∷ []) (length threads) ≡ Some x
-got_push [] x = refl
-got_push (y ∷ ys) x = got_push ys x
-
-got_before : (threads : List Thread) (x : Thread) (m : ℕ) → m < length threads → slice_get (threads ++ x ∷ []) m ≡ slice_get threads m
-got_before [] x m less = absurd (omega arith)
-got_before (y ∷ ys) x zero less = refl
-got_before (y ∷ ys) x (suc m) less = got_before ys x m (omega arith)
-
 -- another thread moved
 pub runs_set : (threads : List Thread) (n : ℕ) (x : Thread) (watched : Watched) → watched.thread ≢ n → RunsIn threads watched
     → RunsIn (set threads n x) watched
 runs_set threads n x watched other is =
-    subst (λ (o : Option Thread). IsSomeAnd (if_running o) (IsSame watched)) (sym (got_set_other threads n watched.thread x other)) is
+    subst (λ (o : Option Thread). IsSomeAnd (if_running o) (IsSame watched)) (sym (set_elsewhere threads n watched.thread x (λ e. other (sym e)))) is
 
 -- a thread more
 pub runs_push : (threads : List Thread) (x : Thread) (watched : Watched) → RunsIn threads watched → RunsIn (threads ++ x ∷ []) watched
 runs_push threads x watched is =
-    let r = running_is threads watched is in
-    let less : watched.thread < length threads =
-    slice_get_within threads watched.thread r.thread (running_within threads watched.thread r.thread r.found) in
-    subst (λ (o : Option Thread). IsSomeAnd (if_running o) (IsSame watched)) (sym (got_before threads x watched.thread less)) is
+    let r = its_thread threads watched is in
+    let less : watched.thread < length threads = slice_get_within threads watched.thread r.thread r.got in
+    subst (λ (o : Option Thread). IsSomeAnd (if_running o) (IsSame watched)) (sym (one_more threads x watched.thread (λ e. omega (arith, less, e)))) is
 
 -- the threads without one of them
 pub without_runs : (threads : List Thread) (n : ℕ) (x : Thread) (ws : List Watched) → All (RunsIn threads) ws
@@ -152,8 +118,8 @@ frames_run threads n before after frames ws all was now number stack =
         → RunsIn (set threads n after) (if b then record w { esp = esp_of after; frames = frames } else w)) [
           | true ↦ λ here.
               let own : w.thread ≡ n = eqb-true w.thread after.number here ∙ number in
-              let r = running_is threads w is in
-              let same : r.thread ≡ before = some_same (sym r.found ∙ ap (running_at threads) own ∙ was) in
+              let r = its_thread threads w is in
+              let same : r.thread ≡ before = same_Some r.thread before (sym r.found ∙ ap (running_at threads) own ∙ was) in
               runs_as (set threads n after) (record w { esp = esp_of after; frames = frames }) after (ap (running_at (set threads n after)) own ∙ now)
               (record { stack = r.same.stack ∙ ap (λ (t : Thread). t.stack) same ∙ sym stack; esp = refl })
           | false ↦ λ other. runs_set threads n after w (λ e. let same : w.thread ≡ after.number = e ∙ sym number in grind (arith, nat_tests)) is

@@ -28,6 +28,11 @@ pub watched_after_both : (s : Watched) (gap events : List Event)
 unfolding watched_after_all
 watched_after_both s gap events = fold-append watched_after s gap events
 
+pub after_one : (s : Watched) (events : List Event) (event : Event)
+    → watched_after_all s (events ++ event ∷ []) ≡ watched_after (watched_after_all s events) event
+unfolding watched_after_all
+after_one s events event = watched_after_both s events (event ∷ [])
+
 pub machine_taken : (s : Watched) (o : Option Turn) → (watched_taken s o).machine ≡ after_taken s.machine o
 machine_taken s None = refl
 machine_taken s (Some turn) = machine_after_one s (Step turn.thread)

@@ -11,11 +11,10 @@ pub returns-in-Ok : goal.returns-in-Ok
 returns-in-Ok c =
     let k = c.args.session.now in
     let now = c.spawn.new.self in
-    let number = c.in-Ok.number in
-    let event = SpawnEvent c.args.name.now c.args.argument in
-    subst (λ (told : Told). Answers k told now c.told.result) (sym (told_spawned k now.machine c.args.name.now c.args.argument number c.in-Ok.ensures.answered))
-    (told_answers k now (replied (event ∷ []) (shown now.machine number spawned_line)) c.spawned_reply.result c.told.result refl c.spawned_reply.ensures
-    (one_event k now event c.in-Ok.ensures.noted) c.told.ensures)
+    let name = c.args.name.now in
+    told_answers k now c.spawned_reply.result c.told.result
+    (told_spawned k now.machine name c.args.argument c.in-Ok.number c.in-Ok.ensures.answered) refl c.spawned_reply.ensures
+    (one_event k now (SpawnEvent name c.args.argument) c.in-Ok.ensures.noted) c.told.ensures
 
 pub returns-in-Err : goal.returns-in-Err
 returns-in-Err c =

@@ -24,7 +24,6 @@ returns c =
     let events = thread_steps k.machine c.args.thread c.args.count in
     let machine : now.machine ≡ after_events k.machine events =
     ap (λ (n : Watched). n.machine) c.run_thread-made.ensures.after ∙ machine_after_all k events in
-    subst (λ (told : Told). Answers k told now c.told.result) (sym (told_stepped k c.args.thread c.args.count (sym c.runs.ensures ∙ c.if-not-runs.false)))
-    (told_answers k now (step_told k.machine c.args.thread events) c.stepped_reply.result c.told.result refl
-    (rw (← machine, ← c.run_thread-made.ensures.made) c.stepped_reply.ensures)
-    c.run_thread-made.ensures.after c.told.ensures)
+    told_answers k now c.stepped_reply.result c.told.result
+    (told_stepped k c.args.thread c.args.count (sym c.runs.ensures ∙ c.if-not-runs.false)) refl
+    (rw (← machine, ← c.run_thread-made.ensures.made) c.stepped_reply.ensures) c.run_thread-made.ensures.after c.told.ensures

@@ -11,11 +11,8 @@ pub returns-in-Ok : goal.returns-in-Ok
 returns-in-Ok c =
     let k = c.args.session.now in
     let now = c.undo.new.self in
-    let name = c.in-Ok.name in
-    subst (λ (told : Told). Answers k told now c.told.result) (sym (told_undone k now.machine name c.in-Ok.ensures.answered))
-    (told_answers k now (replied (UndoEvent ∷ []) (undone_line name)) c.undone_reply.result c.told.result refl
-    c.undone_reply.ensures
-    (one_event k now UndoEvent c.in-Ok.ensures.noted) c.told.ensures)
+    told_answers k now c.undone_reply.result c.told.result (told_undone k now.machine c.in-Ok.name c.in-Ok.ensures.answered) refl
+    c.undone_reply.ensures (one_event k now UndoEvent c.in-Ok.ensures.noted) c.told.ensures
 
 pub returns-in-Err : goal.returns-in-Err
 returns-in-Err c =

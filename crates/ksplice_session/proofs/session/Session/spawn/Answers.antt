@@ -15,6 +15,7 @@ use Rattle.ksplice_session.specs.inside.InStep.{IsInStep}
 use Rattle.ksplice_session.proofs.AnswerLaws.{none_made}
 use Rattle.ksplice_session.proofs.SeenLaws.{JumpLaws, memory_of, threads_of, placed_of}
 use Rattle.ksplice_session.proofs.StartLaws.{IsBegun, spawn_begun, started_there, spawn_watched, spawn_unnoted}
+use Rattle.ksplice_session.proofs.session.Session.spawn.Goals.{After-space, In_default}
 use Rattle.ksplice_session.proofs.session.Session.spawn.Goals as goal
 
 on_err : {T E : Type 0} (r : Result T E) (P : Type 0) → P → OnErr r P
@@ -27,77 +28,54 @@ returns-in_err-number-clause-front c =
     (none_made c.args.self.now (watched c.spawn.new.self c.self.inside.watch) (Spawn c.args.name.now c.args.argument ∷ [])
     (ap (λ (k : CallTable). watched k c.self.inside.watch) c.in_err-number.ensures.refused ∙ c.self.view_is))
 
-pub note_spawn_alone-requires-clause-start : goal.note_spawn_alone-requires-clause-start
-note_spawn_alone-requires-clause-start c =
+-- the thread that was started
+got_after : (c : After-space) → slice_get c.spawn.new.self.threads c.in_ok-number.number ≡ Some c.in-Some.thread.now
+got_after c =
+    let stands = threads_of c.machine-machine.result.now c.spawn.new.self c.machine-machine.ensures.stands in
+    ap (λ (ts : List Thread). slice_get ts c.in_ok-number.number) (sym (c.threads.ensures.threads ∙ stands))
+    ∙ sym c.get.ensures ∙ ap option_copied c.in-Some.is
+
+-- the memory that the watch sees
+abbrev memory : After-space → Contents
+memory c = record { pieces = c.space.result.now.pieces.items; fences = c.space.result.now.fences.items }
+
+begun : (c : After-space) → IsBegun (memory c) c.self.inside.system c.spawn.new.self c.self.inside.watch c.in-Some.thread.now
+begun c =
     let jumps : JumpLaws = record {
       views = c.jumps_leave_views.ensures;
       held = c.jumps_change_their_bytes_alone.ensures.held;
       bytes = c.jumps_change_their_bytes_alone.ensures.data_bytes;
     } in
     let k = c.self.inside.system in
-    let w = c.self.inside.watch in
     let now = c.spawn.new.self in
-    let name = c.args.name.now in
-    let argument = c.args.argument in
-    let number = c.in_ok-number.number in
-    let thread = c.in-Some.thread.now in
     let machine = c.machine-machine.result.now in
-    let got_after : slice_get now.threads number ≡ Some thread =
-    ap (λ (ts : List Thread). slice_get ts number) (sym (c.threads.ensures.threads ∙ threads_of machine now c.machine-machine.ensures.stands))
-    ∙ sym c.get.ensures ∙ ap option_copied c.in-Some.is in
-    let begun : IsBegun k now w thread =
-    spawn_begun jumps k now w name argument number thread c.machine-machine.ensures.built c.self.invariant
+    let there : memory c ≡ machine.contents = c.space.ensures.contents in
+    spawn_begun jumps k now c.self.inside.watch c.args.name.now c.args.argument c.in_ok-number.number c.in-Some.thread.now
+    (memory c) c.machine-machine.ensures.built c.self.invariant
     (placed_of c.machine.result.now k c.machine.ensures.stands c.threads-threads.ensures.placed)
-    c.in_ok-number.ensures.answered got_after in
-    begun.start
+    c.in_ok-number.ensures.answered (got_after c) (there ∙ memory_of machine now c.machine-machine.ensures.stands)
+
+-- it is there
+nothing_lost : In_default → ⊥
+nothing_lost c =
+    let now = c.spawn.new.self in
+    let number = c.in_ok-number.number in
+    let stands = threads_of c.machine-machine.result.now now c.machine-machine.ensures.stands in
+    let none : slice_get now.threads number ≡ None =
+    ap (λ (ts : List Thread). slice_get ts number) (sym (c.threads.ensures.threads ∙ stands))
+    ∙ sym c.get.ensures ∙ ap option_copied c.in_default.is in
+    started_there c.self.inside.system now c.args.name.now c.args.argument number c.in_ok-number.ensures.answered none
+
+pub note_spawn_alone-requires-clause-start : goal.note_spawn_alone-requires-clause-start
+note_spawn_alone-requires-clause-start c = (begun c).start
 
 pub note_spawn_alone-requires-clause-held : goal.note_spawn_alone-requires-clause-held
-note_spawn_alone-requires-clause-held c =
-    let jumps : JumpLaws = record {
-      views = c.jumps_leave_views.ensures;
-      held = c.jumps_change_their_bytes_alone.ensures.held;
-      bytes = c.jumps_change_their_bytes_alone.ensures.data_bytes;
-    } in
-    let k = c.self.inside.system in
-    let w = c.self.inside.watch in
-    let now = c.spawn.new.self in
-    let name = c.args.name.now in
-    let argument = c.args.argument in
-    let number = c.in_ok-number.number in
-    let thread = c.in-Some.thread.now in
-    let machine = c.machine-machine.result.now in
-    let got_after : slice_get now.threads number ≡ Some thread =
-    ap (λ (ts : List Thread). slice_get ts number) (sym (c.threads.ensures.threads ∙ threads_of machine now c.machine-machine.ensures.stands))
-    ∙ sym c.get.ensures ∙ ap option_copied c.in-Some.is in
-    let begun : IsBegun k now w thread =
-    spawn_begun jumps k now w name argument number thread c.machine-machine.ensures.built c.self.invariant
-    (placed_of c.machine.result.now k c.machine.ensures.stands c.threads-threads.ensures.placed)
-    c.in_ok-number.ensures.answered got_after in
-    λ unbroken. subst (λ (m : Contents). HoldBut m.pieces w.threads None) (sym (c.space.ensures.contents ∙ memory_of machine now c.machine-machine.ensures.stands)) begun.held
+note_spawn_alone-requires-clause-held c = λ unbroken. (begun c).held
 
 pub invariant_of-self-in_err-note_spawn_alone : goal.invariant_of-self-in_err-note_spawn_alone
 invariant_of-self-in_err-note_spawn_alone c =
-    let jumps : JumpLaws = record {
-      views = c.jumps_leave_views.ensures;
-      held = c.jumps_change_their_bytes_alone.ensures.held;
-      bytes = c.jumps_change_their_bytes_alone.ensures.data_bytes;
-    } in
-    let k = c.self.inside.system in
-    let w = c.self.inside.watch in
-    let now = c.spawn.new.self in
-    let name = c.args.name.now in
-    let argument = c.args.argument in
-    let number = c.in_ok-number.number in
-    let thread = c.in-Some.thread.now in
-    let machine = c.machine-machine.result.now in
-    let got_after : slice_get now.threads number ≡ Some thread =
-    ap (λ (ts : List Thread). slice_get ts number) (sym (c.threads.ensures.threads ∙ threads_of machine now c.machine-machine.ensures.stands))
-    ∙ sym c.get.ensures ∙ ap option_copied c.in-Some.is in
-    let begun : IsBegun k now w thread =
-    spawn_begun jumps k now w name argument number thread c.machine-machine.ensures.built c.self.invariant
-    (placed_of c.machine.result.now k c.machine.ensures.stands c.threads-threads.ensures.placed)
-    c.in_ok-number.ensures.answered got_after in
-    subst (IsInStep now) (sym c.in_err-note_spawn_alone.ensures.refused) begun.unnoted
+    subst (IsInStep c.spawn.new.self) (sym c.in_err-note_spawn_alone.ensures.refused)
+    (begun (goal.at.invariant_of-self-in_err-note_spawn_alone c).After-space).unnoted
 
 pub returns-in_err-note_spawn_alone-clause-front : goal.returns-in_err-note_spawn_alone-clause-front
 returns-in_err-note_spawn_alone-clause-front c =
@@ -110,76 +88,21 @@ returns-in_err-note_spawn_alone-clause-front c =
     c.in_ok-number.ensures.answered)))
 
 pub invariant_of-self-in_default : goal.invariant_of-self-in_default
-invariant_of-self-in_default c =
-    let now = c.spawn.new.self in
-    let number = c.in_ok-number.number in
-    let machine = c.machine-machine.result.now in
-    let none : slice_get now.threads number ≡ None =
-    ap (λ (ts : List Thread). slice_get ts number) (sym (c.threads.ensures.threads ∙ threads_of machine now c.machine-machine.ensures.stands))
-    ∙ sym c.get.ensures ∙ ap option_copied c.in_default.is in
-    absurd (started_there c.self.inside.system now c.args.name.now c.args.argument number c.in_ok-number.ensures.answered none)
+invariant_of-self-in_default c = absurd (nothing_lost (goal.at.invariant_of-self-in_default c).In_default)
 
 pub returns-in_default-clause-noted : goal.returns-in_default-clause-noted
-returns-in_default-clause-noted c =
-    let now = c.spawn.new.self in
-    let number = c.in_ok-number.number in
-    let machine = c.machine-machine.result.now in
-    let none : slice_get now.threads number ≡ None =
-    ap (λ (ts : List Thread). slice_get ts number) (sym (c.threads.ensures.threads ∙ threads_of machine now c.machine-machine.ensures.stands))
-    ∙ sym c.get.ensures ∙ ap option_copied c.in_default.is in
-    absurd (started_there c.self.inside.system now c.args.name.now c.args.argument number c.in_ok-number.ensures.answered none)
+returns-in_default-clause-noted c = absurd (nothing_lost (goal.at.returns-in_default-clause-noted c).In_default)
 
 pub invariant_of-self-2 : goal.invariant_of-self-2
 invariant_of-self-2 c =
-    let jumps : JumpLaws = record {
-      views = c.jumps_leave_views.ensures;
-      held = c.jumps_change_their_bytes_alone.ensures.held;
-      bytes = c.jumps_change_their_bytes_alone.ensures.data_bytes;
-    } in
-    let k = c.self.inside.system in
-    let w = c.self.inside.watch in
-    let now = c.spawn.new.self in
-    let name = c.args.name.now in
-    let argument = c.args.argument in
-    let number = c.in_ok-number.number in
-    let thread = c.in-Some.thread.now in
-    let machine = c.machine-machine.result.now in
-    let got_after : slice_get now.threads number ≡ Some thread =
-    ap (λ (ts : List Thread). slice_get ts number) (sym (c.threads.ensures.threads ∙ threads_of machine now c.machine-machine.ensures.stands))
-    ∙ sym c.get.ensures ∙ ap option_copied c.in-Some.is in
-    let begun : IsBegun k now w thread =
-    spawn_begun jumps k now w name argument number thread c.machine-machine.ensures.built c.self.invariant
-    (placed_of c.machine.result.now k c.machine.ensures.stands c.threads-threads.ensures.placed)
-    c.in_ok-number.ensures.answered got_after in
-    subst (IsInStep now)
-    (sym (c.in_ok-note_spawn_alone.ensures.noted
-    ∙ ap (λ (m : Contents). spawn_noted (sight_of m) thread w) (c.space.ensures.contents ∙ memory_of machine now c.machine-machine.ensures.stands)
-    ∙ begun.same)) begun.kept
+    let b = begun (goal.at.invariant_of-self-2 c).After-space in
+    subst (IsInStep c.spawn.new.self) (sym (c.in_ok-note_spawn_alone.ensures.noted ∙ b.same)) b.kept
 
 pub returns-clause-noted : goal.returns-clause-noted
 returns-clause-noted c =
-    let jumps : JumpLaws = record {
-      views = c.jumps_leave_views.ensures;
-      held = c.jumps_change_their_bytes_alone.ensures.held;
-      bytes = c.jumps_change_their_bytes_alone.ensures.data_bytes;
-    } in
-    let k = c.self.inside.system in
-    let w = c.self.inside.watch in
+    let here = (goal.at.returns-clause-noted c).After-space in
     let now = c.spawn.new.self in
-    let name = c.args.name.now in
-    let argument = c.args.argument in
-    let number = c.in_ok-number.number in
-    let thread = c.in-Some.thread.now in
-    let machine = c.machine-machine.result.now in
-    let got_after : slice_get now.threads number ≡ Some thread =
-    ap (λ (ts : List Thread). slice_get ts number) (sym (c.threads.ensures.threads ∙ threads_of machine now c.machine-machine.ensures.stands))
-    ∙ sym c.get.ensures ∙ ap option_copied c.in-Some.is in
-    let begun : IsBegun k now w thread =
-    spawn_begun jumps k now w name argument number thread c.machine-machine.ensures.built c.self.invariant
-    (placed_of c.machine.result.now k c.machine.ensures.stands c.threads-threads.ensures.placed)
-    c.in_ok-number.ensures.answered got_after in
-    subst (λ (s : Watched). watched now c.note_spawn_alone.new.self ≡ watched_after s (Spawn name argument)) c.self.view_is
-    (spawn_watched (watched k w) now c.note_spawn_alone.new.self name argument number thread c.in_ok-number.ensures.answered got_after
-    (c.in_ok-note_spawn_alone.ensures.noted
-    ∙ ap (λ (m : Contents). spawn_noted (sight_of m) thread w) (c.space.ensures.contents ∙ memory_of machine now c.machine-machine.ensures.stands)
-    ∙ begun.same))
+    let v = c.note_spawn_alone.new.self in
+    subst (λ (s : Watched). watched now v ≡ watched_after s (Spawn c.args.name.now c.args.argument)) c.self.view_is
+    (spawn_watched (watched c.self.inside.system c.self.inside.watch) now v c.args.name.now c.args.argument c.in_ok-number.number
+    c.in-Some.thread.now c.in_ok-number.ensures.answered (got_after here) (c.in_ok-note_spawn_alone.ensures.noted ∙ (begun here).same))

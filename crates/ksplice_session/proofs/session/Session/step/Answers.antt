@@ -3,18 +3,73 @@ use Rattle.std.specs.List.{slice_get}
 use Rattle.std.specs.Option.{option_copied}
 use Rattle.image_memory.specs.Contents.{Contents}
 use Rattle.ia32_step.specs.declared.types.Thread.{Thread}
-use Rattle.frame_watch.specs.Conditions.{IsStep, HoldBut, HaveWindows}
-use Rattle.frame_watch.specs.Discipline.{sight_of, step_noted}
-use Rattle.frame_watch.specs.Frames.{Watching}
 use Rattle.update_stack.specs.CallTable.{CallTable}
 use Rattle.update_stack.specs.Events.{Step, answered}
-use Rattle.update_stack.specs.StandsFor.{patched}
+use Rattle.frame_watch.specs.Conditions.{HaveWindows}
 use Rattle.ksplice_session.specs.Answers.{watched}
 use Rattle.ksplice_session.specs.Watching.{Watched, watched_after}
 use Rattle.ksplice_session.specs.inside.InStep.{IsInStep}
 use Rattle.ksplice_session.proofs.SeenLaws.{JumpLaws, memory_of, threads_of, numbered_of}
 use Rattle.ksplice_session.proofs.MoveLaws.{StepLaws, IsMade, step_made, fetched_windows, after_there, step_watched, step_refused, step_missing}
+use Rattle.ksplice_session.proofs.session.Session.step.Goals.{After-space, In_default-get}
 use Rattle.ksplice_session.proofs.session.Session.step.Goals as goal
+
+jumps : After-space → JumpLaws
+jumps c = record {
+  views = c.jumps_leave_views.ensures;
+  held = c.jumps_change_their_bytes_alone.ensures.held;
+  bytes = c.jumps_change_their_bytes_alone.ensures.data_bytes;
+}
+
+laws : After-space → StepLaws
+laws c = record {
+  stand = c.steps_stand.ensures;
+  calls = c.calls_and_returns.ensures.calls;
+  falls = c.calls_and_returns.ensures.falls;
+  valid = c.homes_stay_spliced.ensures.valid;
+}
+
+-- the thread before the step and after it
+got : (c : After-space) → slice_get c.self.inside.system.threads c.args.thread ≡ Some c.in-Some.before
+got c = ap (λ (s : Watched). slice_get s.machine.threads c.args.thread) c.self.view_is ∙ sym c.thread.ensures ∙ c.in-Some.is
+
+got_after : (c : After-space) → slice_get c.step_traced.new.self.threads c.args.thread ≡ Some c.in-Some-get.after.now
+got_after c =
+    let stands = threads_of c.machine-machine.result.now c.step_traced.new.self c.machine-machine.ensures.stands in
+    ap (λ (ts : List Thread). slice_get ts c.args.thread) (sym (c.threads.ensures.threads ∙ stands))
+    ∙ sym c.get.ensures ∙ ap option_copied c.in-Some-get.is
+
+-- the memory that the watch sees
+abbrev memory : After-space → Contents
+memory c = record { pieces = c.space.result.now.pieces.items; fences = c.space.result.now.fences.items }
+
+memory_is : (c : After-space) → memory c ≡ c.machine-machine.result.now.contents
+memory_is c = c.space.ensures.contents
+
+made : (c : After-space) → IsMade (memory c) c.self.inside.system c.step_traced.new.self c.self.inside.watch c.in-Some.before
+    c.in-Some-get.after.now c.in-Ok.traced.outcome c.in-Ok.traced.store
+made c =
+    let k = c.self.inside.system in
+    let now = c.step_traced.new.self in
+    step_made (jumps c) (laws c) k now c.self.inside.watch c.args.thread c.in-Some.before c.in-Some-get.after.now
+    c.in-Ok.traced.outcome c.in-Ok.traced.store (memory c) c.machine.ensures.built c.machine-machine.ensures.built c.self.invariant
+    (numbered_of c.machine.result.now k c.machine.ensures.stands c.threads-threads.ensures.numbered) (got c)
+    c.in-Ok.ensures.answered (got_after c) c.registers_fit.ensures.count c.registers_fit.ensures.esp c.in-Ok.ensures.written
+    (memory_is c ∙ memory_of c.machine-machine.result.now now c.machine-machine.ensures.stands)
+
+-- the thread that made the step is there after it
+nothing_lost : In_default-get → ⊥
+nothing_lost c =
+    let k = c.self.inside.system in
+    let n = c.args.thread in
+    let now = c.step_traced.new.self in
+    let was : slice_get k.threads n ≡ Some c.in-Some.before =
+    ap (λ (s : Watched). slice_get s.machine.threads n) c.self.view_is ∙ sym c.thread.ensures ∙ c.in-Some.is in
+    let stands = threads_of c.machine-machine.result.now now c.machine-machine.ensures.stands in
+    let none : slice_get now.threads n ≡ None =
+    ap (λ (ts : List Thread). slice_get ts n) (sym (c.threads.ensures.threads ∙ stands))
+    ∙ sym c.get.ensures ∙ ap option_copied c.in_default-get.is in
+    after_there k now n c.in-Some.before c.in-Ok.traced.outcome was c.in-Ok.ensures.answered none
 
 pub returns-in_default-clause-after : goal.returns-in_default-clause-after
 returns-in_default-clause-after c =
@@ -29,193 +84,38 @@ returns-in_default-step_traced-clause-after c =
     (subst (λ (s : Watched). answered s.machine (Step c.args.thread) ≡ Err c.in_default-step_traced.field-0) c.self.view_is came.answered)
 
 pub note_traced-requires-clause-step : goal.note_traced-requires-clause-step
-note_traced-requires-clause-step c =
-    let jumps : JumpLaws = record {
-      views = c.jumps_leave_views.ensures;
-      held = c.jumps_change_their_bytes_alone.ensures.held;
-      bytes = c.jumps_change_their_bytes_alone.ensures.data_bytes;
-    } in
-    let laws : StepLaws = record {
-      stand = c.steps_stand.ensures;
-      number = c.steps_keep.ensures.number;
-      stack = c.steps_keep.ensures.stack;
-      calls = c.calls_and_returns.ensures.calls;
-      falls = c.calls_and_returns.ensures.falls;
-      valid = c.homes_stay_spliced.ensures.valid;
-    } in
-    let k = c.self.inside.system in
-    let n = c.args.thread in
-    let before = c.in-Some.before in
-    let got : slice_get k.threads n ≡ Some before =
-    ap (λ (s : Watched). slice_get s.machine.threads n) c.self.view_is ∙ sym c.thread.ensures ∙ c.in-Some.is in
-    let now = c.step_traced.new.self in
-    let machine = c.machine-machine.result.now in
-    let got_after : slice_get now.threads n ≡ Some c.in-Some-get.after.now =
-    ap (λ (ts : List Thread). slice_get ts n) (sym (c.threads.ensures.threads ∙ threads_of machine now c.machine-machine.ensures.stands))
-    ∙ sym c.get.ensures ∙ ap option_copied c.in-Some-get.is in
-    let w = c.self.inside.watch in
-    let after = c.in-Some-get.after.now in
-    let traced = c.in-Ok.traced in
-    let memory = c.space.ensures.contents ∙ memory_of machine now c.machine-machine.ensures.stands in
-    let made : IsMade k now w before after traced.outcome traced.store =
-    step_made jumps laws k now w n before after traced.outcome traced.store c.machine.ensures.built c.machine-machine.ensures.built
-    c.self.invariant (numbered_of c.machine.result.now k c.machine.ensures.stands c.threads-threads.ensures.numbered) got
-    c.in-Ok.ensures.answered got_after c.registers_fit.ensures.count c.registers_fit.ensures.esp c.in-Ok.ensures.written in
-    λ unbroken. subst (λ (m : Contents). IsStep m.pieces before after traced.outcome w.threads) (sym memory) made.step
+note_traced-requires-clause-step c = λ unbroken. (made c).step
 
 pub note_traced-requires-clause-held : goal.note_traced-requires-clause-held
-note_traced-requires-clause-held c =
-    let jumps : JumpLaws = record {
-      views = c.jumps_leave_views.ensures;
-      held = c.jumps_change_their_bytes_alone.ensures.held;
-      bytes = c.jumps_change_their_bytes_alone.ensures.data_bytes;
-    } in
-    let laws : StepLaws = record {
-      stand = c.steps_stand.ensures;
-      number = c.steps_keep.ensures.number;
-      stack = c.steps_keep.ensures.stack;
-      calls = c.calls_and_returns.ensures.calls;
-      falls = c.calls_and_returns.ensures.falls;
-      valid = c.homes_stay_spliced.ensures.valid;
-    } in
-    let k = c.self.inside.system in
-    let n = c.args.thread in
-    let before = c.in-Some.before in
-    let got : slice_get k.threads n ≡ Some before =
-    ap (λ (s : Watched). slice_get s.machine.threads n) c.self.view_is ∙ sym c.thread.ensures ∙ c.in-Some.is in
-    let now = c.step_traced.new.self in
-    let machine = c.machine-machine.result.now in
-    let got_after : slice_get now.threads n ≡ Some c.in-Some-get.after.now =
-    ap (λ (ts : List Thread). slice_get ts n) (sym (c.threads.ensures.threads ∙ threads_of machine now c.machine-machine.ensures.stands))
-    ∙ sym c.get.ensures ∙ ap option_copied c.in-Some-get.is in
-    let w = c.self.inside.watch in
-    let after = c.in-Some-get.after.now in
-    let traced = c.in-Ok.traced in
-    let memory = c.space.ensures.contents ∙ memory_of machine now c.machine-machine.ensures.stands in
-    let made : IsMade k now w before after traced.outcome traced.store =
-    step_made jumps laws k now w n before after traced.outcome traced.store c.machine.ensures.built c.machine-machine.ensures.built
-    c.self.invariant (numbered_of c.machine.result.now k c.machine.ensures.stands c.threads-threads.ensures.numbered) got
-    c.in-Ok.ensures.answered got_after c.registers_fit.ensures.count c.registers_fit.ensures.esp c.in-Ok.ensures.written in
-    λ unbroken. subst (λ (m : Contents). HoldBut m.pieces w.threads traced.store) (sym memory) made.held
+note_traced-requires-clause-held c = λ unbroken. (made c).held
 
 pub note_traced-requires-clause-fetched : goal.note_traced-requires-clause-fetched
 note_traced-requires-clause-fetched c =
-    let jumps : JumpLaws = record {
-      views = c.jumps_leave_views.ensures;
-      held = c.jumps_change_their_bytes_alone.ensures.held;
-      bytes = c.jumps_change_their_bytes_alone.ensures.data_bytes;
-    } in
     let k = c.self.inside.system in
-    let n = c.args.thread in
-    let before = c.in-Some.before in
-    let got : slice_get k.threads n ≡ Some before =
-    ap (λ (s : Watched). slice_get s.machine.threads n) c.self.view_is ∙ sym c.thread.ensures ∙ c.in-Some.is in
     let now = c.step_traced.new.self in
-    let machine = c.machine-machine.result.now in
     let traced = c.in-Ok.traced in
-    let memory = c.space.ensures.contents ∙ memory_of machine now c.machine-machine.ensures.stands in
-    λ unbroken many. subst (λ (m : Contents). HaveWindows m before.pc traced.fetched) (sym memory)
-    (fetched_windows jumps c.threads_keep_windows.ensures.steps c.fetched_bytes_have_windows.ensures k now n before traced.outcome traced.fetched
-    c.machine.ensures.built c.machine-machine.ensures.built got c.in-Ok.ensures.answered c.in-Ok.ensures.fetched many)
+    λ unbroken many. subst (λ (m : Contents). HaveWindows m c.in-Some.before.pc traced.fetched)
+    (sym (memory_is c ∙ memory_of c.machine-machine.result.now now c.machine-machine.ensures.stands))
+    (fetched_windows (jumps c) c.threads_keep_windows.ensures.steps c.fetched_bytes_have_windows.ensures k now c.args.thread
+    c.in-Some.before traced.outcome traced.fetched c.machine.ensures.built c.machine-machine.ensures.built (got c)
+    c.in-Ok.ensures.answered c.in-Ok.ensures.fetched many)
 
 pub invariant_of-self-in_default-get : goal.invariant_of-self-in_default-get
-invariant_of-self-in_default-get c =
-    let k = c.self.inside.system in
-    let n = c.args.thread in
-    let before = c.in-Some.before in
-    let got : slice_get k.threads n ≡ Some before =
-    ap (λ (s : Watched). slice_get s.machine.threads n) c.self.view_is ∙ sym c.thread.ensures ∙ c.in-Some.is in
-    let now = c.step_traced.new.self in
-    let machine = c.machine-machine.result.now in
-    let none : slice_get now.threads n ≡ None =
-    ap (λ (ts : List Thread). slice_get ts n) (sym (c.threads.ensures.threads ∙ threads_of machine now c.machine-machine.ensures.stands))
-    ∙ sym c.get.ensures ∙ ap option_copied c.in_default-get.is in
-    absurd (after_there k now n before c.in-Ok.traced.outcome got c.in-Ok.ensures.answered none)
+invariant_of-self-in_default-get c = absurd (nothing_lost (goal.at.invariant_of-self-in_default-get c).In_default-get)
 
 pub invariant_of-self-2 : goal.invariant_of-self-2
 invariant_of-self-2 c =
-    let jumps : JumpLaws = record {
-      views = c.jumps_leave_views.ensures;
-      held = c.jumps_change_their_bytes_alone.ensures.held;
-      bytes = c.jumps_change_their_bytes_alone.ensures.data_bytes;
-    } in
-    let laws : StepLaws = record {
-      stand = c.steps_stand.ensures;
-      number = c.steps_keep.ensures.number;
-      stack = c.steps_keep.ensures.stack;
-      calls = c.calls_and_returns.ensures.calls;
-      falls = c.calls_and_returns.ensures.falls;
-      valid = c.homes_stay_spliced.ensures.valid;
-    } in
-    let k = c.self.inside.system in
-    let n = c.args.thread in
-    let before = c.in-Some.before in
-    let got : slice_get k.threads n ≡ Some before =
-    ap (λ (s : Watched). slice_get s.machine.threads n) c.self.view_is ∙ sym c.thread.ensures ∙ c.in-Some.is in
-    let now = c.step_traced.new.self in
-    let machine = c.machine-machine.result.now in
-    let got_after : slice_get now.threads n ≡ Some c.in-Some-get.after.now =
-    ap (λ (ts : List Thread). slice_get ts n) (sym (c.threads.ensures.threads ∙ threads_of machine now c.machine-machine.ensures.stands))
-    ∙ sym c.get.ensures ∙ ap option_copied c.in-Some-get.is in
-    let w = c.self.inside.watch in
-    let after = c.in-Some-get.after.now in
-    let traced = c.in-Ok.traced in
-    let memory = c.space.ensures.contents ∙ memory_of machine now c.machine-machine.ensures.stands in
-    let made : IsMade k now w before after traced.outcome traced.store =
-    step_made jumps laws k now w n before after traced.outcome traced.store c.machine.ensures.built c.machine-machine.ensures.built
-    c.self.invariant (numbered_of c.machine.result.now k c.machine.ensures.stands c.threads-threads.ensures.numbered) got
-    c.in-Ok.ensures.answered got_after c.registers_fit.ensures.count c.registers_fit.ensures.esp c.in-Ok.ensures.written in
-    subst (IsInStep now)
-    (sym (c.note_traced.ensures ∙ ap (λ (m : Contents). step_noted (sight_of m) before after traced.outcome w) memory ∙ made.same)) made.kept
+    let m = made (goal.at.invariant_of-self-2 c).After-space in
+    subst (IsInStep c.step_traced.new.self) (sym (c.note_traced.ensures ∙ m.same)) m.kept
 
 pub returns-clause-after : goal.returns-clause-after
 returns-clause-after c =
-    let jumps : JumpLaws = record {
-      views = c.jumps_leave_views.ensures;
-      held = c.jumps_change_their_bytes_alone.ensures.held;
-      bytes = c.jumps_change_their_bytes_alone.ensures.data_bytes;
-    } in
-    let laws : StepLaws = record {
-      stand = c.steps_stand.ensures;
-      number = c.steps_keep.ensures.number;
-      stack = c.steps_keep.ensures.stack;
-      calls = c.calls_and_returns.ensures.calls;
-      falls = c.calls_and_returns.ensures.falls;
-      valid = c.homes_stay_spliced.ensures.valid;
-    } in
-    let k = c.self.inside.system in
-    let n = c.args.thread in
-    let before = c.in-Some.before in
-    let got : slice_get k.threads n ≡ Some before =
-    ap (λ (s : Watched). slice_get s.machine.threads n) c.self.view_is ∙ sym c.thread.ensures ∙ c.in-Some.is in
+    let here = (goal.at.returns-clause-after c).After-space in
     let now = c.step_traced.new.self in
-    let machine = c.machine-machine.result.now in
-    let got_after : slice_get now.threads n ≡ Some c.in-Some-get.after.now =
-    ap (λ (ts : List Thread). slice_get ts n) (sym (c.threads.ensures.threads ∙ threads_of machine now c.machine-machine.ensures.stands))
-    ∙ sym c.get.ensures ∙ ap option_copied c.in-Some-get.is in
-    let w = c.self.inside.watch in
-    let after = c.in-Some-get.after.now in
-    let traced = c.in-Ok.traced in
-    let memory = c.space.ensures.contents ∙ memory_of machine now c.machine-machine.ensures.stands in
-    let made : IsMade k now w before after traced.outcome traced.store =
-    step_made jumps laws k now w n before after traced.outcome traced.store c.machine.ensures.built c.machine-machine.ensures.built
-    c.self.invariant (numbered_of c.machine.result.now k c.machine.ensures.stands c.threads-threads.ensures.numbered) got
-    c.in-Ok.ensures.answered got_after c.registers_fit.ensures.count c.registers_fit.ensures.esp c.in-Ok.ensures.written in
     let v = c.note_traced.new.self in
-    subst (λ (s : Watched). watched now v ≡ watched_after s (Step n)) c.self.view_is
-    (step_watched (watched k w) now v n before after traced.outcome c.in-Ok.ensures.answered got got_after
-    (c.note_traced.ensures ∙ ap (λ (m : Contents). step_noted (sight_of m) before after traced.outcome w) memory ∙ made.same))
+    subst (λ (s : Watched). watched now v ≡ watched_after s (Step c.args.thread)) c.self.view_is
+    (step_watched (watched c.self.inside.system c.self.inside.watch) now v c.args.thread c.in-Some.before c.in-Some-get.after.now
+    c.in-Ok.traced.outcome c.in-Ok.ensures.answered (got here) (got_after here) (c.note_traced.ensures ∙ (made here).same))
 
 pub returns-in_default-get-clause-after : goal.returns-in_default-get-clause-after
-returns-in_default-get-clause-after c =
-    let k = c.self.inside.system in
-    let n = c.args.thread in
-    let before = c.in-Some.before in
-    let got : slice_get k.threads n ≡ Some before =
-    ap (λ (s : Watched). slice_get s.machine.threads n) c.self.view_is ∙ sym c.thread.ensures ∙ c.in-Some.is in
-    let now = c.step_traced.new.self in
-    let machine = c.machine-machine.result.now in
-    let none : slice_get now.threads n ≡ None =
-    ap (λ (ts : List Thread). slice_get ts n) (sym (c.threads.ensures.threads ∙ threads_of machine now c.machine-machine.ensures.stands))
-    ∙ sym c.get.ensures ∙ ap option_copied c.in_default-get.is in
-    absurd (after_there k now n before c.in-Ok.traced.outcome got c.in-Ok.ensures.answered none)
+returns-in_default-get-clause-after c = absurd (nothing_lost (goal.at.returns-in_default-get-clause-after c).In_default-get)
