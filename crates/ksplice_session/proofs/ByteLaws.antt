@@ -1,12 +1,12 @@
 -- When four bytes are the same in two memories.
-use Rattle.std.proofs.Common.{◌≡◌, ℕ, zero, suc, ◌+◌, ◌-◌, ◌≤◌, ◌<◌, ◌&&◌, not, ◌==◌, Bool, true, false, cond, List, [], ◌∷◌, length, get_or, is_some, Option, Some, None, refl, sym, ◌∙◌, ap, arith, ◌⊎◌}
+use Rattle.std.proofs.Common.{◌≡◌, ℕ, zero, suc, ◌+◌, ◌-◌, ◌≤◌, ◌<◌, ◌&&◌, not, ◌==◌, true, false, cond, List, [], ◌∷◌, length, get_or, is_some, Option, Some, None, refl, sym, ◌∙◌, ap, arith, ◌⊎◌}
 use Rattle.std.specs.Option.{option_map, option_or, unwrap_or}
 use Rattle.std.specs.Int.{w32, from_le_bytes}
 use Rattle.ks_base.specs.declared.refusals.Fault.{Fault}
 use Rattle.image_memory.specs.declared.types.Piece.{Piece}
 use Rattle.image_memory.specs.Ranges.{lies_in}
 use Rattle.image_memory.specs.Contents.{piece_range, holding, byte_in}
-use Rattle.image_memory.specs.Access.{kind_of, unreadable, read_fault, first_fault, byte_at, bytes_at, dword_at, overlaid, overlaid_piece, new_byte, written}
+use Rattle.image_memory.specs.Access.{kind_of, unreadable, read_fault, first_fault, byte_at, bytes_at, dword_at, overlaid_piece, new_byte, written}
 use Rattle.image_memory.proofs.RangeLaws.{inside}
 use Rattle.image_memory.proofs.AccessLaws.{good_at, length-overlaid, get_or-overlaid, new_outside}
 use Rattle.ia32_step.specs.Frames.{holds_dword}

@@ -1,10 +1,10 @@
 -- What the watch and the machine have to do with each other in a disciplined list of events, and what one event more
 -- leaves of it.
-use Rattle.std.proofs.Common.{◌≡◌, ℕ, Bool, true, false, if◌then◌else◌, IsTrue}
+use Rattle.std.proofs.Common.{◌≡◌, ℕ, IsTrue}
 use Rattle.std.proofs.Common.{List, [], ◌∷◌, ◌++◌, Option, Some, None, Ok}
-use Rattle.std.proofs.Common.{refl, sym, ◌∙◌, ap, subst}
-use Rattle.std.specs.List.{All, Contains, last_or, slice_get}
-use Rattle.std.proofs.lemmas.Option.{none-some, same_Some, slice_get_within, get_or_from_slice_get}
+use Rattle.std.proofs.Common.{refl, sym, ap, subst}
+use Rattle.std.specs.List.{All, last_or, slice_get}
+use Rattle.std.proofs.lemmas.Option.{none-some, same_Some}
 use Rattle.ks_base.specs.declared.places.Range.{Range}
 use Rattle.ks_base.specs.declared.refusals.Fault.TheVariants as faults
 use Rattle.image_file.specs.Reading.{Contents as Image, image_of}
@@ -17,8 +17,8 @@ use Rattle.ia32_step.specs.declared.types.Outcome.{Outcome}
 use Rattle.ia32_step.specs.declared.types.Outcome.TheVariants.{Moved, Stopped}
 use Rattle.ia32_step.specs.Frames.{keeps_slot}
 use Rattle.ia32_step.specs.Step.{carried_out}
-use Rattle.ia32_step.specs.Threads.{esp_of, runs}
-use Rattle.image_threads.specs.Program.{if_running, running_at}
+use Rattle.ia32_step.specs.Threads.{runs}
+use Rattle.image_threads.specs.Program.{running_at}
 use Rattle.update_stack.specs.CallTable.{first_machine}
 use Rattle.update_stack.specs.Events.{Event, Step, after_events}
 use Rattle.update_stack.specs.Stacked.{IsBuilt}

@@ -1,48 +1,45 @@
 -- A step as a watch sees it.
-use Rattle.std.proofs.Common.{◌≡◌, ◌≢◌, ℕ, zero, suc, ◌+◌, ◌^◌, ◌≤◌, ◌<◌, ◌==◌, min, max, Bool, true, false, if◌then◌else◌, IsTrue, IsSomeAnd, List, [], ◌∷◌, length, set, Option, Some, None, Result, Ok, Err, refl, sym, ◌∙◌, ap, subst, arith, ◌⊎◌}
+use Rattle.std.proofs.Common.{◌≡◌, ℕ, ◌+◌, ◌^◌, ◌≤◌, ◌<◌, true, false, IsTrue, IsSomeAnd, List, length, set, Option, Some, None, Ok, Err, refl, sym, ◌∙◌, ap, subst, arith, ◌⊎◌}
 use Rattle.std.specs.List.{All, slice_get}
 use Rattle.std.proofs.lemmas.Bool.Decides.{nat_tests}
 use Rattle.std.proofs.lemmas.List.Elements.{All-weaker}
 use Rattle.std.proofs.lemmas.Option.{same_Some}
 use Rattle.ks_base.specs.declared.places.Range.{Range}
-use Rattle.ks_base.specs.declared.refusals.Fault.{Fault}
 use Rattle.ks_base.specs.declared.refusals.Refusal.{Refusal}
 use Rattle.image_memory.specs.declared.types.Piece.{Piece}
 use Rattle.image_memory.specs.Ranges.{meets}
 use Rattle.image_memory.specs.Contents.{Contents, IsValid, ArePlaced}
-use Rattle.image_memory.specs.Fetch.{View, Unmapped, AtHome, Stray, Bytes}
 use Rattle.ia32_decode.specs.declared.types.Decoded.{Decoded}
 use Rattle.ia32_decode.specs.declared.types.Width.{Width}
 use Rattle.ia32_decode.specs.declared.types.Width.TheVariants.{Byte, Word, Dword}
 use Rattle.ia32_decode.specs.Widths.{byte_count}
-use Rattle.ia32_step.specs.declared.types.Flow.{Flow}
 use Rattle.ia32_step.specs.declared.types.Flow.TheVariants.{Call}
 use Rattle.ia32_step.specs.declared.types.Frame.{Frame}
 use Rattle.ia32_step.specs.declared.types.Outcome.{Outcome}
-use Rattle.ia32_step.specs.declared.types.Outcome.TheVariants.{Moved, Exited, Stopped}
+use Rattle.ia32_step.specs.declared.types.Outcome.TheVariants.{Moved}
 use Rattle.ia32_step.specs.declared.types.Store.{Store}
 use Rattle.ia32_step.specs.declared.types.Thread.{Thread}
 use Rattle.ia32_step.specs.Frames.{instruction_at, IsCalled, is_slot, holds_dword}
 use Rattle.ia32_step.specs.Operands.{spelled}
-use Rattle.ia32_step.specs.Step.{Left, exits, done, unless_barred, store_fault, after_store, stepped, fetched_count}
-use Rattle.ia32_step.specs.Threads.{is_running, runs, esp_of}
+use Rattle.ia32_step.specs.Step.{Left, after_store, stepped, fetched_count}
+use Rattle.ia32_step.specs.Threads.{esp_of}
 use Rattle.image_threads.specs.Program.{if_running, running_at, AreNumbered}
-use Rattle.splice_jump.specs.Jumps.{jumped, jumped_memory}
-use Rattle.update_stack.specs.CallTable.{CallTable, bodies_in, contents_of, view_in, base_of}
-use Rattle.update_stack.specs.Events.{Step, Answer, Spawned, Stepped, Applied, Undone, Happened, happened, step_answered, answered, machine_after}
+use Rattle.splice_jump.specs.Jumps.{jumped_memory}
+use Rattle.update_stack.specs.CallTable.{CallTable, bodies_in, contents_of}
+use Rattle.update_stack.specs.Events.{Step, Stepped, happened, step_answered, answered}
 use Rattle.update_stack.specs.Jumps.{CanJump, StepsStand, jumped_left}
 use Rattle.update_stack.specs.Stacked.{IsBuilt}
 use Rattle.update_stack.specs.StandsFor.{patched}
-use Rattle.update_stack.specs.Steps.{step_at, step_in, after_step, moved_by, moved}
+use Rattle.update_stack.specs.Steps.{step_in, after_step, moved_by, moved}
 use Rattle.frame_safety.specs.Windows.{StepsKeepWindows, FetchedHaveWindows}
 use Rattle.frame_watch.specs.Conditions.{HasPushed, IsStepOf, IsStep, touches, HoldBut, HaveWindows}
 use Rattle.frame_watch.specs.Discipline.{sight_of, step_noted}
-use Rattle.frame_watch.specs.Frames.{Watched as WatchedThread, Watching, with_frames, without_thread, keeps_slots}
+use Rattle.frame_watch.specs.Frames.{Watched as WatchedThread, Watching, without_thread, keeps_slots}
 use Rattle.ksplice_session.specs.Answers.{watched}
 use Rattle.ksplice_session.specs.Watching.{Watched, sight_in, step_seen, watched_by, watched_after}
 use Rattle.ksplice_session.specs.inside.InStep.{IsInStep}
 use Rattle.ksplice_session.proofs.ByteLaws.{holds_same, alike_written}
-use Rattle.ksplice_session.proofs.SightLaws.{IsAlike, step_alike}
+use Rattle.ksplice_session.proofs.SightLaws.{step_alike}
 use Rattle.ksplice_session.proofs.SeenLaws.{JumpLaws, jumps_alike, built_sound}
 use Rattle.ksplice_session.proofs.StackLaws.{frames_hold}
 use Rattle.ksplice_session.proofs.TestedLaws.{step_left}

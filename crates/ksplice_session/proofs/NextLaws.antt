@@ -1,33 +1,17 @@
 -- What each event leaves of a moment at which no rule was broken, by what the machine answers.
-use Rattle.std.proofs.Common.{◌≡◌, ℕ, Bool, true, false, not, ◌==◌, if◌then◌else◌, nat_le, List, [], ◌∷◌, ◌++◌}
+use Rattle.std.proofs.Common.{◌≡◌, ℕ, not, List}
 use Rattle.std.proofs.Common.{length, set, Option, Some, None, Result, Ok, Err, refl, sym, ◌∙◌, ap, subst}
 use Rattle.std.specs.List.{slice_get}
-use Rattle.ks_base.specs.declared.places.Range.{Range}
-use Rattle.ks_base.specs.declared.refusals.Fault.{Fault}
 use Rattle.ks_base.specs.declared.refusals.Refusal.{Refusal}
-use Rattle.ks_base.specs.declared.refusals.Refusal.TheVariants.{TooManyThreads, NoThread}
-use Rattle.ks_base.specs.declared.reports.Report.{Report}
-use Rattle.image_file.specs.Fields.{◌>>=◌}
-use Rattle.image_memory.specs.Contents.{Contents}
-use Rattle.image_memory.specs.Fetch.{View, Unmapped, AtHome, Stray, Bytes}
-use Rattle.symbol_table.specs.Symbols.{function_named}
-use Rattle.ia32_decode.specs.Decode.{decoded_from}
 use Rattle.ia32_step.specs.declared.types.Thread.{Thread}
 use Rattle.ia32_step.specs.declared.types.Outcome.{Outcome}
-use Rattle.ia32_step.specs.Step.{Left, context_of, exits, done, store_fault, unless_barred, change_by}
-use Rattle.ia32_step.specs.Threads.{runs}
 use Rattle.image_threads.specs.Program.{running_at}
-use Rattle.image_threads.specs.Spawning.{started, started_at, started_on, free_stack, is_taken, first_thread}
-use Rattle.stack_scan.specs.Standing.{thread_refusal}
-use Rattle.update_plan.specs.declared.types.Plan.{Plan}
-use Rattle.update_plan.specs.Plan.{unless}
-use Rattle.update_stack.specs.CallTable.{CallTable, Update, contents_of, view_in, base_of}
-use Rattle.update_stack.specs.Steps.{step_at, step_in, after_step, moved_by, moved, after_start, spawned}
-use Rattle.update_stack.specs.Apply.{planned_in, committed, applied}
-use Rattle.update_stack.specs.Undo.{withdrawn, ranges_in, newest_update, undone_by, undone}
+use Rattle.image_threads.specs.Spawning.{is_taken, first_thread}
+use Rattle.update_stack.specs.CallTable.{CallTable}
+use Rattle.update_stack.specs.Steps.{step_in}
 use Rattle.update_stack.specs.Events.{Event, Spawn, Step, Apply, Undo, Answer, Spawned, Stepped, Applied, Undone}
-use Rattle.update_stack.specs.Events.{Happened, happened, spawn_answered, step_answered, apply_answered}
-use Rattle.update_stack.specs.Events.{undo_answered, answered, machine_after, after_event}
+use Rattle.update_stack.specs.Events.{Happened, happened}
+use Rattle.update_stack.specs.Events.{answered}
 use Rattle.update_stack.specs.Stacked.{IsBuilt}
 use Rattle.frame_safety.specs.Clear.{newest_retired, newest_pieces}
 use Rattle.frame_watch.specs.declared.types.Verdict.TheVariants.{Disciplined}

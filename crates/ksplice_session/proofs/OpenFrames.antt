@@ -1,22 +1,20 @@
 -- Along a disciplined list of events open frames keep their windows.
-use Rattle.std.proofs.Common.{◌≡◌, ℕ, suc, ◌-◌, ◌≤◌, Bool, true, false, ◌&&◌, nat_le, IsTrue, List, [], ◌∷◌, ◌++◌}
+use Rattle.std.proofs.Common.{◌≡◌, ℕ, suc, ◌-◌, ◌≤◌, nat_le, IsTrue, List, [], ◌∷◌, ◌++◌}
 use Rattle.std.proofs.Common.{length, Option, Some, None, Ok, append_assoc, append-nil}
 use Rattle.std.proofs.Common.{refl, sym, ◌∙◌, ap, subst, arith}
 use Rattle.std.specs.Option.{option_map, unwrap_or}
-use Rattle.std.specs.List.{fold, last_or, slice_get}
+use Rattle.std.specs.List.{last_or, slice_get}
 use Rattle.std.proofs.lemmas.Option.{none-some, same_Some}
 use Rattle.std.proofs.lemmas.Bool.Decides.{nat_tests}
 use Rattle.std.proofs.lemmas.List.{length-append, length-take-le}
-use Rattle.std.proofs.lemmas.List.Sums.{fold-append}
 use Rattle.image_file.specs.Reading.{Contents as Image, image_of}
 use Rattle.ia32_step.specs.declared.types.Frame.{Frame}
 use Rattle.ia32_step.specs.declared.types.Flow.TheVariants.{Plain, Call, Return}
 use Rattle.ia32_step.specs.declared.types.Outcome.TheVariants.{Moved}
 use Rattle.ia32_step.specs.declared.types.Thread.{Thread}
 use Rattle.image_threads.specs.Program.{running_at}
-use Rattle.update_stack.specs.CallTable.{CallTable}
 use Rattle.update_stack.specs.Steps.{moved_by, moved}
-use Rattle.update_stack.specs.Events.{Event, Step, step_answered, answered, after_event, after_events}
+use Rattle.update_stack.specs.Events.{Event, Step, step_answered, answered}
 use Rattle.update_stack.specs.Stacked.{IsBuilt}
 use Rattle.frame_safety.specs.Windows.{window_in}
 use Rattle.frame_watch.specs.declared.types.Verdict.TheVariants.{Disciplined}

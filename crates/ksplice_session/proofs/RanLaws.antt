@@ -1,5 +1,5 @@
 -- A session that ran from the start of an image: which events it made, and what their discipline is good for.
-use Rattle.std.proofs.Common.{◌≡◌, ◌⊎◌, inl, inr, ℕ, List, [], ◌∷◌, ◌++◌, Option, Some, None, Result, Ok, refl, sym}
+use Rattle.std.proofs.Common.{◌≡◌, ◌⊎◌, inl, inr, ℕ, List, [], ◌∷◌, ◌++◌, Option, Ok, refl, sym}
 use Rattle.std.proofs.Common.{◌∙◌, ap, subst, append_assoc, append-nil}
 use Rattle.std.specs.List.{fold}
 use Rattle.ks_io.specs.Outside.{Counts}
@@ -7,13 +7,12 @@ use Rattle.ks_io.specs.Loads.{Told as ToldFiles}
 use Rattle.ks_io.specs.declared.types.FileFault.{FileFault}
 use Rattle.image_file.specs.Reading.{Contents as Image, image_of}
 use Rattle.script_lines.specs.declared.types.Command.{Command}
-use Rattle.update_stack.specs.CallTable.{CallTable}
 use Rattle.update_stack.specs.Events.{Event, Spawn, Step, after_events}
 use Rattle.ksplice_session.specs.declared.types.SessionEnd.{SessionEnd}
 use Rattle.ksplice_session.specs.Watching.{Watched, first_watched, watched_after_all, IsDisciplined}
 use Rattle.ksplice_session.specs.Replies.{told_of}
 use Rattle.ksplice_session.specs.Answers.{MadeFront, Noted, Unnoted}
-use Rattle.ksplice_session.specs.Session.{Ran, Played, nothing_played, with_told, play_line, played, ran_by}
+use Rattle.ksplice_session.specs.Session.{Ran, Played, nothing_played, play_line, played, ran_by}
 use Rattle.ksplice_session.specs.Session.{events_along, session_played, At, told_at}
 use Rattle.ksplice_session.specs.Session.{Ends, AllDone, AllRun, FileStopped, SinkStopped, SinkAtFile, MemoryInLine}
 use Rattle.ksplice_session.specs.Session.{MemoryAfterLine, MemoryAtFile, SessionEnds}

@@ -1,10 +1,9 @@
 -- What the watch keeps of each thread, where it goes on.
-use Rattle.std.proofs.Common.{◌≡◌, ℕ, min, Bool, true, false, not, ◌==◌, cond, if◌then◌else◌, IsTrue}
-use Rattle.std.proofs.Common.{List, [], ◌∷◌, map, Option, Some, None}
+use Rattle.std.proofs.Common.{◌≡◌, ℕ, Bool, true, false, not, ◌==◌, if◌then◌else◌, IsTrue}
+use Rattle.std.proofs.Common.{List, Option, Some, None}
 use Rattle.std.proofs.Common.{refl, sym, ◌∙◌, ap, subst, arith}
 use Rattle.std.specs.Option.{option_map}
-use Rattle.std.specs.List.{filter, fold, last_or}
-use Rattle.std.proofs.lemmas.Option.{none-some, same_Some}
+use Rattle.std.specs.List.{last_or}
 use Rattle.std.proofs.lemmas.Bool.Decides.{nat_tests}
 use Rattle.image_memory.specs.declared.types.Piece.{Piece}
 use Rattle.image_memory.specs.Fetch.{has_window}
@@ -20,7 +19,7 @@ use Rattle.frame_watch.specs.declared.types.Verdict.{Verdict}
 use Rattle.frame_watch.specs.declared.types.Verdict.TheVariants.{Disciplined, Broken}
 use Rattle.frame_watch.specs.Frames.{Watched, Watching, started, stack_of, with_started, is_of, watched_at}
 use Rattle.frame_watch.specs.Frames.{frames_at, if_of, with_frames, without_thread, opened, closed, keeps_slots}
-use Rattle.frame_watch.specs.Discipline.{Sight, counted, broken, number_of, breaking, lesser, least, slot_broken}
+use Rattle.frame_watch.specs.Discipline.{Sight, counted, broken, breaking, least, slot_broken}
 use Rattle.frame_watch.specs.Discipline.{slots_tested, after_start, pops, after_outcome}
 use Rattle.frame_watch.specs.Discipline.{unless_broken, spawn_noted, step_noted}
 use Rattle.ksplice_session.proofs.TestedLaws.{all_keep}

@@ -1,5 +1,5 @@
 -- A watch sees of the memory with jumps what it sees of the machine.
-use Rattle.std.proofs.Common.{◌≡◌, ℕ, zero, suc, ◌+◌, ◌-◌, ◌≤◌, ◌<◌, ◌==◌, ◌&&◌, ◌||◌, Bool, true, false, if◌then◌else◌, List, [], ◌∷◌, map, Option, Some, None, refl, sym, ◌∙◌, ap, subst}
+use Rattle.std.proofs.Common.{◌≡◌, ℕ, ◌==◌, ◌&&◌, ◌||◌, Bool, true, false, if◌then◌else◌, List, [], ◌∷◌, map, Option, Some, None, refl, sym, ◌∙◌, ap, subst}
 use Rattle.std.specs.Option.{option_map}
 use Rattle.std.specs.List.{All, Any, list_any}
 use Rattle.std.proofs.Math.Bool.{and-false}
@@ -14,7 +14,7 @@ use Rattle.image_memory.specs.declared.types.Piece.{Piece}
 use Rattle.image_memory.specs.Ranges.{lies_in}
 use Rattle.image_memory.specs.Contents.{Contents, IsValid, fence_range, holding, spliced_at}
 use Rattle.image_memory.specs.Access.{kind_of, unreadable, read_fault, byte_at}
-use Rattle.image_memory.specs.Fetch.{View, AtHome, Stray, Bytes, view, view_at, seen_in, window_of, has_window, is_code, code_in, code_from}
+use Rattle.image_memory.specs.Fetch.{AtHome, Stray, Bytes, view, view_at, seen_in, window_of, has_window, is_code, code_in, code_from}
 use Rattle.image_threads.specs.Program.{Program, AreNumbered, WellPlaced}
 use Rattle.splice_jump.specs.Jumps.{jumped, jumped_memory, IsFenced, IsSpliced, AreSpliced}
 use Rattle.frame_watch.specs.Discipline.{sight_of}

@@ -1,5 +1,5 @@
 -- A watch comes to the same where it sees the same.
-use Rattle.std.proofs.Common.{◌≡◌, ℕ, ◌&&◌, ◌==◌, not, Bool, if◌then◌else◌, List, [], ◌∷◌, ◌++◌, map, Option, Some, None, refl, sym, ◌∙◌, ap}
+use Rattle.std.proofs.Common.{◌≡◌, ℕ, ◌&&◌, not, Bool, if◌then◌else◌, List, [], ◌∷◌, ◌++◌, map, None, refl, ◌∙◌, ap}
 use Rattle.std.specs.List.{list_all, filter, last_or}
 use Rattle.image_memory.specs.Fetch.{has_window}
 use Rattle.image_memory.specs.Access.{first_fault, read_fault, dword_at}

@@ -1,39 +1,33 @@
 -- The start of a thread as a watch sees it.
-use Rattle.std.proofs.Common.{◌≡◌, ◌≢◌, ℕ, zero, suc, ◌+◌, ◌-◌, ◌≤◌, ◌<◌, ◌==◌, nat_le, not, ◌&&◌, min, max, Bool, true, false, if◌then◌else◌, IsTrue, List, [], ◌∷◌, ◌++◌, length, get_or, Option, Some, None, Result, Ok, Err, refl, sym, ◌∙◌, ap, subst, arith, ◌⊎◌, inl, inr}
-use Rattle.std.specs.List.{All, Contains, slice_get, list_any, find}
+use Rattle.std.proofs.Common.{◌≡◌, ℕ, ◌+◌, ◌≤◌, ◌<◌, not, ◌&&◌, Bool, true, false, IsTrue, List, [], ◌∷◌, ◌++◌, length, Option, Some, None, Ok, refl, sym, ◌∙◌, ap, subst, arith, ◌⊎◌, inl, inr}
+use Rattle.std.specs.List.{All, Contains, slice_get}
 use Rattle.std.proofs.lemmas.Bool.Decides.{nat_tests}
 use Rattle.std.proofs.lemmas.Bool.{false≢true}
 use Rattle.std.proofs.lemmas.List.Elements.{All-weaker, All-contains}
 use Rattle.std.proofs.lemmas.List.Folds.{list_any_none}
 use Rattle.std.proofs.lemmas.Option.{same_Some, slice_get_within}
 use Rattle.ks_base.specs.declared.places.Range.{Range}
-use Rattle.ks_base.specs.declared.refusals.Refusal.{Refusal}
-use Rattle.ks_base.specs.declared.refusals.Refusal.TheVariants.{TooManyThreads}
-use Rattle.image_memory.specs.declared.types.Piece.{Piece}
-use Rattle.image_memory.specs.Ranges.{meets, MeetsNone, are_same}
+use Rattle.image_memory.specs.Ranges.{meets, are_same}
 use Rattle.image_memory.specs.Access.{written}
 use Rattle.image_memory.specs.Contents.{Contents}
 use Rattle.image_file.specs.Rules.{own_range}
 use Rattle.ia32_step.specs.declared.types.Frame.{Frame}
-use Rattle.ia32_step.specs.declared.types.Outcome.{Outcome}
 use Rattle.ia32_step.specs.declared.types.Thread.{Thread}
 use Rattle.ia32_step.specs.Frames.{is_slot, holds_dword}
-use Rattle.ia32_step.specs.Threads.{runs, esp_of}
-use Rattle.image_threads.specs.Program.{if_running, running_at, IsStackRange, WellPlaced}
-use Rattle.image_threads.specs.Spawning.{is_taken, free_stack, first_top, first_bytes, first_thread, started_at, started_on, started as program_started}
+use Rattle.ia32_step.specs.Threads.{runs}
+use Rattle.image_threads.specs.Program.{if_running, IsStackRange, WellPlaced}
+use Rattle.image_threads.specs.Spawning.{is_taken, free_stack, first_top, first_bytes, first_thread}
 use Rattle.image_threads.proofs.StackLaws.{length-first_bytes}
-use Rattle.symbol_table.specs.Symbols.{function_named}
 use Rattle.update_stack.specs.CallTable.{CallTable}
-use Rattle.update_stack.specs.Events.{Event, Spawn, Answer, Spawned, Stepped, Applied, Undone, Happened, happened, spawn_answered, answered, machine_after, after_event, after_events}
+use Rattle.update_stack.specs.Events.{Spawn, Spawned, happened, answered, machine_after, after_event, after_events}
 use Rattle.update_stack.specs.Stacked.{IsBuilt}
 use Rattle.update_stack.specs.StandsFor.{patched}
-use Rattle.update_stack.specs.Steps.{after_start, spawned}
 use Rattle.frame_watch.specs.Conditions.{IsStart, MayStart, touches, HoldBut}
 use Rattle.frame_watch.specs.Discipline.{sight_of, spawn_noted}
 use Rattle.frame_watch.specs.Frames.{Watched as WatchedThread, Watching, stack_of, started, is_of, keeps_slots}
-use Rattle.ksplice_session.specs.Answers.{MadeFront, Noted, Unnoted, watched}
+use Rattle.ksplice_session.specs.Answers.{MadeFront, Unnoted, watched}
 use Rattle.ksplice_session.specs.Watching.{Watched, sight_in, start_seen, watched_by, watched_after, watched_after_all}
-use Rattle.ksplice_session.specs.inside.InStep.{IsSame, Runs, IsInStep}
+use Rattle.ksplice_session.specs.inside.InStep.{Runs, IsInStep}
 use Rattle.ksplice_session.proofs.ByteLaws.{holds_same, alike_written}
 use Rattle.ksplice_session.proofs.SightLaws.{spawn_alike}
 use Rattle.ksplice_session.proofs.SeenLaws.{JumpLaws, jumps_alike}

@@ -1,5 +1,5 @@
 -- What an event that is noted leaves of the threads that are watched.
-use Rattle.std.proofs.Common.{◌≡◌, ℕ, ◌==◌, not, min, Bool, true, false, cond, if◌then◌else◌, ◌≢◌, IsTrue, List, [], ◌∷◌, ◌++◌, map, Option, Some, None, refl, sym, ◌∙◌, ap, subst}
+use Rattle.std.proofs.Common.{◌≡◌, ℕ, not, min, Bool, true, false, cond, if◌then◌else◌, IsTrue, List, [], ◌∷◌, map, Option, Some, None, refl, sym, subst}
 use Rattle.std.specs.List.{All, filter, fold, last_or}
 use Rattle.std.proofs.lemmas.List.Elements.{All-nil, All-cons}
 use Rattle.image_memory.specs.declared.types.Piece.{Piece}

@@ -10,7 +10,7 @@ use Rattle.update_stack.specs.Events.{Event, Spawn, Applied, Happened, happened,
 use Rattle.ksplice_session.specs.declared.types.Answer.{Answer}
 use Rattle.ksplice_session.specs.Lines.{applied_lines}
 use Rattle.ksplice_session.specs.Running.{round_robin}
-use Rattle.ksplice_session.specs.Replies.{Told, Trial, event_of, try_told, tried, is_busy, after_gap, replied, refused_after}
+use Rattle.ksplice_session.specs.Replies.{Told, Trial, event_of, try_told, tried, is_busy, after_gap, replied}
 use Rattle.ksplice_session.specs.Watching.{Watched, watched_after, watched_after_all}
 use Rattle.ksplice_session.specs.Answers.{Answers, MadeFront, Noted, Unnoted, watched, answer_of}
 use Rattle.ksplice_session.specs.inside.Trying.{IsTryAnswer}

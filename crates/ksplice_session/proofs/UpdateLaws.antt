@@ -1,8 +1,6 @@
 -- An update or an undo as a watch sees it: no thread moves, and each slot of a stack keeps what it holds.
 use Rattle.std.proofs.Common.{◌≡◌, ℕ, IsTrue, List, Ok, sym, ◌∙◌, ap, subst}
-use Rattle.std.specs.List.{Contains}
 use Rattle.std.proofs.lemmas.List.Elements.{All-weaker}
-use Rattle.std.proofs.lemmas.Option.{slice_get_within, get_or_from_slice_get}
 use Rattle.ks_base.specs.declared.reports.Report.{Report}
 use Rattle.image_threads.specs.Program.{WellPlaced}
 use Rattle.ia32_step.specs.Frames.{keeps_slot}
@@ -11,7 +9,7 @@ use Rattle.update_stack.specs.CallTable.{CallTable}
 use Rattle.update_stack.specs.Events.{Apply, Undo, Applied, Undone, happened, answered}
 use Rattle.frame_safety.specs.Slots.{KeepsSlots, SameThreads}
 use Rattle.frame_watch.specs.Discipline.{update_noted}
-use Rattle.frame_watch.specs.Frames.{Watched as WatchedThread, Watching, keeps_slots}
+use Rattle.frame_watch.specs.Frames.{Watching, keeps_slots}
 use Rattle.ksplice_session.specs.Answers.{watched}
 use Rattle.ksplice_session.specs.Watching.{Watched, watched_by, watched_after}
 use Rattle.ksplice_session.specs.inside.InStep.{Runs, IsInStep}

@@ -1,20 +1,19 @@
 -- Watched threads of a machine whose threads change.
-use Rattle.std.proofs.Common.{◌≡◌, ◌≢◌, ℕ, zero, suc, ◌+◌, ◌<◌, ◌==◌, not, Bool, true, false, cond, if◌then◌else◌, IsTrue, IsSomeAnd, List, [], ◌∷◌, ◌++◌, map, length, set, Option, Some, None, refl, sym, ◌∙◌, ap, subst, arith}
-use Rattle.std.specs.List.{All, Contains, filter, slice_get}
-use Rattle.std.proofs.lemmas.Bool.{eqb-true, false≢true}
+use Rattle.std.proofs.Common.{◌≡◌, ◌≢◌, ℕ, zero, suc, ◌+◌, ◌<◌, ◌==◌, not, Bool, true, false, cond, if◌then◌else◌, IsTrue, IsSomeAnd, List, [], ◌∷◌, ◌++◌, length, set, Option, Some, None, refl, sym, ◌∙◌, ap, subst, arith}
+use Rattle.std.specs.List.{All, Contains, slice_get}
+use Rattle.std.proofs.lemmas.Bool.{eqb-true}
 use Rattle.std.proofs.lemmas.Bool.Decides.{nat_tests}
 use Rattle.std.proofs.lemmas.List.Elements.{All-nil, All-cons, All-head, All-tail, All-weaker, All-map}
 use Rattle.std.proofs.lemmas.Option.{same_Some, slice_get_within}
 use Rattle.ks_base.specs.declared.places.Range.{Range}
-use Rattle.image_memory.specs.declared.types.Piece.{Piece}
 use Rattle.image_memory.specs.Ranges.{put_in}
 use Rattle.ia32_step.specs.declared.types.Frame.{Frame}
 use Rattle.ia32_step.specs.declared.types.Thread.{Thread}
-use Rattle.ia32_step.specs.Threads.{runs, esp_of}
+use Rattle.ia32_step.specs.Threads.{esp_of}
 use Rattle.image_threads.specs.Program.{if_running, running_at, AreNumbered, WellPlaced}
 use Rattle.update_stack.specs.CallTable.{CallTable}
-use Rattle.frame_watch.specs.Frames.{Watched, Watching, stack_of, started, with_started, is_of, if_of, with_frames, without_thread, keeps_slots}
-use Rattle.ksplice_session.specs.inside.InStep.{IsSame, Runs, IsStopped, IsInStep}
+use Rattle.frame_watch.specs.Frames.{Watched, Watching, stack_of, if_of, with_frames, without_thread, keeps_slots}
+use Rattle.ksplice_session.specs.inside.InStep.{IsSame, Runs, IsInStep}
 use Rattle.ksplice_session.proofs.Lookups.{All-at, set_elsewhere, one_more}
 use Rattle.ksplice_session.proofs.EventAnswers.{running_is}
 use Rattle.ksplice_session.proofs.TestedLaws.{IsLeft}

@@ -1,5 +1,5 @@
 -- The machine of a watched run is that of the run.
-use Rattle.std.proofs.Common.{◌≡◌, List, [], ◌∷◌, ◌++◌, Result, Ok, Err, Option, Some, None, refl, sym, ◌∙◌, ap}
+use Rattle.std.proofs.Common.{◌≡◌, List, [], ◌∷◌, ◌++◌, Result, Ok, Err, Option, Some, None, refl, ◌∙◌, ap}
 use Rattle.std.proofs.lemmas.List.Sums.{fold-append}
 use Rattle.ks_base.specs.declared.refusals.Refusal.{Refusal}
 use Rattle.image_threads.specs.declared.turns.Turn.{Turn}

@@ -9,7 +9,7 @@ ghost use Rattle.ksplice_session.specs.inside.InStep.{watched_taken};
 
 use crate::session::Session;
 use frame_safety::laws::{fetched_bytes_have_windows, threads_keep_windows};
-use ia32_step::{calls_and_returns, steps_keep};
+use ia32_step::calls_and_returns;
 use image_threads::Turns;
 use splice_jump::laws::{homes_stay_spliced, jumps_change_their_bytes_alone, jumps_leave_views};
 use update_stack::laws::steps_stand;
@@ -25,7 +25,6 @@ impl Session {
         };
         // The laws say what a step does, which windows stay, and that jumps have no say in what is seen of a machine.
         steps_stand();
-        steps_keep();
         calls_and_returns();
         jumps_leave_views();
         jumps_change_their_bytes_alone();

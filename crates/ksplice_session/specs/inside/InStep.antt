@@ -1,5 +1,5 @@
 -- What holds of a session's watch beside its machine at every moment.
-use Rattle.std.specs.Prelude.{◌≡◌, ℕ, IsTrue, IsSomeAnd, List, [], Option, Some, None}
+use Rattle.std.specs.Prelude.{◌≡◌, IsTrue, IsSomeAnd, List, [], Option, Some, None}
 use Rattle.std.specs.List.{All}
 use Rattle.ia32_step.specs.declared.types.Thread.{Thread}
 use Rattle.ia32_step.specs.Threads.{esp_of}

@@ -1,9 +1,8 @@
-use Rattle.std.proofs.Common.{[], ◌∷◌, refl, sym, subst}
+use Rattle.std.proofs.Common.{[], refl, sym, subst}
 use Rattle.script_lines.specs.declared.types.Command.TheVariants.{Spawn}
 use Rattle.update_stack.specs.Events.{Spawn as SpawnEvent}
-use Rattle.ksplice_session.specs.Lines.{spawned_line}
-use Rattle.ksplice_session.specs.Replies.{Told, told_of, replied, shown}
-use Rattle.ksplice_session.specs.Answers.{Answers, MadeFront}
+use Rattle.ksplice_session.specs.Replies.{Told, told_of}
+use Rattle.ksplice_session.specs.Answers.{MadeFront}
 use Rattle.ksplice_session.proofs.AnswerLaws.{told_answers, refused_answers, one_event, told_spawn, told_spawned, told_spawn_refused, front_told}
 use Rattle.ksplice_session.proofs.answers.answer_spawn.Goals as goal
 

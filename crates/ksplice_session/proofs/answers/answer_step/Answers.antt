@@ -1,11 +1,10 @@
-use Rattle.std.proofs.Common.{◌≡◌, [], ◌∙◌, refl, sym, ap, subst}
+use Rattle.std.proofs.Common.{◌≡◌, [], ◌∙◌, refl, sym, ap}
 use Rattle.ks_base.specs.declared.refusals.Refusal.TheVariants.{NoThread}
 use Rattle.script_lines.specs.declared.types.Command.TheVariants.{Step}
 use Rattle.update_stack.specs.Events.{after_events}
 use Rattle.ksplice_session.specs.Watching.{Watched}
 use Rattle.ksplice_session.specs.Running.{thread_steps}
-use Rattle.ksplice_session.specs.Replies.{Told, told_of, step_told}
-use Rattle.ksplice_session.specs.Answers.{Answers}
+use Rattle.ksplice_session.specs.Replies.{told_of}
 use Rattle.ksplice_session.proofs.AnswerLaws.{told_answers, refused_answers, none_made, told_stepped, told_step_refused}
 use Rattle.ksplice_session.proofs.WatchedLaws.{machine_after_all}
 use Rattle.ksplice_session.proofs.answers.answer_step.Goals as goal

@@ -1,9 +1,7 @@
-use Rattle.std.proofs.Common.{[], ◌∷◌, refl, sym, subst}
+use Rattle.std.proofs.Common.{[], refl}
 use Rattle.script_lines.specs.declared.types.Command.TheVariants.{Undo}
 use Rattle.update_stack.specs.Events.{Undo as UndoEvent}
-use Rattle.ksplice_session.specs.Lines.{undone_line}
-use Rattle.ksplice_session.specs.Replies.{Told, told_of, replied}
-use Rattle.ksplice_session.specs.Answers.{Answers}
+use Rattle.ksplice_session.specs.Replies.{told_of}
 use Rattle.ksplice_session.proofs.AnswerLaws.{told_answers, refused_answers, none_made, one_event, told_undone, told_undo_refused}
 use Rattle.ksplice_session.proofs.answers.answer_undo.Goals as goal
 

@@ -1,14 +1,11 @@
-use Rattle.std.proofs.Common.{◌≡◌, ◌≢◌, ℕ, List, [], ◌∷◌, Option, Some, None, Ok, Err, OnErr, Result, refl, sym, ◌∙◌, ap, subst}
+use Rattle.std.proofs.Common.{◌≡◌, List, [], ◌∷◌, Some, None, Ok, Err, OnErr, Result, sym, ◌∙◌, ap, subst}
 use Rattle.std.specs.List.{slice_get}
 use Rattle.std.specs.Option.{option_copied}
 use Rattle.image_memory.specs.Contents.{Contents}
 use Rattle.ia32_step.specs.declared.types.Thread.{Thread}
-use Rattle.frame_watch.specs.Conditions.{HoldBut}
-use Rattle.frame_watch.specs.Discipline.{sight_of, spawn_noted}
 use Rattle.frame_watch.specs.Frames.{Watching}
 use Rattle.update_stack.specs.CallTable.{CallTable}
 use Rattle.update_stack.specs.Events.{Spawn}
-use Rattle.update_stack.specs.StandsFor.{patched}
 use Rattle.ksplice_session.specs.Answers.{MadeFront, watched}
 use Rattle.ksplice_session.specs.Watching.{Watched, watched_after}
 use Rattle.ksplice_session.specs.inside.InStep.{IsInStep}
