@@ -1,5 +1,4 @@
 //! Small objects and what is read of them, the values of fields, and the refusals.
-use crate::normals::normal_of;
 use elf32_object::read_object;
 use elf32_object::types::{Large, ObjectFault};
 use i386_reloc::{
@@ -160,7 +159,9 @@ fn has_function(
 
 #[test]
 fn reads_functions(rt: HostRuntime) -> Result<(), Fail> {
-    let normal = normal_of(rt.alloc(), &FUNCTIONS)?;
+    let alloc = rt.alloc();
+    let object = read_object(alloc, &FUNCTIONS)?;
+    let normal = normalise(alloc, &object)?;
     assert!(rt; normal.len() == 2 && normal.as_slice().len() == 2);
     assert!(rt; has_function(&normal, ".text.f", "f", true, &[0xb8, 1, 0, 0, 0, 0xc3]));
     assert!(rt; has_function(&normal, ".text.g", "g", false, &[0xc3]));
@@ -169,39 +170,58 @@ fn reads_functions(rt: HostRuntime) -> Result<(), Fail> {
 }
 
 /// What a reference is to be: its offset, form, the kind and name of its target, a text's offset and bytes, its addend.
-type Row = (
-    u32,
-    Form,
-    (&'static str, &'static str),
-    (u32, &'static str),
-    u32,
-);
+#[derive(Clone, Copy)]
+struct Row {
+    offset: u32,
+    form: Form,
+    kind: &'static str,
+    name: &'static str,
+    start: u32,
+    text: &'static str,
+    addend: u32,
+}
+
+const fn expected(
+    offset: u32,
+    form: Form,
+    target: (&'static str, &'static str),
+    text: (u32, &'static str),
+    addend: u32,
+) -> Row {
+    Row {
+        offset,
+        form,
+        kind: target.0,
+        name: target.1,
+        start: text.0,
+        text: text.1,
+        addend,
+    }
+}
 
 /// Whether a target is of this kind, name, offset and text.
-fn is_target(target: &Target<'_>, wanted: (&str, &str), wanted_text: (u32, &str)) -> bool {
-    let (kind, wanted_name) = wanted;
+fn is_target(target: &Target<'_>, row: &Row) -> bool {
     match target {
-        Target::Section(name) => kind == "section" && name.as_slice() == wanted_name.as_bytes(),
-        Target::Outside(name) => kind == "outside" && name.as_slice() == wanted_name.as_bytes(),
+        Target::Section(name) => row.kind == "section" && name.as_slice() == row.name.as_bytes(),
+        Target::Outside(name) => row.kind == "outside" && name.as_slice() == row.name.as_bytes(),
         Target::Text {
             section,
             offset,
             text,
         } => {
-            kind == "text"
-                && section.as_slice() == wanted_name.as_bytes()
-                && *offset == wanted_text.0
-                && text.as_slice() == wanted_text.1.as_bytes()
+            row.kind == "text"
+                && section.as_slice() == row.name.as_bytes()
+                && *offset == row.start
+                && text.as_slice() == row.text.as_bytes()
         }
     }
 }
 
 fn is_reference(reference: &Ref<'_>, row: &Row) -> bool {
-    let (offset, form, target, text, addend) = *row;
-    reference.offset == offset
-        && reference.form == form
-        && is_target(&reference.target, target, text)
-        && reference.addend == addend
+    reference.offset == row.offset
+        && reference.form == row.form
+        && is_target(&reference.target, row)
+        && reference.addend == row.addend
 }
 
 /// Whether references are these rows.
@@ -229,45 +249,45 @@ const CDEF: (u32, &str) = (3, "cdef\0");
 
 const NO_TEXT: (u32, &str) = (0, "");
 
-/// The references of `.text.f`.
-static OF_TEXT: [Row; 5] = [
-    (0, Form::Absolute, TEXT, CDEF, 0),
-    (4, Form::Absolute, TEXT, CDEF, 0xffff_ffff),
-    (8, Form::Absolute, ("section", ".data.v"), NO_TEXT, 2),
-    (
-        12,
-        Form::Relative,
-        ("outside", "printf"),
-        NO_TEXT,
-        0xffff_fffc,
-    ),
-    (
-        16,
-        Form::Relative,
-        ("section", ".text.f"),
-        NO_TEXT,
-        0xffff_fffc,
-    ),
-];
-
-/// The reference of `.rodata.k`.
-static OF_NUMBER: [Row; 1] = [(4, Form::Absolute, ("outside", "c"), NO_TEXT, 7)];
-
 #[test]
 fn reads_references(rt: HostRuntime) -> Result<(), Fail> {
-    let normal = normal_of(rt.alloc(), &REFERENCES)?;
+    let alloc = rt.alloc();
+    let object = read_object(alloc, &REFERENCES)?;
+    let normal = normalise(alloc, &object)?;
+    let rows = [
+        expected(0, Form::Absolute, TEXT, CDEF, 0),
+        expected(4, Form::Absolute, TEXT, CDEF, 0xffff_ffff),
+        expected(8, Form::Absolute, ("section", ".data.v"), NO_TEXT, 2),
+        expected(
+            12,
+            Form::Relative,
+            ("outside", "printf"),
+            NO_TEXT,
+            0xffff_fffc,
+        ),
+        expected(
+            16,
+            Form::Relative,
+            ("section", ".text.f"),
+            NO_TEXT,
+            0xffff_fffc,
+        ),
+    ];
     let blanked = [
         0, 0, 0, 0, 0, 0, 0, 0, 0, 0, 0, 0, 0, 0, 0, 0, 0, 0, 0, 0, 0xc3,
     ];
-    assert!(rt; has_references(&normal, ".text.f", &OF_TEXT, &blanked));
+    assert!(rt; has_references(&normal, ".text.f", &rows, &blanked));
+    let rows = [expected(4, Form::Absolute, ("outside", "c"), NO_TEXT, 7)];
     let blanked = [0x11, 0x22, 0x33, 0x44, 0, 0, 0, 0];
-    assert!(rt; has_references(&normal, ".rodata.k", &OF_NUMBER, &blanked));
+    assert!(rt; has_references(&normal, ".rodata.k", &rows, &blanked));
     Ok(())
 }
 
 #[test]
 fn finds_targets(rt: HostRuntime) -> Result<(), Fail> {
-    let normal = normal_of(rt.alloc(), &REFERENCES)?;
+    let alloc = rt.alloc();
+    let object = read_object(alloc, &REFERENCES)?;
+    let normal = normalise(alloc, &object)?;
     let places = [Some(1), Some(1), Some(3), None, Some(0), None];
     for (k, place) in places.iter().enumerate() {
         assert_eq!(rt; normal.target_place(0, k), *place);
@@ -308,33 +328,17 @@ fn has_data(
     }
 }
 
-/// A section's name and class, its size and how many bytes it has, and its objects.
-static DATA: [(&str, Class, (u32, usize), &[(&str, u32, bool)]); 4] = [
-    (
-        ".data.v",
-        Class::Writable,
-        (8, 8),
-        &[("v", 0, true), ("w", 4, false)],
-    ),
-    (".bss.z", Class::Zero, (4, 0), &[]),
-    (".rodata.str", Class::Strings, (8, 8), &[]),
-    (".rodata.k", Class::ReadOnly, (8, 8), &[]),
-];
-
 #[test]
 fn reads_data(rt: HostRuntime) -> Result<(), Fail> {
-    let normal = normal_of(rt.alloc(), &REFERENCES)?;
-    for (section, class, sizes, objects) in DATA.iter() {
-        assert!(rt; has_data(&normal, section, *class, *sizes, objects));
-    }
+    let alloc = rt.alloc();
+    let object = read_object(alloc, &REFERENCES)?;
+    let normal = normalise(alloc, &object)?;
+    let objects = [("v", 0, true), ("w", 4, false)];
+    assert!(rt; has_data(&normal, ".data.v", Class::Writable, (8, 8), &objects));
+    assert!(rt; has_data(&normal, ".bss.z", Class::Zero, (4, 0), &[]));
+    assert!(rt; has_data(&normal, ".rodata.str", Class::Strings, (8, 8), &[]));
+    assert!(rt; has_data(&normal, ".rodata.k", Class::ReadOnly, (8, 8), &[]));
     Ok(())
-}
-
-// Whether a refusal has this line.
-fn prints(alloc: Global, refusal: &Refusal, wanted: &str) -> Result<bool, AllocError> {
-    let mut line = Line::new(alloc);
-    line.put_refusal(refusal)?;
-    Ok(line.bytes() == wanted.as_bytes())
 }
 
 /// Whether an object with some bytes changed is refused with this line.
@@ -345,21 +349,21 @@ fn is_refused(
     wanted: &str,
 ) -> Result<bool, Fail> {
     let refusal = refusal(alloc, object, changes)?;
-    Ok(prints(alloc, &refusal, wanted)?)
+    let mut line = Line::new(alloc);
+    line.put_refusal(&refusal)?;
+    Ok(line.bytes() == wanted.as_bytes())
 }
-
-/// Changed bytes, each by its place, and the refusal's line.
-static REFUSED_FUNCTIONS: [(&[(usize, u8)], &str); 5] = [
-    (&[(292, 1)], "refused 9 double name .text.f\n"),
-    (&[(108, 1)], "refused 8 not one function .text.g\n"),
-    (&[(116, 0)], "refused 8 not one function .text.g\n"),
-    (&[(140, 2)], "refused 8 not one function .text.f\n"),
-    (&[(140, 2), (292, 1)], "refused 9 double name .text.f\n"),
-];
 
 #[test]
 fn refuses_functions(rt: HostRuntime) -> Result<(), Fail> {
-    for (changes, wanted) in REFUSED_FUNCTIONS.iter() {
+    let rows: [(&[(usize, u8)], &str); 5] = [
+        (&[(292, 1)], "refused 9 double name .text.f\n"),
+        (&[(108, 1)], "refused 8 not one function .text.g\n"),
+        (&[(116, 0)], "refused 8 not one function .text.g\n"),
+        (&[(140, 2)], "refused 8 not one function .text.f\n"),
+        (&[(140, 2), (292, 1)], "refused 9 double name .text.f\n"),
+    ];
+    for (changes, wanted) in rows {
         assert!(rt;
             is_refused(rt.alloc(), &FUNCTIONS, changes, wanted)?,
             "{wanted}"
@@ -368,41 +372,39 @@ fn refuses_functions(rt: HostRuntime) -> Result<(), Fail> {
     Ok(())
 }
 
-/// Changed bytes, each by its place, and the refusal's line.
-static REFUSED_REFERENCES: [(&[(usize, u8)], &str); 16] = [
-    (&[(104, 3)], "refused 7 unknown relocation .text.f 0 3\n"),
-    (&[(112, 2)], "refused 7 unknown relocation .text.f 1 2\n"),
-    (&[(152, 2)], "refused 7 unknown relocation .rodata.k 0 2\n"),
-    (
-        &[(768, 2)],
-        "refused 7 unknown relocation .rodata.str 0 1\n",
-    ),
-    (&[(105, 0)], "refused 36 bad target .text.f 0\n"),
-    (&[(105, 8)], "refused 36 bad target .text.f 0\n"),
-    (&[(105, 9)], "refused 36 bad target .text.f 0\n"),
-    (&[(105, 10)], "refused 36 bad target .text.f 0\n"),
-    (&[(52, 8)], "refused 35 bad string .text.f 1\n"),
-    (&[(83, 0x67)], "refused 35 bad string .text.f 1\n"),
-    (
-        &[(105, 0), (104, 3)],
-        "refused 7 unknown relocation .text.f 0 3\n",
-    ),
-    (&[(52, 8), (105, 0)], "refused 36 bad target .text.f 0\n"),
-    (&[(52, 8), (136, 3)], "refused 35 bad string .text.f 1\n"),
-    (&[(152, 2), (52, 8)], "refused 35 bad string .text.f 1\n"),
-    (
-        &[(104, 3), (208, 1)],
-        "refused 8 not one function .text.f\n",
-    ),
-    (
-        &[(104, 3), (208, 1), (620, 21)],
-        "refused 9 double name .rodata.k\n",
-    ),
-];
-
 #[test]
 fn refuses_references(rt: HostRuntime) -> Result<(), Fail> {
-    for (changes, wanted) in REFUSED_REFERENCES.iter() {
+    let rows: [(&[(usize, u8)], &str); 16] = [
+        (&[(104, 3)], "refused 7 unknown relocation .text.f 0 3\n"),
+        (&[(112, 2)], "refused 7 unknown relocation .text.f 1 2\n"),
+        (&[(152, 2)], "refused 7 unknown relocation .rodata.k 0 2\n"),
+        (
+            &[(768, 2)],
+            "refused 7 unknown relocation .rodata.str 0 1\n",
+        ),
+        (&[(105, 0)], "refused 36 bad target .text.f 0\n"),
+        (&[(105, 8)], "refused 36 bad target .text.f 0\n"),
+        (&[(105, 9)], "refused 36 bad target .text.f 0\n"),
+        (&[(105, 10)], "refused 36 bad target .text.f 0\n"),
+        (&[(52, 8)], "refused 35 bad string .text.f 1\n"),
+        (&[(83, 0x67)], "refused 35 bad string .text.f 1\n"),
+        (
+            &[(105, 0), (104, 3)],
+            "refused 7 unknown relocation .text.f 0 3\n",
+        ),
+        (&[(52, 8), (105, 0)], "refused 36 bad target .text.f 0\n"),
+        (&[(52, 8), (136, 3)], "refused 35 bad string .text.f 1\n"),
+        (&[(152, 2), (52, 8)], "refused 35 bad string .text.f 1\n"),
+        (
+            &[(104, 3), (208, 1)],
+            "refused 8 not one function .text.f\n",
+        ),
+        (
+            &[(104, 3), (208, 1), (620, 21)],
+            "refused 9 double name .rodata.k\n",
+        ),
+    ];
+    for (changes, wanted) in rows {
         assert!(rt;
             is_refused(rt.alloc(), &REFERENCES, changes, wanted)?,
             "{wanted}"
@@ -427,30 +429,31 @@ fn values(rt: HostRuntime) -> Result<(), Fail> {
 
 // Whether the refusal of a fault has this line.
 fn fault_prints(alloc: Global, fault: ObjectFault, wanted: &str) -> Result<bool, AllocError> {
-    prints(alloc, &object_refusal(fault), wanted)
+    let refusal = object_refusal(fault);
+    let mut line = Line::new(alloc);
+    line.put_refusal(&refusal)?;
+    Ok(line.bytes() == wanted.as_bytes())
 }
-
-/// What is wrong with an object, and the refusal's line.
-static FAULTS: [(ObjectFault, &str); 7] = [
-    (ObjectFault::NotElf, "refused 1 not elf\n"),
-    (ObjectFault::NotRel386, "refused 2 not i386 relocatable\n"),
-    (ObjectFault::BadHeader(20), "refused 3 bad header 20\n"),
-    (ObjectFault::BadSection(3), "refused 4 bad section 3\n"),
-    (ObjectFault::BadSymbol(4), "refused 5 bad symbol 4\n"),
-    (
-        ObjectFault::BadReloc(5, 6),
-        "refused 6 bad relocation 5 6\n",
-    ),
-    (
-        ObjectFault::TooLarge(Large::Name),
-        "refused 10 too large name\n",
-    ),
-];
 
 #[test]
 fn faults(rt: HostRuntime) -> Result<(), Fail> {
-    for (fault, wanted) in FAULTS.iter() {
-        assert!(rt; fault_prints(rt.alloc(), *fault, wanted)?, "{wanted}");
+    let rows = [
+        (ObjectFault::NotElf, "refused 1 not elf\n"),
+        (ObjectFault::NotRel386, "refused 2 not i386 relocatable\n"),
+        (ObjectFault::BadHeader(20), "refused 3 bad header 20\n"),
+        (ObjectFault::BadSection(3), "refused 4 bad section 3\n"),
+        (ObjectFault::BadSymbol(4), "refused 5 bad symbol 4\n"),
+        (
+            ObjectFault::BadReloc(5, 6),
+            "refused 6 bad relocation 5 6\n",
+        ),
+        (
+            ObjectFault::TooLarge(Large::Name),
+            "refused 10 too large name\n",
+        ),
+    ];
+    for (fault, wanted) in rows {
+        assert!(rt; fault_prints(rt.alloc(), fault, wanted)?, "{wanted}");
     }
     assert!(rt; matches!(object_refusal(ObjectFault::Memory), Refusal::Memory));
     Ok(())
