@@ -1,7 +1,7 @@
 """Makes the images that `bench/code` times: an encoder of images, which `bench/step` has, too, and a maker a case.
 
-A maker takes a part of the limits (0.5 or 1.0). It answers the image's bytes, the name that `ksplice code` is asked for, the
-output's first and last line, and the bytes of code that are listed.
+A maker takes a part of the limits (0.5 or 1.0). It answers the image's bytes, the name that `ksplice code` is asked
+for, the output's first and last line, and the bytes of code that are listed.
 """
 import random
 import struct
@@ -13,13 +13,14 @@ BASE = 0x00100000
 
 # what a compiler's code is made of: MOV, ADD, CMP, TEST, LEA, short and near jumps, PUSH, POP, CALL, a padding LEA
 MIXED = bytes.fromhex(
-    "8b442404 83c007 83e0f8 39c2 85c0 740f 0f8400000000 8d3485 00001000 50 58 e800000000 c7042401000000 8db600000000 6690 89c8 c3"
+    "8b442404 83c007 83e0f8 39c2 85c0 740f 0f8400000000 8d3485 00001000 50 58 e800000000 c7042401000000 "
+    "8db600000000 6690 89c8 c3"
 )
 
 
 def encode(regions, symbols, writable=(), stacks=()):
-    """The image of regions of code (base, bytes), function symbols (address, name), writable regions above the code, and stacks
-    (low, high)."""
+    """The image of regions of code (base, bytes), function symbols (address, name), writable regions above the code,
+    and stacks (low, high)."""
     out = [b"KIM1", struct.pack("<5I", len(regions) + len(writable), len(symbols), len(stacks), 0, 0)]
     for kind, listed in ((CODE, regions), (WRITABLE, writable)):
         for base, content in listed:

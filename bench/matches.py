@@ -283,7 +283,8 @@ def one_outside(part):
 
 
 def one_variable(part):
-    """As many functions as an object may have that all read one variable. In the running program the last reads another."""
+    """As many functions as an object may have that all read one variable. In the running program the last reads
+    another."""
     count = int(CLAIMING * part)
     unit, sections = unit_of(count, 1, 1)
     for i in range(count):

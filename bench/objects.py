@@ -1,7 +1,7 @@
 """Makes the pairs of objects that `bench/diff` times: an encoder of ELF32 objects for the i386, and a maker a case.
 
-A maker takes a part of the limits (0.5 or 1.0) and a version (1 or 2). It answers the object's bytes and, for version 2, the
-lines that `ksplice diff` prints of the two.
+A maker takes a part of the limits (0.5 or 1.0) and a version (1 or 2). It answers the object's bytes and, for version
+2, the lines that `ksplice diff` prints of the two.
 """
 import random
 import struct
@@ -80,7 +80,8 @@ def encoded(rows):
 
 
 def body(constant, fields, size=0):
-    """A function that answers a constant: room for so many calls or pushes, each with a field at 6, 11, 16 and so on."""
+    """A function that answers a constant: room for so many calls or pushes, each with a field at 6, 11, 16 and so
+    on."""
     code = b"\xb8" + struct.pack("<I", constant) + b"\x68\0\0\0\0" * fields + b"\xc3"
     return code + b"\x90" * (size - len(code))
 
@@ -153,7 +154,8 @@ def chain(part, version):
     order = list(range(count))
     random.Random(1).shuffle(order)
     unit = Unit()
-    code = [unit.section(f".text.function_{i}", CODE, body(version if i == order[0] else 0, fields)) for i in range(count)]
+    bodies = [body(version if i == order[0] else 0, fields) for i in range(count)]
+    code = [unit.section(f".text.function_{i}", CODE, bodies[i]) for i in range(count)]
     function = [unit.symbol(f"function_{i}", i + 1, 0, len(code[i].data)) for i in range(count)]
     for here, there in zip(order, order[1:]):
         for k in range(fields):
@@ -224,7 +226,8 @@ def texts(part, version):
 
 
 def long_text(part, version):
-    """One text of six megabytes, and many references into it. In the second version it stands elsewhere in its section."""
+    """One text of six megabytes, and many references into it. In the second version it stands elsewhere in its
+    section."""
     length, count = int(6_000_000 * part), int(100_000 * part)
     front = b"new\0" if version == 2 else b""
     return over_texts(part, version, front + b"a" * length + b"\0",
@@ -246,7 +249,8 @@ def long_names(part, version):
 
 
 def long_symbols(part, version):
-    """Outside names of 4,096 bytes that differ only at their ends, and many references to them from sixteen functions."""
+    """Outside names of 4,096 bytes that differ only at their ends, and many references to them from sixteen
+    functions."""
     count, outside = 16, int(1000 * part)
     fields = shares(int(RELOCATIONS * part), count)
     unit = Unit()
@@ -261,5 +265,5 @@ def long_symbols(part, version):
     return unit.bytes(), [f"changed function_{count - 1}"]
 
 
-CASES = {make.__name__: make for make in (functions, relocations, chain, constants, readers, texts, long_text, long_names,
-                                          long_symbols)}
+CASES = {make.__name__: make for make in (functions, relocations, chain, constants, readers, texts, long_text,
+                                          long_names, long_symbols)}

@@ -15,7 +15,8 @@ def timed(command, folder, out):
     for _ in range(3):
         start = time.perf_counter()
         try:
-            done = subprocess.run(command, cwd=folder, stdout=out, stderr=subprocess.DEVNULL, check=False, timeout=LIMIT)
+            done = subprocess.run(command, cwd=folder, stdout=out, stderr=subprocess.DEVNULL, check=False,
+                                  timeout=LIMIT)
         except subprocess.TimeoutExpired:
             return None
         took = time.perf_counter() - start
