@@ -9,8 +9,8 @@ use run_pre_match::run_code_goes_on;
 
 /// Below its end a listing is the line of the instruction at its address and then the listing from behind that
 /// instruction on, or the one line that says that no instruction stands there; at its end, or behind it, it is its last
-/// line. Each instruction has at least one byte, and so the number of lines that the definition allows never cuts a listing
-/// short.
+/// line. Each instruction has at least one byte, and so the number of lines that the definition allows never cuts a
+/// listing short.
 pub fn lines_follow_one_another()
     ensures below { (contents : Contents) (end address : ℕ) → address < end → listing contents end address
         ≡ lines_by address (run_instruction_at contents address) (listing contents end) }

@@ -40,7 +40,8 @@ pub(crate) fn put_instruction(
     address: u32,
     instruction: &RunInstruction,
 ) -> Result<(), AllocError>
-    ensures line { OnOk result (page.new ≡ page.old ++ instruction_line address instruction.now.decoded instruction.now.bytes) }
+    ensures line { OnOk result
+        (page.new ≡ page.old ++ instruction_line address instruction.now.decoded instruction.now.bytes) }
     ensures grows { OnOk result (length page.old < length page.new) }
 {
     page.put_hex(address)?;

@@ -49,8 +49,8 @@ impl Listing {
 /// from the function's address on, while they begin below the next symbol's address and in the function's region; and a
 /// line for the address behind them, or for the one at which no instruction stands.
 ///
-/// [`Refusal::NoSymbol`] comes exactly where no function symbol has the name, [`Refusal::TwoNames`] exactly where several
-/// addresses do, and [`Refusal::Memory`] for want of memory alone.
+/// [`Refusal::NoSymbol`] comes exactly where no function symbol has the name, [`Refusal::TwoNames`] exactly where
+/// several addresses do, and [`Refusal::Memory`] for want of memory alone.
 #[tactic(auto, unfolding(crate::specs::Listing::code_of))]
 pub fn list_code(alloc: Global, image: Image, name: &Name) -> Result<Listing, Refusal>
     ensures { Gives (λ lines. lines) result (code_of (contents_of image) name.now) }

@@ -1,5 +1,6 @@
 -- Why the stacks and the threads stay well placed.
-use Rattle.std.proofs.Common.{◌≡◌, ℕ, zero, suc, Bool, true, false, ◌&&◌, ◌||◌, if◌then◌else◌, ◌⊎◌, inl, inr, List, [], ◌∷◌, ◌++◌, length, set, Contains, Option, Some, None, refl, sym, subst, ap, ◌∙◌, arith}
+use Rattle.std.proofs.Common.{◌≡◌, ℕ, zero, suc, Bool, true, false, ◌&&◌, ◌||◌, if◌then◌else◌, ◌⊎◌, inl, inr, List, []}
+use Rattle.std.proofs.Common.{◌∷◌, ◌++◌, length, set, Contains, Option, Some, None, refl, sym, subst, ap, ◌∙◌, arith}
 use Rattle.std.specs.List.{slice_get}
 use Rattle.std.proofs.lemmas.Bool.Decides.{nat_tests}
 use Rattle.std.proofs.lemmas.List.Elements.{All-get_or, All-push, All-set}
@@ -20,7 +21,8 @@ running_is (Some x) a h =
     ] refl h
 
 -- a stack that isn't taken is no running thread's
-not_taken : (threads : List Thread) (stack : Range) (i : ℕ) (a : Thread) → is_taken threads stack ≡ false → running_at threads i ≡ Some a
+not_taken : (threads : List Thread) (stack : Range) (i : ℕ) (a : Thread)
+    → is_taken threads stack ≡ false → running_at threads i ≡ Some a
     → a.stack ≡ stack → ⊥
 not_taken [] stack i a free there same = cc
 not_taken (x ∷ xs) stack zero a free there same =
@@ -48,7 +50,8 @@ running_on (x ∷ xs) t (suc i) a there =
       | inr new ↦ inr (ap suc new.0, new.1)
     ]
 
-pub placed_on : (stacks : List Range) (threads : List Thread) (t : Thread) → WellPlaced stacks threads → Contains stacks t.stack
+pub placed_on : (stacks : List Range) (threads : List Thread) (t : Thread)
+    → WellPlaced stacks threads → Contains stacks t.stack
     → is_taken threads t.stack ≡ false → WellPlaced stacks (threads ++ t ∷ [])
 placed_on stacks threads t placed there free = record {
   bounds = placed.bounds;
@@ -72,7 +75,8 @@ record Ran (threads : List Thread) (i : ℕ) (stack : Range) : Type 0 where
   there : running_at threads i ≡ Some thread
   same : thread.stack ≡ stack
 
-ran : (threads : List Thread) (n : ℕ) (old t : Thread) (i : ℕ) (a : Thread) → running_at threads n ≡ Some old → t.stack ≡ old.stack
+ran : (threads : List Thread) (n : ℕ) (old t : Thread) (i : ℕ) (a : Thread)
+    → running_at threads n ≡ Some old → t.stack ≡ old.stack
     → running_at (set threads n t) i ≡ Some a → Ran threads i a.stack
 ran [] n old t i a was same now = cc
 ran (x ∷ xs) zero old t zero a was same now =
@@ -89,7 +93,8 @@ pub placed_set : (stacks : List Range) (threads : List Thread) (n : ℕ) (old t 
 placed_set stacks threads n old t placed was same =
     let P : Thread → Type 0 = λ thread. Contains stacks thread.stack in
     let at = (running_is (slice_get threads n) old was).0 in
-    let had : P old = subst P (get_or_from_slice_get threads n old old at) (All-get_or P threads n old (slice_get_within threads n old at) placed.listed) in
+    let had : P old = subst P (get_or_from_slice_get threads n old old at)
+    (All-get_or P threads n old (slice_get_within threads n old at) placed.listed) in
     record {
       bounds = placed.bounds;
       ascend = placed.ascend;

@@ -1,5 +1,6 @@
 -- What a running program is: its memory, symbols, stacks and threads.
-use Rattle.std.specs.Prelude.{◌≡◌, ℕ, suc, ◌+◌, ◌%◌, ◌≤◌, List, [], ◌∷◌, map, Contains, Option, Some, None, if◌then◌else◌}
+use Rattle.std.specs.Prelude.{◌≡◌, ℕ, suc, ◌+◌, ◌%◌, ◌≤◌, List, [], ◌∷◌, map}
+use Rattle.std.specs.Prelude.{Contains, Option, Some, None, if◌then◌else◌}
 use Rattle.std.specs.List.{All, filter, slice_get}
 use Rattle.ks_base.specs.declared.places.Range.{Range}
 use Rattle.image_memory.specs.Contents.{Contents, Room}
@@ -47,4 +48,5 @@ pub record WellPlaced (stacks : List Range) (threads : List Thread) : Type 0 whe
   pub bounds : All IsStackRange stacks
   pub ascend : Ascends own_range 0 stacks
   pub listed : All (λ thread. Contains stacks thread.stack) threads
-  pub apart : (i j : ℕ) (a b : Thread) → running_at threads i ≡ Some a → running_at threads j ≡ Some b → a.stack ≡ b.stack → i ≡ j
+  pub apart : (i j : ℕ) (a b : Thread)
+      → running_at threads i ≡ Some a → running_at threads j ≡ Some b → a.stack ≡ b.stack → i ≡ j

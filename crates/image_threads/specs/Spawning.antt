@@ -1,5 +1,6 @@
 -- How a thread is started.
-use Rattle.std.specs.Prelude.{ℕ, ◌-◌, Bool, true, false, IsTrue, ◌&&◌, not, nat_le, ◌==◌, if◌then◌else◌, List, [], ◌∷◌, ◌++◌, length, replicate, set, Option, Some, None, Result, Ok, Err}
+use Rattle.std.specs.Prelude.{ℕ, ◌-◌, Bool, true, false, IsTrue, ◌&&◌, not, nat_le, ◌==◌, if◌then◌else◌, List}
+use Rattle.std.specs.Prelude.{[], ◌∷◌, ◌++◌, length, replicate, set, Option, Some, None, Result, Ok, Err}
 use Rattle.std.specs.Option.{option_map, unwrap_or}
 use Rattle.std.specs.List.{find, list_any, slice_get, All}
 use Rattle.std.specs.Int.{w32, to_le_bytes}
@@ -84,7 +85,8 @@ started_on pieces threads pc argument (Some stack) =
       threads = threads ++ first_thread (length threads) stack pc ∷ [];
     })
 
-abbrev pub started_at : List Piece → List Range → List Thread → (argument : ℕ) → Result ℕ Refusal → Result Started Refusal
+abbrev pub started_at : List Piece
+    → List Range → List Thread → (argument : ℕ) → Result ℕ Refusal → Result Started Refusal
 started_at pieces stacks threads argument (Err refusal) = Err refusal
 started_at pieces stacks threads argument (Ok pc) =
     if nat_le 4096 (length threads) then Err TooManyThreads
@@ -92,7 +94,8 @@ started_at pieces stacks threads argument (Ok pc) =
 
 -- The pieces and threads after a thread was started at the function of a name, or why none is: the name has no function
 -- symbol or several addresses, 4,096 threads were started, or each stack has a running thread.
-unfoldable pub started : List Symbol → List Piece → List Range → List Thread → (name : List ℕ) → (argument : ℕ) → Result Started Refusal
+unfoldable pub started : List Symbol
+    → List Piece → List Range → List Thread → (name : List ℕ) → (argument : ℕ) → Result Started Refusal
 started symbols pieces stacks threads name argument =
     started_at pieces stacks threads argument (function_named symbols name)
 
@@ -104,4 +107,5 @@ with_started program (Ok after) =
 -- the program after a thread was started, or why none is
 unfoldable pub spawned : Program → (name : List ℕ) → (argument : ℕ) → Result Program Refusal
 spawned program name argument =
-    with_started program (started program.table.symbols program.contents.pieces program.stacks program.threads name argument)
+    with_started program
+    (started program.table.symbols program.contents.pieces program.stacks program.threads name argument)

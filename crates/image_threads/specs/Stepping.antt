@@ -17,7 +17,7 @@ moved_by program n None = Err (NoThread n)
 moved_by program n (Some thread) =
     Ok (continued program n (stepped program.contents thread), (stepped program.contents thread).outcome)
 
--- the program after a step of the running thread of a number, and what the step came to; refused where no running thread
--- has the number
+-- the program after a step of the running thread of a number, and what the step came to; refused where no running
+-- thread has the number
 unfoldable pub moved : Program → ℕ → Result (Program × Outcome) Refusal
 moved program n = moved_by program n (running_at program.threads n)

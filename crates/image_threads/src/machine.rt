@@ -1,12 +1,14 @@
 //! A program that runs: its memory, its symbols, its stacks and its threads.
-ghost use Rattle.std.specs.Prelude.{◌≡◌, ◌≢◌, ◌<◌, ◌≤◌, ◌+◌, ◌-◌, ◌++◌, [], ◌∷◌, length, map, IfOk, OnOk, OnErr, IfSome, IsSomeAnd, IsTrue, Contains, MatchResult, Ok, Err, None, false};
+ghost use Rattle.std.specs.Prelude.{◌≡◌, ◌≢◌, ◌<◌, ◌≤◌, ◌+◌, ◌-◌, ◌++◌, [], ◌∷◌, length, map, IfOk, OnOk, OnErr};
+ghost use Rattle.std.specs.Prelude.{IfSome, IsSomeAnd, IsTrue, Contains, MatchResult, Ok, Err, None, false};
 ghost use Rattle.std.specs.Borrow.{Lends, sem};
 ghost use Rattle.ks_base.specs.declared.refusals.Refusal.TheVariants.{Memory};
 ghost use Rattle.ia32_step.specs.declared.types.State.TheVariants.{Running};
 ghost use Rattle.ia32_step.specs.Step.{left_by, shape, stepped, stored, store_fault, after_store, fetched_count};
 ghost use Rattle.image_memory.specs.Access.{after_write};
 ghost use Rattle.image_threads.specs.Program.{AreNumbered, WellPlaced, running_at, running_numbers};
-ghost use Rattle.image_threads.specs.Spawning.{is_stack, AreStacks, is_taken, free_stack, first_bytes, first_thread, spawned};
+ghost use Rattle.image_threads.specs.Spawning.{is_stack, AreStacks, is_taken, free_stack};
+ghost use Rattle.image_threads.specs.Spawning.{first_bytes, first_thread, spawned};
 ghost use Rattle.image_threads.specs.Stepping.{moved};
 
 use crate::first::first_bytes;
@@ -36,7 +38,13 @@ impl<S: Space> Model for Machine<S> {
 
     ghost Value = { Program };
 
-    ghost view = { λ m. record { contents = S.contents m.space; room = S.room m.space; table = m.symbols; stacks = m.stacks; threads = m.threads } };
+    ghost view = { λ m. record {
+      contents = S.contents m.space;
+      room = S.room m.space;
+      table = m.symbols;
+      stacks = m.stacks;
+      threads = m.threads;
+    } };
 
     ghost invariant = { λ m. WellPlaced m.stacks m.threads };
 }
@@ -51,7 +59,13 @@ impl<S: Space> Machine<S> {
     pub fn new(alloc: Global, image: Image, space: S) -> Result<Self, AllocError>
     where
         S: Drop,
-        ensures { IfOk result (λ m. m ≡ record { contents = S.contents space; room = S.room space; table = image.symbols; stacks = image.stacks; threads = [] }) }
+        ensures { IfOk result (λ m. m ≡ record {
+          contents = S.contents space;
+          room = S.room space;
+          table = image.symbols;
+          stacks = image.stacks;
+          threads = [];
+        }) }
     {
         Ok(Machine {
             space,
@@ -82,7 +96,8 @@ impl<S: Space> Machine<S> {
 
     /// The memory, to be changed. All else stays.
     pub fn space_mut(&mut self) -> &mut S
-        ensures* changed { sem 𝓛 (Lends (the_row S.row S.Space) S.row self.entry result (λ w. record self.old { contents = S.contents w; room = S.room w })) }
+        ensures* changed { sem 𝓛 (Lends (the_row S.row S.Space) S.row self.entry result
+            (λ w. record self.old { contents = S.contents w; room = S.room w })) }
         ensures contents { S.contents result.now ≡ self.old.contents }
         ensures room { S.room result.now ≡ self.old.room }
     {
@@ -98,7 +113,8 @@ impl<S: Space> Machine<S> {
 
     /// The symbols, to be changed. All else stays.
     pub fn symbols_mut(&mut self) -> &mut SymbolTable
-        ensures* changed { sem 𝓛 (Lends (the_row S.row S.Space) symbols_row self.entry result (λ w. record self.old { table = w })) }
+        ensures* changed { sem 𝓛
+            (Lends (the_row S.row S.Space) symbols_row self.entry result (λ w. record self.old { table = w })) }
         ensures table { result.now ≡ self.old.table }
     {
         &mut self.symbols
@@ -148,12 +164,12 @@ impl<S: Space> Machine<S> {
         Ok(number)
     }
 
-    /// Starts a thread at the function of a name, and answers its number. It has the first stack that no running
-    /// thread has, filled with zeros; ESP is 20 below the stack's end, where the address 0xFFFF0000 and then the
-    /// argument stand; all other registers and the flags are clear. [`Refusal::NoSymbol`] comes exactly where no
-    /// function symbol has the name, then [`Refusal::TwoNames`] where several addresses have, [`Refusal::TooManyThreads`]
-    /// where 4,096 threads were started, [`Refusal::NoStack`] where each stack has a running thread, and
-    /// [`Refusal::Memory`] for want of memory alone; all is then as before.
+    /// Starts a thread at the function of a name, and answers its number. It has the first stack that no running thread
+    /// has, filled with zeros; ESP is 20 below the stack's end, where the address 0xFFFF0000 and then the argument
+    /// stand; all other registers and the flags are clear. [`Refusal::NoSymbol`] comes exactly where no function symbol
+    /// has the name, then [`Refusal::TwoNames`] where several addresses have, [`Refusal::TooManyThreads`] where 4,096
+    /// threads were started, [`Refusal::NoStack`] where each stack has a running thread, and [`Refusal::Memory`] for
+    /// want of memory alone; all is then as before.
     #[tactic(auto, unfolding(crate::specs::Spawning::spawned, crate::specs::Spawning::started))]
     pub fn spawn(&mut self, name: &Name, argument: u32) -> Result<u32, Refusal>
         requires { AreStacks self.old.contents.pieces self.old.stacks }
@@ -181,7 +197,8 @@ impl<S: Space> Machine<S> {
             (λ outcome. moved self.old thread ≡ Ok (self.new, outcome))
             (λ refusal. moved self.old thread ≡ Err refusal) }
         ensures refused { OnErr result (self.new ≡ self.old) }
-        ensures stacks { AreStacks self.old.contents.pieces self.old.stacks → AreStacks self.new.contents.pieces self.new.stacks }
+        ensures stacks { AreStacks self.old.contents.pieces self.old.stacks
+            → AreStacks self.new.contents.pieces self.new.stacks }
     {
         Ok(self.step_traced(thread)?.outcome)
     }
@@ -195,10 +212,13 @@ impl<S: Space> Machine<S> {
             (λ refusal. moved self.old thread ≡ Err refusal) }
         ensures written { IfOk result (λ traced. self.new.contents ≡ after_store self.old.contents traced.store) }
         ensures clear { IfOk result (λ traced. store_fault self.old.contents traced.store ≡ None) }
+        ensures store { IfOk result (λ traced. IsSomeAnd (running_at self.old.threads thread)
+            (λ running. traced.store ≡ stored self.old.contents running)) }
         ensures fetched { IfOk result (λ traced. IsSomeAnd (running_at self.old.threads thread)
             (λ running. traced.fetched ≡ fetched_count self.old.contents running)) }
         ensures refused { OnErr result (self.new ≡ self.old) }
-        ensures stacks { AreStacks self.old.contents.pieces self.old.stacks → AreStacks self.new.contents.pieces self.new.stacks }
+        ensures stacks { AreStacks self.old.contents.pieces self.old.stacks
+            → AreStacks self.new.contents.pieces self.new.stacks }
     {
         let Some(mut running) = self.threads.running_at(thread) else {
             return Err(Refusal::NoThread(thread));
@@ -219,9 +239,11 @@ fn free_among(stacks: &[Range], threads: &ThreadList) -> Option<Range>
 /// Steps a running thread, which keeps its number and its stack.
 fn step_numbered<S: Space>(space: &mut S, thread: &mut Thread) -> Traced
     requires running { thread.old.state ≡ Running }
-    ensures left { left_by (S.contents space.new) thread.new result.outcome ≡ stepped (S.contents space.old) thread.old }
+    ensures left { left_by (S.contents space.new) thread.new result.outcome
+        ≡ stepped (S.contents space.old) thread.old }
     ensures written { S.contents space.new ≡ after_store (S.contents space.old) result.store }
     ensures clear { store_fault (S.contents space.old) result.store ≡ None }
+    ensures store { result.store ≡ stored (S.contents space.old) thread.old }
     ensures fetched { result.fetched ≡ fetched_count (S.contents space.old) thread.old }
     ensures room { S.room space.new ≡ S.room space.old }
     ensures number { thread.new.number ≡ thread.old.number }

@@ -1,5 +1,6 @@
 //! The threads of a program in the order of their numbers.
-ghost use Rattle.std.specs.Prelude.{◌≡◌, ◌<◌, ◌≤◌, ◌++◌, [], ◌∷◌, length, nat_le, set, OnOk, OnErr, IfOk, IsSome, IfSome, Some};
+ghost use Rattle.std.specs.Prelude.{◌≡◌, ◌<◌, ◌≤◌, ◌++◌, [], ◌∷◌, length, nat_le};
+ghost use Rattle.std.specs.Prelude.{set, OnOk, OnErr, IfOk, IsSome, IfSome, Some};
 ghost use Rattle.std.specs.List.{slice_get, list_any};
 ghost use Rattle.ia32_step.specs.declared.types.State.TheVariants.{Running};
 ghost use Rattle.ia32_step.specs.Threads.{is_running};
@@ -33,7 +34,8 @@ impl Model for ThreadList {
 
     ghost view = { λ l. l.threads };
 
-    ghost invariant = { λ l. AreNumbered 0 l.threads × ((l.running.items ≡ running_numbers l.threads) × (length l.threads ≤ 4096)) };
+    ghost invariant = { λ l. AreNumbered 0 l.threads
+        × ((l.running.items ≡ running_numbers l.threads) × (length l.threads ≤ 4096)) };
 }
 
 impl ThreadList {

@@ -3,7 +3,8 @@ ghost use Rattle.std.specs.Prelude.{◌≡◌, ◌<◌, ◌≤◌, nat_lt, IsSom
 ghost use Rattle.std.specs.Option.{option_map};
 ghost use Rattle.std.specs.List.{slice_get, find};
 ghost use Rattle.image_threads.specs.Program.{running_at};
-ghost use Rattle.image_threads.specs.Turning.{next_turn, after_turn, thread_of, begun, first_turn, turn_after, turn_from};
+ghost use Rattle.image_threads.specs.Turning.{next_turn, after_turn, thread_of, begun};
+ghost use Rattle.image_threads.specs.Turning.{first_turn, turn_after, turn_from};
 
 use crate::machine::Machine;
 use image_memory::Space;

@@ -4,7 +4,8 @@ use Rattle.std.proofs.Common.{sym, ◌∙◌, ap, append_assoc, append-nil}
 use Rattle.ks_io.specs.Outside.{grown, TookFront, TookPart}
 
 -- taking two pieces is taking both as one
-pub grown-append : (old : Option (List ℕ)) (first second : List ℕ) → grown (grown old first) second ≡ grown old (first ++ second)
+pub grown-append : (old : Option (List ℕ)) (first second : List ℕ)
+    → grown (grown old first) second ≡ grown old (first ++ second)
 grown-append None first second = refl
 grown-append (Some taken) first second = ap (λ bytes. Some bytes) (append_assoc taken first second)
 
@@ -19,14 +20,16 @@ nothing_taken old piece = record { front = []; rest = piece; splits = refl; take
 
 -- a part is a front
 pub front_of_part : (old new : Option (List ℕ)) (piece : List ℕ) → TookPart old piece new → TookFront old piece new
-front_of_part old new piece part = record { front = part.front; rest = part.rest; splits = part.splits; taken = part.taken }
+front_of_part old new piece part =
+    record { front = part.front; rest = part.rest; splits = part.splits; taken = part.taken }
 
 -- the whole piece is a front of it
 pub TookFront-whole : {old new : Option (List ℕ)} (piece : List ℕ) → new ≡ grown old piece → TookFront old piece new
 TookFront-whole piece h = record { front = piece; rest = []; splits = append-nil piece; taken = h }
 
 -- a front of the second piece, after the first was taken, is a front of both
-pub TookFront-after : {old middle new : Option (List ℕ)} (first second : List ℕ) → middle ≡ grown old first → TookFront middle second new → TookFront old (first ++ second) new
+pub TookFront-after : {old middle new : Option (List ℕ)} (first second : List ℕ)
+    → middle ≡ grown old first → TookFront middle second new → TookFront old (first ++ second) new
 TookFront-after {old} first second was h = record {
   front = first ++ h.front;
   rest = h.rest;
@@ -35,7 +38,8 @@ TookFront-after {old} first second was h = record {
 }
 
 -- a front of the first piece is a front of both
-pub TookFront-before : {old new : Option (List ℕ)} (first second : List ℕ) → TookFront old first new → TookFront old (first ++ second) new
+pub TookFront-before : {old new : Option (List ℕ)} (first second : List ℕ)
+    → TookFront old first new → TookFront old (first ++ second) new
 TookFront-before first second h = record {
   front = h.front;
   rest = h.rest ++ second;

@@ -1,4 +1,5 @@
--- Files that are needed one after another, and what loading them came to. Each is loaded only after those before it are held.
+-- Files that are needed one after another, and what loading them came to. Each is loaded only after those before it are
+-- held.
 use Rattle.std.specs.Prelude.{◌≡◌, ◌≢◌, ℕ, ◌≤◌, ◌<◌, List, [], ◌∷◌, length, map, Option, Some, None, Result, Ok, Err}
 use Rattle.std.specs.List.{slice_get}
 use Rattle.std.specs.Global.{Vec}
@@ -49,9 +50,9 @@ pub record IsLost (told : Told) (fault : FileFault) (before now : Counts) (file 
   pub is_outside : fault ≢ Memory
   pub is_told : (files : List ℕ → Option (List ℕ)) → told ≡ Some files → FaultTells fault file.limit (files file.name)
 
--- the load of the first file that wasn't held was answered with a fault; where no fault is told, nothing is said
+-- the load of the first file that wasn't held was answered with a fault; where no fault is told, nothing was counted
 abbrev pub EndsLoads : Told → Option Needed → Option FileFault → Counts → Counts → Type 0
-EndsLoads told file None before now = Unit {0}
+EndsLoads told file None before now = now ≡ before
 EndsLoads told None (Some fault) before now = ⊥
 EndsLoads told (Some file) (Some fault) before now = IsLost told fault before now file
 
@@ -60,12 +61,23 @@ abbrev pub RoseFor : (List ℕ → Option (List ℕ)) → Option Needed → Coun
 RoseFor files None before now = (now.absences ≡ before.absences) × (now.excesses ≡ before.excesses)
 RoseFor files (Some file) before now = CountsTell (files file.name) file.limit before now
 
--- What loading came to of files that are needed one after another: the bytes of those that were held, and the fault of the outside for which
--- the next was not, if there was one.
-pub record CameTo (told : Told) (needed : List Needed) (held : List (List ℕ)) (lost : Option FileFault) (before now : Counts) : Type 0 where
+-- What loading came to of files that are needed one after another: the bytes of those that were held, and the fault of
+-- the outside for which the next was not, if there was one. Without such a fault the counts stay.
+pub record CameTo (told : Told)
+    (needed : List Needed) (held : List (List ℕ)) (lost : Option FileFault) (before now : Counts) : Type 0 where
   pub are_held : AreHeld told needed held
   pub ends : EndsLoads told (first_lacking needed held) lost before now
-  pub rises : (files : List ℕ → Option (List ℕ)) → told ≡ Some files → RoseFor files (first_lacking needed held) before now
+  pub rises : (files : List ℕ → Option (List ℕ))
+      → told ≡ Some files → RoseFor files (first_lacking needed held) before now
+
+-- Of files that are needed, which may hang on those before them, the first that wasn't held was lost for a fault of the
+-- outside.
+pub record LosesOne (needed : List (List ℕ) → List Needed) (told : Told) (before now : Counts) : Type 0 where
+  pub held : List (List ℕ)
+  pub file : Needed
+  pub is_lacking : first_lacking (needed held) held ≡ Some file
+  pub fault : FileFault
+  pub is_lost : IsLost told fault before now file
 
 -- the fault of a load, where it is one of the outside
 abbrev pub outside_fault : FileFault → Option FileFault
@@ -87,5 +99,6 @@ pub record IsLostAfter (told : Told) (needed : List Needed) (before now : Counts
 
 -- what loading came to by its answer: all files, or which of them was lost
 abbrev pub LoadsCameTo : Told → List Needed → Counts → Counts → Result (Vec (Vec ℕ)) Lost → Type 0
-LoadsCameTo told needed before now (Ok files) = (length files.items ≡ length needed) × CameTo told needed (bytes_of files.items) None before now
+LoadsCameTo told needed before now (Ok files) =
+    (length files.items ≡ length needed) × CameTo told needed (bytes_of files.items) None before now
 LoadsCameTo told needed before now (Err lost) = IsLostAfter told needed before now lost

@@ -1,6 +1,7 @@
 -- What the outside is to this program: files that may be told, bytes that a sink may show as taken, and
 -- counts of what went wrong, by which an answer that isn't Ok is known to have its cause outside.
-use Rattle.std.specs.Prelude.{◌≡◌, ◌≢◌, ℕ, ◌+◌, ◌-◌, ◌^◌, ◌≤◌, ◌<◌, min, Option, Some, None, IsSomeAnd, List, [], ◌++◌, length}
+use Rattle.std.specs.Prelude.{◌≡◌, ◌≢◌, ℕ, ◌+◌, ◌-◌, ◌^◌, ◌≤◌, ◌<◌, min, Option}
+use Rattle.std.specs.Prelude.{Some, None, IsSomeAnd, List, [], ◌++◌, length}
 
 -- how often a load found no file, a file longer than its limit, and a fault of the outside
 pub record Counts : Type 0 where

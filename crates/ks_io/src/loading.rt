@@ -1,5 +1,5 @@
 //! Loading files one after another.
-ghost use Rattle.std.specs.Prelude.{◌≡◌, ◌≢◌, ◌<◌, ◌∷◌, [], None, length, map, IfOk, IfErr};
+ghost use Rattle.std.specs.Prelude.{◌≡◌, ◌≢◌, ◌<◌, ◌∷◌, [], None, length, map, IfOk, IfErr, OnOk, IsErrOf};
 ghost use Rattle.ks_io.specs.Kept.{FilesKept};
 ghost use Rattle.ks_io.specs.Loads.{needed_by, outside_fault, CameTo, LoadsCameTo};
 
@@ -14,8 +14,12 @@ pub fn load_all<F: Files>(
     files: &mut F,
     wanted: &[Wanted<'_>],
 ) -> Result<Vec<Vec<u8>>, Lost>
-    ensures loads { LoadsCameTo (F.told files.old) (map needed_by wanted.now) (F.counts files.old) (F.counts files.new) result }
+    ensures loads { LoadsCameTo
+        (F.told files.old) (map needed_by wanted.now) (F.counts files.old) (F.counts files.new) result }
     ensures within { IfErr result (λ lost. lost.index < length wanted.now) }
+    // Where all are loaded, and where memory was wanting, nothing is counted.
+    ensures steady { OnOk result (F.counts files.new ≡ F.counts files.old) }
+    ensures memory { IfErr result (λ lost. lost.fault ≡ FileFault.Memory → F.counts files.new ≡ F.counts files.old) }
     ensures kept { FilesKept F.told F.counts F.quiet files.old files.new }
     ensures quiet { F.quiet files.old → IfErr result (λ lost. lost.fault ≢ FileFault.Failed) }
 {
@@ -35,8 +39,12 @@ pub fn load_all<F: Files>(
 
 // The bytes of a file, in no more room than they need.
 fn load_one<F: Files>(alloc: Global, files: &mut F, file: &Wanted<'_>) -> Result<Vec<u8>, FileFault>
-    ensures held { IfOk result (λ bytes. CameTo (F.told files.old) (needed_by file.now ∷ []) (bytes.items ∷ []) None (F.counts files.old) (F.counts files.new)) }
-    ensures lost { IfErr result (λ fault. CameTo (F.told files.old) (needed_by file.now ∷ []) [] (outside_fault fault) (F.counts files.old) (F.counts files.new)) }
+    ensures held { IfOk result (λ bytes. CameTo (F.told files.old)
+        (needed_by file.now ∷ []) (bytes.items ∷ []) None (F.counts files.old) (F.counts files.new)) }
+    ensures lost { IfErr result (λ fault. CameTo (F.told files.old)
+        (needed_by file.now ∷ []) [] (outside_fault fault) (F.counts files.old) (F.counts files.new)) }
+    ensures steady { OnOk result (F.counts files.new ≡ F.counts files.old) }
+    ensures memory { IsErrOf result FileFault.Memory → F.counts files.new ≡ F.counts files.old }
     ensures kept { FilesKept F.told F.counts F.quiet files.old files.new }
     ensures quiet { F.quiet files.old → result ≢ Err FileFault.Failed }
 {

@@ -1,5 +1,6 @@
 //! Files that live in memory.
-ghost use Rattle.std.specs.Prelude.{◌≡◌, ◌≤◌, ◌↔◌, ℕ, List, Option, Some, None, [], length, string_bytes, IsTrue, OnOk, OnErr, IsErrOf};
+ghost use Rattle.std.specs.Prelude.{◌≡◌, ◌≤◌, ◌↔◌, ℕ, List, Option, Some, None, []};
+ghost use Rattle.std.specs.Prelude.{length, string_bytes, IsTrue, OnOk, OnErr, IsErrOf};
 ghost use Rattle.ks_io.specs.Outside.{no_counts, raised, NeverFall};
 ghost use Rattle.ks_io.specs.Answered.{LoadGives};
 ghost use Rattle.ks_io.specs.InMemory.{fails_at, with_file, counts_after};

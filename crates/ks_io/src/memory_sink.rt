@@ -1,5 +1,6 @@
 //! A sink that lives in memory.
-ghost use Rattle.std.specs.Prelude.{◌≡◌, ◌≤◌, ◌<◌, ◌↔◌, min, Some, [], ◌++◌, length, take, IsTrue, IfOk, OnErr, IsErrOf};
+ghost use Rattle.std.specs.Prelude.{◌≡◌, ◌≤◌, ◌<◌, ◌↔◌, min, Some, [], ◌++◌};
+ghost use Rattle.std.specs.Prelude.{length, take, IsTrue, IfOk, OnErr, IsErrOf};
 ghost use Rattle.ks_io.specs.Outside.{raised};
 ghost use Rattle.ks_io.specs.InMemory.{fails_at, faults_after};
 ghost use Rattle.ks_io.specs.Held.{bytes_taken, faults_of, failing_writes, writes_made, most_a_write};

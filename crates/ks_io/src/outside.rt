@@ -1,5 +1,6 @@
 //! What the program asks of its outside.
-ghost use Rattle.std.specs.Prelude.{◌≡◌, ◌≢◌, ℕ, ◌≤◌, ◌<◌, Option, List, [], length, take, OnOk, OnErr, IfOk, IfErr, IsErrOf};
+ghost use Rattle.std.specs.Prelude.{◌≡◌, ◌≢◌, ℕ, ◌≤◌, ◌<◌, Option, List, [], length};
+ghost use Rattle.std.specs.Prelude.{take, OnOk, OnErr, IfOk, IfErr, IsErrOf};
 ghost use Rattle.ks_io.specs.Outside.{Counts, Rose, NeverFall, CountsTell, grown};
 ghost use Rattle.ks_io.specs.Answered.{LoadGives, ShowsIn};
 
@@ -33,6 +34,9 @@ pub trait Files {
         // Where the files are told, absences rise only for a name that has no file, excesses only for a longer one.
         ensures rises { (files : List ℕ → Option (List ℕ)) → told self.old ≡ Some files
             → CountsTell (files name.now) limit (counts self.old) (counts self.new) }
+        // A call that loaded the file, or that memory was wanting for, counts nothing.
+        ensures steady { OnOk result (counts self.new ≡ counts self.old) }
+        ensures memory { IsErrOf result FileFault.Memory → counts self.new ≡ counts self.old }
         ensures emptied { OnErr result (into.new.items ≡ []) }
         ensures quiet_kept { quiet self.old → quiet self.new }
         ensures quiet_faults { quiet self.old → (counts self.new).faults ≡ (counts self.old).faults }

@@ -6,7 +6,9 @@ use Rattle.section_roles.specs.declared.role.Role.{Role}
 use Rattle.section_roles.specs.Roles.{role_of}
 use Rattle.ksplice_cli.specs.Difference.{listing_by, listing}
 
-pub same_listing : (roles : List ℕ → Option Role) (pre post : List NormalSection) (extract : Extract) → ((q : List ℕ) → roles q ≡ role_of extract q)
+pub same_listing : (roles : List ℕ → Option Role) (pre post : List NormalSection) (extract : Extract)
+    → ((q : List ℕ) → roles q ≡ role_of extract q)
     → listing_by roles pre post extract.dropped ≡ listing pre post extract
 unfolding listing
-same_listing roles pre post extract each = ap (λ (f : List ℕ → Option Role). listing_by f pre post extract.dropped) (λ i q. each q i)
+same_listing roles pre post extract each =
+    ap (λ (f : List ℕ → Option Role). listing_by f pre post extract.dropped) (λ i q. each q i)

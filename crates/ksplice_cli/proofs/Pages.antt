@@ -11,7 +11,8 @@ comes_by true old now page rest status out = TookFront-after page rest refl out
 comes_by false old now page rest status out = (out.0, out.1 ∙ grown-append old page rest)
 
 -- the first page came out, and then the others
-pub page_came_out : (old between now : Option (List ℕ)) (page rest whole : List ℕ) (status : ℕ) → whole ≡ page ++ rest → between ≡ grown old page
+pub page_came_out : (old between now : Option (List ℕ)) (page rest whole : List ℕ) (status : ℕ)
+    → whole ≡ page ++ rest → between ≡ grown old page
     → ComesOut (answer_of rest 0) between now status → ComesOut (answer_of whole 0) old now status
 page_came_out old between now page rest whole status parts taken out =
     rw (parts) (comes_by (status == 5 || status == 6) old now page rest status (rw taken at out))

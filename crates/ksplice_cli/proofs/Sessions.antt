@@ -9,7 +9,8 @@ use Rattle.ks_io.specs.LoadLaws.{CameTo-nothing}
 use Rattle.ks_io.specs.declared.types.FileFault.{FileFault}
 use Rattle.script_lines.specs.declared.types.Command.{Command}
 use Rattle.ksplice_session.specs.Watching.{Watched}
-use Rattle.ksplice_session.specs.Session.{Ends, AllDone, AllRun, FileStopped, SinkStopped, SinkAtFile, MemoryInLine, MemoryAfterLine, MemoryAtFile, SessionEnds, whole_output}
+use Rattle.ksplice_session.specs.Session.{Ends, AllDone, AllRun, FileStopped, SinkStopped, SinkAtFile}
+use Rattle.ksplice_session.specs.Session.{MemoryInLine, MemoryAfterLine, MemoryAtFile, SessionEnds, whole_output}
 use Rattle.ksplice_session.specs.declared.types.SessionEnd.{SessionEnd}
 use Rattle.ksplice_cli.specs.Answer.{ComesOut, Answered, refused_answer}
 use Rattle.ksplice_cli.specs.Calls.{RunAnswers, end_status, session_files}
@@ -17,13 +18,16 @@ use Rattle.ksplice_cli.specs.Reply.{session_of, session_answer, lines_answer, ru
 use Rattle.ksplice_cli.proofs.Replies.{refusal_is_one}
 
 -- the answer to the lines comes out
-lines_come_out : (k : Watched) (script : List Command) (held : List (List ℕ)) (lost : Option FileFault) (old new : Option (List ℕ)) (now : Watched) (end : SessionEnd)
-    → Ends k script held lost old new now end → TookFront old (whole_output k script held lost) new → ComesOut (lines_answer k script held lost) old new (end_status end)
+lines_come_out : (k : Watched) (script : List Command)
+    (held : List (List ℕ)) (lost : Option FileFault) (old new : Option (List ℕ)) (now : Watched) (end : SessionEnd)
+    → Ends k script held lost old new now end → TookFront old (whole_output k script held lost) new
+    → ComesOut (lines_answer k script held lost) old new (end_status end)
 lines_come_out k script held lost old new now _ (AllDone all none taken _) front =
     (rw (all, none) refl, rw all (taken ∙ ap (grown old) (sym (append-nil _))))
 lines_come_out k script held lost old new now _ (AllRun all some taken _) front =
     (rw (all, some) refl, rw all (taken ∙ ap (grown old) (sym (append-nil _))))
-lines_come_out k script held lost old new now _ (FileStopped file fault lacks is taken _) front = (rw (lacks, is) refl, rw (lacks, is) taken)
+lines_come_out k script held lost old new now _ (FileStopped file fault lacks is taken _) front =
+    (rw (lacks, is) refl, rw (lacks, is) taken)
 lines_come_out k script held lost old new now _ (SinkStopped _ _ _ _) front = front
 lines_come_out k script held lost old new now _ (SinkAtFile _ _ _ _ _ _) front = front
 lines_come_out k script held lost old new now _ (MemoryInLine _ _ _ _) front = front
@@ -31,8 +35,10 @@ lines_come_out k script held lost old new now _ (MemoryAfterLine _ _ _ _) front 
 lines_come_out k script held lost old new now _ (MemoryAtFile _ _ _ _) front = front
 
 -- The session of image and script ended.
-pub session_answers : (image script : List ℕ) (k : Watched) (lines : List Command) (told : Told) (before after : Counts) (old new : Option (List ℕ)) (now : Watched) (end : SessionEnd) (status : ℕ)
-    → session_of image script ≡ Ok (k, lines) → SessionEnds told k lines before after old new now end → status ≡ end_status end → RunAnswers image script told before after old new status
+pub session_answers : (image script : List ℕ) (k : Watched) (lines : List Command)
+    (told : Told) (before after : Counts) (old new : Option (List ℕ)) (now : Watched) (end : SessionEnd) (status : ℕ)
+    → session_of image script ≡ Ok (k, lines) → SessionEnds told k lines before after old new now end
+    → status ≡ end_status end → RunAnswers image script told before after old new status
 session_answers image script k lines told before after old new now end status read ends is = record {
   held = ends.held;
   lost = ends.lost;
@@ -42,8 +48,11 @@ session_answers image script k lines told before after old new now end status re
 }
 
 -- There is no session, and why comes out.
-pub no_session_answers : (image script : List ℕ) (refusal : Refusal) (told : Told) (before : Counts) (old new : Option (List ℕ)) (status : ℕ)
-    → (refusal ≢ Memory → session_of image script ≡ Err refusal) → (refusal ≢ Memory → ComesOut (refused_answer refusal) old new status) → (refusal ≡ Memory → (status ≡ 6) × (new ≡ old))
+pub no_session_answers : (image script : List ℕ)
+    (refusal : Refusal) (told : Told) (before : Counts) (old new : Option (List ℕ)) (status : ℕ)
+    → (refusal ≢ Memory → session_of image script ≡ Err refusal)
+    → (refusal ≢ Memory → ComesOut (refused_answer refusal) old new status)
+    → (refusal ≡ Memory → (status ≡ 6) × (new ≡ old))
     → RunAnswers image script told before before old new status
 no_session_answers image script refusal told before old new status read out memory = record {
   held = [];

@@ -39,8 +39,8 @@ abbrev pub session_files : Result (Watched × List Command) Refusal → List Nee
 session_files (Err refusal) = []
 session_files (Ok session) = files_along session.1
 
--- The files that lines name, once the files that the words name are held with these bytes: those of the script, where image and script
--- are in their forms.
+-- The files that lines name, once the files that the words name are held with these bytes: those of the script, where
+-- image and script are in their forms.
 abbrev pub line_files : Option Asked → List (List ℕ) → List Needed
 line_files (Some (Run image script)) (bytes ∷ lines ∷ held) = session_files (session_of bytes lines)
 line_files asked held = []
@@ -62,14 +62,16 @@ abbrev pub IsAnswerBy : Option Needed → Asked → List (List ℕ) → Option F
 IsAnswerBy (Some file) asked held lost answer = answer ≡ lost_answer file lost
 IsAnswerBy None asked held lost answer = IsReplyTo asked held lost answer
 
--- The answers to what the words ask for, by the bytes of the files that were held, in order, and the fault of the outside for which the next
--- was not, if there was one.
+-- The answers to what the words ask for, by the bytes of the files that were held, in order, and the fault of the
+-- outside for which the next was not, if there was one.
 abbrev pub IsAnswer : Option Asked → List (List ℕ) → Option FileFault → Answer → Type 0
 IsAnswer None held lost answer = answer ≡ usage_answer
-IsAnswer (Some asked) held lost answer = IsAnswerBy (first_lacking (named_files (Some asked)) held) asked held lost answer
+IsAnswer (Some asked) held lost answer =
+    IsAnswerBy (first_lacking (named_files (Some asked)) held) asked held lost answer
 
 -- What the loads of a call came to, and what came out: an answer by these loads.
-pub record Answers (asked : Option Asked) (told : Told) (before now : Counts) (old new : Option (List ℕ)) (status : ℕ) : Type 0 where
+pub record Answers
+    (asked : Option Asked) (told : Told) (before now : Counts) (old new : Option (List ℕ)) (status : ℕ) : Type 0 where
   pub held : List (List ℕ)
   pub lost : Option FileFault
   pub loads : CameTo told (needed asked held) held lost before now
@@ -84,7 +86,8 @@ failed_load held (Some Failed) = Some (length held)
 failed_load held (Some Memory) = None
 
 -- What the loads of lines came to, and what came out, once image and script are held.
-pub record RunAnswers (image script : List ℕ) (told : Told) (before now : Counts) (old new : Option (List ℕ)) (status : ℕ) : Type 0 where
+pub record RunAnswers
+    (image script : List ℕ) (told : Told) (before now : Counts) (old new : Option (List ℕ)) (status : ℕ) : Type 0 where
   pub held : List (List ℕ)
   pub lost : Option FileFault
   pub loads : CameTo told (session_files (session_of image script)) held lost before now

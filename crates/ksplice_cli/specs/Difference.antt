@@ -21,8 +21,8 @@ function_of (Some section) = function_in section
 abbrev pub verb_line : List ℕ → List ℕ → List ℕ
 verb_line verb name = verb ++ shown_name name ++ 10 ∷ []
 
--- The line of a section of the second object, given the section of its name in the first. A changed function is called as
--- the first object calls it. A section of which nothing becomes has no line.
+-- The line of a section of the second object, given the section of its name in the first. A changed function is called
+-- as the first object calls it. A section of which nothing becomes has no line.
 abbrev pub section_line : Option Role → Option NormalSection → NormalSection → List ℕ
 section_line None old new = []
 section_line (Some Changed) old new = verb_line (codes "changed ") (function_of old)
@@ -37,8 +37,8 @@ line_in roles pre new = section_line (roles new.name) (section_named pre new.nam
 abbrev pub dropped_line : List NormalSection → List ℕ → List ℕ
 dropped_line pre name = verb_line (codes "dropped ") (function_of (section_named pre name))
 
--- The lines of the second object's sections in its order, and then those of the functions that go, in the first's order;
--- by what becomes of each section, and by an extract.
+-- The lines of the second object's sections in its order, and then those of the functions that go, in the first's
+-- order; by what becomes of each section, and by an extract.
 unfoldable pub listing_by : (List ℕ → Option Role) → List NormalSection → List NormalSection → List (List ℕ) → List ℕ
 listing_by roles pre post dropped = flat_map (line_in roles pre) post ++ flat_map (dropped_line pre) dropped
 

@@ -8,7 +8,8 @@ use Rattle.ksplice_cli.specs.Answer.{Answer, ComesOut}
 use Rattle.ksplice_cli.specs.Calls.{IsReplyTo, needed}
 use Rattle.ksplice_cli.specs.Words.{Asked}
 
--- The reply to what the words ask for came out, for some files within their limits; where the files are told, these are they.
+-- The reply to what the words ask for came out, for some files within their limits; where the files are told, these are
+-- they.
 pub record RepliesSome (asked : Option Asked) (told : Told) (old new : Option (List ℕ)) (status : ℕ) : Type 0 where
   pub command : Asked
   pub asked_for : asked ≡ Some command
@@ -19,9 +20,10 @@ pub record RepliesSome (asked : Option Asked) (told : Told) (old new : Option (L
   pub reply : IsReplyTo command held lost answer
   pub comes_out : ComesOut answer old new status
 
--- The line of a file that the call needs came out, behind the replies to the lines before it, and what was wrong with the file shows in its
--- count.
-pub record EndsWithFile (asked : Option Asked) (told : Told) (before now : Counts) (old new : Option (List ℕ)) : Type 0 where
+-- The line of a file that the call needs came out, behind the replies to the lines before it, and what was wrong with
+-- the file shows in its count.
+pub record EndsWithFile
+    (asked : Option Asked) (told : Told) (before now : Counts) (old new : Option (List ℕ)) : Type 0 where
   pub held : List (List ℕ)
   pub file : Needed
   pub is_needed : first_lacking (needed asked held) held ≡ Some file
@@ -38,7 +40,8 @@ pub record OneIs (asked : Option Asked) (files : List ℕ → Option (List ℕ))
   pub is_needed : first_lacking (needed asked held) held ≡ Some file
   pub is_so : IsSo file
 
--- The counts rose only for a file that the call needs: absences for one that isn't there, excesses for one that is longer than its limit.
+-- The counts rose only for a file that the call needs: absences for one that isn't there, excesses for one that is
+-- longer than its limit.
 abbrev pub CountsTellOf : Option Asked → (List ℕ → Option (List ℕ)) → Counts → Counts → Type 0
 CountsTellOf asked files before now =
     (before.absences < now.absences → OneIs asked files (λ file. files file.name ≡ None))

@@ -20,11 +20,13 @@ use Rattle.ksplice_cli.specs.Difference.{listing}
 use Rattle.ksplice_cli.specs.Solution.{value_lines}
 
 -- the sections of a second object beside those of the first
-abbrev pub beside : List NormalSection → Result (List NormalSection) Refusal → Result (List NormalSection × List NormalSection) Refusal
+abbrev pub beside : List NormalSection
+    → Result (List NormalSection) Refusal → Result (List NormalSection × List NormalSection) Refusal
 beside old (Err refusal) = Err refusal
 beside old (Ok new) = Ok (old, new)
 
-abbrev pub both : Result (List NormalSection) Refusal → Result (List NormalSection) Refusal → Result (List NormalSection × List NormalSection) Refusal
+abbrev pub both : Result (List NormalSection) Refusal
+    → Result (List NormalSection) Refusal → Result (List NormalSection × List NormalSection) Refusal
 both (Err refusal) second = Err refusal
 both (Ok old) second = beside old second
 
@@ -32,12 +34,14 @@ both (Ok old) second = beside old second
 unfoldable pub both_sections : List ℕ → List ℕ → Result (List NormalSection × List NormalSection) Refusal
 both_sections pre post = both (sections_of pre) (sections_of post)
 
--- The difference of two object files: the lines of what an update from one to the other is made of. What is wrong with one of
--- them comes before what is wrong with the two together.
+-- The difference of two object files: the lines of what an update from one to the other is made of. What is wrong with
+-- one of them comes before what is wrong with the two together.
 pub data IsDifference (pre post : List ℕ) : Result (List ℕ) Refusal → Type 0 where
   Unread : (refusal : Refusal) → both_sections pre post ≡ Err refusal → IsDifference pre post (Err refusal)
-  NoneExtracted : (old new : List NormalSection) (refusal : Refusal) → both_sections pre post ≡ Ok (old, new) → Extracts old new (Err refusal) → IsDifference pre post (Err refusal)
-  Lists : (old new : List NormalSection) (extract : Extract) → both_sections pre post ≡ Ok (old, new) → Extracts old new (Ok extract) → IsDifference pre post (Ok (listing old new extract))
+  NoneExtracted : (old new : List NormalSection) (refusal : Refusal)
+      → both_sections pre post ≡ Ok (old, new) → Extracts old new (Err refusal) → IsDifference pre post (Err refusal)
+  Lists : (old new : List NormalSection) (extract : Extract) → both_sections pre post ≡ Ok (old, new)
+      → Extracts old new (Ok extract) → IsDifference pre post (Ok (listing old new extract))
 
 -- lines that list an extract of the sections of two objects
 pub record Listed (old new : List NormalSection) (lines : List ℕ) : Type 0 where
@@ -61,7 +65,8 @@ abbrev pub code_of_read : Result Contents Refusal → List ℕ → Result (List 
 code_of_read (Err refusal) name = Err refusal
 code_of_read (Ok image) name = code_of image name
 
--- the reply to `code` where the image file is loaded: what is wrong with the file comes before what is wrong with the name
+-- the reply to `code` where the image file is loaded: what is wrong with the file comes before what is wrong with the
+-- name
 unfoldable pub code_reply : List ℕ → List ℕ → Result (List ℕ) Refusal
 code_reply bytes name = code_of_read (image_of bytes) name
 
@@ -95,11 +100,13 @@ abbrev pub with_lines : Watched → Result (List Command) Refusal → Result (Wa
 with_lines machine (Err refusal) = Err refusal
 with_lines machine (Ok lines) = Ok (machine, lines)
 
-abbrev pub session_of_read : Result Contents Refusal → Result (List Command) Refusal → Result (Watched × List Command) Refusal
+abbrev pub session_of_read : Result Contents Refusal
+    → Result (List Command) Refusal → Result (Watched × List Command) Refusal
 session_of_read (Err refusal) script = Err refusal
 session_of_read (Ok image) script = with_lines (first_watched image) script
 
--- the session of an image file and a script file; what is wrong with the image comes before what is wrong with the script
+-- the session of an image file and a script file; what is wrong with the image comes before what is wrong with the
+-- script
 unfoldable pub session_of : List ℕ → List ℕ → Result (Watched × List Command) Refusal
 session_of image script = session_of_read (image_of image) (script_of script)
 
@@ -111,12 +118,14 @@ session_status (Some file) lost refused = lost_status lost
 -- the replies to the lines, up to the line of a file where one is lacking
 abbrev pub lines_answer : Watched → List Command → List (List ℕ) → Option FileFault → Answer
 lines_answer k script held lost =
-    answer_of (whole_output k script held lost) (session_status (lacking script held) lost (session_played k script held).refused)
+    answer_of (whole_output k script held lost)
+    (session_status (lacking script held) lost (session_played k script held).refused)
 
 abbrev pub session_answer : Result (Watched × List Command) Refusal → List (List ℕ) → Option FileFault → Answer
 session_answer (Err refusal) held lost = refused_answer refusal
 session_answer (Ok session) held lost = lines_answer session.0 session.1 held lost
 
--- The answer to `run` where both files are held, by the bytes of the files of lines that were held, and the fault for which the next was not.
+-- The answer to `run` where both files are held, by the bytes of the files of lines that were held, and the fault for
+-- which the next was not.
 abbrev pub run_answer : List ℕ → List ℕ → List (List ℕ) → Option FileFault → Answer
 run_answer image script held lost = session_answer (session_of image script) held lost

@@ -22,7 +22,8 @@ pub fn diff<F: Files, O: Sink>(
     files: &mut F,
     out: &mut O,
 ) -> Status
-    ensures answers { Answers (Some (Diff pre.now post.now)) (F.told files.old) (F.counts files.old) (F.counts files.new)
+    ensures answers { Answers
+        (Some (Diff pre.now post.now)) (F.told files.old) (F.counts files.old) (F.counts files.new)
         (O.taken out.old) (O.taken out.new) result.code }
     ensures status { is_carried_out result.code ≡ true }
     ensures files { FilesKept F.told F.counts F.quiet files.old files.new }

@@ -25,7 +25,8 @@ pub fn code<F: Files, O: Sink>(
     files: &mut F,
     out: &mut O,
 ) -> Status
-    ensures answers { Answers (Some (Code image.now name.now)) (F.told files.old) (F.counts files.old) (F.counts files.new)
+    ensures answers { Answers
+        (Some (Code image.now name.now)) (F.told files.old) (F.counts files.old) (F.counts files.new)
         (O.taken out.old) (O.taken out.new) result.code }
     ensures status { is_carried_out result.code ≡ true }
     ensures files { FilesKept F.told F.counts F.quiet files.old files.new }
@@ -48,7 +49,8 @@ pub fn code<F: Files, O: Sink>(
 #[tactic(auto, using(ks_io::specs::Fronts::nothing_taken))]
 fn print_code<O: Sink>(alloc: Global, bytes: &[u8], name: &str, out: &mut O) -> Status
     ensures status { is_carried_out result.code ≡ true }
-    ensures answer { OneComesOut (λ answer. answer ≡ code_answer bytes.now name.now) (O.taken out.old) (O.taken out.new) result.code }
+    ensures answer { OneComesOut
+        (λ answer. answer ≡ code_answer bytes.now name.now) (O.taken out.old) (O.taken out.new) result.code }
     ensures sink { result.code ≡ 5 → Rose (O.faults out.old) (O.faults out.new) }
     ensures steady { result.code ≢ 5 → O.faults out.new ≡ O.faults out.old }
     ensures out { SinkKept O.faults O.quiet out.old out.new }
@@ -90,8 +92,10 @@ fn print_listing<O: Sink>(alloc: Global, listing: &mut Listing, out: &mut O) -> 
 #[tactic(auto, using(ks_io::specs::Fronts::nothing_taken, ks_io::specs::Fronts::front_of_part, crate::proofs::Pages::page_came_out))]
 fn print_page<O: Sink>(alloc: Global, listing: &mut Listing, out: &mut O) -> Option<Status>
     ensures status { IfSome result (λ status. is_carried_out status.code ≡ true) }
-    ensures last { IfSome result (λ status. ComesOut (answer_of listing.old 0) (O.taken out.old) (O.taken out.new) status.code) }
-    ensures more { IfNone result ((now : Option (List ℕ)) (status : ℕ) → ComesOut (answer_of listing.new 0) (O.taken out.new) now status
+    ensures last { IfSome result
+        (λ status. ComesOut (answer_of listing.old 0) (O.taken out.old) (O.taken out.new) status.code) }
+    ensures more { IfNone result
+        ((now : Option (List ℕ)) (status : ℕ) → ComesOut (answer_of listing.new 0) (O.taken out.new) now status
         → ComesOut (answer_of listing.old 0) (O.taken out.old) now status) }
     ensures shorter { IfNone result (length listing.new < length listing.old) }
     ensures sink { IfSome result (λ status. status.code ≡ 5 → Rose (O.faults out.old) (O.faults out.new)) }

@@ -2,7 +2,8 @@
 ghost use Rattle.std.specs.Prelude.{◌≡◌, ◌++◌, Some, IfOk, OnOk};
 ghost use Rattle.std.specs.Option.{option_copied};
 ghost use Rattle.std.specs.List.{flat_map};
-ghost use Rattle.ksplice_cli.specs.Difference.{function_in, function_of, verb_line, section_line, line_in, dropped_line, listing_by, listing};
+ghost use Rattle.ksplice_cli.specs.Difference.{function_in, function_of, verb_line, section_line};
+ghost use Rattle.ksplice_cli.specs.Difference.{line_in, dropped_line, listing_by, listing};
 ghost use Rattle.section_roles.specs.Roles.{role_at};
 
 use extract_post::Extract;

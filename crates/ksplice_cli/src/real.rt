@@ -69,8 +69,8 @@ fn read_file<R: rt::Files>(
     read_at_most(file, limit, into)
 }
 
-// Reads all that a reader has left, where that is no more than `limit` bytes: it is never cut. Of a longer one `limit` and
-// one bytes are read, and it is too long.
+// Reads all that a reader has left, where that is no more than `limit` bytes: it is never cut. Of a longer one `limit`
+// and one bytes are read, and it is too long.
 fn read_at_most<S: Read + Drop>(source: S, limit: u32, into: &mut Vec<u8>) -> Result<(), FileFault>
     requires { into.old.items ≡ [] }
     ensures at_most { OnOk result (length into.new.items ≤ limit) }
@@ -131,7 +131,8 @@ impl<R: Print> Sink for RealSink<'_, R> {
 // Writes a front of the piece and flushes it; answers how many bytes that is.
 fn write_through<W: Write>(output: &mut W, piece: &[u8]) -> io::Result<usize>
     ensures within { IfOk result (λ count. count ≤ length piece.now) }
-    ensures front { IfOk result (λ count. Appends (W.contents output.old) (W.contents output.new) (take count piece.now)) }
+    ensures front { IfOk result
+        (λ count. Appends (W.contents output.old) (W.contents output.new) (take count piece.now)) }
 {
     let count = output.write(piece)?;
     output.flush()?;

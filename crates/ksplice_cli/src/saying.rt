@@ -33,7 +33,8 @@ pub fn say<O: Sink>(out: &mut O, output: &[u8], status: Status) -> Status
 /// Ends the call with a refusal's line. Want of memory has none.
 #[tactic(auto, using(ks_io::specs::Fronts::nothing_taken))]
 pub fn refuse<O: Sink>(alloc: Global, refusal: &Refusal, out: &mut O) -> Status
-    ensures answer { refusal.now ≢ Refusal.Memory → ComesOut (refused_answer refusal.now) (O.taken out.old) (O.taken out.new) result.code }
+    ensures answer { refusal.now ≢ Refusal.Memory
+        → ComesOut (refused_answer refusal.now) (O.taken out.old) (O.taken out.new) result.code }
     ensures memory { refusal.now ≡ Refusal.Memory → (result.code ≡ 6) × (O.taken out.new ≡ O.taken out.old) }
     ensures status { is_carried_out result.code ≡ true }
     ensures out { SinkKept O.faults O.quiet out.old out.new }
@@ -71,7 +72,8 @@ pub fn end_with_file<O: Sink>(
     fault: FileFault,
     out: &mut O,
 ) -> Status
-    ensures answer { ComesOut (lost_answer (needed_by file.now) (outside_fault fault)) (O.taken out.old) (O.taken out.new) result.code }
+    ensures answer { ComesOut
+        (lost_answer (needed_by file.now) (outside_fault fault)) (O.taken out.old) (O.taken out.new) result.code }
     ensures status { is_carried_out result.code ≡ true }
     ensures out { SinkKept O.faults O.quiet out.old out.new }
     ensures sink { result.code ≡ 5 → Rose (O.faults out.old) (O.faults out.new) }

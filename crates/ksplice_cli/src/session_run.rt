@@ -28,7 +28,8 @@ pub fn run<F: Files, O: Sink>(
     files: &mut F,
     out: &mut O,
 ) -> Status
-    ensures answers { Answers (Some (Run image.now script.now)) (F.told files.old) (F.counts files.old) (F.counts files.new)
+    ensures answers { Answers
+        (Some (Run image.now script.now)) (F.told files.old) (F.counts files.old) (F.counts files.new)
         (O.taken out.old) (O.taken out.new) result.code }
     ensures status { is_carried_out result.code ≡ true }
     ensures files { FilesKept F.told F.counts F.quiet files.old files.new }

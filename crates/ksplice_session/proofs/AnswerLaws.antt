@@ -1,5 +1,6 @@
 -- Why each line is answered as it is to be.
-use Rattle.std.proofs.Common.{◌≡◌, ◌≢◌, ℕ, Bool, true, false, List, [], ◌∷◌, ◌++◌, length, map, is_some, arith, Result, Ok, Err, IfOk, refl, sym, ◌∙◌, ap, subst, append-nil}
+use Rattle.std.proofs.Common.{◌≡◌, ◌≢◌, ℕ, Bool, true, false, List, [], ◌∷◌, ◌++◌, length, map, is_some}
+use Rattle.std.proofs.Common.{arith, Result, Ok, Err, IfOk, refl, sym, ◌∙◌, ap, subst, append-nil}
 use Rattle.std.specs.declared.alloc.AllocError.{AllocError}
 use Rattle.std.specs.Global.{Vec}
 use Rattle.ks_io.specs.Loads.{bytes_of}
@@ -7,15 +8,18 @@ use Rattle.ks_base.specs.declared.refusals.Refusal.{Refusal}
 use Rattle.ks_base.specs.declared.refusals.Refusal.TheVariants.{NoThread, Memory}
 use Rattle.ks_base.specs.Refusals.{refusal_line}
 use Rattle.image_threads.specs.Program.{running_at}
-use Rattle.script_lines.specs.declared.types.Command.TheVariants.{Spawn, Step, RoundRobin, Threads, Peek, Undo, ListUpdates, Watch}
+use Rattle.script_lines.specs.declared.types.Command.TheVariants.{Spawn, Step, RoundRobin, Threads}
+use Rattle.script_lines.specs.declared.types.Command.TheVariants.{Peek, Undo, ListUpdates, Watch}
 use Rattle.update_stack.specs.CallTable.{CallTable, shown_update}
-use Rattle.update_stack.specs.Events.{Event, Spawn as SpawnEvent, Undo as UndoEvent, Spawned, Undone, Happened, happened, answered, machine_after, after_event, after_events}
+use Rattle.update_stack.specs.Events.{Event, Spawn as SpawnEvent, Undo as UndoEvent, Spawned, Undone}
+use Rattle.update_stack.specs.Events.{Happened, happened, answered, machine_after, after_event, after_events}
 use Rattle.update_stack.specs.StandsFor.{patched}
 use Rattle.ksplice_session.specs.declared.types.Answer.{Answer}
 use Rattle.ksplice_session.specs.Watching.{Watched, watched_by, watched_after, watched_after_all}
 use Rattle.ksplice_session.specs.Lines.{spawned_line, threads_lines, peek_line, undone_line, list_lines, watch_line}
 use Rattle.ksplice_session.specs.Running.{thread_steps, round_robin}
-use Rattle.ksplice_session.specs.Replies.{Told, told_of, apply_told, told_by, replied, refused_after, shown, step_told, turns_told}
+use Rattle.ksplice_session.specs.Replies.{Told, told_of, apply_told, told_by, replied}
+use Rattle.ksplice_session.specs.Replies.{refused_after, shown, step_told, turns_told}
 use Rattle.ksplice_session.specs.Answers.{Answers, MadeFront, Noted, Unnoted, watched, answer_of}
 
 nothing_made : (s now : Watched) (events : List Event) → now ≡ s → now ≡ watched_after_all s []
@@ -26,7 +30,8 @@ pub nothing_done : (s : Watched) → s ≡ watched_after_all s []
 unfolding watched_after_all
 nothing_done s = refl
 
-same_line : (line : Result (List ℕ) AllocError) (reply l : List ℕ) → IfOk line (λ m. m ≡ reply) → line ≡ Ok l → l ≡ reply
+same_line : (line : Result (List ℕ) AllocError) (reply l : List ℕ)
+    → IfOk line (λ m. m ≡ reply) → line ≡ Ok l → l ≡ reply
 same_line (Ok m) reply l made is = cc
 same_line (Err e) reply l made is = cc
 
@@ -39,21 +44,26 @@ pub none_made : (s now : Watched) (events : List Event) → now ≡ s → MadeFr
 none_made s now events same = Noted [] events refl (nothing_made s now events same)
 
 -- a line that was run, by what it tells
-pub told_answers : (s now : Watched) {told came : Told} (line : Result (List ℕ) AllocError) (r : Result Answer AllocError)
+pub told_answers : (s now : Watched) {told came : Told}
+    (line : Result (List ℕ) AllocError) (r : Result Answer AllocError)
     → told ≡ came → came.refused ≡ false → IfOk line (λ l. l ≡ came.reply) → now ≡ watched_after_all s came.events
     → IfOk r (λ answer. (line ≡ Ok answer.line) × (answer.refused ≡ false)) → Answers s told now r
-told_answers s now {told = told} {came = came} line r same done made session is = subst (λ (t : Told). Answers s t now r) (sym same) (by r is)
+told_answers s now {told = told} {came = came} line r same done made session is =
+    subst (λ (t : Told). Answers s t now r) (sym same) (by r is)
   where
-    by : (r : Result Answer AllocError) → IfOk r (λ answer. (line ≡ Ok answer.line) × (answer.refused ≡ false)) → Answers s came now r
+    by : (r : Result Answer AllocError)
+        → IfOk r (λ answer. (line ≡ Ok answer.line) × (answer.refused ≡ false)) → Answers s came now r
     by (Ok answer) is = (
-      ap (λ (l : List ℕ). let a : Answer = record { line = l; refused = answer.refused } in a) (same_line line came.reply answer.line made is.0)
+      ap (λ (l : List ℕ). let a : Answer = record { line = l; refused = answer.refused } in a)
+          (same_line line came.reply answer.line made is.0)
           ∙ ap (λ (b : Bool). let a : Answer = record { line = came.reply; refused = b } in a) (is.1 ∙ sym done),
       session,
     )
     by (Err e) is = all_made s now came.events session
 
 -- a line that only tells something
-pub read_answers : (s : Watched) {told : Told} {reply : List ℕ} (line : Result (List ℕ) AllocError) (r : Result Answer AllocError)
+pub read_answers : (s : Watched) {told : Told} {reply : List ℕ}
+    (line : Result (List ℕ) AllocError) (r : Result Answer AllocError)
     → told ≡ replied [] reply → IfOk line (λ l. l ≡ reply)
     → IfOk r (λ answer. (line ≡ Ok answer.line) × (answer.refused ≡ false)) → Answers s told s r
 read_answers s {told = told} {reply = reply} line r same made is =
@@ -62,7 +72,8 @@ read_answers s {told = told} {reply = reply} line r same made is =
 -- a line that is refused, and changes nothing
 pub refused_answers : (s now : Watched) (told : Told) (refusal : Refusal) (r : Result Answer AllocError)
     → (refusal ≢ Memory → now ≡ s) → (refusal ≢ Memory → told ≡ refused_after [] refusal) → MadeFront s told.events now
-    → IfOk r (λ answer. (answer ≡ (let a : Answer = record { line = refusal_line refusal; refused = true } in a)) × (refusal ≢ Memory)) → Answers s told now r
+    → IfOk r (λ answer. (answer ≡ (let a : Answer = record { line = refusal_line refusal; refused = true } in a))
+    × (refusal ≢ Memory)) → Answers s told now r
 refused_answers s now told refusal (Ok answer) same is front h = (
   h.0 ∙ sym (ap answer_of (is h.1)),
   nothing_made s now told.events (same h.1) ∙ sym (ap (λ (t : Told). watched_after_all s t.events) (is h.1)),
@@ -74,11 +85,13 @@ pub one_event : (s now : Watched) (event : Event) → now ≡ watched_after s ev
 unfolding watched_after_all
 one_event s now event is = is
 
-unspawned : (s : Watched) (event : Event) (refusal : Refusal) → answered s.machine event ≡ Err refusal → watched_after_all s (event ∷ []) ≡ s
+unspawned : (s : Watched) (event : Event) (refusal : Refusal)
+    → answered s.machine event ≡ Err refusal → watched_after_all s (event ∷ []) ≡ s
 unfolding watched_after_all watched_after
 unspawned s event refusal is = ap (watched_by s event) is
 
-unmoved : (s : Watched) (event : Event) (refusal : Refusal) → answered s.machine event ≡ Err refusal → after_events s.machine (event ∷ []) ≡ s.machine
+unmoved : (s : Watched) (event : Event) (refusal : Refusal)
+    → answered s.machine event ≡ Err refusal → after_events s.machine (event ∷ []) ≡ s.machine
 unfolding after_events after_event
 unmoved s event refusal is = ap (machine_after s.machine) is
 
@@ -87,12 +100,14 @@ no_more [] rest is = refl
 no_more (e ∷ es) rest is = cc
 
 -- an event that is refused leaves all as it was
-nothing_came : (s now : Watched) (event : Event) (refusal : Refusal) → answered s.machine event ≡ Err refusal → MadeFront s (event ∷ []) now → now ≡ s
+nothing_came : (s now : Watched) (event : Event) (refusal : Refusal)
+    → answered s.machine event ≡ Err refusal → MadeFront s (event ∷ []) now → now ≡ s
 nothing_came s now event refusal none (Noted [] rest whole is) = is ∙ sym (nothing_done s)
 nothing_came s now event refusal none (Noted (e ∷ es) rest whole is) =
     let here : e ≡ event = cc in
     let later : es ≡ [] = no_more es rest cc in
-    is ∙ ap (λ (x : Event). watched_after_all s (x ∷ es)) here ∙ ap (λ (xs : List Event). watched_after_all s (event ∷ xs)) later
+    is ∙ ap (λ (x : Event). watched_after_all s (x ∷ es)) here
+    ∙ ap (λ (xs : List Event). watched_after_all s (event ∷ xs)) later
     ∙ unspawned s event refusal none
 nothing_came s now event refusal none (Unnoted [] rest name argument whole is) =
     let here : SpawnEvent name argument ≡ event = cc in
@@ -112,16 +127,19 @@ front_told s now event front = by (answered s.machine event) refl
     by (Err refusal) is = none_made s now [] (nothing_came s now event refusal is front)
 
 pub told_spawn : (s : Watched) (name : List ℕ) (argument : ℕ)
-    → told_of s (Spawn name argument) [] ≡ told_by (SpawnEvent name argument) (answered s.machine (SpawnEvent name argument))
+    → told_of s (Spawn name argument) []
+    ≡ told_by (SpawnEvent name argument) (answered s.machine (SpawnEvent name argument))
 unfolding told_of
 told_spawn s name argument = refl
 
-pub told_spawned : (s : Watched) (now : CallTable) (name : List ℕ) (argument number : ℕ) → answered s.machine (SpawnEvent name argument) ≡ Ok (happened now (Spawned number))
+pub told_spawned : (s : Watched) (now : CallTable) (name : List ℕ) (argument number : ℕ)
+    → answered s.machine (SpawnEvent name argument) ≡ Ok (happened now (Spawned number))
     → told_of s (Spawn name argument) [] ≡ replied (SpawnEvent name argument ∷ []) (shown now number spawned_line)
 unfolding told_of
 told_spawned s now name argument number is = ap (told_by (SpawnEvent name argument)) is
 
-pub told_spawn_refused : (s : Watched) (name : List ℕ) (argument : ℕ) (refusal : Refusal) → answered s.machine (SpawnEvent name argument) ≡ Err refusal
+pub told_spawn_refused : (s : Watched) (name : List ℕ) (argument : ℕ) (refusal : Refusal)
+    → answered s.machine (SpawnEvent name argument) ≡ Err refusal
     → told_of s (Spawn name argument) [] ≡ refused_after [] refusal
 unfolding told_of
 told_spawn_refused s name argument refusal is = ap (told_by (SpawnEvent name argument)) is
@@ -136,7 +154,8 @@ pub told_step_refused : (s : Watched) (thread n : ℕ) → is_some (running_at s
 unfolding told_of
 told_step_refused s thread n runs = rw runs refl
 
-pub told_turns : (s : Watched) (quantum n : ℕ) → told_of s (RoundRobin quantum n) [] ≡ turns_told (round_robin s.machine quantum n)
+pub told_turns : (s : Watched) (quantum n : ℕ)
+    → told_of s (RoundRobin quantum n) [] ≡ turns_told (round_robin s.machine quantum n)
 unfolding told_of
 told_turns s quantum n = refl
 
@@ -144,11 +163,13 @@ pub told_threads : (s : Watched) → told_of s Threads [] ≡ replied [] (thread
 unfolding told_of
 told_threads s = refl
 
-pub told_peek : (s : Watched) (address count : ℕ) → told_of s (Peek address count) [] ≡ replied [] (peek_line (patched s.machine).pieces address count)
+pub told_peek : (s : Watched) (address count : ℕ)
+    → told_of s (Peek address count) [] ≡ replied [] (peek_line (patched s.machine).pieces address count)
 unfolding told_of
 told_peek s address count = refl
 
-pub told_undone : (s : Watched) (now : CallTable) (name : List ℕ) → answered s.machine UndoEvent ≡ Ok (happened now (Undone name))
+pub told_undone : (s : Watched) (now : CallTable) (name : List ℕ)
+    → answered s.machine UndoEvent ≡ Ok (happened now (Undone name))
     → told_of s Undo [] ≡ replied (UndoEvent ∷ []) (undone_line name)
 unfolding told_of
 told_undone s now name is = ap (told_by UndoEvent) is

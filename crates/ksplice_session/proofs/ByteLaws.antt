@@ -1,12 +1,14 @@
 -- When four bytes are the same in two memories.
-use Rattle.std.proofs.Common.{◌≡◌, ℕ, zero, suc, ◌+◌, ◌-◌, ◌≤◌, ◌<◌, ◌&&◌, not, ◌==◌, true, false, cond, List, [], ◌∷◌, length, get_or, is_some, Option, Some, None, refl, sym, ◌∙◌, ap, arith, ◌⊎◌}
+use Rattle.std.proofs.Common.{◌≡◌, ℕ, zero, suc, ◌+◌, ◌-◌, ◌≤◌, ◌<◌, ◌&&◌, not, ◌==◌, true, false, cond, List, []}
+use Rattle.std.proofs.Common.{◌∷◌, length, get_or, is_some, Option, Some, None, refl, sym, ◌∙◌, ap, arith, ◌⊎◌}
 use Rattle.std.specs.Option.{option_map, option_or, unwrap_or}
 use Rattle.std.specs.Int.{w32, from_le_bytes}
 use Rattle.ks_base.specs.declared.refusals.Fault.{Fault}
 use Rattle.image_memory.specs.declared.types.Piece.{Piece}
 use Rattle.image_memory.specs.Ranges.{lies_in}
 use Rattle.image_memory.specs.Contents.{piece_range, holding, byte_in}
-use Rattle.image_memory.specs.Access.{kind_of, unreadable, read_fault, first_fault, byte_at, bytes_at, dword_at, overlaid_piece, new_byte, written}
+use Rattle.image_memory.specs.Access.{kind_of, unreadable, read_fault, first_fault, byte_at}
+use Rattle.image_memory.specs.Access.{bytes_at, dword_at, overlaid_piece, new_byte, written}
 use Rattle.image_memory.proofs.RangeLaws.{inside}
 use Rattle.image_memory.proofs.AccessLaws.{good_at, length-overlaid, get_or-overlaid, new_outside}
 use Rattle.ia32_step.specs.Frames.{holds_dword}
@@ -26,28 +28,35 @@ alike_back p q x alike = record {
   byte = λ good. sym (alike.byte (ap unreadable (sym alike.kind) ∙ good));
 }
 
-faults_same : (p q : List Piece) (a n : ℕ) → AreAlikeFrom p q a n → first_fault (read_fault p) a n ≡ first_fault (read_fault q) a n
+faults_same : (p q : List Piece) (a n : ℕ)
+    → AreAlikeFrom p q a n → first_fault (read_fault p) a n ≡ first_fault (read_fault q) a n
 unfolding first_fault
 faults_same p q a zero alike = refl
 faults_same p q a (suc n) alike =
-    ap (λ (f : Option Fault). option_or f (read_fault p (a + n))) (faults_same p q a n (λ x low high. alike x low (omega arith)))
-    ∙ ap (λ k. option_or (first_fault (read_fault q) a n) (unreadable k)) (alike (a + n) (omega arith) (omega arith)).kind
+    ap (λ (f : Option Fault). option_or f (read_fault p (a + n)))
+    (faults_same p q a n (λ x low high. alike x low (omega arith)))
+    ∙ ap (λ k. option_or (first_fault (read_fault q) a n) (unreadable k))
+    (alike (a + n) (omega arith) (omega arith)).kind
 
-bytes_same : (p q : List Piece) (a n : ℕ) → ((x : ℕ) → a ≤ x → x < a + n → byte_at p x ≡ byte_at q x) → bytes_at p a n ≡ bytes_at q a n
+bytes_same : (p q : List Piece) (a n : ℕ)
+    → ((x : ℕ) → a ≤ x → x < a + n → byte_at p x ≡ byte_at q x) → bytes_at p a n ≡ bytes_at q a n
 unfolding bytes_at
 bytes_same p q a zero same = refl
 bytes_same p q a (suc n) same =
     ap (λ (b : ℕ). b ∷ bytes_at p (a + 1) n) (same a (omega arith) (omega arith))
-    ∙ ap (λ (bs : List ℕ). byte_at q a ∷ bs) (bytes_same p q (a + 1) n (λ x low high. same x (omega arith) (omega arith)))
+    ∙ ap (λ (bs : List ℕ). byte_at q a ∷ bs)
+    (bytes_same p q (a + 1) n (λ x low high. same x (omega arith) (omega arith)))
 
 each_good : (f : ℕ → Option Fault) (a n x : ℕ) → first_fault f a n ≡ None → a ≤ x → x < a + n → f x ≡ None
 each_good f a n x good low high =
     let back : a + (x - a) ≡ x = omega arith in
     ap f (sym back) ∙ good_at f a n (x - a) good (omega arith)
 
-pub dword_same : (p q : List Piece) (a : ℕ) → AreAlikeFrom p q a 4 → first_fault (read_fault q) a 4 ≡ None → dword_at p a ≡ dword_at q a
+pub dword_same : (p q : List Piece) (a : ℕ)
+    → AreAlikeFrom p q a 4 → first_fault (read_fault q) a 4 ≡ None → dword_at p a ≡ dword_at q a
 dword_same p q a alike good =
-    ap (from_le_bytes w32) (bytes_same p q a 4 (λ x low high. (alike x low high).byte (each_good (read_fault q) a 4 x good low high)))
+    ap (from_le_bytes w32)
+    (bytes_same p q a 4 (λ x low high. (alike x low high).byte (each_good (read_fault q) a 4 x good low high)))
 
 pub holds_same : (p q : List Piece) (a value : ℕ) → AreAlikeFrom p q a 4 → holds_dword p a value ≡ holds_dword q a value
 holds_same p q a value alike =
@@ -75,7 +84,8 @@ byte_outside start bytes (p ∷ ps) x out =
     rw (length-overlaid start bytes p.base p.bytes)
     (elim (lies_in x (piece_range p)) as
     (λ b. lies_in x (piece_range p) ≡ b
-    → unwrap_or (option_map (byte_in x) (cond b (Some (overlaid_piece start bytes p)) (holding (written start bytes ps) x))) 0
+    → unwrap_or
+    (option_map (byte_in x) (cond b (Some (overlaid_piece start bytes p)) (holding (written start bytes ps) x))) 0
     ≡ unwrap_or (option_map (byte_in x) (cond b (Some p) (holding ps x))) 0) [
       | true ↦ λ here.
           let bounds = inside x (piece_range p) here in
@@ -89,7 +99,8 @@ byte_outside start bytes (p ∷ ps) x out =
     ] refl)
 
 -- where nothing is written all is as it was
-pub alike_written : (start : ℕ) (bytes : List ℕ) (pieces : List Piece) (x : ℕ) → (x < start) ⊎ (start + length bytes ≤ x)
+pub alike_written : (start : ℕ) (bytes : List ℕ) (pieces : List Piece) (x : ℕ)
+    → (x < start) ⊎ (start + length bytes ≤ x)
     → IsAlikeAt (written start bytes pieces) pieces x
 alike_written start bytes pieces x out = record {
   kind = kinds_written start bytes pieces x;

@@ -1,5 +1,6 @@
 -- Where a piece is put among pieces, and what holds of them then.
-use Rattle.std.proofs.Common.{◌≡◌, ℕ, ◌+◌, ◌-◌, ◌≤◌, ◌<◌, ◌&&◌, ◌||◌, nat_lt, Bool, true, false, if◌then◌else◌, IsTrue, List, [], ◌∷◌, take, drop, get_or, length, replicate, refl, sym, ◌∙◌, ap, subst, arith}
+use Rattle.std.proofs.Common.{◌≡◌, ℕ, ◌+◌, ◌-◌, ◌≤◌, ◌<◌, ◌&&◌, ◌||◌, nat_lt, Bool, true, false, if◌then◌else◌, IsTrue}
+use Rattle.std.proofs.Common.{List, [], ◌∷◌, take, drop, get_or, length, replicate, refl, sym, ◌∙◌, ap, subst, arith}
 use Rattle.std.specs.List.{list_any, All}
 use Rattle.std.proofs.lemmas.Bool.Decides.{nat_tests}
 use Rattle.std.proofs.Math.Seq.{take-length}
@@ -34,7 +35,8 @@ one_stack regions [] d others some is = absurd (omega arith)
 one_stack regions (s ∷ ss) d others some is =
     let n : length (s ∷ ss) - 1 ≡ length ss = omega arith in
     ap (λ (ps : List Piece). with_piece (stack_piece s) ps)
-    (is ∙ ap (λ (k : ℕ). all_pieces regions (take k ss)) n ∙ ap (λ (rest : List Range). all_pieces regions rest) (take-length ss))
+    (is ∙ ap (λ (k : ℕ). all_pieces regions (take k ss)) n
+    ∙ ap (λ (rest : List Range). all_pieces regions rest) (take-length ss))
 
 -- what the later ranges are, without the first
 pub fit_later : (pieces : List Piece) (stacks : List Range) → 1 ≤ length stacks → FitAmong pieces stacks
@@ -49,32 +51,39 @@ fit_later pieces (s ∷ ss) some fit =
     lower floor (r ∷ rs) up = (omega arith, up.1, up.2)
 
     fit_tail : (pieces : List Piece) (s : Range) (ss : List Range) → FitAmong pieces (s ∷ ss) → FitAmong pieces ss
-    fit_tail pieces s ss fit = record { ascend = lower s.high ss fit.ascend.2; each = All-tail (FitsAmong pieces) s ss fit.each }
+    fit_tail pieces s ss fit =
+        record { ascend = lower s.high ss fit.ascend.2; each = All-tail (FitsAmong pieces) s ss fit.each }
 
 -- a stack has its own addresses
 stack_range : (stack : Range) → stack.low ≤ stack.high → piece_range (stack_piece stack) ≡ stack
 stack_range stack low =
-    let high : stack.low + length (replicate (stack.high - stack.low) 0) ≡ stack.high = simp length-replicate (omega arith) in
+    let high : stack.low + length (replicate (stack.high - stack.low) 0) ≡ stack.high =
+    simp length-replicate (omega arith) in
     ap (λ (h : ℕ). let r : Range = record { low = stack.low; high = h } in r) high
 
 -- what an image says of a stack
-is_kept : (arena : Range) (pieces : List Piece) (stack : Range) → IsTrue (keeps_stack arena pieces stack) → FitsAmong pieces stack
-is_kept arena pieces stack h = record { placeable = tall_below arena pieces stack h; alone = alone_kept arena pieces stack h }
+is_kept : (arena : Range) (pieces : List Piece) (stack : Range)
+    → IsTrue (keeps_stack arena pieces stack) → FitsAmong pieces stack
+is_kept arena pieces stack h =
+    record { placeable = tall_below arena pieces stack h; alone = alone_kept arena pieces stack h }
   where
     tall_below : (arena : Range) (pieces : List Piece) (stack : Range) → IsTrue (keeps_stack arena pieces stack)
         → (stack.low < stack.high) × (stack.high ≤ 0xFFFF_0000)
     tall_below arena pieces stack h = grind (arith, nat_tests)
 
-    alone_kept : (arena : Range) (pieces : List Piece) (stack : Range) → IsTrue (keeps_stack arena pieces stack) → meets_a_piece pieces stack ≡ false
+    alone_kept : (arena : Range) (pieces : List Piece) (stack : Range)
+        → IsTrue (keeps_stack arena pieces stack) → meets_a_piece pieces stack ≡ false
     alone_kept arena pieces stack h = grind (arith, nat_tests)
 
 -- stacks that ascend lie above what lies below the first
-stacks_above : (least floor : ℕ) (stacks : List Range) → least ≤ floor → Ascends own_range floor stacks → All (λ stack. (least ≤ stack.low) × (stack.low ≤ stack.high)) stacks
+stacks_above : (least floor : ℕ) (stacks : List Range) → least ≤ floor
+    → Ascends own_range floor stacks → All (λ stack. (least ≤ stack.low) × (stack.low ≤ stack.high)) stacks
 stacks_above least floor [] le up = All-nil (λ (stack : Range). (least ≤ stack.low) × (stack.low ≤ stack.high))
 stacks_above least floor (s ∷ ss) le up =
     let low = up.0 in
     let full = up.1 in
-    All-cons (λ (stack : Range). (least ≤ stack.low) × (stack.low ≤ stack.high)) s ss (omega arith, omega arith) (stacks_above least s.high ss (omega arith) up.2)
+    All-cons (λ (stack : Range). (least ≤ stack.low) × (stack.low ≤ stack.high)) s ss
+    (omega arith, omega arith) (stacks_above least s.high ss (omega arith) up.2)
 
 swapped : (a b c : Bool) → (a || (b || c)) ≡ (b || (a || c))
 swapped true true c = refl
@@ -83,13 +92,16 @@ swapped false true c = refl
 swapped false false c = refl
 
 -- of a piece put among pieces and of those one passes a test, or none
-any_with : (p : Piece → Bool) (piece : Piece) (pieces : List Piece) → list_any p (with_piece piece pieces) ≡ (p piece || list_any p pieces)
+any_with : (p : Piece → Bool) (piece : Piece) (pieces : List Piece)
+    → list_any p (with_piece piece pieces) ≡ (p piece || list_any p pieces)
 any_with p piece [] = refl
 any_with p piece (other ∷ others) =
     elim (nat_lt piece.base other.base)
-    as (λ b. list_any p (if b then piece ∷ other ∷ others else other ∷ with_piece piece others) ≡ (p piece || (p other || list_any p others))) [
+    as (λ b. list_any p (if b then piece ∷ other ∷ others else other ∷ with_piece piece others)
+    ≡ (p piece || (p other || list_any p others))) [
       | true ↦ refl
-      | false ↦ ap (λ (b : Bool). p other || b) (any_with p piece others) ∙ swapped (p other) (p piece) (list_any p others)
+      | false ↦ ap (λ (b : Bool). p other || b) (any_with p piece others)
+          ∙ swapped (p other) (p piece) (list_any p others)
     ]
 
 meets_not : (a b : Range) → a.high ≤ b.low → meets a b ≡ false
@@ -113,18 +125,22 @@ alone_among range regions (s ∷ ss) alone apart =
 
 -- what meets no region and lies below stacks meets none of all
 all_alone : (range : Range) (regions : List Piece) (stacks : List Range) → MeetsNone piece_range range regions
-    → All (λ stack. (range.high ≤ stack.low) × (stack.low ≤ stack.high)) stacks → MeetsNone piece_range range (all_pieces regions stacks)
+    → All (λ stack. (range.high ≤ stack.low) × (stack.low ≤ stack.high)) stacks
+    → MeetsNone piece_range range (all_pieces regions stacks)
 all_alone range regions stacks alone above =
     let P : Range → Type 0 = λ stack. (range.high ≤ stack.low) × (stack.low ≤ stack.high) in
-    alone_among range regions stacks alone (All-weaker P (PassesBy range) (λ stack h. (meets_not range stack h.0, h.1)) stacks above)
+    alone_among range regions stacks alone
+    (All-weaker P (PassesBy range) (λ stack h. (meets_not range stack h.0, h.1)) stacks above)
 
 -- the law of pieces
 abbrev pub StayPlaced : Type 0
-StayPlaced = (piece : Piece) (pieces : List Piece) → ArePlaced pieces → IsPlaceable (piece_range piece) → MeetsNone piece_range (piece_range piece) pieces
+StayPlaced = (piece : Piece) (pieces : List Piece)
+    → ArePlaced pieces → IsPlaceable (piece_range piece) → MeetsNone piece_range (piece_range piece) pieces
     → ArePlaced (with_piece piece pieces)
 
 -- regions and stacks that fit among them ascend and don't meet
-placed_from : StayPlaced → (floor : ℕ) (regions : List Piece) (stacks : List Range) → ArePlaced regions → Ascends own_range floor stacks
+placed_from : StayPlaced
+    → (floor : ℕ) (regions : List Piece) (stacks : List Range) → ArePlaced regions → Ascends own_range floor stacks
     → All (FitsAmong regions) stacks → ArePlaced (all_pieces regions stacks)
 unfolding all_pieces
 placed_from law floor regions [] placed up fit = placed
@@ -135,9 +151,11 @@ placed_from law floor regions (s ∷ ss) placed up fit =
     let own = stack_range s (omega arith) in
     law (stack_piece s) (all_pieces regions ss) rest
     (subst IsPlaceable (sym own) k.placeable)
-    (subst (λ (r : Range). MeetsNone piece_range r (all_pieces regions ss)) (sym own) (all_alone s regions ss k.alone (stacks_above s.high s.high ss (omega arith) up.2)))
+    (subst (λ (r : Range). MeetsNone piece_range r (all_pieces regions ss))
+    (sym own) (all_alone s regions ss k.alone (stacks_above s.high s.high ss (omega arith) up.2)))
 
-pub placed_with_stacks : StayPlaced → (regions : List Piece) (stacks : List Range) → ArePlaced regions → FitAmong regions stacks → ArePlaced (all_pieces regions stacks)
+pub placed_with_stacks : StayPlaced → (regions : List Piece) (stacks : List Range)
+    → ArePlaced regions → FitAmong regions stacks → ArePlaced (all_pieces regions stacks)
 placed_with_stacks law regions stacks placed fit = placed_from law 0 regions stacks placed fit.ascend fit.each
 
 or_true : (a : Bool) → (a || true) ≡ true
@@ -154,7 +172,8 @@ own_stack : (stack : Range) → stack.low ≤ stack.high → is_this stack (stac
 own_stack stack low = ap (λ (range : Range). are_same range stack) (stack_range stack low) ∙ same_range stack
 
 -- each stack is among the pieces
-stacks_there : (regions : List Piece) (stacks : List Range) → All (FitsAmong regions) stacks → AreStacks (all_pieces regions stacks) stacks
+stacks_there : (regions : List Piece) (stacks : List Range)
+    → All (FitsAmong regions) stacks → AreStacks (all_pieces regions stacks) stacks
 unfolding all_pieces
 stacks_there regions [] kept = All-nil (λ (range : Range). IsTrue (is_stack (all_pieces regions []) range))
 stacks_there regions (s ∷ ss) kept =
@@ -162,9 +181,12 @@ stacks_there regions (s ∷ ss) kept =
     let tall = k.placeable.0 in
     let pieces = all_pieces regions ss in
     All-cons (λ (range : Range). IsTrue (is_stack (with_piece (stack_piece s) pieces) range)) s ss
-    (any_with (is_this s) (stack_piece s) pieces ∙ ap (λ (b : Bool). b || list_any (is_this s) pieces) (own_stack s (omega arith)))
-    (All-weaker (λ (range : Range). IsTrue (is_stack pieces range)) (λ (range : Range). IsTrue (is_stack (with_piece (stack_piece s) pieces) range))
-    (λ range there. any_with (is_this range) (stack_piece s) pieces ∙ ap (λ (b : Bool). is_this range (stack_piece s) || b) there ∙ or_true (is_this range (stack_piece s)))
+    (any_with (is_this s) (stack_piece s) pieces
+    ∙ ap (λ (b : Bool). b || list_any (is_this s) pieces) (own_stack s (omega arith)))
+    (All-weaker (λ (range : Range). IsTrue (is_stack pieces range))
+    (λ (range : Range). IsTrue (is_stack (with_piece (stack_piece s) pieces) range))
+    (λ range there. any_with (is_this range) (stack_piece s) pieces
+    ∙ ap (λ (b : Bool). is_this range (stack_piece s) || b) there ∙ or_true (is_this range (stack_piece s)))
     ss (stacks_there regions ss (All-tail (FitsAmong regions) s ss kept)))
 
 -- the stacks of an image fit among its regions
@@ -172,7 +194,8 @@ pub image_fits : (image : Image) → Keeps image → FitAmong image.pieces image
 image_fits image keeps =
     record {
       ascend = keeps.stacks_ascend;
-      each = All-weaker (λ (stack : Range). IsTrue (keeps_stack image.arena image.pieces stack)) (FitsAmong image.pieces) (is_kept image.arena image.pieces) image.stacks keeps.stacks_kept;
+      each = All-weaker (λ (stack : Range). IsTrue (keeps_stack image.arena image.pieces stack))
+          (FitsAmong image.pieces) (is_kept image.arena image.pieces) image.stacks keeps.stacks_kept;
     }
 
 -- each of them is one of all pieces
@@ -183,14 +206,17 @@ image_stacks image keeps = stacks_there image.pieces image.stacks (image_fits im
 arena_low : (arena : Range) → IsTrue (keeps_arena arena) → arena.low < arena.high → arena.high ≤ 0xFFFF_0000
 arena_low arena kept some = grind (arith, nat_tests)
 
-region_passed : (arena : Range) (piece : Piece) → IsTrue (keeps_region arena piece) → meets arena (piece_range piece) ≡ false
+region_passed : (arena : Range) (piece : Piece)
+    → IsTrue (keeps_region arena piece) → meets arena (piece_range piece) ≡ false
 region_passed arena piece kept = grind (arith, nat_tests)
 
-stack_passed : (arena : Range) (pieces : List Piece) (stack : Range) → IsTrue (keeps_stack arena pieces stack) → PassesBy arena stack
+stack_passed : (arena : Range) (pieces : List Piece) (stack : Range)
+    → IsTrue (keeps_stack arena pieces stack) → PassesBy arena stack
 stack_passed arena pieces stack kept = (grind (arith, nat_tests), grind (arith, nat_tests))
 
 -- regions of which a range meets none
-none_met : (range : Range) (pieces : List Piece) → All (λ piece. meets range (piece_range piece) ≡ false) pieces → MeetsNone piece_range range pieces
+none_met : (range : Range) (pieces : List Piece)
+    → All (λ piece. meets range (piece_range piece) ≡ false) pieces → MeetsNone piece_range range pieces
 none_met range [] apart = refl
 none_met range (piece ∷ pieces) apart =
     let P : Piece → Type 0 = λ piece. meets range (piece_range piece) ≡ false in
@@ -202,22 +228,27 @@ arena_alone : (image : Image) → Keeps image → MeetsNone piece_range image.ar
 arena_alone image keeps =
     alone_among image.arena image.pieces image.stacks
     (none_met image.arena image.pieces
-    (All-weaker (λ (piece : Piece). IsTrue (keeps_region image.arena piece)) (λ (piece : Piece). meets image.arena (piece_range piece) ≡ false)
+    (All-weaker (λ (piece : Piece). IsTrue (keeps_region image.arena piece))
+    (λ (piece : Piece). meets image.arena (piece_range piece) ≡ false)
     (region_passed image.arena) image.pieces keeps.regions_kept))
     (All-weaker (λ (stack : Range). IsTrue (keeps_stack image.arena image.pieces stack)) (PassesBy image.arena)
     (stack_passed image.arena image.pieces) image.stacks keeps.stacks_kept)
 
 -- the arena of an image is free beside its regions and stacks
-pub arena_gaps : (image : Image) (contents : Contents) → Keeps image → contents.pieces ≡ all_pieces image.pieces image.stacks → AreGaps contents (gaps_in image.arena)
+pub arena_gaps : (image : Image) (contents : Contents)
+    → Keeps image → contents.pieces ≡ all_pieces image.pieces image.stacks → AreGaps contents (gaps_in image.arena)
 arena_gaps image contents keeps pieces = by (nat_lt image.arena.low image.arena.high) refl
   where
-    by : (b : Bool) → nat_lt image.arena.low image.arena.high ≡ b → AreGaps contents (if b then image.arena ∷ [] else [])
+    by : (b : Bool)
+        → nat_lt image.arena.low image.arena.high ≡ b → AreGaps contents (if b then image.arena ∷ [] else [])
     by false none = record { ascend = tt; low = All-nil _; free = All-nil _ }
     by true some =
         let less : image.arena.low < image.arena.high = grind (arith, nat_tests) in
         record {
           ascend = (omega arith, less, tt);
-          low = All-cons (λ (gap : Range). gap.high ≤ 0xFFFF_0000) image.arena [] (arena_low image.arena keeps.arena_kept less) (All-nil _);
+          low = All-cons (λ (gap : Range). gap.high ≤ 0xFFFF_0000) image.arena []
+              (arena_low image.arena keeps.arena_kept less) (All-nil _);
           free = All-cons (λ (gap : Range). MeetsNone piece_range gap contents.pieces) image.arena []
-              (subst (λ (ps : List Piece). MeetsNone piece_range image.arena ps) (sym pieces) (arena_alone image keeps)) (All-nil _);
+              (subst (λ (ps : List Piece). MeetsNone piece_range image.arena ps)
+              (sym pieces) (arena_alone image keeps)) (All-nil _);
         }

@@ -1,5 +1,6 @@
 -- A step as a watch sees it.
-use Rattle.std.proofs.Common.{◌≡◌, ℕ, ◌+◌, ◌^◌, ◌≤◌, ◌<◌, true, false, IsTrue, IsSomeAnd, List, length, set, Option, Some, None, Ok, Err, refl, sym, ◌∙◌, ap, subst, arith, ◌⊎◌}
+use Rattle.std.proofs.Common.{◌≡◌, ℕ, ◌+◌, ◌^◌, ◌≤◌, ◌<◌, true, false, IsTrue, IsSomeAnd, List, length}
+use Rattle.std.proofs.Common.{set, Option, Some, None, Ok, Err, refl, sym, ◌∙◌, ap, subst, arith, ◌⊎◌}
 use Rattle.std.specs.List.{All, slice_get}
 use Rattle.std.proofs.lemmas.Bool.Decides.{nat_tests}
 use Rattle.std.proofs.lemmas.List.Elements.{All-weaker}
@@ -43,16 +44,19 @@ use Rattle.ksplice_session.proofs.SightLaws.{step_alike}
 use Rattle.ksplice_session.proofs.SeenLaws.{JumpLaws, jumps_alike, built_sound}
 use Rattle.ksplice_session.proofs.StackLaws.{frames_hold}
 use Rattle.ksplice_session.proofs.TestedLaws.{step_left}
-use Rattle.ksplice_session.proofs.WatchLaws.{RunsIn, runs_in, slots_in, left_in_step, its_thread, running_got, numbered_at, without_runs, frames_run}
+use Rattle.ksplice_session.proofs.WatchLaws.{RunsIn, runs_in, slots_in, left_in_step, its_thread}
+use Rattle.ksplice_session.proofs.WatchLaws.{running_got, numbered_at, without_runs, frames_run}
 use Rattle.ksplice_session.proofs.EventAnswers.{running_is, runs_at, IsThread, left_thread, step_gives}
 use Rattle.ksplice_session.proofs.Lookups.{set_here}
 
 -- what other crates say of steps
 pub record StepLaws : Type 0 where
   pub stand : (k : CallTable) (thread : Thread) → CanJump k → StepsStand k thread
-  pub calls : (contents : Contents) (thread : Thread) → length thread.registers ≡ 8 → (stepped contents thread).outcome ≡ Moved Call
+  pub calls : (contents : Contents) (thread : Thread)
+      → length thread.registers ≡ 8 → (stepped contents thread).outcome ≡ Moved Call
       → IsSomeAnd (instruction_at contents thread.pc) (λ call. IsCalled thread call (stepped contents thread))
-  pub falls : (thread : Thread) (call : Decoded) (after : Left) → IsCalled thread call after → ArePlaced after.contents.pieces
+  pub falls : (thread : Thread) (call : Decoded) (after : Left)
+      → IsCalled thread call after → ArePlaced after.contents.pieces
       → esp_of thread < 2 ^ 32 → esp_of after.thread + 4 ≡ esp_of thread
   pub valid : (contents : Contents) (rows : List (ℕ × ℕ)) → IsValid contents → IsValid (jumped_memory rows contents)
 
@@ -62,7 +66,8 @@ spelled_length Byte n = refl
 spelled_length Word n = refl
 spelled_length Dword n = refl
 
-outside : (a n slot x : ℕ) → meets (let r : Range = record { low = a; high = a + n } in r) (let r : Range = record { low = slot; high = slot + 4 } in r) ≡ false
+outside : (a n slot x : ℕ) → meets (let r : Range = record { low = a; high = a + n } in r)
+    (let r : Range = record { low = slot; high = slot + 4 } in r) ≡ false
     → slot ≤ x → x < slot + 4 → (x < a) ⊎ (a + n ≤ x)
 outside a n slot x apart low high = grind (arith, nat_tests)
 
@@ -76,15 +81,18 @@ untouched contents (Some s) slot value apart =
     (outside s.address (byte_count s.width) slot x apart low high)))
 
 -- what is known of a step that is noted, and what comes of it
-pub record IsMade (memory : Contents) (k now : CallTable) (w : Watching) (before after : Thread) (outcome : Outcome) (store : Option Store) : Type 0 where
+pub record IsMade (memory : Contents) (k now : CallTable)
+    (w : Watching) (before after : Thread) (outcome : Outcome) (store : Option Store) : Type 0 where
   pub step : IsStep memory.pieces before after outcome w.threads
   pub held : HoldBut memory.pieces w.threads store
   pub same : step_noted (sight_of memory) before after outcome w ≡ step_noted (sight_in now) before after outcome w
   pub kept : IsInStep now (step_noted (sight_in now) before after outcome w)
 
-module _ (jumps : JumpLaws) (laws : StepLaws) (k : CallTable) (w : Watching) (n : ℕ) (before : Thread) (built : IsBuilt k)
+module _
+    (jumps : JumpLaws) (laws : StepLaws) (k : CallTable) (w : Watching) (n : ℕ) (before : Thread) (built : IsBuilt k)
     (in_step : IsInStep k w) (numbered : AreNumbered 0 k.threads) (got : slice_get k.threads n ≡ Some before)
-    (was : running_at k.threads n ≡ Some before) (registers : length before.registers ≡ 8) (esp : esp_of before < 2 ^ 32) where
+    (was : running_at k.threads n ≡ Some before)
+    (registers : length before.registers ≡ 8) (esp : esp_of before < 2 ^ 32) where
   abbrev left : Left
   left = step_in k before
 
@@ -110,7 +118,8 @@ module _ (jumps : JumpLaws) (laws : StepLaws) (k : CallTable) (w : Watching) (n 
           → HasPushed (patched now).pieces before left.thread
       by None is = absurd is
       by (Some call) is =
-          let called : IsCalled before call (jumped_left (bodies_in k.table) left) = subst (IsCalled before call) stands is in
+          let called : IsCalled before call (jumped_left (bodies_in k.table) left) =
+          subst (IsCalled before call) stands is in
           record {
             esp = laws.falls before call (jumped_left (bodies_in k.table) left) called
                 (laws.valid (contents_of now) (bodies_in k.table) (built_sound now built_now).jumps.valid).placed esp;
@@ -120,14 +129,17 @@ module _ (jumps : JumpLaws) (laws : StepLaws) (k : CallTable) (w : Watching) (n 
   is_step : IsBuilt now → IsStep (patched now).pieces before left.thread left.outcome w.threads
   is_step built_now = record {
     number = kept.number;
-    stepped = All-weaker (RunsIn k.threads) (λ watched. watched.thread ≡ before.number → IsStepOf (patched now).pieces before left.thread left.outcome watched)
+    stepped = All-weaker (RunsIn k.threads) (λ watched. watched.thread ≡ before.number
+        → IsStepOf (patched now).pieces before left.thread left.outcome watched)
         each w.threads (runs_in k w in_step);
   }
     where
-      each : (watched : WatchedThread) → RunsIn k.threads watched → watched.thread ≡ before.number → IsStepOf (patched now).pieces before left.thread left.outcome watched
+      each : (watched : WatchedThread) → RunsIn k.threads watched
+          → watched.thread ≡ before.number → IsStepOf (patched now).pieces before left.thread left.outcome watched
       each watched is of =
           let r = its_thread k.threads watched is in
-          let same : before ≡ r.thread = running_got k.threads n before r.thread got (ap (running_at k.threads) (sym (of ∙ own)) ∙ r.found) in
+          let same : before ≡ r.thread =
+          running_got k.threads n before r.thread got (ap (running_at k.threads) (sym (of ∙ own)) ∙ r.found) in
           record {
             stack = r.same.stack ∙ ap (λ (t : Thread). t.stack) (sym same);
             esp = r.same.esp ∙ ap esp_of (sym same);
@@ -138,12 +150,17 @@ module _ (jumps : JumpLaws) (laws : StepLaws) (k : CallTable) (w : Watching) (n 
       → HoldBut (patched now).pieces w.threads store
   is_held built_now store wrote =
       All-weaker (λ watched. IsTrue (keeps_slots k.pieces watched)) (λ watched. All (λ (frame : Frame).
-      touches store frame.slot ≡ false → holds_dword (patched now).pieces frame.slot frame.address ≡ true) watched.frames)
-      (λ watched keeps. All-weaker (λ (frame : Frame). (is_slot watched.stack watched.esp frame.slot ≡ true) × (holds_dword k.pieces frame.slot frame.address ≡ true))
-      (λ (frame : Frame). touches store frame.slot ≡ false → holds_dword (patched now).pieces frame.slot frame.address ≡ true)
-      (each watched.stack watched.esp) watched.frames (frames_hold k.pieces watched keeps)) w.threads (slots_in k w in_step)
+      touches store frame.slot ≡ false → holds_dword (patched now).pieces frame.slot frame.address ≡ true)
+      watched.frames)
+      (λ watched keeps. All-weaker (λ (frame : Frame). (is_slot watched.stack watched.esp frame.slot ≡ true)
+      × (holds_dword k.pieces frame.slot frame.address ≡ true))
+      (λ (frame : Frame). touches store frame.slot ≡ false
+      → holds_dword (patched now).pieces frame.slot frame.address ≡ true)
+      (each watched.stack watched.esp) watched.frames (frames_hold k.pieces watched keeps)) w.threads
+      (slots_in k w in_step)
     where
-      each : (s : Range) (e : ℕ) (frame : Frame) → (is_slot s e frame.slot ≡ true) × (holds_dword k.pieces frame.slot frame.address ≡ true)
+      each : (s : Range) (e : ℕ) (frame : Frame)
+          → (is_slot s e frame.slot ≡ true) × (holds_dword k.pieces frame.slot frame.address ≡ true)
           → touches store frame.slot ≡ false → holds_dword (patched now).pieces frame.slot frame.address ≡ true
       each s e frame is apart =
           (jumps_alike jumps now built_now).holds frame.slot frame.address
@@ -155,9 +172,11 @@ module _ (jumps : JumpLaws) (laws : StepLaws) (k : CallTable) (w : Watching) (n 
       left_in_step now (step_noted (sight_in now) before left.thread left.outcome w)
       (step_left (RunsIn (set k.threads n left.thread)) (sight_in now) w in_step.stopped before left.thread left.outcome
       (λ frames moves. frames_run k.threads n before left.thread frames w.threads (runs_in k w in_step) was
-      (runs_at (set k.threads n left.thread) n left.thread (set_here k.threads n left.thread before got) (kept.state ∙ moves))
+      (runs_at (set k.threads n left.thread) n left.thread
+      (set_here k.threads n left.thread before got) (kept.state ∙ moves))
       (kept.number ∙ own) kept.stack)
-      (subst (λ (m : ℕ). All (RunsIn (set k.threads n left.thread)) (without_thread w.threads m)) (sym (kept.number ∙ own))
+      (subst (λ (m : ℕ). All (RunsIn (set k.threads n left.thread)) (without_thread w.threads m))
+      (sym (kept.number ∙ own))
       (without_runs k.threads n left.thread w.threads (runs_in k w in_step))))
 
   is_made : IsBuilt now → (store : Option Store) → now.pieces ≡ (after_store (contents_of k) store).pieces
@@ -165,7 +184,8 @@ module _ (jumps : JumpLaws) (laws : StepLaws) (k : CallTable) (w : Watching) (n 
   is_made built_now store wrote = record {
     step = is_step built_now;
     held = is_held built_now store wrote;
-    same = step_alike (sight_of (patched now)) (sight_in now) (jumps_alike jumps now built_now) before left.thread left.outcome w
+    same = step_alike
+        (sight_of (patched now)) (sight_in now) (jumps_alike jumps now built_now) before left.thread left.outcome w
         (λ is. (pushed built_now is).readable);
     kept = is_kept;
   }
@@ -189,44 +209,53 @@ step_of k now n before outcome got is =
       came = came ∙ ap (λ (x : Thread). (step_in k x).outcome) (sym same);
     }
 
-after_got : (k now : CallTable) (n : ℕ) (before : Thread) (outcome : Outcome) → slice_get k.threads n ≡ Some before → IsOf k now n before outcome
+after_got : (k now : CallTable) (n : ℕ) (before : Thread) (outcome : Outcome)
+    → slice_get k.threads n ≡ Some before → IsOf k now n before outcome
     → slice_get now.threads n ≡ Some (step_in k before).thread
 after_got k now n before outcome got of =
     ap (λ (m : CallTable). slice_get m.threads n) of.left
     ∙ set_here k.threads n (step_in k before).thread before got
 
 -- Where more than five bytes were fetched there is a window at each of them after the step, in memory with its jumps.
-pub fetched_windows : JumpLaws → StepsKeepWindows → FetchedHaveWindows → (k now : CallTable) (n : ℕ) (before : Thread) (outcome : Outcome) (count : ℕ)
-    → IsBuilt k → IsBuilt now → slice_get k.threads n ≡ Some before → answered k (Step n) ≡ Ok (happened now (Stepped outcome))
-    → (5 < count → IsSomeAnd (running_at k.threads n) (λ running. count ≡ fetched_count (contents_of k) running))
+pub fetched_windows : JumpLaws → StepsKeepWindows
+    → FetchedHaveWindows → (k now : CallTable) (n : ℕ) (before : Thread) (outcome : Outcome) (count : ℕ)
+    → IsBuilt k
+    → IsBuilt now → slice_get k.threads n ≡ Some before → answered k (Step n) ≡ Ok (happened now (Stepped outcome))
+    → IsSomeAnd (running_at k.threads n) (λ running. count ≡ fetched_count (contents_of k) running)
     → 5 < count → HaveWindows (patched now) before.pc count
 fetched_windows jumps stay fetched k now n before outcome count built built_now got is told many address from to =
     let of = step_of k now n before outcome got is in
     let same : count ≡ fetched_count (contents_of k) before =
-    subst (λ (o : Option Thread). IsSomeAnd o (λ running. count ≡ fetched_count (contents_of k) running)) of.was (told many) in
+    subst (λ (o : Option Thread). IsSomeAnd o (λ running. count ≡ fetched_count (contents_of k) running)) of.was told in
     (jumps_alike jumps now built_now).windows address ∙ stay k n (happened now (Stepped outcome)) is address
     ∙ fetched k before address built (subst (λ (m : ℕ). 5 < m) same many) from
     (subst (λ (m : ℕ). address < before.pc + m) same to)
 
-pub step_made : JumpLaws → StepLaws → (k now : CallTable) (w : Watching) (n : ℕ) (before after : Thread) (outcome : Outcome) (store : Option Store)
-    (memory : Contents) → IsBuilt k → IsBuilt now → IsInStep k w → AreNumbered 0 k.threads → slice_get k.threads n ≡ Some before
+pub step_made : JumpLaws → StepLaws
+    → (k now : CallTable) (w : Watching) (n : ℕ) (before after : Thread) (outcome : Outcome) (store : Option Store)
+    (memory : Contents)
+    → IsBuilt k → IsBuilt now → IsInStep k w → AreNumbered 0 k.threads → slice_get k.threads n ≡ Some before
     → answered k (Step n) ≡ Ok (happened now (Stepped outcome)) → slice_get now.threads n ≡ Some after
     → length before.registers ≡ 8 → esp_of before < 2 ^ 32 → now.pieces ≡ (after_store (contents_of k) store).pieces
     → memory ≡ patched now → IsMade memory k now w before after outcome store
-step_made jumps laws k now w n before after outcome store memory built built_now in_step numbered got is got_after registers esp wrote there =
+step_made jumps laws k now
+    w n before after outcome store memory built built_now in_step numbered got is got_after registers esp wrote there =
     let of = step_of k now n before outcome got is in
     let left = step_in k before in
     let next = after_step k n left in
-    let same : left.thread ≡ after = same_Some left.thread after (sym (after_got k now n before outcome got of) ∙ got_after) in
+    let same : left.thread ≡ after =
+    same_Some left.thread after (sym (after_got k now n before outcome got of) ∙ got_after) in
     subst (λ (m : Contents). IsMade m k now w before after outcome store) (sym there)
     (subst (λ (m : CallTable). IsMade (patched m) k m w before after outcome store) (sym of.left)
     (subst (λ (o : Outcome). IsMade (patched next) k next w before after o store) (sym of.came)
     (subst (λ (t : Thread). IsMade (patched next) k next w before t left.outcome store) same
-    (is_made jumps laws k w n before built in_step numbered got of.was registers esp (subst IsBuilt of.left built_now) store
+    (is_made jumps laws k w n before built in_step numbered got of.was registers esp
+    (subst IsBuilt of.left built_now) store
     (ap (λ (m : CallTable). m.pieces) (sym of.left) ∙ wrote)))))
 
 -- a step that was made has its thread after it
-pub after_there : (k now : CallTable) (n : ℕ) (before : Thread) (outcome : Outcome) → slice_get k.threads n ≡ Some before
+pub after_there : (k now : CallTable) (n : ℕ) (before : Thread) (outcome : Outcome)
+    → slice_get k.threads n ≡ Some before
     → answered k (Step n) ≡ Ok (happened now (Stepped outcome)) → slice_get now.threads n ≡ None → ⊥
 after_there k now n before outcome got is none =
     let there = after_got k now n before outcome got (step_of k now n before outcome got is) in cc
@@ -238,15 +267,19 @@ pub step_watched : (s : Watched) (now : CallTable) (v : Watching) (n : ℕ) (bef
     → watched now v ≡ watched_after s (Step n)
 unfolding watched_after
 step_watched s now v n before after outcome is got got_after noted =
-    ap (watched now) (noted ∙ sym (ap (λ (o : Option Thread). step_seen (sight_in now) o (Some after) outcome s.watch) got)
-    ∙ sym (ap (λ (o : Option Thread). step_seen (sight_in now) (slice_get s.machine.threads n) o outcome s.watch) got_after))
+    ap (watched now)
+    (noted ∙ sym (ap (λ (o : Option Thread). step_seen (sight_in now) o (Some after) outcome s.watch) got)
+    ∙ sym (ap
+    (λ (o : Option Thread). step_seen (sight_in now) (slice_get s.machine.threads n) o outcome s.watch) got_after))
     ∙ sym (ap (watched_by s (Step n)) is)
 
 -- where it is refused
-pub step_refused : (s : Watched) (n : ℕ) (refusal : Refusal) → answered s.machine (Step n) ≡ Err refusal → s ≡ watched_after s (Step n)
+pub step_refused : (s : Watched) (n : ℕ) (refusal : Refusal)
+    → answered s.machine (Step n) ≡ Err refusal → s ≡ watched_after s (Step n)
 unfolding watched_after
 step_refused s n refusal is = sym (ap (watched_by s (Step n)) is)
 
 pub step_missing : (s : Watched) (n : ℕ) → slice_get s.machine.threads n ≡ None → s ≡ watched_after s (Step n)
 unfolding watched_after answered moved
-step_missing s n none = sym (ap (λ (o : Option Thread). watched_by s (Step n) (step_answered (moved_by s.machine n (if_running o)))) none)
+step_missing s n none =
+    sym (ap (λ (o : Option Thread). watched_by s (Step n) (step_answered (moved_by s.machine n (if_running o)))) none)

@@ -22,7 +22,8 @@ use Rattle.ksplice_session.specs.Watching.{Watched, sight_in, start_seen, step_s
 use Rattle.ksplice_session.specs.Safety.{frames_of, outcome_in, outcome_by, step_outcome}
 use Rattle.ksplice_session.proofs.Lookups.{set_here, read_last, found_at}
 use Rattle.ksplice_session.proofs.RuleLaws.{start_was_unbroken, step_was_unbroken}
-use Rattle.ksplice_session.proofs.EventAnswers.{running_is, left_thread, step_gives, step_refused, spawn_gives, apply_gives, undo_gives}
+use Rattle.ksplice_session.proofs.EventAnswers.{running_is, left_thread, step_gives, step_refused}
+use Rattle.ksplice_session.proofs.EventAnswers.{spawn_gives, apply_gives, undo_gives}
 use Rattle.ksplice_session.proofs.MomentLaws.{Premises, IsMoment, keep_slots}
 use Rattle.ksplice_session.proofs.EventLaws.{Next, refused_next, update_next, start_next}
 use Rattle.ksplice_session.proofs.ThreadSteps.{IsStep, step_next}

@@ -44,7 +44,8 @@ between : (before made left events rest whole : List Event) → made ++ left ≡
     → (before ++ made) ++ (left ++ rest) ≡ whole
 between before made left events rest whole front is =
     append_assoc before made (left ++ rest)
-    ∙ ap (λ (l : List Event). before ++ l) (sym (append_assoc made left rest) ∙ ap (λ (l : List Event). l ++ rest) front)
+    ∙ ap (λ (l : List Event). before ++ l)
+    (sym (append_assoc made left rest) ∙ ap (λ (l : List Event). l ++ rest) front)
     ∙ is
 
 -- a front of some events that were made behind others
@@ -61,7 +62,8 @@ front_made s mid now before events rest whole of there (Unnoted made left name a
       watch = ap (λ (x : Watched). x.watch) is
           ∙ ap (λ (x : Watched). (watched_after_all x made).watch) there
           ∙ ap (λ (x : Watched). x.watch) (sym (watched_after_both s before made));
-      machine = inr (record { name = name; argument = argument; behind = left ++ rest; next = refl; machine = started });
+      machine =
+          inr (record { name = name; argument = argument; behind = left ++ rest; next = refl; machine = started });
     }
   where
     more : List Event
@@ -91,7 +93,8 @@ played_events k ran = fold_events (nothing_played k) ran
 
 -- the events of lines, and of those behind them
 along-append : (k : Watched) (ran later : List Ran)
-    → events_along k (ran ++ later) ≡ events_along k ran ++ events_along (watched_after_all k (events_along k ran)) later
+    → events_along k (ran ++ later)
+    ≡ events_along k ran ++ events_along (watched_after_all k (events_along k ran)) later
 unfolding events_along watched_after_all
 along-append k [] later = refl
 along-append k (r ∷ ran) later =
@@ -105,7 +108,8 @@ along-append k (r ∷ ran) later =
 -- the events of lines are those before one of them, those of that line, and those behind it
 along-at : (k : Watched) {ran : List Ran} (at : At ran)
     → events_along k at.before ++ ((told_at k at).events
-    ++ events_along (watched_after_all (played k at.before).session (told_at k at).events) at.behind) ≡ events_along k ran
+    ++ events_along (watched_after_all (played k at.before).session (told_at k at).events) at.behind)
+    ≡ events_along k ran
 unfolding events_along
 along-at k at =
     ap (λ (x : Watched). events_along k at.before ++ events_along x (at.line ∷ at.behind)) (played_events k at.before)

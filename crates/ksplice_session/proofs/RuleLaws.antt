@@ -23,7 +23,8 @@ use Rattle.frame_watch.specs.Discipline.{Sight, counted, broken, breaking, least
 use Rattle.frame_watch.specs.Discipline.{slots_tested, after_start, pops, after_outcome}
 use Rattle.frame_watch.specs.Discipline.{unless_broken, spawn_noted, step_noted}
 use Rattle.ksplice_session.proofs.TestedLaws.{all_keep}
-use Rattle.ksplice_session.proofs.Lookups.{All-at, found_at, true_false, found_is, find_mapped, find_without, find_past_filter}
+use Rattle.ksplice_session.proofs.Lookups.{All-at, found_at, true_false, found_is}
+use Rattle.ksplice_session.proofs.Lookups.{find_mapped, find_without, find_past_filter}
 use Rattle.ksplice_session.proofs.Lookups.{find_put_other, find_put_new}
 
 pub same_number : (n m : ℕ) → (n == m) ≡ true → n ≡ m

@@ -1,5 +1,6 @@
 -- Steps one after another, as lists of events.
-use Rattle.std.proofs.Common.{◌≡◌, ℕ, zero, suc, ◌+◌, ◌-◌, ◌<◌, ◌==◌, Bool, true, false, if◌then◌else◌, is_some, List, [], ◌∷◌, length, Option, Some, None, refl, sym, ◌∙◌, ap, subst, arith}
+use Rattle.std.proofs.Common.{◌≡◌, ℕ, zero, suc, ◌+◌, ◌-◌, ◌<◌, ◌==◌, Bool, true, false, if◌then◌else◌, is_some}
+use Rattle.std.proofs.Common.{List, [], ◌∷◌, length, Option, Some, None, refl, sym, ◌∙◌, ap, subst, arith}
 use Rattle.std.proofs.lemmas.Bool.Decides.{nat_tests}
 use Rattle.image_threads.specs.Program.{running_at}
 use Rattle.image_threads.specs.Turning.{Schedule, turn_from, next_turn, after_turn}
@@ -21,8 +22,10 @@ pub record Goes (first : Watched) (all : List Event) (made : ℕ) (now : Watched
 pub begins : (s : Watched) (all : List Event) → Goes s all 0 s all
 begins s all = record { count = omega arith; after = refl }
 
-pub goes_on : (first : Watched) (all : List Event) (made : ℕ) (s now : Watched) (event : Event) (rest later : List Event)
-    → rest ≡ event ∷ later → now ≡ watched_after s event → Goes first all made s rest → Goes first all (made + 1) now later
+pub goes_on : (first : Watched)
+    (all : List Event) (made : ℕ) (s now : Watched) (event : Event) (rest later : List Event)
+    → rest ≡ event ∷ later
+    → now ≡ watched_after s event → Goes first all made s rest → Goes first all (made + 1) now later
 unfolding watched_after_all
 goes_on first all made s now event rest later is next h =
     record {
@@ -30,7 +33,8 @@ goes_on first all made s now event rest later is next h =
       after = ap (λ (n : Watched). watched_after_all n later) next ∙ sym (ap (watched_after_all s) is) ∙ h.after;
     }
 
-pub has_gone : (first : Watched) (all : List Event) (made : ℕ) (s : Watched) (rest : List Event) → rest ≡ [] → Goes first all made s rest
+pub has_gone : (first : Watched) (all : List Event) (made : ℕ) (s : Watched) (rest : List Event)
+    → rest ≡ [] → Goes first all made s rest
     → (made ≡ length all) × (s ≡ watched_after_all first all)
 unfolding watched_after_all
 has_gone first all made s rest is h = (
@@ -42,11 +46,13 @@ pub thread_done : (k : CallTable) (thread n : ℕ) → n ≡ 0 → thread_steps 
 unfolding thread_steps
 thread_done k thread n none = rw none refl
 
-thread_first : (k : CallTable) (thread n : ℕ) → is_some (running_at k.threads thread) ≡ false → thread_steps k thread (suc n) ≡ []
+thread_first : (k : CallTable) (thread n : ℕ)
+    → is_some (running_at k.threads thread) ≡ false → thread_steps k thread (suc n) ≡ []
 unfolding thread_steps
 thread_first k thread n ends = rw ends refl
 
-thread_on : (k now : CallTable) (thread n m : ℕ) → n ≡ suc m → is_some (running_at k.threads thread) ≡ true → now ≡ after_event k (Step thread)
+thread_on : (k now : CallTable) (thread n m : ℕ)
+    → n ≡ suc m → is_some (running_at k.threads thread) ≡ true → now ≡ after_event k (Step thread)
     → thread_steps k thread n ≡ Step thread ∷ thread_steps now thread m
 unfolding thread_steps
 thread_on k now thread n m is runs next = rw (is, runs, next) refl
@@ -55,20 +61,25 @@ thread_on k now thread n m is runs next = rw (is, runs, next) refl
 machine_is : (s now : Watched) (event : Event) → now ≡ watched_after s event → now.machine ≡ after_event s.machine event
 machine_is s now event next = ap (λ (n : Watched). n.machine) next ∙ machine_after_one s event
 
-pub thread_goes_on : (s now : Watched) (thread n m : ℕ) → n ≡ suc m → is_some (running_at s.machine.threads thread) ≡ true → now ≡ watched_after s (Step thread)
+pub thread_goes_on : (s now : Watched) (thread n m : ℕ)
+    → n ≡ suc m → is_some (running_at s.machine.threads thread) ≡ true → now ≡ watched_after s (Step thread)
     → thread_steps s.machine thread n ≡ Step thread ∷ thread_steps now.machine thread m
 thread_goes_on s now thread n m is runs next =
     thread_on s.machine now.machine thread n m is runs (machine_is s now (Step thread) next)
 
-no_step : (s : Watched) (thread : ℕ) → is_some (running_at s.machine.threads thread) ≡ false → watched_after s (Step thread) ≡ s
+no_step : (s : Watched) (thread : ℕ)
+    → is_some (running_at s.machine.threads thread) ≡ false → watched_after s (Step thread) ≡ s
 unfolding watched_after answered moved
 no_step s thread ends =
-    let P : Option Thread → Type 0 = λ o. is_some o ≡ false → watched_by s (Step thread) (step_answered (moved_by s.machine thread o)) ≡ s in
-    let all : P (running_at s.machine.threads thread) = elim (running_at s.machine.threads thread) as P [ None ↦ λ e. refl | Some t ↦ λ e. cc ] in
+    let P : Option Thread → Type 0 =
+    λ o. is_some o ≡ false → watched_by s (Step thread) (step_answered (moved_by s.machine thread o)) ≡ s in
+    let all : P (running_at s.machine.threads thread) =
+    elim (running_at s.machine.threads thread) as P [ None ↦ λ e. refl | Some t ↦ λ e. cc ] in
     all ends
 
 -- no step is made where the thread has ended
-pub thread_ends : (s now : Watched) (thread n : ℕ) → is_some (running_at s.machine.threads thread) ≡ false → now ≡ watched_after s (Step thread)
+pub thread_ends : (s now : Watched) (thread n : ℕ)
+    → is_some (running_at s.machine.threads thread) ≡ false → now ≡ watched_after s (Step thread)
     → (thread_steps s.machine thread n ≡ []) × (now ≡ s)
 thread_ends s now thread n ends next = (none s.machine thread n ends, next ∙ no_step s thread ends)
   where
@@ -81,7 +92,8 @@ abbrev pub thread_in : Option Turn → ℕ
 thread_in None = 0
 thread_in (Some turn) = turn.thread
 
-next_is : (s : Schedule) (k : CallTable) (m : ℕ) → s.left ≡ suc m → next_turn s k.threads ≡ turn_from k.threads s.quantum s.turn
+next_is : (s : Schedule) (k : CallTable) (m : ℕ)
+    → s.left ≡ suc m → next_turn s k.threads ≡ turn_from k.threads s.quantum s.turn
 unfolding next_turn
 next_is s k m left =
     let some : (s.left == 0) ≡ false = rw left (not_zero m) in
@@ -91,7 +103,8 @@ next_is s k m left =
     not_zero m = grind (arith, nat_tests)
 
 taken_on : (k : CallTable) (s : Schedule) (m : ℕ) (o : Option Turn) → is_some o ≡ true
-    → taken k (turn_steps s.quantum m) o ≡ Step (thread_in o) ∷ turn_steps (after_turn s o).quantum m (after_turn s o).turn (after_taken k o)
+    → taken k (turn_steps s.quantum m) o
+    ≡ Step (thread_in o) ∷ turn_steps (after_turn s o).quantum m (after_turn s o).turn (after_taken k o)
 taken_on k s m None some = cc
 taken_on k s m (Some turn) some = refl
 
@@ -102,34 +115,42 @@ turn_first k s m left = rw left refl
 
 pub turn_goes_on : (k : CallTable) (s : Schedule) (m : ℕ) → s.left ≡ suc m → is_some (next_turn s k.threads) ≡ true
     → turn_steps s.quantum s.left s.turn k
-    ≡ Step (thread_in (next_turn s k.threads)) ∷ turn_steps (after_turn s (next_turn s k.threads)).quantum m (after_turn s (next_turn s k.threads)).turn (after_taken k (next_turn s k.threads))
+    ≡ Step (thread_in (next_turn s k.threads)) ∷ turn_steps (after_turn s (next_turn s k.threads)).quantum m
+    (after_turn s (next_turn s k.threads)).turn (after_taken k (next_turn s k.threads))
 turn_goes_on k s m left some =
-    turn_first k s m left ∙ ap (taken k (turn_steps s.quantum m)) (sym (next_is s k m left)) ∙ taken_on k s m (next_turn s k.threads) some
+    turn_first k s m left ∙ ap (taken k (turn_steps s.quantum m)) (sym (next_is s k m left))
+    ∙ taken_on k s m (next_turn s k.threads) some
 
-taken_none : (k : CallTable) (rest : Option Turn → CallTable → List Event) (o : Option Turn) → is_some o ≡ false → taken k rest o ≡ []
+taken_none : (k : CallTable) (rest : Option Turn → CallTable → List Event) (o : Option Turn)
+    → is_some o ≡ false → taken k rest o ≡ []
 taken_none k rest None none = refl
 taken_none k rest (Some turn) none = cc
 
-turn_ends : (k : CallTable) (s : Schedule) (m : ℕ) → s.left ≡ suc m → is_some (next_turn s k.threads) ≡ false → turn_steps s.quantum s.left s.turn k ≡ []
+turn_ends : (k : CallTable) (s : Schedule) (m : ℕ)
+    → s.left ≡ suc m → is_some (next_turn s k.threads) ≡ false → turn_steps s.quantum s.left s.turn k ≡ []
 turn_ends k s m left none =
-    turn_first k s m left ∙ ap (taken k (turn_steps s.quantum m)) (sym (next_is s k m left)) ∙ taken_none k (turn_steps s.quantum m) (next_turn s k.threads) none
+    turn_first k s m left ∙ ap (taken k (turn_steps s.quantum m)) (sym (next_is s k m left))
+    ∙ taken_none k (turn_steps s.quantum m) (next_turn s k.threads) none
 
 none_taken : (s now : Watched) (o : Option Turn) → is_some o ≡ false → now ≡ watched_taken s o → now ≡ s
 none_taken s now None none is = is
 none_taken s now (Some turn) none is = cc
 
 -- no step is made where no thread runs
-pub turns_stop : (s now : Watched) (t : Schedule) (m : ℕ) → t.left ≡ suc m → is_some (next_turn t s.machine.threads) ≡ false
+pub turns_stop : (s now : Watched) (t : Schedule) (m : ℕ)
+    → t.left ≡ suc m → is_some (next_turn t s.machine.threads) ≡ false
     → now ≡ watched_taken s (next_turn t s.machine.threads)
     → (turn_steps t.quantum t.left t.turn s.machine ≡ []) × (now ≡ s)
-turns_stop s now t m left none is = (turn_ends s.machine t m left none, none_taken s now (next_turn t s.machine.threads) none is)
+turns_stop s now t m left none is =
+    (turn_ends s.machine t m left none, none_taken s now (next_turn t s.machine.threads) none is)
 
 pub turn_done : (k : CallTable) (s : Schedule) → s.left ≡ 0 → turn_steps s.quantum s.left s.turn k ≡ []
 unfolding turn_steps
 turn_done k s none = rw none refl
 
 -- where a turn is taken, its step is made
-pub taken_is_step : (s now : Watched) (o : Option Turn) → is_some o ≡ true → now ≡ watched_taken s o → now ≡ watched_after s (Step (thread_in o))
+pub taken_is_step : (s now : Watched) (o : Option Turn)
+    → is_some o ≡ true → now ≡ watched_taken s o → now ≡ watched_after s (Step (thread_in o))
 taken_is_step s now None some is = cc
 taken_is_step s now (Some turn) some is = is
 
@@ -138,8 +159,10 @@ left_less s None m left some = cc
 left_less s (Some turn) m left some = omega (arith, left)
 
 -- what is left of the turns after a step was made
-pub turns_on : (first : Watched) (all : List Event) (made count : ℕ) (s now : Watched) (t u : Schedule) → made < count → t.left ≡ count - made
-    → Goes first all made s (turn_steps t.quantum t.left t.turn s.machine) → is_some (next_turn t s.machine.threads) ≡ true
+pub turns_on : (first : Watched) (all : List Event) (made count : ℕ) (s now : Watched) (t u : Schedule)
+    → made < count → t.left ≡ count - made
+    → Goes first all made s (turn_steps t.quantum t.left t.turn s.machine)
+    → is_some (next_turn t s.machine.threads) ≡ true
     → now ≡ watched_taken s (next_turn t s.machine.threads)
     → u ≡ after_turn t (next_turn t s.machine.threads)
     → (u.left ≡ count - (made + 1)) × Goes first all (made + 1) now (turn_steps u.quantum u.left u.turn now.machine)
@@ -150,9 +173,11 @@ turns_on first all made count s now t u more left goes some next is =
     let less : t.left ≡ suc m = omega arith in
     let left_is : (after_turn t o).left ≡ m = left_less t o m less some in
     let gone = goes_on first all made s now (Step (thread_in o)) (turn_steps t.quantum t.left t.turn k)
-    (turn_steps (after_turn t o).quantum m (after_turn t o).turn (after_taken k o)) (turn_goes_on k t m less some) (taken_is_step s now o some next) goes in
+    (turn_steps (after_turn t o).quantum m (after_turn t o).turn (after_taken k o))
+    (turn_goes_on k t m less some) (taken_is_step s now o some next) goes in
     let machine : now.machine ≡ after_taken k o = ap (λ (n : Watched). n.machine) next ∙ machine_taken s o in
-    let later : turn_steps (after_turn t o).quantum m (after_turn t o).turn (after_taken k o) ≡ turn_steps u.quantum u.left u.turn now.machine =
+    let later : turn_steps (after_turn t o).quantum m (after_turn t o).turn (after_taken k o)
+    ≡ turn_steps u.quantum u.left u.turn now.machine =
     ap (λ (n : ℕ). turn_steps (after_turn t o).quantum n (after_turn t o).turn (after_taken k o)) (sym left_is)
     ∙ ap (λ (v : Schedule). turn_steps v.quantum v.left v.turn (after_taken k o)) (sym is)
     ∙ ap (turn_steps u.quantum u.left u.turn) (sym machine) in

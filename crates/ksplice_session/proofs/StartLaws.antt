@@ -1,5 +1,6 @@
 -- The start of a thread as a watch sees it.
-use Rattle.std.proofs.Common.{◌≡◌, ℕ, ◌+◌, ◌≤◌, ◌<◌, not, ◌&&◌, Bool, true, false, IsTrue, List, [], ◌∷◌, ◌++◌, length, Option, Some, None, Ok, refl, sym, ◌∙◌, ap, subst, arith, ◌⊎◌, inl, inr}
+use Rattle.std.proofs.Common.{◌≡◌, ℕ, ◌+◌, ◌≤◌, ◌<◌, not, ◌&&◌, Bool, true, false, IsTrue, List, [], ◌∷◌, ◌++◌}
+use Rattle.std.proofs.Common.{length, Option, Some, None, Ok, refl, sym, ◌∙◌, ap, subst, arith, ◌⊎◌, inl, inr}
 use Rattle.std.specs.List.{All, Contains, slice_get}
 use Rattle.std.proofs.lemmas.Bool.Decides.{nat_tests}
 use Rattle.std.proofs.lemmas.Bool.{false≢true}
@@ -33,7 +34,8 @@ use Rattle.ksplice_session.proofs.SightLaws.{spawn_alike}
 use Rattle.ksplice_session.proofs.SeenLaws.{JumpLaws, jumps_alike}
 use Rattle.ksplice_session.proofs.StackLaws.{none_passes, slot_within, slots_stay, frames_hold, same_or_apart}
 use Rattle.ksplice_session.proofs.TestedLaws.{spawn_left}
-use Rattle.ksplice_session.proofs.WatchLaws.{RunsIn, runs_in, slots_in, left_in_step, its_thread, stack_listed, runs_as, runs_push, All-put_in}
+use Rattle.ksplice_session.proofs.WatchLaws.{RunsIn, runs_in, slots_in, left_in_step, its_thread}
+use Rattle.ksplice_session.proofs.WatchLaws.{stack_listed, runs_as, runs_push, All-put_in}
 use Rattle.ksplice_session.proofs.EventAnswers.{running_is, HasStarted, spawn_gives}
 use Rattle.ksplice_session.proofs.Lookups.{All-at, is_contained, found_is, found_at, read_last}
 
@@ -48,7 +50,8 @@ first_slot stack is =
 apart_stacks : (a b : Range) → ((a.high ≤ b.low) ⊎ (b.high ≤ a.low)) → meets a b ≡ false
 apart_stacks a b apart = grind (arith, nat_tests)
 
-apart_bytes : (a b : Range) (x : ℕ) → ((a.high ≤ b.low) ⊎ (b.high ≤ a.low)) → b.low ≤ x → x < b.high → (x < a.low) ⊎ (a.high ≤ x)
+apart_bytes : (a b : Range) (x : ℕ)
+    → ((a.high ≤ b.low) ⊎ (b.high ≤ a.low)) → b.low ≤ x → x < b.high → (x < a.low) ⊎ (a.high ≤ x)
 apart_bytes a b x apart low high = grind arith
 
 -- a running thread with this stack
@@ -69,7 +72,8 @@ module _ (jumps : JumpLaws) (k : CallTable) (w : Watching) (stack : Range) (pc a
   thread = first_thread (length k.threads) stack pc
 
   abbrev now : CallTable
-  now = record k { pieces = written stack.low (first_bytes stack argument) k.pieces; threads = k.threads ++ thread ∷ [] }
+  now =
+      record k { pieces = written stack.low (first_bytes stack argument) k.pieces; threads = k.threads ++ thread ∷ [] }
 
   abbrev is_free : Range → Bool
   is_free range = not (is_taken k.threads range)
@@ -88,13 +92,15 @@ module _ (jumps : JumpLaws) (k : CallTable) (w : Watching) (stack : Range) (pc a
   bounds = All-contains IsStackRange k.stacks stack placed.bounds listed
 
   -- the stack of a watched thread isn't this one, and meets it nowhere
-  apart : (watched : WatchedThread) → RunsIn k.threads watched → (stack.high ≤ watched.stack.low) ⊎ (watched.stack.high ≤ stack.low)
+  apart : (watched : WatchedThread)
+      → RunsIn k.threads watched → (stack.high ≤ watched.stack.low) ⊎ (watched.stack.high ≤ stack.low)
   apart watched is =
       let r = its_thread k.threads watched is in
       let other : has_this stack r.thread ≡ false =
       All-at (λ (t : Thread). has_this stack t ≡ false) k.threads watched.thread r.thread
       (none_passes (has_this stack) k.threads not_taken) r.got in
-      elim (same_or_apart own_range k.stacks stack watched.stack placed.ascend listed (stack_listed k.stacks k.threads watched placed is)) [
+      elim (same_or_apart own_range k.stacks stack watched.stack placed.ascend listed
+      (stack_listed k.stacks k.threads watched placed is)) [
         | inl same ↦
             let run = (running_is (slice_get k.threads watched.thread) r.thread r.found).1 in
             absurd (false≢true (sym other ∙ taken r.thread run (sym r.same.stack ∙ sym same)))
@@ -105,13 +111,15 @@ module _ (jumps : JumpLaws) (k : CallTable) (w : Watching) (stack : Range) (pc a
       same_self r = grind (arith, nat_tests)
 
       taken : (t : Thread) → runs t ≡ true → t.stack ≡ stack → has_this stack t ≡ true
-      taken t run same = ap (λ (b : Bool). b && are_same t.stack stack) run ∙ ap (λ (s : Range). are_same s stack) same ∙ same_self stack
+      taken t run same = ap (λ (b : Bool). b && are_same t.stack stack) run
+          ∙ ap (λ (s : Range). are_same s stack) same ∙ same_self stack
 
   is_start : IsStart w.threads thread
   is_start = record {
     slot = first_slot stack bounds;
     unwatched = list_any_none (is_of (length k.threads)) w.threads
-        (All-weaker (RunsIn k.threads) (λ watched. is_of (length k.threads) watched ≡ false) earlier w.threads (runs_in k w in_step));
+        (All-weaker (RunsIn k.threads)
+        (λ watched. is_of (length k.threads) watched ≡ false) earlier w.threads (runs_in k w in_step));
     apart = list_any_none (λ watched. meets stack (stack_of watched)) w.threads
         (All-weaker (RunsIn k.threads) (λ watched. meets stack (stack_of watched) ≡ false)
         (λ watched is. apart_stacks stack watched.stack (apart watched is)) w.threads (runs_in k w in_step));
@@ -124,11 +132,13 @@ module _ (jumps : JumpLaws) (k : CallTable) (w : Watching) (stack : Range) (pc a
           grind (arith, nat_tests)
 
   -- what the stack of a watched thread holds stays
-  stays : (watched : WatchedThread) → RunsIn k.threads watched → (slot value : ℕ) → watched.stack.low ≤ slot → slot + 4 ≤ watched.stack.high
+  stays : (watched : WatchedThread)
+      → RunsIn k.threads watched → (slot value : ℕ) → watched.stack.low ≤ slot → slot + 4 ≤ watched.stack.high
       → holds_dword now.pieces slot value ≡ holds_dword k.pieces slot value
   stays watched is slot value low high =
       let tall = bounds.tall in
-      let long : stack.low + length (first_bytes stack argument) ≡ stack.high = length-first_bytes stack argument (omega arith) in
+      let long : stack.low + length (first_bytes stack argument) ≡ stack.high =
+      length-first_bytes stack argument (omega arith) in
       holds_same now.pieces k.pieces slot value (λ x above below.
       alike_written stack.low (first_bytes stack argument) k.pieces x
       (subst (λ (n : ℕ). (x < stack.low) ⊎ (n ≤ x)) (sym long)
@@ -139,26 +149,34 @@ module _ (jumps : JumpLaws) (k : CallTable) (w : Watching) (stack : Range) (pc a
 
   is_held : IsBuilt now → HoldBut (patched now).pieces w.threads None
   is_held built_now =
-      All-weaker (λ watched. RunsIn k.threads watched × IsTrue (keeps_slots k.pieces watched)) (λ watched. All (λ (frame : Frame).
-      touches None frame.slot ≡ false → holds_dword (patched now).pieces frame.slot frame.address ≡ true) watched.frames)
+      All-weaker (λ watched. RunsIn k.threads watched × IsTrue (keeps_slots k.pieces watched))
+      (λ watched. All (λ (frame : Frame).
+      touches None frame.slot ≡ false → holds_dword (patched now).pieces frame.slot frame.address ≡ true)
+      watched.frames)
       each w.threads both
     where
-      each : (watched : WatchedThread) → RunsIn k.threads watched × IsTrue (keeps_slots k.pieces watched) → All (λ (frame : Frame).
-          touches None frame.slot ≡ false → holds_dword (patched now).pieces frame.slot frame.address ≡ true) watched.frames
+      each : (watched : WatchedThread)
+          → RunsIn k.threads watched × IsTrue (keeps_slots k.pieces watched) → All (λ (frame : Frame).
+          touches None frame.slot ≡ false → holds_dword (patched now).pieces frame.slot frame.address ≡ true)
+          watched.frames
       each watched (is, keeps) =
-          All-weaker (λ (frame : Frame). (is_slot watched.stack watched.esp frame.slot ≡ true) × (holds_dword k.pieces frame.slot frame.address ≡ true))
-          (λ (frame : Frame). touches None frame.slot ≡ false → holds_dword (patched now).pieces frame.slot frame.address ≡ true)
+          All-weaker (λ (frame : Frame). (is_slot watched.stack watched.esp frame.slot ≡ true)
+          × (holds_dword k.pieces frame.slot frame.address ≡ true))
+          (λ (frame : Frame). touches None frame.slot ≡ false
+          → holds_dword (patched now).pieces frame.slot frame.address ≡ true)
           (λ (frame : Frame) p untouched.
           let within = slot_within watched.stack watched.esp frame.slot p.0 in
           (jumps_alike jumps now built_now).holds frame.slot frame.address
-          ∙ stays watched is frame.slot frame.address within.0 within.1 ∙ p.1) watched.frames (frames_hold k.pieces watched keeps)
+          ∙ stays watched is frame.slot frame.address within.0 within.1 ∙ p.1) watched.frames
+          (frames_hold k.pieces watched keeps)
 
   is_unnoted : IsInStep now w
   is_unnoted = record {
-    each = All-weaker (λ watched. RunsIn k.threads watched × IsTrue (keeps_slots k.pieces watched)) (Runs now) (λ watched p. record {
-      running = runs_push k.threads thread watched p.0;
-      slots = slots_stay now.pieces k.pieces watched (stays watched p.0) p.1;
-    }) w.threads both;
+    each = All-weaker
+        (λ watched. RunsIn k.threads watched × IsTrue (keeps_slots k.pieces watched)) (Runs now) (λ watched p. record {
+          running = runs_push k.threads thread watched p.0;
+          slots = slots_stay now.pieces k.pieces watched (stays watched p.0) p.1;
+        }) w.threads both;
     stopped = in_step.stopped;
   }
 
@@ -167,8 +185,10 @@ module _ (jumps : JumpLaws) (k : CallTable) (w : Watching) (stack : Range) (pc a
       left_in_step now (spawn_noted (sight_in now) thread w)
       (spawn_left (RunsIn now.threads) (sight_in now) w in_step.stopped thread
       (All-put_in (RunsIn now.threads) (started thread) w.threads
-      (runs_as now.threads (started thread) thread (ap if_running (read_last k.threads thread)) (record { stack = refl; esp = refl }))
-      (All-weaker (RunsIn k.threads) (RunsIn now.threads) (runs_push k.threads thread) w.threads (runs_in k w in_step))))
+      (runs_as now.threads
+      (started thread) thread (ap if_running (read_last k.threads thread)) (record { stack = refl; esp = refl }))
+      (All-weaker (RunsIn k.threads)
+      (RunsIn now.threads) (runs_push k.threads thread) w.threads (runs_in k w in_step))))
 
   is_begun : IsBuilt now → IsBegun (patched now) k now w thread
   is_begun built_now = record {
@@ -189,8 +209,10 @@ thread_there k now argument number gives =
     ap (λ (m : CallTable). slice_get m.threads number) gives.machine ∙ ap (slice_get (k.threads ++ first ∷ [])) count
     ∙ read_last k.threads first
 
-pub spawn_begun : JumpLaws → (k now : CallTable) (w : Watching) (name : List ℕ) (argument number : ℕ) (thread : Thread) (memory : Contents)
-    → IsBuilt now → IsInStep k w → WellPlaced k.stacks k.threads → answered k (Spawn name argument) ≡ Ok (happened now (Spawned number))
+pub spawn_begun : JumpLaws
+    → (k now : CallTable) (w : Watching) (name : List ℕ) (argument number : ℕ) (thread : Thread) (memory : Contents)
+    → IsBuilt now → IsInStep k w
+    → WellPlaced k.stacks k.threads → answered k (Spawn name argument) ≡ Ok (happened now (Spawned number))
     → slice_get now.threads number ≡ Some thread → memory ≡ patched now → IsBegun memory k now w thread
 spawn_begun jumps k now w name argument number thread memory built_now in_step placed is got_after there =
     let gives = spawn_gives k name argument (happened now (Spawned number)) is in
@@ -202,16 +224,21 @@ spawn_begun jumps k now w name argument number thread memory built_now in_step p
       pieces = written gives.stack.low (first_bytes gives.stack argument) k.pieces;
       threads = k.threads ++ first ∷ [];
     } in IsBegun (patched m) k m w t) same
-    (is_begun jumps k w gives.stack gives.pc argument in_step placed gives.free (subst IsBuilt gives.machine built_now))))
+    (is_begun jumps k w gives.stack gives.pc argument in_step placed gives.free
+    (subst IsBuilt gives.machine built_now))))
 
-pub started_there : (k now : CallTable) (name : List ℕ) (argument number : ℕ) → answered k (Spawn name argument) ≡ Ok (happened now (Spawned number))
+pub started_there : (k now : CallTable) (name : List ℕ) (argument number : ℕ)
+    → answered k (Spawn name argument) ≡ Ok (happened now (Spawned number))
     → slice_get now.threads number ≡ None → ⊥
 started_there k now name argument number is none =
-    let there = thread_there k now argument number (spawn_gives k name argument (happened now (Spawned number)) is) in cc
+    let there =
+    thread_there k now argument number (spawn_gives k name argument (happened now (Spawned number)) is) in cc
 
 -- the session after a start
-pub spawn_watched : (s : Watched) (now : CallTable) (v : Watching) (name : List ℕ) (argument number : ℕ) (thread : Thread)
-    → answered s.machine (Spawn name argument) ≡ Ok (happened now (Spawned number)) → slice_get now.threads number ≡ Some thread
+pub spawn_watched : (s : Watched)
+    (now : CallTable) (v : Watching) (name : List ℕ) (argument number : ℕ) (thread : Thread)
+    → answered s.machine (Spawn name argument) ≡ Ok (happened now (Spawned number))
+    → slice_get now.threads number ≡ Some thread
     → v ≡ spawn_noted (sight_in now) thread s.watch → watched now v ≡ watched_after s (Spawn name argument)
 unfolding watched_after
 spawn_watched s now v name argument number thread is got_after noted =

@@ -1,5 +1,6 @@
 -- Why the tries of an update are answered as they are to be.
-use Rattle.std.proofs.Common.{◌≡◌, ◌≢◌, ℕ, zero, suc, ◌+◌, Bool, true, false, if◌then◌else◌, List, [], ◌∷◌, ◌++◌, Result, Ok, Err, IfOk, OnOk, OnErr, MatchResult, refl, sym, ◌∙◌, ap, subst, append_assoc}
+use Rattle.std.proofs.Common.{◌≡◌, ◌≢◌, ℕ, zero, suc, ◌+◌, Bool, true, false, if◌then◌else◌, List, [], ◌∷◌, ◌++◌}
+use Rattle.std.proofs.Common.{Result, Ok, Err, IfOk, OnOk, OnErr, MatchResult, refl, sym, ◌∙◌, ap, subst, append_assoc}
 use Rattle.std.proofs.lemmas.List.Sums.{fold-append}
 use Rattle.std.specs.declared.alloc.AllocError.{AllocError}
 use Rattle.ks_base.specs.declared.reports.Report.{Report}
@@ -30,14 +31,16 @@ front_after s now gap events (Noted made rest whole is) =
     (is ∙ sym (watched_after_both s gap made))
 front_after s now gap events (Unnoted made rest name argument whole is) =
     let last : List Event = Spawn name argument ∷ [] in
-    let machine : after_events (watched_after_all s gap).machine (made ++ last) ≡ after_events s.machine ((gap ++ made) ++ last) =
+    let machine : after_events (watched_after_all s gap).machine (made ++ last)
+    ≡ after_events s.machine ((gap ++ made) ++ last) =
     ap (λ (k : CallTable). after_events k (made ++ last)) (machine_after_all s gap)
     ∙ sym (after_both s.machine gap (made ++ last))
     ∙ ap (after_events s.machine) (sym (append_assoc gap made last)) in
     Unnoted (gap ++ made) rest name argument
     (append_assoc gap made (Spawn name argument ∷ rest) ∙ ap (λ (l : List Event). gap ++ l) whole)
     (is ∙ ap (λ (k : CallTable). watched k (watched_after_all (watched_after_all s gap) made).watch) machine
-    ∙ ap (λ (w : Watched). watched (after_events s.machine ((gap ++ made) ++ last)) w.watch) (sym (watched_after_both s gap made)))
+    ∙ ap (λ (w : Watched). watched (after_events s.machine ((gap ++ made) ++ last)) w.watch)
+    (sym (watched_after_both s gap made)))
 
 -- what a line does when some events were made, it does after all
 after_gap_answers : (s now : Watched) (gap : List Event) (told : Told) (r : Result Answer AllocError)
@@ -72,7 +75,8 @@ again_try trial gap try left k busy =
 
 -- What a try came to is what the machine answers, unless memory ran out; what is refused changes nothing.
 pub record CameOut (s now : Watched) (trial : Trial) (outcome : Result Report Refusal) : Type 0 where
-  pub answered : MatchResult outcome (λ report. answered s.machine (event_of trial) ≡ Ok (happened now.machine (Applied report)))
+  pub answered : MatchResult outcome
+      (λ report. answered s.machine (event_of trial) ≡ Ok (happened now.machine (Applied report)))
       (λ refusal. refusal ≢ Memory → answered s.machine (event_of trial) ≡ Err refusal)
   pub noted : OnOk outcome (now ≡ watched_after s (event_of trial))
   pub refused : OnErr outcome (now ≡ s)
@@ -94,7 +98,8 @@ unchanged s now (Err refusal) busy refused = refused
 -- what a try tells that ends its line, as its answer
 try_answers : (s now : Watched) (trial : Trial) (try : ℕ) (told : Told) (outcome : Result Report Refusal)
     (r : Result Answer AllocError)
-    → (outcome ≢ Err Memory → told ≡ try_told trial try (answered s.machine (event_of trial))) → CameOut s now trial outcome
+    → (outcome ≢ Err Memory → told ≡ try_told trial try (answered s.machine (event_of trial)))
+    → CameOut s now trial outcome
     → IfOk r (IsTryAnswer trial.name try outcome) → Answers s told now r
 try_answers s now trial try told (Ok report) r is came h = by r h
   where
@@ -116,7 +121,8 @@ try_answers s now trial try told (Err refusal) r is came h =
 
 -- the last try
 pub last_answers : (s now : Watched) (trial : Trial) (gap try left : ℕ) (outcome : Result Report Refusal)
-    (r : Result Answer AllocError) → left ≡ 0 → CameOut s now trial outcome → IfOk r (IsTryAnswer trial.name try outcome)
+    (r : Result Answer AllocError)
+    → left ≡ 0 → CameOut s now trial outcome → IfOk r (IsTryAnswer trial.name try outcome)
     → Answers s (tried trial gap try left s.machine) now r
 last_answers s now trial gap try left outcome r none came h =
     try_answers s now trial try (tried trial gap try left s.machine) outcome r
@@ -134,12 +140,15 @@ ended_answers s now trial gap try left outcome r free came h =
 pub again_answers : (s now after final : Watched) (trial : Trial) (gap try left more : ℕ)
     (outcome : Result Report Refusal) (r : Result Answer AllocError) → is_busy outcome ≡ true → more ≡ suc left
     → CameOut s now trial outcome → after ≡ watched_after_all now (round_robin now.machine 1 gap)
-    → Answers after (tried trial gap (try + 1) left after.machine) final r → Answers s (tried trial gap try more s.machine) final r
+    → Answers after (tried trial gap (try + 1) left after.machine) final r
+    → Answers s (tried trial gap try more s.machine) final r
 again_answers s now after final trial gap try left more outcome r busy is came steps h =
     let events : List Event = round_robin s.machine 1 gap in
     let same : now ≡ s = unchanged s now outcome busy came.refused in
-    let there : after ≡ watched_after_all s events = steps ∙ ap (λ (n : Watched). watched_after_all n (round_robin n.machine 1 gap)) same in
-    let machine : after.machine ≡ after_events s.machine events = ap (λ (n : Watched). n.machine) there ∙ machine_after_all s events in
+    let there : after ≡ watched_after_all s events =
+    steps ∙ ap (λ (n : Watched). watched_after_all n (round_robin n.machine 1 gap)) same in
+    let machine : after.machine ≡ after_events s.machine events =
+    ap (λ (n : Watched). n.machine) there ∙ machine_after_all s events in
     let later : Told = tried trial gap (try + 1) left (after_events s.machine events) in
     let known : outcome ≢ Err Memory = λ e. let free = is_free outcome e in cc in
     let told : tried trial gap try more s.machine ≡ after_gap events later =

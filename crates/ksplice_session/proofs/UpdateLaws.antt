@@ -16,14 +16,17 @@ use Rattle.ksplice_session.specs.inside.InStep.{Runs, IsInStep}
 use Rattle.ksplice_session.proofs.StackLaws.{all_weaker}
 use Rattle.ksplice_session.proofs.WatchLaws.{RunsIn, runs_in, slots_in, stack_listed}
 
-pub kept_in_step : (k now : CallTable) (w : Watching) → SameThreads k now → KeepsSlots k now → WellPlaced k.stacks k.threads
+pub kept_in_step : (k now : CallTable) (w : Watching)
+    → SameThreads k now → KeepsSlots k now → WellPlaced k.stacks k.threads
     → IsInStep k w → IsInStep now (update_noted w)
 kept_in_step k now w same keep placed in_step = record {
-  each = All-weaker (λ watched. RunsIn k.threads watched × IsTrue (keeps_slots k.pieces watched)) (Runs now) (λ watched p. record {
-    running = subst (λ (threads : List Thread). RunsIn threads watched) (sym same.threads) p.0;
-    slots = all_weaker (keeps_slot k.pieces watched.stack watched.esp) (keeps_slot now.pieces watched.stack watched.esp)
-        watched.frames (λ frame. keep watched.stack watched.esp frame (stack_listed k.stacks k.threads watched placed p.0)) p.1;
-  }) w.threads (λ i d less. (runs_in k w in_step i d less, slots_in k w in_step i d less));
+  each = All-weaker
+      (λ watched. RunsIn k.threads watched × IsTrue (keeps_slots k.pieces watched)) (Runs now) (λ watched p. record {
+        running = subst (λ (threads : List Thread). RunsIn threads watched) (sym same.threads) p.0;
+        slots = all_weaker (keeps_slot k.pieces watched.stack watched.esp)
+            (keeps_slot now.pieces watched.stack watched.esp) watched.frames
+            (λ frame. keep watched.stack watched.esp frame (stack_listed k.stacks k.threads watched placed p.0)) p.1;
+      }) w.threads (λ i d less. (runs_in k w in_step i d less, slots_in k w in_step i d less));
   stopped = in_step.stopped;
 }
 
@@ -32,9 +35,11 @@ pub apply_watched : (s : Watched) (now : CallTable) (v : Watching) (name pre pos
     → answered s.machine (Apply name pre post) ≡ Ok (happened now (Applied report)) → v ≡ update_noted s.watch
     → watched now v ≡ watched_after s (Apply name pre post)
 unfolding watched_after
-apply_watched s now v name pre post report is noted = ap (watched now) noted ∙ sym (ap (watched_by s (Apply name pre post)) is)
+apply_watched s now v name pre post report is noted =
+    ap (watched now) noted ∙ sym (ap (watched_by s (Apply name pre post)) is)
 
 pub undo_watched : (s : Watched) (now : CallTable) (v : Watching) (name : List ℕ)
-    → answered s.machine Undo ≡ Ok (happened now (Undone name)) → v ≡ update_noted s.watch → watched now v ≡ watched_after s Undo
+    → answered s.machine Undo ≡ Ok (happened now (Undone name))
+    → v ≡ update_noted s.watch → watched now v ≡ watched_after s Undo
 unfolding watched_after
 undo_watched s now v name is noted = ap (watched now) noted ∙ sym (ap (watched_by s Undo) is)

@@ -1,5 +1,7 @@
 -- Watched threads of a machine whose threads change.
-use Rattle.std.proofs.Common.{◌≡◌, ◌≢◌, ℕ, zero, suc, ◌+◌, ◌<◌, ◌==◌, not, Bool, true, false, cond, if◌then◌else◌, IsTrue, IsSomeAnd, List, [], ◌∷◌, ◌++◌, length, set, Option, Some, None, refl, sym, ◌∙◌, ap, subst, arith}
+use Rattle.std.proofs.Common.{◌≡◌, ◌≢◌, ℕ, zero, suc, ◌+◌, ◌<◌, ◌==◌, not, Bool, true, false}
+use Rattle.std.proofs.Common.{cond, if◌then◌else◌, IsTrue, IsSomeAnd, List, [], ◌∷◌, ◌++◌}
+use Rattle.std.proofs.Common.{length, set, Option, Some, None, refl, sym, ◌∙◌, ap, subst, arith}
 use Rattle.std.specs.List.{All, Contains, slice_get}
 use Rattle.std.proofs.lemmas.Bool.{eqb-true}
 use Rattle.std.proofs.lemmas.Bool.Decides.{nat_tests}
@@ -25,8 +27,10 @@ RunsIn threads watched = IsSomeAnd (running_at threads watched.thread) (IsSame w
 pub runs_in : (k : CallTable) (w : Watching) → IsInStep k w → All (RunsIn k.threads) w.threads
 runs_in k w is = All-weaker (Runs k) (RunsIn k.threads) (λ watched r. r.running) w.threads is.each
 
-pub slots_in : (k : CallTable) (w : Watching) → IsInStep k w → All (λ watched. IsTrue (keeps_slots k.pieces watched)) w.threads
-slots_in k w is = All-weaker (Runs k) (λ watched. IsTrue (keeps_slots k.pieces watched)) (λ watched r. r.slots) w.threads is.each
+pub slots_in : (k : CallTable) (w : Watching)
+    → IsInStep k w → All (λ watched. IsTrue (keeps_slots k.pieces watched)) w.threads
+slots_in k w is =
+    All-weaker (Runs k) (λ watched. IsTrue (keeps_slots k.pieces watched)) (λ watched r. r.slots) w.threads is.each
 
 pub left_in_step : (k : CallTable) (w : Watching) → IsLeft (RunsIn k.threads) k.pieces w → IsInStep k w
 left_in_step k w left = record {
@@ -44,7 +48,8 @@ pub record IsRunning (threads : List Thread) (watched : Watched) : Type 0 where
 pub its_thread : (threads : List Thread) (watched : Watched) → RunsIn threads watched → IsRunning threads watched
 its_thread threads watched is = by (running_at threads watched.thread) refl is
   where
-    by : (o : Option Thread) → running_at threads watched.thread ≡ o → IsSomeAnd o (IsSame watched) → IsRunning threads watched
+    by : (o : Option Thread)
+        → running_at threads watched.thread ≡ o → IsSomeAnd o (IsSame watched) → IsRunning threads watched
     by None e is = absurd is
     by (Some thread) e is = record {
       thread = thread;
@@ -54,22 +59,26 @@ its_thread threads watched is = by (running_at threads watched.thread) refl is
     }
 
 -- the stack of a watched thread is one of the machine's
-pub stack_listed : (stacks : List Range) (threads : List Thread) (watched : Watched) → WellPlaced stacks threads → RunsIn threads watched
+pub stack_listed : (stacks : List Range) (threads : List Thread) (watched : Watched)
+    → WellPlaced stacks threads → RunsIn threads watched
     → Contains stacks watched.stack
 stack_listed stacks threads watched placed is =
     let r = its_thread threads watched is in
     subst (Contains stacks) (sym r.same.stack)
     (All-at (λ (t : Thread). Contains stacks t.stack) threads watched.thread r.thread placed.listed r.got)
 
-pub runs_as : (threads : List Thread) (watched : Watched) (thread : Thread) → running_at threads watched.thread ≡ Some thread
+pub runs_as : (threads : List Thread) (watched : Watched) (thread : Thread)
+    → running_at threads watched.thread ≡ Some thread
     → IsSame watched thread → RunsIn threads watched
 runs_as threads watched thread found same = subst (λ (o : Option Thread). IsSomeAnd o (IsSame watched)) (sym found) same
 
 -- a running thread is one of the threads
-pub running_got : (threads : List Thread) (n : ℕ) (thread t : Thread) → slice_get threads n ≡ Some thread → running_at threads n ≡ Some t → thread ≡ t
+pub running_got : (threads : List Thread) (n : ℕ) (thread t : Thread)
+    → slice_get threads n ≡ Some thread → running_at threads n ≡ Some t → thread ≡ t
 running_got threads n thread t got found = same_Some thread t (sym got ∙ (running_is (slice_get threads n) t found).0)
 
-pub numbered_at : (m : ℕ) (threads : List Thread) (n : ℕ) (thread : Thread) → AreNumbered m threads → slice_get threads n ≡ Some thread
+pub numbered_at : (m : ℕ) (threads : List Thread) (n : ℕ) (thread : Thread)
+    → AreNumbered m threads → slice_get threads n ≡ Some thread
     → thread.number ≡ m + n
 numbered_at m [] n thread numbered got = cc
 numbered_at m (x ∷ xs) zero thread numbered got =
@@ -78,24 +87,29 @@ numbered_at m (x ∷ xs) (suc n) thread numbered got =
     let later : thread.number ≡ suc m + n = numbered_at (suc m) xs n thread numbered.1 got in omega (arith, later)
 
 -- another thread moved
-pub runs_set : (threads : List Thread) (n : ℕ) (x : Thread) (watched : Watched) → watched.thread ≢ n → RunsIn threads watched
+pub runs_set : (threads : List Thread) (n : ℕ) (x : Thread) (watched : Watched)
+    → watched.thread ≢ n → RunsIn threads watched
     → RunsIn (set threads n x) watched
 runs_set threads n x watched other is =
-    subst (λ (o : Option Thread). IsSomeAnd (if_running o) (IsSame watched)) (sym (set_elsewhere threads n watched.thread x (λ e. other (sym e)))) is
+    subst (λ (o : Option Thread). IsSomeAnd (if_running o) (IsSame watched))
+    (sym (set_elsewhere threads n watched.thread x (λ e. other (sym e)))) is
 
 -- a thread more
-pub runs_push : (threads : List Thread) (x : Thread) (watched : Watched) → RunsIn threads watched → RunsIn (threads ++ x ∷ []) watched
+pub runs_push : (threads : List Thread) (x : Thread) (watched : Watched)
+    → RunsIn threads watched → RunsIn (threads ++ x ∷ []) watched
 runs_push threads x watched is =
     let r = its_thread threads watched is in
     let less : watched.thread < length threads = slice_get_within threads watched.thread r.thread r.got in
-    subst (λ (o : Option Thread). IsSomeAnd (if_running o) (IsSame watched)) (sym (one_more threads x watched.thread (λ e. omega (arith, less, e)))) is
+    subst (λ (o : Option Thread). IsSomeAnd (if_running o) (IsSame watched))
+    (sym (one_more threads x watched.thread (λ e. omega (arith, less, e)))) is
 
 -- the threads without one of them
 pub without_runs : (threads : List Thread) (n : ℕ) (x : Thread) (ws : List Watched) → All (RunsIn threads) ws
     → All (RunsIn (set threads n x)) (without_thread ws n)
 without_runs threads n x [] all = All-nil (RunsIn (set threads n x))
 without_runs threads n x (w ∷ ws) all =
-    elim (w.thread == n) as (λ b. (w.thread == n) ≡ b → All (RunsIn (set threads n x)) (cond (not b) (w ∷ without_thread ws n) (without_thread ws n))) [
+    elim (w.thread == n) as (λ b. (w.thread == n) ≡ b
+    → All (RunsIn (set threads n x)) (cond (not b) (w ∷ without_thread ws n) (without_thread ws n))) [
       | true ↦ λ here. without_runs threads n x ws (All-tail (RunsIn threads) w ws all)
       | false ↦ λ other.
           All-cons (RunsIn (set threads n x)) w (without_thread ws n)
@@ -104,12 +118,15 @@ without_runs threads n x (w ∷ ws) all =
     ] refl
 
 -- the threads with other frames of one that goes on
-pub frames_run : (threads : List Thread) (n : ℕ) (before after : Thread) (frames : List Frame) (ws : List Watched) → All (RunsIn threads) ws
-    → running_at threads n ≡ Some before → running_at (set threads n after) n ≡ Some after → after.number ≡ n → after.stack ≡ before.stack
+pub frames_run : (threads : List Thread) (n : ℕ) (before after : Thread) (frames : List Frame) (ws : List Watched)
+    → All (RunsIn threads) ws
+    → running_at threads n ≡ Some before
+    → running_at (set threads n after) n ≡ Some after → after.number ≡ n → after.stack ≡ before.stack
     → All (RunsIn (set threads n after)) (with_frames ws after frames)
 frames_run threads n before after frames ws all was now number stack =
     All-map (RunsIn (set threads n after)) (if_of after.number (esp_of after) frames) ws
-    (All-weaker (RunsIn threads) (λ w. RunsIn (set threads n after) (if_of after.number (esp_of after) frames w)) each ws all)
+    (All-weaker (RunsIn threads)
+    (λ w. RunsIn (set threads n after) (if_of after.number (esp_of after) frames w)) each ws all)
   where
     each : (w : Watched) → RunsIn threads w → RunsIn (set threads n after) (if_of after.number (esp_of after) frames w)
     each w is =
@@ -118,14 +135,18 @@ frames_run threads n before after frames ws all was now number stack =
           | true ↦ λ here.
               let own : w.thread ≡ n = eqb-true w.thread after.number here ∙ number in
               let r = its_thread threads w is in
-              let same : r.thread ≡ before = same_Some r.thread before (sym r.found ∙ ap (running_at threads) own ∙ was) in
-              runs_as (set threads n after) (record w { esp = esp_of after; frames = frames }) after (ap (running_at (set threads n after)) own ∙ now)
+              let same : r.thread ≡ before =
+              same_Some r.thread before (sym r.found ∙ ap (running_at threads) own ∙ was) in
+              runs_as (set threads n after) (record w { esp = esp_of after; frames = frames }) after
+              (ap (running_at (set threads n after)) own ∙ now)
               (record { stack = r.same.stack ∙ ap (λ (t : Thread). t.stack) same ∙ sym stack; esp = refl })
-          | false ↦ λ other. runs_set threads n after w (λ e. let same : w.thread ≡ after.number = e ∙ sym number in grind (arith, nat_tests)) is
+          | false ↦ λ other. runs_set threads n after w
+              (λ e. let same : w.thread ≡ after.number = e ∙ sym number in grind (arith, nat_tests)) is
         ] refl
 
 -- a thing put among things
-pub All-put_in : (P : Watched → Type 0) (x : Watched) (ws : List Watched) → P x → All P ws → All P (put_in stack_of x ws)
+pub All-put_in : (P : Watched → Type 0) (x : Watched) (ws : List Watched)
+    → P x → All P ws → All P (put_in stack_of x ws)
 All-put_in P x [] p all = All-cons P x [] p all
 All-put_in P x (w ∷ ws) p all =
     either _ (x ∷ w ∷ ws) (w ∷ put_in stack_of x ws) (All-cons P x (w ∷ ws) p all)

@@ -16,7 +16,8 @@ machine_after_one s event = by (answered s.machine event)
     by (Err refusal) = refl
     by (Ok now) = refl
 
-pub machine_after_all : (s : Watched) (events : List Event) → (watched_after_all s events).machine ≡ after_events s.machine events
+pub machine_after_all : (s : Watched) (events : List Event)
+    → (watched_after_all s events).machine ≡ after_events s.machine events
 unfolding watched_after_all after_events
 machine_after_all s [] = refl
 machine_after_all s (e ∷ es) =

@@ -1,6 +1,7 @@
 -- What the discipline is good for, as laws over all lists of events: no return lands in code that was replaced or
 -- removed after its call.
-use Rattle.std.specs.Prelude.{◌≡◌, ◌⊎◌, ℕ, Bool, false, IsTrue, IsFalse, ◌&&◌, ◌==◌, nat_le, List, [], ◌∷◌, ◌++◌, length}
+use Rattle.std.specs.Prelude.{◌≡◌, ◌⊎◌, ℕ, Bool, false, IsTrue, IsFalse, ◌&&◌}
+use Rattle.std.specs.Prelude.{◌==◌, nat_le, List, [], ◌∷◌, ◌++◌, length}
 use Rattle.std.specs.Prelude.{Option, Some, None, Result, Ok, Err}
 use Rattle.std.specs.Option.{option_map, unwrap_or}
 use Rattle.std.specs.List.{last_or, All}
@@ -98,7 +99,8 @@ MetNothing k (Some thread) = view_in k thread.pc ≡ Unmapped
 abbrev pub StopsAtFetch : Watched → ℕ → Type 0
 StopsAtFetch s thread =
     (step_outcome s thread ≡ Some (Stopped faults.Stray))
-    ⊎ ((step_outcome s thread ≡ Some (Stopped faults.Unmapped)) × MetNothing s.machine (running_at s.machine.threads thread))
+    ⊎ ((step_outcome s thread ≡ Some (Stopped faults.Unmapped))
+    × MetNothing s.machine (running_at s.machine.threads thread))
 
 -- In a disciplined list no step stops for want of code, except directly after a return to an address that had no window
 -- when its call was made.

@@ -48,7 +48,8 @@ seen k event now (Undone name) w = update_noted w
 
 abbrev pub watched_by : Watched → Event → Result Happened Refusal → Watched
 watched_by s event (Err refusal) = s
-watched_by s event (Ok now) = record { machine = now.machine; watch = seen s.machine event now.machine now.answer s.watch }
+watched_by s event (Ok now) =
+    record { machine = now.machine; watch = seen s.machine event now.machine now.answer s.watch }
 
 -- the machine and the watch after an event; one that is refused is none
 unfoldable pub watched_after : Watched → Event → Watched

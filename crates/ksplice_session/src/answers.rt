@@ -145,7 +145,8 @@ fn answer_apply(
     held: &[Vec<u8>],
 ) -> Result<Answer, AllocError>
     requires { 1 ≤ tries }
-    ensures { Answers session.old (apply_told session.old.machine name.now tries gap (bytes_of held.now)) session.new result }
+    ensures { Answers session.old
+        (apply_told session.old.machine name.now tries gap (bytes_of held.now)) session.new result }
 {
     if held.len() != 2 {
         return told(Ok(Line::new(alloc)));
@@ -167,7 +168,8 @@ fn answer_trial(
     gap: u32,
 ) -> Result<Answer, AllocError>
     requires { 1 ≤ tries }
-    ensures { Answers session.old (tried (trial_of trial.now) gap 1 (tries - 1) session.old.machine) session.new result }
+    ensures { Answers session.old
+        (tried (trial_of trial.now) gap 1 (tries - 1) session.old.machine) session.new result }
 {
     for number in 1..tries {
         let outcome = session.apply(trial.name, trial.pre, trial.post);

@@ -8,9 +8,9 @@ use frame_safety::laws::{
 use ia32_step::instructions_are_never_stray;
 use update_stack::taking_back::machines_are_built;
 
-/// In every list of events from the start of an image that keeps the discipline, an open frame whose address had a window
-/// when its call was made has one at each later moment while it is open; and no step stops for want of code, but directly
-/// after a return to an address that had no window when its call was made.
+/// In every list of events from the start of an image that keeps the discipline, an open frame whose address had a
+/// window when its call was made has one at each later moment while it is open; and no step stops for want of code, but
+/// directly after a return to an address that had no window when its call was made.
 pub fn disciplined_runs_are_safe()
     ensures frames { OpenFramesKeepWindows }
     ensures returns { NoReturnIsLost }

@@ -337,8 +337,9 @@ fn put_verdict(line: &mut Line, verdict: Verdict) -> Result<(), AllocError>
     }
 }
 
-/// Whether the run so far has kept the discipline: `watch disciplined`; or `watch broken event`, the event's number from
-/// 1 on, `thread` and the thread's number, and the first rule that it broke: `start`, `return`, `arrival` or `slot`.
+/// Whether the run so far has kept the discipline: `watch disciplined`; or `watch broken event`, the event's number
+/// from 1 on, `thread` and the thread's number, and the first rule that it broke: `start`, `return`, `arrival` or
+/// `slot`.
 #[tactic(auto, unfolding(crate::specs::Lines::watch_line))]
 pub fn put_watch(line: &mut Line, verdict: Verdict) -> Result<(), AllocError>
     ensures { OnOk result (line.new ≡ line.old ++ watch_line verdict) }

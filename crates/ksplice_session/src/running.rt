@@ -1,15 +1,15 @@
 //! Running a script.
-ghost use Rattle.std.specs.Prelude.{◌≡◌, ◌≢◌, ℕ, List, Ok, Err, IsErrOf};
+ghost use Rattle.std.specs.Prelude.{◌≡◌, ◌≢◌, ◌⊎◌, ℕ, List, Ok, Err, IsErrOf};
 ghost use Rattle.std.specs.List.{All};
 ghost use Rattle.ks_io.specs.Kept.{FilesKept, SinkKept};
-ghost use Rattle.ks_io.specs.Loads.{bytes_of};
+ghost use Rattle.ks_io.specs.Loads.{LosesOne, bytes_of};
 ghost use Rattle.ks_io.specs.Outside.{Rose};
 ghost use Rattle.image_file.specs.Reading.{Contents as Image, image_of};
 ghost use Rattle.script_lines.specs.Allowed.{IsAllowed};
 ghost use Rattle.ksplice_session.specs.inside.LineEnds.{LineEnds, ToldEnds, FileEnds, written_end, file_end};
 ghost use Rattle.ksplice_session.specs.Replies.{told_of};
 ghost use Rattle.ksplice_session.specs.inside.ScriptEnds.{ScriptEnds};
-ghost use Rattle.ksplice_session.specs.Session.{SessionEnds};
+ghost use Rattle.ksplice_session.specs.Session.{SessionEnds, files_along};
 ghost use Rattle.ksplice_session.specs.Watching.{first_watched};
 ghost use Rattle.ksplice_session.specs.Safety.{RanSafely};
 
@@ -38,6 +38,12 @@ pub fn run_session<F: Files, O: Sink>(
     ensures ends { SessionEnds (F.told files.old) session.old script.now (F.counts files.old) (F.counts files.new)
         (O.taken out.old) (O.taken out.new) session.new result }
     ensures files { FilesKept F.told F.counts F.quiet files.old files.new }
+    // Where all lines were run the counts of the files stay. At any other end they do, too, or a file was lost for a
+    // fault of the outside.
+    ensures stays { (result ≡ SessionEnd.Done) ⊎ (result ≡ SessionEnd.SomeRefused)
+        → F.counts files.new ≡ F.counts files.old }
+    ensures lost { (F.counts files.new ≡ F.counts files.old)
+        ⊎ LosesOne (λ _. files_along script.now) (F.told files.old) (F.counts files.old) (F.counts files.new) }
     ensures out { SinkKept O.faults O.quiet out.old out.new }
     ensures sink { result ≡ SessionEnd.SinkEnd → Rose (O.faults out.old) (O.faults out.new) }
     ensures steady { result ≢ SessionEnd.SinkEnd → O.faults out.new ≡ O.faults out.old }

@@ -7,7 +7,8 @@ use Rattle.i386_reloc.specs.declared.types.NormalSection.{NormalSection}
 use Rattle.run_pre_match.specs.Matched.{PreSection}
 use Rattle.match_candidates.specs.declared.trials.Tried.{Tried}
 use Rattle.match_candidates.specs.Candidates.{Running, code_sections, candidates, candidates_of}
-use Rattle.match_candidates.specs.OwnFaults.{first_undecoded, first_missing, first_mismatch, own_fault, IsTried, AreTried}
+use Rattle.match_candidates.specs.OwnFaults.{first_undecoded, first_missing}
+use Rattle.match_candidates.specs.OwnFaults.{first_mismatch, own_fault, IsTried, AreTried}
 use Rattle.match_candidates.specs.inside.Trying.{missing_among, mismatch_among, tried_from}
 use Rattle.match_candidates.proofs.TriedLaws.{are_tried}
 

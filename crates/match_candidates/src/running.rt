@@ -20,5 +20,6 @@ impl<'r, S: Space> Model for Running<'r, S> {
 
     ghost Value = { Running };
 
-    ghost view = { λ r. record { contents = S.contents r.space.now; symbols = r.table.now.symbols; bodies = r.bodies.now } };
+    ghost view = { λ r.
+        record { contents = S.contents r.space.now; symbols = r.table.now.symbols; bodies = r.bodies.now } };
 }

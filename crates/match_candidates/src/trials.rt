@@ -24,8 +24,8 @@ pub struct Tried {
     pub home: u32,
     /// Where its newest version begins.
     pub base: u32,
-    /// How many bytes its running body has, or why it doesn't match. What a match says takes more memory than all
-    /// else, and [`outcome_of`](crate::outcome_of) tells it again.
+    /// How many bytes its running body has, or why it doesn't match. What a match says isn't kept: it takes memory for
+    /// each reference, and [`outcome_of`](crate::outcome_of) tells it again.
     pub outcome: Result<u32, MatchFault>,
 }
 

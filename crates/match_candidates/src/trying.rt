@@ -5,7 +5,8 @@ ghost use Rattle.ks_base.specs.declared.refusals.Refusal.TheVariants.{Memory};
 ghost use Rattle.run_pre_match.specs.Matched.{candidate, outcome};
 ghost use Rattle.match_candidates.specs.Candidates.{homes_of, candidates_of};
 ghost use Rattle.match_candidates.specs.OwnFaults.{difference_in, length_of, mismatch_in, outcome_of};
-ghost use Rattle.match_candidates.specs.inside.Trying.{all_tried, tried_at, tried_of, tried_from, has_matched, mismatch_by, mismatch_among};
+ghost use Rattle.match_candidates.specs.inside.Trying.{all_tried, tried_at, tried_of, tried_from};
+ghost use Rattle.match_candidates.specs.inside.Trying.{has_matched, mismatch_by, mismatch_among};
 
 use crate::homes::Homes;
 use crate::running::Running;
@@ -16,13 +17,13 @@ use run_pre_match::{MatchFault, Matched, PreCode};
 use std::alloc::{AllocError, Global};
 
 /// What comes of matching a section with the code at a base, for a function whose home is given.
-fn outcome_at<S: Space>(
+fn outcome_at<'a, S: Space>(
     alloc: Global,
     running: &Running<'_, S>,
-    code: &PreCode<'_, '_>,
+    code: &PreCode<'_, 'a>,
     home: u32,
     base: u32,
-) -> Result<Result<Matched, MatchFault>, AllocError>
+) -> Result<Result<Matched<'a>, MatchFault>, AllocError>
     ensures { IfOk result (λ found. found
         ≡ outcome (candidate code.now running.now.contents running.now.symbols home base)) }
 {
@@ -36,20 +37,20 @@ fn outcome_at<S: Space>(
 
 /// What comes of matching once more one that was tried, given the code of its section: what the match says, or why it
 /// doesn't match. `Err` comes for want of memory alone.
-pub fn outcome_of<S: Space>(
+pub fn outcome_of<'a, S: Space>(
     alloc: Global,
     running: &Running<'_, S>,
-    code: &PreCode<'_, '_>,
+    code: &PreCode<'_, 'a>,
     tried: &Tried,
-) -> Result<Result<Matched, MatchFault>, AllocError>
+) -> Result<Result<Matched<'a>, MatchFault>, AllocError>
     ensures { IfOk result (λ found. found ≡ outcome_of running.now code.now tried.now) }
 {
     outcome_at(alloc, running, code, tried.home, tried.base)
 }
 
 /// What is kept of what came of matching.
-fn length_of(outcome: Result<Matched, MatchFault>) -> Result<u32, MatchFault>
-    ensures { result ≡ length_of outcome }
+fn length_of(outcome: Result<Matched<'_>, MatchFault>) -> Result<u32, MatchFault>
+    ensures { result ≡ length_of outcome.entry }
 {
     match outcome {
         Ok(matched) => Ok(matched.length),

@@ -67,13 +67,13 @@ fn refusal_of(alloc: Global, section: &Name, fault: MatchFault) -> Refusal {
 }
 
 // What comes of a code section whose home and base is an address; `None` where no code section has the name.
-fn compared(
+fn compared<'a>(
     alloc: Global,
-    object: &[u8],
+    object: &'a [u8],
     image: &[u8],
     section: &Name,
     address: u32,
-) -> Result<Option<Matched>, Refusal> {
+) -> Result<Option<Matched<'a>>, Refusal> {
     let normal = sections_of(alloc, object)?;
     let image = read_image(alloc, image)?;
     let table = image.symbols;
@@ -88,7 +88,7 @@ fn compared(
     }
 }
 
-fn put_matched(line: &mut Line, matched: &Matched) -> Result<(), AllocError> {
+fn put_matched(line: &mut Line, matched: &Matched<'_>) -> Result<(), AllocError> {
     line.put_text("ok ")?;
     line.put_number(u64::from(matched.length))?;
     line.put_text(" ")?;

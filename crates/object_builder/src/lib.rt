@@ -48,6 +48,8 @@ const FILE_HEADER: usize = 52;
 
 const SECTION_HEADER: usize = 40;
 
+const SYMBOL: usize = 16;
+
 const PROGBITS: u32 = 1;
 
 const SYMTAB: u32 = 2;
@@ -124,23 +126,63 @@ fn outside_names(alloc: Global, sections: &[Section]) -> Result<Vec<&'static str
     Ok(names)
 }
 
-/// The index of the symbol of a section or of an outside name. Those of sections begin with 1, those of outside names
-/// with `first`.
-fn index_of(sections: &[Section], outside: &[&'static str], first: u32, name: &str) -> u32 {
-    if let Some(i) = sections.iter().position(|section| section.name == name) {
-        return word(i).wrapping_add(1);
+/// What references go to, as the object's symbols.
+#[derive(Drop)]
+struct Targets<'s> {
+    /// the object's sections, whose symbols come first
+    sections: &'s [Section],
+    /// the names that no section has
+    outside: Vec<&'static str>,
+    /// the index of the first such name's symbol
+    first: u32,
+}
+
+impl<'s> Targets<'s> {
+    /// The index of the symbol of a section or of an outside name.
+    fn index_of(&self, name: &str) -> u32 {
+        if let Some(i) = self
+            .sections
+            .iter()
+            .position(|section| section.name == name)
+        {
+            return word(i).wrapping_add(1);
+        }
+        match self.outside.iter().position(|other| *other == name) {
+            Some(i) => word(i).wrapping_add(self.first),
+            None => 0,
+        }
     }
-    match outside.iter().position(|other| *other == name) {
-        Some(i) => word(i).wrapping_add(first),
-        None => 0,
+
+    /// The relocation entries of some references.
+    fn entries(
+        &self,
+        alloc: Global,
+        references: &[(u32, u32, &'static str)],
+    ) -> Result<Vec<u8>, AllocError> {
+        let mut entries = Vec::new(alloc);
+        for (offset, form, target) in references {
+            let symbol = self.index_of(target);
+            put(&mut entries, &[*offset, symbol.wrapping_mul(0x100) | *form])?;
+        }
+        Ok(entries)
     }
+}
+
+/// How many sections the object of some has: these and the one without content, the relocations of each that refers to
+/// something, and the tables of symbols and names.
+fn section_count(sections: &[Section]) -> usize {
+    let referring = sections
+        .iter()
+        .filter(|section| !section.references.is_empty())
+        .count();
+    sections.len().wrapping_add(referring).wrapping_add(3)
 }
 
 /// The parts of an object in the making.
 #[derive(Drop)]
 struct Draft {
-    /// where the contents begin in the file
-    start: usize,
+    /// how many sections it is to have; the last two are the tables of symbols and of names
+    count: usize,
     headers: Vec<u8>,
     contents: Vec<u8>,
     names: Vec<u8>,
@@ -148,6 +190,36 @@ struct Draft {
 }
 
 impl Draft {
+    /// Of an object of so many sections: the section and the symbol without content.
+    fn new(alloc: Global, count: usize) -> Result<Self, AllocError> {
+        let mut draft = Draft {
+            count,
+            headers: Vec::new(alloc),
+            contents: Vec::new(alloc),
+            names: Vec::new(alloc),
+            symbols: Vec::new(alloc),
+        };
+        let none = draft.name("")?;
+        draft.section(none, (0, 0, 0), (0, 0), &[])?;
+        draft.symbol(none, 0, UNDEFINED)?;
+        Ok(draft)
+    }
+
+    /// The index of the table of names.
+    fn names_index(&self) -> u32 {
+        word(self.count).wrapping_sub(1)
+    }
+
+    /// The index of the table of symbols.
+    fn symbols_index(&self) -> u32 {
+        word(self.count).wrapping_sub(2)
+    }
+
+    /// How many symbols it has so far.
+    fn symbol_count(&self) -> u32 {
+        word(self.symbols.len() / SYMBOL)
+    }
+
     /// The offset of a name, which is put behind the others.
     fn name(&mut self, name: &str) -> Result<u32, AllocError> {
         let offset = word(self.names.len());
@@ -166,7 +238,11 @@ impl Draft {
     ) -> Result<(), AllocError> {
         let (kind, flags, entry) = form;
         let (link, info) = refers;
-        let offset = word(self.start.wrapping_add(self.contents.len()));
+        let start = self
+            .count
+            .wrapping_mul(SECTION_HEADER)
+            .wrapping_add(FILE_HEADER);
+        let offset = word(start.wrapping_add(self.contents.len()));
         let size = word(content.len());
         put(
             &mut self.headers,
@@ -182,94 +258,115 @@ impl Draft {
             &[name, 0, 0, word(section).wrapping_mul(0x10000) | info],
         )
     }
+
+    /// Puts sections, each with its symbol.
+    fn put_sections(&mut self, sections: &[Section]) -> Result<(), AllocError> {
+        for (i, section) in sections.iter().enumerate() {
+            let name = self.name(section.name)?;
+            self.section(name, form_of(section.kind), (0, 0), section.bytes)?;
+            self.symbol(0, LOCAL_SECTION, i.wrapping_add(1))?;
+        }
+        Ok(())
+    }
+
+    /// Puts the symbols of the functions of this object alone.
+    fn put_locals(&mut self, sections: &[Section]) -> Result<(), AllocError> {
+        for (i, section) in sections.iter().enumerate() {
+            if let Kind::Local(function) = section.kind {
+                let name = self.name(function)?;
+                self.symbol(name, LOCAL_FUNCTION, i.wrapping_add(1))?;
+            }
+        }
+        Ok(())
+    }
+
+    /// Puts the symbols of the functions that other objects may refer to.
+    fn put_globals(&mut self, sections: &[Section]) -> Result<(), AllocError> {
+        for (i, section) in sections.iter().enumerate() {
+            if let Kind::Global(function) = section.kind {
+                let name = self.name(function)?;
+                self.symbol(name, GLOBAL_FUNCTION, i.wrapping_add(1))?;
+            }
+        }
+        Ok(())
+    }
+
+    /// Puts the symbols of outside names.
+    fn put_outside(&mut self, outside: &[&'static str]) -> Result<(), AllocError> {
+        for outside in outside {
+            let name = self.name(outside)?;
+            self.symbol(name, GLOBAL_WITHOUT_TYPE, UNDEFINED)?;
+        }
+        Ok(())
+    }
+
+    /// Puts the relocations of each section that refers to something.
+    fn put_relocations(&mut self, alloc: Global, targets: &Targets<'_>) -> Result<(), AllocError> {
+        for (i, section) in targets.sections.iter().enumerate() {
+            if section.references.is_empty() {
+                continue;
+            }
+            let entries = targets.entries(alloc, section.references)?;
+            let name = self.name(".rel")?;
+            let refers = (self.symbols_index(), word(i).wrapping_add(1));
+            self.section(name, (REL, 0, 8), refers, entries.as_slice())?;
+        }
+        Ok(())
+    }
+
+    /// Puts the tables of symbols, so many of which are local, and of names.
+    fn put_tables(&mut self, alloc: Global, locals: u32) -> Result<(), AllocError> {
+        let name = self.name(".symtab")?;
+        let symbols = self.symbols.as_slice().to_vec(alloc)?;
+        let refers = (self.names_index(), locals);
+        self.section(name, (SYMTAB, 0, 16), refers, symbols.as_slice())?;
+        let name = self.name(".strtab")?;
+        let names = self.names.as_slice().to_vec(alloc)?;
+        self.section(name, (STRTAB, 0, 0), (0, 0), names.as_slice())
+    }
+
+    /// The file: its header, the section headers, and the contents.
+    fn file(&self, alloc: Global) -> Result<Vec<u8>, AllocError> {
+        let mut file = Vec::new(alloc);
+        let indices = self.names_index().wrapping_mul(0x10000) | word(self.count);
+        put(
+            &mut file,
+            &[
+                0x464c457f,
+                0x10101,
+                0,
+                0,
+                0x30001,
+                1,
+                0,
+                0,
+                52,
+                0,
+                52,
+                40 * 0x10000,
+                indices,
+            ],
+        )?;
+        file.extend_from_slice(self.headers.as_slice())?;
+        file.extend_from_slice(self.contents.as_slice())?;
+        Ok(file)
+    }
 }
 
 /// The object of these sections, as a file. An error comes for want of memory alone.
 pub fn object(alloc: Global, sections: &[Section]) -> Result<Vec<u8>, AllocError> {
-    let referring = sections
-        .iter()
-        .filter(|section| !section.references.is_empty())
-        .count();
-    let count = sections.len().wrapping_add(referring).wrapping_add(3);
-    let mut draft = Draft {
-        start: count.wrapping_mul(SECTION_HEADER).wrapping_add(FILE_HEADER),
-        headers: Vec::new(alloc),
-        contents: Vec::new(alloc),
-        names: Vec::new(alloc),
-        symbols: Vec::new(alloc),
+    let mut draft = Draft::new(alloc, section_count(sections))?;
+    draft.put_sections(sections)?;
+    draft.put_locals(sections)?;
+    let locals = draft.symbol_count();
+    draft.put_globals(sections)?;
+    let targets = Targets {
+        sections,
+        outside: outside_names(alloc, sections)?,
+        first: draft.symbol_count(),
     };
-    let none = draft.name("")?;
-    draft.section(none, (0, 0, 0), (0, 0), &[])?;
-    draft.symbol(none, 0, 0)?;
-    for (i, section) in sections.iter().enumerate() {
-        let name = draft.name(section.name)?;
-        draft.section(name, form_of(section.kind), (0, 0), section.bytes)?;
-        draft.symbol(none, LOCAL_SECTION, i.wrapping_add(1))?;
-    }
-    for (i, section) in sections.iter().enumerate() {
-        if let Kind::Local(function) = section.kind {
-            let name = draft.name(function)?;
-            draft.symbol(name, LOCAL_FUNCTION, i.wrapping_add(1))?;
-        }
-    }
-    let locals = word(draft.symbols.len() / 16);
-    for (i, section) in sections.iter().enumerate() {
-        if let Kind::Global(function) = section.kind {
-            let name = draft.name(function)?;
-            draft.symbol(name, GLOBAL_FUNCTION, i.wrapping_add(1))?;
-        }
-    }
-    let first = word(draft.symbols.len() / 16);
-    let outside = outside_names(alloc, sections)?;
-    for outside in outside.iter() {
-        let name = draft.name(outside)?;
-        draft.symbol(name, GLOBAL_WITHOUT_TYPE, UNDEFINED)?;
-    }
-    let last = word(count).wrapping_sub(1);
-    let table = last.wrapping_sub(1);
-    for (i, section) in sections.iter().enumerate() {
-        if !section.references.is_empty() {
-            let mut entries = Vec::new(alloc);
-            for (offset, form, target) in section.references {
-                let symbol = index_of(sections, outside.as_slice(), first, target);
-                put(&mut entries, &[*offset, symbol.wrapping_mul(0x100) | *form])?;
-            }
-            let name = draft.name(".rel")?;
-            draft.section(
-                name,
-                (REL, 0, 8),
-                (table, word(i).wrapping_add(1)),
-                entries.as_slice(),
-            )?;
-        }
-    }
-    let name = draft.name(".symtab")?;
-    let symbols = draft.symbols.as_slice().to_vec(alloc)?;
-    draft.section(name, (SYMTAB, 0, 16), (last, locals), symbols.as_slice())?;
-    let name = draft.name(".strtab")?;
-    let names = draft.names.as_slice().to_vec(alloc)?;
-    draft.section(name, (STRTAB, 0, 0), (0, 0), names.as_slice())?;
-    let mut file = Vec::new(alloc);
-    let indices = last.wrapping_mul(0x10000) | word(count);
-    put(
-        &mut file,
-        &[
-            0x464c457f,
-            0x10101,
-            0,
-            0,
-            0x30001,
-            1,
-            0,
-            0,
-            52,
-            0,
-            52,
-            40 * 0x10000,
-            indices,
-        ],
-    )?;
-    file.extend_from_slice(draft.headers.as_slice())?;
-    file.extend_from_slice(draft.contents.as_slice())?;
-    Ok(file)
+    draft.put_outside(targets.outside.as_slice())?;
+    draft.put_relocations(alloc, &targets)?;
+    draft.put_tables(alloc, locals)?;
+    draft.file(alloc)
 }

@@ -1,5 +1,6 @@
 -- Laws of the tables as they are built.
-use Rattle.std.proofs.Common.{◌≡◌, ℕ, ◌+◌, ◌==◌, true, List, [], ◌∷◌, ◌++◌, set, Contains, Option, Some, None, if◌then◌else◌, slice_get, sym, ◌∙◌, ap, subst, arith, inl, inr}
+use Rattle.std.proofs.Common.{◌≡◌, ℕ, ◌+◌, ◌==◌, true, List, [], ◌∷◌, ◌++◌, set, Contains, Option, Some}
+use Rattle.std.proofs.Common.{None, if◌then◌else◌, slice_get, sym, ◌∙◌, ap, subst, arith, inl, inr}
 use Rattle.std.proofs.lemmas.Bool.{cond-true, cond_both, eqb-true, eq-eqb, cases_eq}
 use Rattle.std.proofs.lemmas.List.Elements.{Contains-append_left, Contains-push}
 use Rattle.propagation.specs.declared.choice.Choice.{Choice}
@@ -15,13 +16,15 @@ pub pushed_grows : (old new : List (List ℕ)) (section number : ℕ) → IsPush
 pushed_grows old new section number pushed s x h =
     let P : List ℕ → Type 0 = λ l. Contains l x in
     subst P (sym (pushed s))
-    (cond_both (s == section) (list_at old s ++ number ∷ []) (list_at old s) P (λ _. Contains-append_left (list_at old s) (number ∷ []) x h) (λ _. h))
+    (cond_both (s == section) (list_at old s ++ number ∷ [])
+    (list_at old s) P (λ _. Contains-append_left (list_at old s) (number ∷ []) x h) (λ _. h))
 
 pub pushed_has : (old new : List (List ℕ)) (section number : ℕ) → IsPushed old new section number
     → Contains (list_at new section) number
 pushed_has old new section number pushed =
     let P : List ℕ → Type 0 = λ l. Contains l number in
-    subst P (sym (pushed section ∙ cond-true (section == section) (list_at old section ++ number ∷ []) (list_at old section) (eq-eqb section section (λ _. section)))) (Contains-push (list_at old section) number)
+    subst P (sym (pushed section ∙ cond-true (section == section) (list_at old section ++ number ∷ [])
+    (list_at old section) (eq-eqb section section (λ _. section)))) (Contains-push (list_at old section) number)
 
 some_section : (a b : ℕ) → is_value (Some a) b ≡ true → a ≡ b
 some_section a b t = eqb-true a b t

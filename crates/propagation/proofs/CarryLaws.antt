@@ -1,7 +1,8 @@
 -- Laws of a choice carried out: what clashes with it is excluded.
 use Rattle.std.proofs.Common.{◌≡◌, ℕ, ◌==◌, Bool, true, not, ◌&&◌, ◌||◌, List, sym, ◌∙◌, subst, inl, inr, fold}
 use Rattle.std.specs.List.{list_any}
-use Rattle.std.proofs.lemmas.Bool.{and_parts, and_from, or_cases, or_left, or_right, eqb-false, ne_eqb, not-true, not_from_false}
+use Rattle.std.proofs.lemmas.Bool.{and_parts, and_from, or_cases, or_left, or_right}
+use Rattle.std.proofs.lemmas.Bool.{eqb-false, ne_eqb, not-true, not_from_false}
 use Rattle.propagation.specs.declared.choice.Demand.{Demand}
 use Rattle.propagation.specs.declared.choice.Choice.{Choice}
 use Rattle.propagation.specs.Choices.{Agree, contradict, claims_clash, demands_clash, is_unmet, clash}
@@ -19,7 +20,8 @@ claims_swap a b t =
     let second = list_any_has (contradict first.0) b.claims first.2 in
     let parts = contradicts_of first.0 second.0 second.2 in
     list_any_from (λ claim. list_any (contradict claim) a.claims) b.claims second.0 second.1
-    (list_any_from (contradict second.0) a.claims first.0 first.1 (contradicts_from second.0 first.0 (sym parts.0) (λ same. parts.1 (sym same))))
+    (list_any_from (contradict second.0) a.claims first.0 first.1
+    (contradicts_from second.0 first.0 (sym parts.0) (λ same. parts.1 (sym same))))
 
 pub no_clash_in : (c : Choice) → Agree c.claims → claims_clash c c ≡ true → ⊥
 no_clash_in c agree t =
@@ -42,7 +44,8 @@ unfolding clash
 clash_from a b c =
     let one : Bool = not (a.section == b.section) in
     and_from (one && a.matches && b.matches) (in_the_way a b)
-    (and_from (one && a.matches) b.matches (and_from one a.matches (not_from_false (a.section == b.section) (ne_eqb a.section b.section c.elsewhere)) c.first) c.second)
+    (and_from (one && a.matches) b.matches (and_from one a.matches
+    (not_from_false (a.section == b.section) (ne_eqb a.section b.section c.elsewhere)) c.first) c.second)
     c.way
 
 pub clash_of : (a b : Choice) → clash a b ≡ true → Clash a b
@@ -62,9 +65,12 @@ clash_of a b t =
 -- all tests by which a choice excludes another
 abbrev excludes : Choice → Choice → Bool
 excludes c other =
-    (list_any (λ claim. is_against claim other) c.claims || list_any (λ demand. is_refused c.section demand other) c.demands) || is_failed_by c other
+    (list_any (λ claim. is_against claim other) c.claims
+    || list_any (λ demand. is_refused c.section demand other) c.demands) || is_failed_by c other
 
-module _ (choices : List Choice) (e : Engine) (c : Choice) (agree : Agree c.claims) (chosen : c.matches ≡ true) (matching : (place : ℕ) (other : Choice) → At choices place other → IsLeft e.marking.left place → other.matches ≡ true) (alone : IsAlone choices e.marking.left c) where
+module _ (choices : List Choice) (e : Engine) (c : Choice) (agree : Agree c.claims)
+    (chosen : c.matches ≡ true) (matching : (place : ℕ) (other : Choice) → At choices place other
+    → IsLeft e.marking.left place → other.matches ≡ true) (alone : IsAlone choices e.marking.left c) where
   there : (place : ℕ) (other : Choice) → At choices place other → IsLeft e.marking.left place → excludes c other ≡ true
       → clash other c ≡ true
   there place other at left t =
@@ -81,7 +87,8 @@ module _ (choices : List Choice) (e : Engine) (c : Choice) (agree : Agree c.clai
                         no_clash_in c agree (subst P (alone place other at left same) claim));
                     first = first;
                     second = chosen;
-                    way = or_left (claims_clash other c || demands_clash other c) (demands_clash c other) (or_left (claims_clash other c) (demands_clash other c) (claims_swap c other claim));
+                    way = or_left (claims_clash other c || demands_clash other c) (demands_clash c other)
+                        (or_left (claims_clash other c) (demands_clash other c) (claims_swap c other claim));
                   })
               | inr demand ↦
                   (let some = list_any_has (λ d. is_refused c.section d other) c.demands demand in
@@ -93,7 +100,8 @@ module _ (choices : List Choice) (e : Engine) (c : Choice) (agree : Agree c.clai
                         eqb-false d.section c.section (not-true (d.section == c.section) parts.0) (unmet.0 ∙ same);
                     first = first;
                     second = chosen;
-                    way = or_right (claims_clash other c || demands_clash other c) (demands_clash c other) (list_any_from (is_unmet other) c.demands d some.1 parts.1);
+                    way = or_right (claims_clash other c || demands_clash other c)
+                        (demands_clash c other) (list_any_from (is_unmet other) c.demands d some.1 parts.1);
                   }))
             ]
         | inr failed ↦
@@ -102,7 +110,8 @@ module _ (choices : List Choice) (e : Engine) (c : Choice) (agree : Agree c.clai
               elsewhere = eqb-false other.section c.section (not-true (other.section == c.section) parts.0);
               first = first;
               second = chosen;
-              way = or_left (claims_clash other c || demands_clash other c) (demands_clash c other) (or_right (claims_clash other c) (demands_clash other c) parts.1);
+              way = or_left (claims_clash other c || demands_clash other c)
+                  (demands_clash c other) (or_right (claims_clash other c) (demands_clash other c) parts.1);
             }))
       ]
 
@@ -115,10 +124,12 @@ module _ (choices : List Choice) (e : Engine) (c : Choice) (agree : Agree c.clai
         | inl early ↦
             elim (or_cases (claims_clash other c) (demands_clash other c) early) [
               | inl claim ↦
-                  or_left (against || refused) (is_failed_by c other) (or_left against refused (claims_swap other c claim))
+                  or_left
+                  (against || refused) (is_failed_by c other) (or_left against refused (claims_swap other c claim))
               | inr demand ↦
                   or_right (against || refused) (is_failed_by c other)
-                  (and_from (not (other.section == c.section)) (demands_clash other c) (not_from_false (other.section == c.section) (ne_eqb other.section c.section k.elsewhere)) demand)
+                  (and_from (not (other.section == c.section)) (demands_clash other c) (not_from_false
+                  (other.section == c.section) (ne_eqb other.section c.section k.elsewhere)) demand)
             ]
         | inr asked ↦
             (let some = list_any_has (is_unmet other) c.demands asked in
@@ -127,7 +138,8 @@ module _ (choices : List Choice) (e : Engine) (c : Choice) (agree : Agree c.clai
             or_left (against || refused) (is_failed_by c other)
             (or_right against refused
             (list_any_from (λ demand. is_refused c.section demand other) c.demands d some.1
-            (and_from (not (d.section == c.section)) (is_unmet other d) (not_from_false (d.section == c.section) (ne_eqb d.section c.section (λ same. k.elsewhere (sym unmet.0 ∙ same)))) some.2))))
+            (and_from (not (d.section == c.section)) (is_unmet other d) (not_from_false (d.section == c.section)
+            (ne_eqb d.section c.section (λ same. k.elsewhere (sym unmet.0 ∙ same)))) some.2))))
       ]
 
   pub carried_out_goes : Keeps choices e → Goes choices (λ other. clash other c) e (carried_out choices e c)
@@ -142,5 +154,6 @@ module _ (choices : List Choice) (e : Engine) (c : Choice) (agree : Agree c.clai
       let second : Goes choices refused e1 e2 = demands_go choices c.section e1 c.demands first.keeps in
       let third : Goes choices (is_failed_by c) e2 e3 = meeting_goes choices e2 second.keeps c in
       goes_like choices (excludes c) (λ other. clash other c) e e3
-      (goes_then choices (λ x. against x || refused x) (is_failed_by c) e e2 e3 (goes_then choices against refused e e1 e2 first second) third)
+      (goes_then choices (λ x. against x || refused x)
+      (is_failed_by c) e e2 e3 (goes_then choices against refused e e1 e2 first second) third)
       (λ place other at t. same_bools (excludes c other) (clash other c) (there place other at t) (back other))

@@ -1,22 +1,30 @@
 -- Laws of the first conflict: it is between sections of which nothing is left.
-use Rattle.std.proofs.Common.{◌≡◌, ◌⊎◌, ℕ, zero, suc, ◌+◌, ◌-◌, ◌<◌, ◌≤◌, ◌==◌, Bool, true, false, not, ◌&&◌, ◌||◌, List, [], ◌∷◌, length, map, filter, Contains, All, Option, Some, None, slice_get, refl, sym, ◌∙◌, ap, subst, inl, inr, arith}
+use Rattle.std.proofs.Common.{◌≡◌, ◌⊎◌, ℕ, zero, suc, ◌+◌, ◌-◌, ◌<◌, ◌≤◌, ◌==◌, Bool, true, false, not}
+use Rattle.std.proofs.Common.{◌&&◌, ◌||◌, List, [], ◌∷◌, length, map, filter, Contains, All, IfSome}
+use Rattle.std.proofs.Common.{Option, Some, None, slice_get, refl, sym, ◌∙◌, ap, subst, inl, inr, arith}
 use Rattle.std.specs.List.{list_any}
 use Rattle.std.specs.Option.{option_map, option_and_then}
-use Rattle.std.proofs.lemmas.Bool.{cases_Bool, cases_order, cond-true, cond-false, and_parts, and_from, or_cases, or_left, or_right, eqb-true, eqb-false, eq-eqb, ne_eqb, not-true, not_from_false, both_ways, false_from_ne_true}
+use Rattle.std.proofs.lemmas.Bool.{cases_Bool, cases_order, cond-true, cond-false, and_parts}
+use Rattle.std.proofs.lemmas.Bool.{and_from, or_cases, or_left, or_right, eqb-true, eqb-false, eq-eqb}
+use Rattle.std.proofs.lemmas.Bool.{ne_eqb, not-true, not_from_false, both_ways, false_from_ne_true}
 use Rattle.std.proofs.lemmas.List.{length-map}
 use Rattle.std.proofs.lemmas.Option.{slice_get-map, get_or_from_slice_get}
 use Rattle.propagation.specs.declared.choice.Choice.{Choice}
 use Rattle.propagation.specs.Rounds.{is_forced, forced_among, clashes_with_one, left_in, remaining, forced, is_among}
 use Rattle.propagation.specs.RoundLaws.{remaining_is_kept}
 use Rattle.propagation.specs.Conflicts.{first_some, first_of_two, clashing, conflict}
-use Rattle.propagation.specs.Choices.{AreChoices, ComesBefore, can_be_chosen, claims_clash, demands_clash, same_section, same_choice, clash, choice_rules, is_of, by_section, pair_of, pair_at}
+use Rattle.propagation.specs.Choices.{AreChoices, ComesBefore, can_be_chosen, claims_clash, demands_clash, same_section}
+use Rattle.propagation.specs.Choices.{same_choice, clash, choice_rules, is_of, by_section, pair_of, pair_at}
 use Rattle.propagation.specs.inside.Engine.{list_at, is_left}
 use Rattle.propagation.specs.inside.State.{At, IsLeft, IsWhole}
-use Rattle.propagation.specs.inside.Striking.{clash_at, is_struck, AreApart, AreMarkedMatching, FirstStruck, is_stuck, is_stuck_in, is_stuck_out, Between, Around}
+use Rattle.propagation.specs.inside.Striking.{clash_at, is_struck, AreApart, AreMarkedMatching, FirstStruck}
+use Rattle.propagation.specs.inside.Striking.{is_stuck, is_stuck_in, is_stuck_out, Between, Around}
 use Rattle.propagation.specs.inside.Striking.FirstStruck.{NotAny, First}
 use Rattle.propagation.specs.inside.Striking.Between.{NoFirst, NoSecond, Both}
 use Rattle.propagation.specs.inside.Striking.Around.{NoOther, Other}
-use Rattle.propagation.proofs.ListLaws.{Contains-none, Contains-here, Contains-cases, Contains-filter, Contains_of_filter, list_any_from, list_any_has, list_all_has, list_all_from, contains_place, place_of}
+use Rattle.propagation.proofs.ListLaws.{Contains-none, Contains-here, Contains-cases, Contains-filter}
+use Rattle.propagation.proofs.ListLaws.{Contains_of_filter, list_any_from, list_any_has, list_all_has}
+use Rattle.propagation.proofs.ListLaws.{list_all_from, contains_place, place_of}
 use Rattle.propagation.proofs.NarrowLaws.{left_within}
 use Rattle.propagation.proofs.MarkLaws.{same_choices}
 use Rattle.propagation.proofs.CarryLaws.{Clash, clash_from, clash_of, claims_swap}
@@ -35,11 +43,13 @@ clash_swap a b t =
         | inl early ↦
             elim (or_cases (claims_clash a b) (demands_clash a b) early) [
               | inl claims ↦
-                  or_left (claims_clash b a || demands_clash b a) (demands_clash a b) (or_left (claims_clash b a) (demands_clash b a) (claims_swap a b claims))
+                  or_left (claims_clash b a || demands_clash b a)
+                  (demands_clash a b) (or_left (claims_clash b a) (demands_clash b a) (claims_swap a b claims))
               | inr demands ↦ or_right (claims_clash b a || demands_clash b a) (demands_clash a b) demands
             ]
         | inr back ↦
-            or_left (claims_clash b a || demands_clash b a) (demands_clash a b) (or_right (claims_clash b a) (demands_clash b a) back)
+            or_left (claims_clash b a || demands_clash b a)
+            (demands_clash a b) (or_right (claims_clash b a) (demands_clash b a) back)
       ];
     })
 
@@ -53,15 +63,18 @@ later_in choices n zero z h =
 later_in choices n (suc k) z h =
     let P : ℕ → Type 0 = λ m. Contains (left_in choice_rules m choices) z in
     let before : List Choice = left_in choice_rules (n + k) choices in
-    let step : Contains (left_in choice_rules (suc (n + k)) choices) z = subst P (let e : n + suc k ≡ suc (n + k) = omega arith in e) h in
-    later_in choices n k z (Contains_of_filter (λ x. not (clashes_with_one choice_rules (forced_among choice_rules choices before) x)) before z step).0
+    let step : Contains (left_in choice_rules (suc (n + k)) choices) z =
+    subst P (let e : n + suc k ≡ suc (n + k) = omega arith in e) h in
+    later_in choices n k z (Contains_of_filter
+    (λ x. not (clashes_with_one choice_rules (forced_among choice_rules choices before) x)) before z step).0
 
 remaining_in : (choices : List Choice) (n : ℕ) (z : Choice) → n ≤ length choices
     → Contains (remaining choice_rules choices) z → Contains (left_in choice_rules n choices) z
 unfolding remaining
 remaining_in choices n z le h =
     let P : ℕ → Type 0 = λ m. Contains (left_in choice_rules m choices) z in
-    later_in choices n (length choices - n) z (subst P (let e : length choices ≡ n + (length choices - n) = omega (arith, le) in e) h)
+    later_in choices n
+    (length choices - n) z (subst P (let e : length choices ≡ n + (length choices - n) = omega (arith, le) in e) h)
 
 record IsExcluded (choices : List Choice) (c : Choice) : Type 0 where
   other : Choice
@@ -76,7 +89,8 @@ forced_later choices n y le h =
     let test : Choice → Bool = λ z. not (same_section z y) || same_choice z y in
     let kept = Contains_of_filter (is_forced choice_rules (left_in choice_rules n choices)) choices y h in
     Contains-filter (is_forced choice_rules (remaining choice_rules choices)) choices y
-    (list_all_from test (remaining choice_rules choices) (λ z rest. list_all_has test (left_in choice_rules n choices) z kept.1 (remaining_in choices n z le rest)))
+    (list_all_from test (remaining choice_rules choices)
+    (λ z rest. list_all_has test (left_in choice_rules n choices) z kept.1 (remaining_in choices n z le rest)))
     kept.0
 
 left_or_excluded : (choices : List Choice) (n : ℕ) (c : Choice) → n ≤ length choices → Contains choices c
@@ -91,9 +105,14 @@ left_or_excluded choices (suc n) c le h t =
           elim (cases_Bool (list_any (clash c) ones)) [
             | inl some ↦
                 (let found = list_any_has (clash c) ones some in
-                inr (record { other = found.0; must = forced_later choices n found.0 (omega (arith, le)) found.1; clashes = found.2 }))
+                inr (record {
+                  other = found.0;
+                  must = forced_later choices n found.0 (omega (arith, le)) found.1;
+                  clashes = found.2;
+                }))
             | inr none ↦
-                inl (Contains-filter (λ x. not (clashes_with_one choice_rules ones x)) before c (not_from_false (list_any (clash c) ones) none) still)
+                inl (Contains-filter (λ x. not (clashes_with_one choice_rules ones x)) before c
+                (not_from_false (list_any (clash c) ones) none) still)
           ]
       | inr out ↦ inr out
     ]
@@ -113,14 +132,17 @@ kept_apart : (choices : List Choice) (x y : Choice) → Contains (remaining choi
 kept_apart choices x y h must t =
     let ones : List Choice = forced choice_rules choices in
     let P : List Choice → Type 0 = λ l. Contains l x in
-    let kept = Contains_of_filter (λ z. not (clashes_with_one choice_rules ones z)) (remaining choice_rules choices) x (subst P (remaining_is_kept choice_rules choices) h) in
-    both_ways (list_any (clash x) ones) (not-true (list_any (clash x) ones) kept.1) (list_any_from (clash x) ones y must t)
+    let kept = Contains_of_filter (λ z. not (clashes_with_one choice_rules ones z))
+    (remaining choice_rules choices) x (subst P (remaining_is_kept choice_rules choices) h) in
+    both_ways
+    (list_any (clash x) ones) (not-true (list_any (clash x) ones) kept.1) (list_any_from (clash x) ones y must t)
 
 -- ---- marks by a test of choices
 marks_at : (choices : List Choice) (test : Choice → Bool) (place : ℕ) (c : Choice) → At choices place c
     → is_left (map test choices) place ≡ test c
 marks_at choices test place c at =
-    get_or_from_slice_get (map test choices) place (test c) false (slice_get-map test choices place ∙ ap (option_map test) at)
+    get_or_from_slice_get
+    (map test choices) place (test c) false (slice_get-map test choices place ∙ ap (option_map test) at)
 
 comes_in_order : (a b : Choice) → ComesBefore a b → a.section ≤ b.section
 comes_in_order a b before =
@@ -130,13 +152,15 @@ comes_in_order a b before =
 mark_in : (choices : List Choice) (alive : List Bool) (section j : ℕ) (c : Choice) → At choices j c
     → IsLeft (map (is_stuck_in alive section) choices) j → (is_stuck alive c ≡ true) × (c.section ≡ section)
 mark_in choices alive section j c at t =
-    let parts = and_parts (is_stuck alive c) (c.section == section) (sym (marks_at choices (is_stuck_in alive section) j c at) ∙ t) in
+    let parts = and_parts
+    (is_stuck alive c) (c.section == section) (sym (marks_at choices (is_stuck_in alive section) j c at) ∙ t) in
     (parts.0, eqb-true c.section section parts.1)
 
 mark_out : (choices : List Choice) (alive : List Bool) (section j : ℕ) (c : Choice) → At choices j c
     → IsLeft (map (is_stuck_out alive section) choices) j → (is_stuck alive c ≡ true) × (c.section ≡ section → ⊥)
 mark_out choices alive section j c at t =
-    let parts = and_parts (is_stuck alive c) (not (c.section == section)) (sym (marks_at choices (is_stuck_out alive section) j c at) ∙ t) in
+    let parts = and_parts (is_stuck alive c)
+    (not (c.section == section)) (sym (marks_at choices (is_stuck_out alive section) j c at) ∙ t) in
     (parts.0, eqb-false c.section section (not-true (c.section == section) parts.1))
 
 pub in_matching : (choices : List Choice) (alive : List Bool) (section : ℕ)
@@ -163,7 +187,8 @@ pub single_apart : (choices : List Choice) (alive : List Bool) (one two : ℕ) (
     → IsLeft (map (is_stuck_in alive one) choices) first
     → AreApart choices (map (is_stuck_in alive two) choices) (first ∷ [])
 single_apart choices alive one two first ne marked place c h at other x there t same =
-    let e : first ≡ place = elim (Contains-cases first place [] h) [ inl e ↦ e | inr none ↦ absurd (Contains-none place none) ] in
+    let e : first ≡ place =
+    elim (Contains-cases first place [] h) [ inl e ↦ e | inr none ↦ absurd (Contains-none place none) ] in
     let P : ℕ → Type 0 = IsLeft (map (is_stuck_in alive one) choices) in
     let mine = mark_in choices alive one place c at (subst P e marked) in
     ne (sym mine.1 ∙ sym same ∙ (mark_in choices alive two other x there t).1)
@@ -179,6 +204,31 @@ first_marked (First place marked struck before) = marked
 not_any : {choices : List Choice} {marks : List Bool} {by : List ℕ} → FirstStruck choices marks by None
     → (place : ℕ) (c : Choice) → At choices place c → IsLeft marks place → is_struck choices by c ≡ false
 not_any (NotAny none) = none
+
+-- the places that the searches find are those of choices
+marked_within : (choices : List Choice) (test : Choice → Bool) (place : ℕ) → IsLeft (map test choices) place
+    → place < length choices
+marked_within choices test place t =
+    let less = left_within (map test choices) place t in
+    let long = length-map choices test in
+    omega (arith, less, long)
+
+between_within : (choices : List Choice) (whole : List (List ℕ)) (alive : List Bool) (one two : ℕ)
+    {found : Option (ℕ × ℕ)} → Between choices whole alive one two found
+    → IfSome found (λ p. (p.0 < length choices) × (p.1 < length choices))
+between_within choices whole alive one two (NoFirst none) = tt
+between_within choices whole alive one two (NoSecond first first_one none) = tt
+between_within choices whole alive one two (Both first second first_one first_two) = (
+  marked_within choices (is_stuck_in alive one) first (first_marked first_one),
+  marked_within choices (is_stuck_in alive two) second (first_marked first_two),
+)
+
+pub around_within : (choices : List Choice) (whole : List (List ℕ)) (alive : List Bool) (one : ℕ)
+    {found : Option (ℕ × ℕ)} → Around choices whole alive one found
+    → IfSome found (λ p. (p.0 < length choices) × (p.1 < length choices))
+around_within choices whole alive one (NoOther none) = tt
+around_within choices whole alive one (Other place c pair first at between) =
+    between_within choices whole alive one c.section between
 
 record Struck (choices : List Choice) (marks : List Bool) (by : List ℕ) (place : ℕ) : Type 0 where
   marked : IsLeft marks place
@@ -215,9 +265,14 @@ strikes choices by c place other at h t =
 not_struck : (choices : List Choice) (by : List ℕ) (c : Choice) (place : ℕ) (other : Choice) → At choices place other
     → Contains by place → is_struck choices by c ≡ false → clash c other ≡ false
 not_struck choices by c place other at h f =
-    false_from_ne_true (clash c other) (λ t. both_ways (is_struck choices by c) f (strikes choices by c place other at h t))
+    false_from_ne_true
+    (clash c other) (λ t. both_ways (is_struck choices by c) f (strikes choices by c place other at h t))
 
-module _ (choices : List Choice) (are : AreChoices choices) (left : List Bool) (is_rest : left ≡ map (is_among choice_rules (remaining choice_rules choices)) choices) (whole : List (List ℕ)) (is : IsWhole choices whole) (sections : ℕ) (within : All (λ c. c.section < sections) choices) (alive : List Bool) (each : (section : ℕ) → section < sections → is_left alive section ≡ list_any (is_left left) (list_at whole section)) where
+module _ (choices : List Choice) (are : AreChoices choices)
+    (left : List Bool) (is_rest : left ≡ map (is_among choice_rules (remaining choice_rules choices)) choices)
+    (whole : List (List ℕ)) (is : IsWhole choices whole)
+    (sections : ℕ) (within : All (λ c. c.section < sections) choices) (alive : List Bool) (each : (section : ℕ)
+    → section < sections → is_left alive section ≡ list_any (is_left left) (list_at whole section)) where
   abbrev rest : List Choice
   rest = remaining choice_rules choices
 
@@ -257,7 +312,8 @@ module _ (choices : List Choice) (are : AreChoices choices) (left : List Bool) (
   quiet place c at t j y there left_there same =
       let parts = and_parts c.matches (not (is_left alive c.section)) t in
       both_ways (is_left alive c.section) (not-true (is_left alive c.section) parts.1)
-      (each c.section (below place c at) ∙ list_any_from (is_left left) (list_at whole c.section) j (whole_has choices whole is c.section j y there same) left_there)
+      (each c.section (below place c at) ∙ list_any_from
+      (is_left left) (list_at whole c.section) j (whole_has choices whole is c.section j y there same) left_there)
 
   stuck_of : (place : ℕ) (c : Choice) → At choices place c → c.matches ≡ true
       → ((j : ℕ) (y : Choice) → At choices j y → IsLeft left j → y.section ≡ c.section → ⊥) → is_stuck alive c ≡ true
@@ -281,7 +337,8 @@ module _ (choices : List Choice) (are : AreChoices choices) (left : List Bool) (
       (λ y h.
       (let j = place_of choices y (remaining_all choice_rules choices y h).0 in
       or_left (not (same_section y c)) (same_choice y c)
-      (not_from_false (same_section y c) (ne_eqb y.section c.section (λ same. quiet place c at t j.0 y j.1 (stays j.0 y j.1 h) same))))))
+      (not_from_false (same_section y c)
+      (ne_eqb y.section c.section (λ same. quiet place c at t j.0 y j.1 (stays j.0 y j.1 h) same))))))
       (contains_place choices place c at)
 
   forced_test : (x : Choice) → Contains must x → Contains choices x × (is_forced choice_rules rest x ≡ true)
@@ -310,14 +367,16 @@ module _ (choices : List Choice) (are : AreChoices choices) (left : List Bool) (
       ]))
 
   unless : (w z : Choice) → Contains must w → Contains must z
-      → ((i : ℕ) → At choices i w → is_stuck alive w ≡ true → (j : ℕ) → At choices j z → is_stuck alive z ≡ true → clash w z ≡ false)
+      → ((i : ℕ) → At choices i w
+      → is_stuck alive w ≡ true → (j : ℕ) → At choices j z → is_stuck alive z ≡ true → clash w z ≡ false)
       → clash w z ≡ false
   unless w z hw hz none =
       false_from_ne_true (clash w z)
       (λ t.
       (let i = place_of choices w (forced_test w hw).0 in
       let j = place_of choices z (forced_test z hz).0 in
-      both_ways (clash w z) (none i.0 i.1 (stuck_by i.0 w z i.1 hw hz t) j.0 j.1 (stuck_by j.0 z w j.1 hz hw (clash_swap w z t))) t))
+      both_ways (clash w z)
+      (none i.0 i.1 (stuck_by i.0 w z i.1 hw hz t) j.0 j.1 (stuck_by j.0 z w j.1 hz hw (clash_swap w z t))) t))
 
   abbrev groups : ℕ → List Choice
   groups section = filter (is_of section) must
@@ -343,7 +402,8 @@ module _ (choices : List Choice) (are : AreChoices choices) (left : List Bool) (
       between_none groups (clashing choice_rules) 0 sections
       (λ s t le less below_it.
       apart_none s t
-      (λ x y hx hy _ _. unless x y hx hy (λ i at stuck j there _. absurd (both_ways (is_stuck alive x) (none i x at) stuck))))
+      (λ x y hx hy _ _.
+      unless x y hx hy (λ i at stuck j there _. absurd (both_ways (is_stuck alive x) (none i x at) stuck))))
 
   abbrev test_in : ℕ → Choice → Bool
   test_in section c = is_forced choice_rules rest c && is_of section c
@@ -356,7 +416,8 @@ module _ (choices : List Choice) (are : AreChoices choices) (left : List Bool) (
   in_test place c at t =
       let P : List Choice → Type 0 = λ l. Contains l c in
       subst P (sym must_is)
-      (Contains-filter (is_forced choice_rules rest) choices c (and_parts (is_forced choice_rules rest c) (is_of c.section c) t).0 (contains_place choices place c at))
+      (Contains-filter (is_forced choice_rules rest) choices c
+      (and_parts (is_forced choice_rules rest c) (is_of c.section c) t).0 (contains_place choices place c at))
 
   -- what the search finds of two sections
   record Found (k1 k2 : ℕ) (x y : Choice) : Type 0 where
@@ -379,8 +440,11 @@ module _ (choices : List Choice) (are : AreChoices choices) (left : List Bool) (
       → Contains must c × (c.section ≡ section)
   test_of section place c at t =
       let parts = and_parts (is_forced choice_rules rest c) (is_of section c) t in
-      let P : List Choice → Type 0 = λ l. Contains l c in
-      (subst P (sym must_is) (Contains-filter (is_forced choice_rules rest) choices c parts.0 (contains_place choices place c at)), eqb-true c.section section parts.1)
+      let P : List Choice → Type 0 = λ l. Contains l c in (
+        subst P (sym must_is) (Contains-filter (is_forced choice_rules rest) choices c parts.0
+            (contains_place choices place c at)),
+        eqb-true c.section section parts.1,
+      )
 
   passes : (c : Choice) → Contains must c → test_in c.section c ≡ true
   passes c h =
@@ -399,10 +463,12 @@ module _ (choices : List Choice) (are : AreChoices choices) (left : List Bool) (
     gives_it : gives x ≡ Some (x, y)
     gives_it =
         ap (first_some (clashing choice_rules x)) (groups_are y.section)
-        ∙ first_at (clashing choice_rules x) (test_in y.section) choices k2 y (x, y) f.two (passes y must_two) (cond-true (clash x y) (Some (x, y)) None f.clashes)
+        ∙ first_at (clashing choice_rules x) (test_in y.section) choices k2 y
+        (x, y) f.two (passes y must_two) (cond-true (clash x y) (Some (x, y)) None f.clashes)
         (λ j z less at t.
         (let h = test_of y.section j z at t in
-        cond-false (clash x z) (Some (x, z)) None (unless x z must_one h.0 (λ i ati si k atk sk. f.sooner j z less at sk h.1))))
+        cond-false (clash x z)
+        (Some (x, z)) None (unless x z must_one h.0 (λ i ati si k atk sk. f.sooner j z less at sk h.1))))
 
     gives_none : (i : ℕ) (w : Choice) → i < k1 → At choices i w → test_in x.section w ≡ true → gives w ≡ None
     gives_none i w less at t =
@@ -410,7 +476,8 @@ module _ (choices : List Choice) (are : AreChoices choices) (left : List Bool) (
         first_none (clashing choice_rules w) (groups y.section)
         (λ z hz.
         (let g = of_group y.section z hz in
-        cond-false (clash w z) (Some (w, z)) None (unless w z h.0 g.0 (λ k atk sk j atj sj. f.before i j w z less at atj sk sj h.1 g.1))))
+        cond-false (clash w z)
+        (Some (w, z)) None (unless w z h.0 g.0 (λ k atk sk j atj sj. f.before i j w z less at atj sk sj h.1 g.1))))
 
     of_two : first_of_two (clashing choice_rules) (groups x.section) (groups y.section) ≡ Some (x, y)
     of_two =
@@ -419,7 +486,8 @@ module _ (choices : List Choice) (are : AreChoices choices) (left : List Bool) (
 
     conflict_is : goes_on ≡ Some (x, y)
     conflict_is =
-        between_at groups (clashing choice_rules) 0 sections x.section y.section (x, y) (omega arith) f.apart (let less = below k2 y f.two in omega (arith, less)) of_two
+        between_at groups (clashing choice_rules) 0 sections x.section y.section
+        (x, y) (omega arith) f.apart (let less = below k2 y f.two in omega (arith, less)) of_two
         (λ s t low less apart most.
         apart_none s t
         (λ w z hw hz ws zs.
@@ -434,23 +502,27 @@ module _ (choices : List Choice) (are : AreChoices choices) (left : List Bool) (
   marked_in : (section j : ℕ) (c : Choice) → At choices j c → is_stuck alive c ≡ true → c.section ≡ section
       → IsLeft (map (is_stuck_in alive section) choices) j
   marked_in section j c at t e =
-      marks_at choices (is_stuck_in alive section) j c at ∙ and_from (is_stuck alive c) (c.section == section) t (eq-eqb c.section section e)
+      marks_at choices (is_stuck_in alive section) j c at
+      ∙ and_from (is_stuck alive c) (c.section == section) t (eq-eqb c.section section e)
 
   of_in : (section j : ℕ) (c : Choice) → At choices j c → IsLeft (map (is_stuck_in alive section) choices) j
       → (is_stuck alive c ≡ true) × (c.section ≡ section)
   of_in section j c at t =
-      let parts = and_parts (is_stuck alive c) (c.section == section) (sym (marks_at choices (is_stuck_in alive section) j c at) ∙ t) in
+      let parts = and_parts
+      (is_stuck alive c) (c.section == section) (sym (marks_at choices (is_stuck_in alive section) j c at) ∙ t) in
       (parts.0, eqb-true c.section section parts.1)
 
   marked_out : (section j : ℕ) (c : Choice) → At choices j c → is_stuck alive c ≡ true → (c.section ≡ section → ⊥)
       → IsLeft (map (is_stuck_out alive section) choices) j
   marked_out section j c at t ne =
-      marks_at choices (is_stuck_out alive section) j c at ∙ and_from (is_stuck alive c) (not (c.section == section)) t (not_from_false (c.section == section) (ne_eqb c.section section ne))
+      marks_at choices (is_stuck_out alive section) j c at ∙ and_from (is_stuck alive c)
+      (not (c.section == section)) t (not_from_false (c.section == section) (ne_eqb c.section section ne))
 
   of_out : (section j : ℕ) (c : Choice) → At choices j c → IsLeft (map (is_stuck_out alive section) choices) j
       → (is_stuck alive c ≡ true) × (c.section ≡ section → ⊥)
   of_out section j c at t =
-      let parts = and_parts (is_stuck alive c) (not (c.section == section)) (sym (marks_at choices (is_stuck_out alive section) j c at) ∙ t) in
+      let parts = and_parts (is_stuck alive c)
+      (not (c.section == section)) (sym (marks_at choices (is_stuck_out alive section) j c at) ∙ t) in
       (parts.0, eqb-false c.section section (not-true (c.section == section) parts.1))
 
   choice_at : (test : Choice → Bool) (place : ℕ) → IsLeft (map test choices) place → (c : Choice) × At choices place c
@@ -466,7 +538,8 @@ module _ (choices : List Choice) (are : AreChoices choices) (left : List Bool) (
       and_from b.matches (not (is_left alive b.section)) chosen
       (ap (λ s. not (is_left alive s)) same ∙ (and_parts c.matches (not (is_left alive c.section)) t).1)
 
-  module _ (p0 : ℕ) (c0 : Choice) (at0 : At choices p0 c0) (stuck0 : is_stuck alive c0 ≡ true) (early : (k : ℕ) (c : Choice) → k < p0 → At choices k c → is_stuck alive c ≡ false) where
+  module _ (p0 : ℕ) (c0 : Choice) (at0 : At choices p0 c0) (stuck0 : is_stuck alive c0 ≡ true)
+      (early : (k : ℕ) (c : Choice) → k < p0 → At choices k c → is_stuck alive c ≡ false) where
     abbrev one : ℕ
     one = c0.section
 
@@ -484,7 +557,8 @@ module _ (choices : List Choice) (are : AreChoices choices) (left : List Bool) (
               ]
         ]
 
-    module _ (place : ℕ) (c : Choice) (first : FirstStruck choices (map (is_stuck_out alive one) choices) (list_at whole one) (Some place)) (at : At choices place c) where
+    module _ (place : ℕ) (c : Choice) (first : FirstStruck choices
+        (map (is_stuck_out alive one) choices) (list_at whole one) (Some place)) (at : At choices place c) where
       abbrev two : ℕ
       two = c.section
 
@@ -507,9 +581,11 @@ module _ (choices : List Choice) (are : AreChoices choices) (left : List Bool) (
       no_first none =
           both_ways (is_struck choices (list_at whole two) hit.other)
           (not_any none hit.place hit.other hit.at (marked_in one hit.place hit.other hit.at hit_stuck hit_of))
-          (strikes choices (list_at whole two) hit.other place c at (whole_has choices whole is two place c at refl) (clash_swap c hit.other hit.clashes))
+          (strikes choices (list_at whole two) hit.other place c at
+          (whole_has choices whole is two place c at refl) (clash_swap c hit.other hit.clashes))
 
-      module _ (k1 : ℕ) (first_one : FirstStruck choices (map (is_stuck_in alive one) choices) (list_at whole two) (Some k1)) where
+      module _ (k1 : ℕ)
+          (first_one : FirstStruck choices (map (is_stuck_in alive one) choices) (list_at whole two) (Some k1)) where
         s1 : Struck choices (map (is_stuck_in alive one) choices) (list_at whole two) k1
         s1 = struck_first first_one
 
@@ -521,14 +597,16 @@ module _ (choices : List Choice) (are : AreChoices choices) (left : List Bool) (
 
         no_second : FirstStruck choices (map (is_stuck_in alive two) choices) (k1 ∷ []) None → ⊥
         no_second none =
-            let z : StruckBy choices (list_at whole two) x.0 = struck_by choices (list_at whole two) x.0 (s1.struck x.0 x.1) in
+            let z : StruckBy choices (list_at whole two) x.0 =
+            struck_by choices (list_at whole two) x.0 (s1.struck x.0 x.1) in
             let z_of = whole_of choices whole is two z.place z.by_it z.other z.at in
             let z_stuck = stuck_too c z.other its.0 (clash_of x.0 z.other z.clashes).second z_of in
             both_ways (is_struck choices (k1 ∷ []) z.other)
             (not_any none z.place z.other z.at (marked_in two z.place z.other z.at z_stuck z_of))
             (strikes choices (k1 ∷ []) z.other k1 x.0 x.1 (Contains-here k1 []) (clash_swap x.0 z.other z.clashes))
 
-        module _ (k2 : ℕ) (first_two : FirstStruck choices (map (is_stuck_in alive two) choices) (k1 ∷ []) (Some k2)) where
+        module _
+            (k2 : ℕ) (first_two : FirstStruck choices (map (is_stuck_in alive two) choices) (k1 ∷ []) (Some k2)) where
           s2 : Struck choices (map (is_stuck_in alive two) choices) (k1 ∷ []) k2
           s2 = struck_first first_two
 
@@ -541,7 +619,8 @@ module _ (choices : List Choice) (are : AreChoices choices) (left : List Bool) (
           they_clash : clash x.0 y.0 ≡ true
           they_clash =
               let z : StruckBy choices (k1 ∷ []) y.0 = struck_by choices (k1 ∷ []) y.0 (s2.struck y.0 y.1) in
-              let e : k1 ≡ z.place = elim (Contains-cases k1 z.place [] z.by_it) [ inl e ↦ e | inr none ↦ absurd (Contains-none z.place none) ] in
+              let e : k1 ≡ z.place = elim (Contains-cases k1 z.place [] z.by_it)
+              [ inl e ↦ e | inr none ↦ absurd (Contains-none z.place none) ] in
               let same = same_choices choices z.place z.other x.0 z.at (ap (slice_get choices) (sym e) ∙ x.1) in
               clash_swap y.0 x.0 (ap (clash y.0) (sym same) ∙ z.clashes)
 
@@ -559,7 +638,8 @@ module _ (choices : List Choice) (are : AreChoices choices) (left : List Bool) (
                     elim apart [
                       | inl early_one ↦ early_one
                       | inr late ↦
-                          (let le = comes_in_order c z (are.order place j c z late at there) in absurd (omega (arith, le, less)))
+                          (let le = comes_in_order c z (are.order place j c z late at there) in
+                          absurd (omega (arith, le, less)))
                     ]
               ]
 
@@ -581,16 +661,21 @@ module _ (choices : List Choice) (are : AreChoices choices) (left : List Bool) (
                     (let w_of : w.section ≡ one = ws ∙ x_of in
                     let less : z.section < two = omega (arith, high, y_of) in
                     let outside : z.section ≡ one → ⊥ = λ e. omega (arith, e, low, x_of) in
-                    back_false z w (not_struck choices (list_at whole one) z i w ati (whole_has choices whole is one i w ati w_of) (s.before j z (sooner_than j z atj less) atj (marked_out one j z atj sz outside))));
+                    back_false z w
+                    (not_struck choices (list_at whole one) z i w ati (whole_has choices whole is one i w ati w_of)
+                    (s.before j z (sooner_than j z atj less) atj (marked_out one j z atj sz outside))));
                 before = λ i j w z less ati atj sw sz ws zs.
-                    not_struck choices (list_at whole two) w j z atj (whole_has choices whole is two j z atj (zs ∙ y_of)) (s1.before i w less ati (marked_in one i w ati sw (ws ∙ x_of)));
+                    not_struck choices (list_at whole two) w j z atj (whole_has choices whole is two j z atj
+                    (zs ∙ y_of)) (s1.before i w less ati (marked_in one i w ati sw (ws ∙ x_of)));
                 sooner = λ j z less there t zs.
-                    back_false z x.0 (not_struck choices (k1 ∷ []) z k1 x.0 x.1 (Contains-here k1 []) (s2.before j z less there (marked_in two j z there t (zs ∙ y_of))));
+                    back_false z x.0 (not_struck choices (k1 ∷ []) z k1 x.0 x.1
+                    (Contains-here k1 []) (s2.before j z less there (marked_in two j z there t (zs ∙ y_of))));
               }
 
           both_found : pair_at choices (k1, k2) ≡ goes_on
           both_found =
-              ap (λ o. pair_of o (slice_get choices k2)) x.1 ∙ ap (λ o. pair_of (Some x.0) o) y.1 ∙ sym (conflict_is k1 k2 x.0 y.0 found)
+              ap (λ o. pair_of o (slice_get choices k2)) x.1
+              ∙ ap (λ o. pair_of (Some x.0) o) y.1 ∙ sym (conflict_is k1 k2 x.0 y.0 found)
 
       between_is : {found : Option (ℕ × ℕ)} → Between choices whole alive one two found
           → option_and_then (pair_at choices) found ≡ goes_on
@@ -601,7 +686,8 @@ module _ (choices : List Choice) (are : AreChoices choices) (left : List Bool) (
     no_other : FirstStruck choices (map (is_stuck_out alive one) choices) (list_at whole one) None → ⊥
     no_other none =
         let gone : Contains rest c0 → ⊥ = λ h. quiet p0 c0 at0 stuck0 p0 c0 at0 (stays p0 c0 at0 h) refl in
-        let out : IsExcluded choices c0 = excluded_one choices c0 (contains_place choices p0 c0 at0) (and_parts c0.matches (not (is_left alive c0.section)) stuck0).0 gone in
+        let out : IsExcluded choices c0 = excluded_one choices c0
+        (contains_place choices p0 c0 at0) (and_parts c0.matches (not (is_left alive c0.section)) stuck0).0 gone in
         let j = place_of choices out.other (forced_test out.other out.must).0 in
         let back = clash_swap c0 out.other out.clashes in
         let t = stuck_by j.0 out.other c0 j.1 out.must (forced_if p0 c0 at0 stuck0) back in

@@ -20,4 +20,5 @@ module _ (choices : List Choice) (e : Engine) (state : State choices e) (over : 
       ]
 
   pub ended : AreChoices choices → e.marking.left ≡ map (is_among choice_rules (remaining choice_rules choices)) choices
-  ended are = marks_remaining choices are.order e.marking.left state.matching all_closed state.keeps.marks.size state.sound
+  ended are =
+      marks_remaining choices are.order e.marking.left state.matching all_closed state.keeps.marks.size state.sound

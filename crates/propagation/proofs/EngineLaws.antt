@@ -1,5 +1,6 @@
 -- Laws of choices excluded by a test of what they are.
-use Rattle.std.proofs.Common.{◌≡◌, ℕ, ◌≤◌, Bool, true, false, not, ◌&&◌, ◌||◌, List, Option, sym, ◌∙◌, ap, inl, inr, arith}
+use Rattle.std.proofs.Common.{◌≡◌, ℕ, ◌≤◌, Bool, true, false, not, ◌&&◌, ◌||◌}
+use Rattle.std.proofs.Common.{List, Option, sym, ◌∙◌, ap, inl, inr, arith}
 use Rattle.std.proofs.lemmas.Bool.{cases_Bool, and_parts, not-true, both_ways}
 use Rattle.propagation.specs.declared.choice.Choice.{Choice}
 use Rattle.propagation.specs.declared.tables.Entry.{Entry}
@@ -46,7 +47,8 @@ pub goes_then : (choices : List Choice) (t u : Choice → Bool) (a b c : Engine)
 goes_then choices t u a b c first second = record {
   keeps = second.keeps;
   left = λ place x at.
-      second.left place x at ∙ ap (λ y. y && not (u x)) (first.left place x at) ∙ and_or (is_left a.marking.left place) (t x) (u x);
+      second.left place x at
+      ∙ ap (λ y. y && not (u x)) (first.left place x at) ∙ and_or (is_left a.marking.left place) (t x) (u x);
   stays = λ section h. second.stays section (first.stays section h);
   put = λ place x at was now.
       elim (cases_Bool (is_left b.marking.left place)) [

@@ -1,8 +1,11 @@
 -- Laws of lists, by what they contain, and of tables.
-use Rattle.std.proofs.Common.{◌≡◌, ◌⊎◌, ℕ, zero, suc, ◌==◌, ◌<◌, Bool, true, false, List, [], ◌∷◌, length, get_or, set, map, filter, Contains, Option, Some, None, refl, sym, ◌∙◌, ap, subst, inl, inr, arith, zero-lt-suc, suc-le-suc, le_of_suc-le-suc}
+use Rattle.std.proofs.Common.{◌≡◌, ◌⊎◌, ℕ, zero, suc, ◌==◌, ◌<◌, Bool, true, false, List, [], ◌∷◌}
+use Rattle.std.proofs.Common.{length, get_or, set, map, filter, Contains, Option, Some, None, refl, sym}
+use Rattle.std.proofs.Common.{◌∙◌, ap, subst, inl, inr, arith, zero-lt-suc, suc-le-suc, le_of_suc-le-suc}
 use Rattle.std.specs.List.{list_any, list_all, slice_get}
 use Rattle.std.proofs.lemmas.Option.{slice_get_within, slice_get-get_or, get_or_from_slice_get}
-use Rattle.std.proofs.lemmas.Bool.{cases_Bool, cases_eq, cases_lt, cond_both, cond-true, cond-false, false≢true, or_left, or_right, or_cases, and_parts, and_from, eqb-true, eq-eqb}
+use Rattle.std.proofs.lemmas.Bool.{cases_Bool, cases_eq, cases_lt, cond_both, cond-true, cond-false, false≢true}
+use Rattle.std.proofs.lemmas.Bool.{or_left, or_right, or_cases, and_parts, and_from, eqb-true, eq-eqb}
 use Rattle.std.proofs.lemmas.List.{get_or-set_same, get_or-set_other, set_past}
 use Rattle.std.proofs.lemmas.List.Elements.{Contains-append_left, Contains-append_right, Contains-append_cases}
 use Rattle.propagation.specs.inside.Engine.{is_known, is_value, said_below}
@@ -38,10 +41,12 @@ Contains-filter {X} p (y ∷ ys) x t h =
       | inl e ↦
           (let P : List X → Type 0 = λ l. Contains l x in
           let Q : X → Type 0 = λ z. Contains (z ∷ filter p ys) x in
-          subst P (sym (cond-true (p y) (y ∷ filter p ys) (filter p ys) (ap p e ∙ t))) (subst Q (sym e) (Contains-here x (filter p ys))))
+          subst P (sym (cond-true (p y) (y ∷ filter p ys) (filter p ys) (ap p e ∙ t)))
+          (subst Q (sym e) (Contains-here x (filter p ys))))
       | inr later ↦
           (let r = Contains-filter p ys x t later in
-          cond_both (p y) (y ∷ filter p ys) (filter p ys) (λ l. Contains l x) (λ _. Contains-there y x (filter p ys) r) (λ _. r))
+          cond_both (p y)
+          (y ∷ filter p ys) (filter p ys) (λ l. Contains l x) (λ _. Contains-there y x (filter p ys) r) (λ _. r))
     ]
 
 pub Contains_of_filter : {X : Type 0} (p : X → Bool) (xs : List X) (x : X) → Contains (filter p xs) x
@@ -68,7 +73,8 @@ pub Contains-map : {X Y : Type 0} (f : X → Y) (xs : List X) (x : X) → Contai
 Contains-map f [] x h = absurd (Contains-none x h)
 Contains-map {X} {Y} f (y ∷ ys) x h =
     elim (Contains-cases y x ys h) [
-      | inl e ↦ (let P : X → Type 0 = λ z. Contains (f y ∷ map f ys) (f z) in subst P e (Contains-here (f y) (map f ys)))
+      | inl e ↦
+          (let P : X → Type 0 = λ z. Contains (f y ∷ map f ys) (f z) in subst P e (Contains-here (f y) (map f ys)))
       | inr later ↦ Contains-there (f y) (f x) (map f ys) (Contains-map f ys x later)
     ]
 
@@ -174,4 +180,5 @@ pub list_all_from : {X : Type 0} (p : X → Bool) (xs : List X) → ((x : X) →
     → list_all p xs ≡ true
 list_all_from p [] each = refl
 list_all_from p (y ∷ ys) each =
-    and_from (p y) (list_all p ys) (each y (Contains-here y ys)) (list_all_from p ys (λ x h. each x (Contains-there y x ys h)))
+    and_from (p y)
+    (list_all p ys) (each y (Contains-here y ys)) (list_all_from p ys (λ x h. each x (Contains-there y x ys h)))

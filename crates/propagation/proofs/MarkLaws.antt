@@ -1,12 +1,15 @@
 -- Laws of marks: what an exclusion leaves.
-use Rattle.std.proofs.Common.{◌≡◌, ℕ, zero, suc, ◌+◌, ◌<◌, ◌≤◌, Bool, true, false, not, ◌&&◌, ◌||◌, ◌==◌, cond, List, [], ◌∷◌, ◌++◌, length, get_or, set, sum_by, Contains, Option, Some, None, refl, sym, ◌∙◌, ap, subst, inl, inr, arith, slice_get}
+use Rattle.std.proofs.Common.{◌≡◌, ℕ, zero, suc, ◌+◌, ◌<◌, ◌≤◌, Bool, true, false, not, ◌&&◌, ◌||◌}
+use Rattle.std.proofs.Common.{◌==◌, cond, List, [], ◌∷◌, ◌++◌, length, get_or, set, sum_by, Contains}
+use Rattle.std.proofs.Common.{Option, Some, None, refl, sym, ◌∙◌, ap, subst, inl, inr, arith, slice_get}
 use Rattle.std.specs.List.{list_any}
 use Rattle.std.proofs.lemmas.Bool.{cases_Bool, cases_eq, cases_lt, cond_both, false≢true, eq-eqb, ne_eqb, both_ways}
 use Rattle.std.proofs.lemmas.List.{length-set, length-append, get_or-set_same, get_or-set_other}
 use Rattle.std.proofs.lemmas.List.Elements.{Contains-append_left, Contains-push}
 use Rattle.std.proofs.lemmas.List.Sums.{sum_by-set}
 use Rattle.propagation.specs.declared.choice.Choice.{Choice}
-use Rattle.propagation.specs.inside.Engine.{Marking, is_left, waiting, excluded_of, excluded_from, excluded, excluded_each}
+use Rattle.propagation.specs.inside.Engine.{Marking, is_left, waiting, excluded_of}
+use Rattle.propagation.specs.inside.Engine.{excluded_from, excluded, excluded_each}
 use Rattle.propagation.specs.inside.State.{At, IsLeft, KeepsMarks, waits, weight}
 use Rattle.propagation.proofs.ListLaws.{set_cases}
 use Rattle.propagation.proofs.NarrowLaws.{left_within}
@@ -90,7 +93,8 @@ marks_then : (choices : List Choice) (t u : ℕ → Bool) (a b c : Marking) → 
 marks_then choices t u a b c first second = record {
   keeps = second.keeps;
   left = λ place.
-      second.left place ∙ ap (λ x. x && not (u place)) (first.left place) ∙ and_or (is_left a.left place) (t place) (u place);
+      second.left place
+      ∙ ap (λ x. x && not (u place)) (first.left place) ∙ and_or (is_left a.left place) (t place) (u place);
   stays = λ section h. second.stays section (first.stays section h);
   put = λ place x at was now.
       elim (cases_Bool (is_left b.left place)) [
@@ -105,8 +109,10 @@ set_left : (left : List Bool) (place other : ℕ) → IsLeft left place
 set_left left place other t =
     elim (cases_eq other place) [
       | inl e ↦
-          (let here : is_left (set left place false) place ≡ false = get_or-set_same left place false false (left_within left place t) in
-          let there : (is_left left place && not (place == place)) ≡ false = ap (λ b. is_left left place && not b) (eq-eqb place place refl) ∙ and_no (is_left left place) in
+          (let here : is_left (set left place false) place
+          ≡ false = get_or-set_same left place false false (left_within left place t) in
+          let there : (is_left left place && not (place == place)) ≡ false =
+          ap (λ b. is_left left place && not b) (eq-eqb place place refl) ∙ and_no (is_left left place) in
           let P : ℕ → Type 0 = λ o. is_left (set left place false) o ≡ (is_left left o && not (place == o)) in
           subst P (sym e) (here ∙ sym there))
       | inr ne ↦
@@ -135,7 +141,8 @@ excluded_anew : (choices : List Choice) (m : Marking) (place : ℕ) (c : Choice)
 excluded_anew choices m place c keeps at t =
     let new : Marking = waiting (unmarked m place) c.section in
     let w : Waited c.section (unmarked m place) new = waited (unmarked m place) c.section (keeps.sections place c at) in
-    let left : (other : ℕ) → is_left new.left other ≡ (is_left m.left other && not (place == other)) = λ other. ap (λ (l : List Bool). is_left l other) w.left ∙ set_left m.left place other t in
+    let left : (other : ℕ) → is_left new.left other ≡ (is_left m.left other && not (place == other)) =
+    λ other. ap (λ (l : List Bool). is_left l other) w.left ∙ set_left m.left place other t in
     record {
       keeps = record {
         size = ap (λ (l : List Bool). length l) w.left ∙ length-set m.left place false ∙ keeps.size;
@@ -151,15 +158,18 @@ excluded_anew choices m place c keeps at t =
                 let P : Choice → Type 0 = λ y. waits new y.section ≡ true in
                 subst P (same_choices choices other c x same h) w.here)
             | inr ne ↦
-                absurd (false≢true (sym now ∙ left other ∙ ap (λ b. is_left m.left other && not b) (ne_eqb place other ne) ∙ ap (λ b. b && true) was))
+                absurd (false≢true (sym now ∙ left other
+                ∙ ap (λ b. is_left m.left other && not b) (ne_eqb place other ne) ∙ ap (λ b. b && true) was))
           ];
-      weight = omega (arith, one_less m.left place t, w.longer, ap (λ (l : List Bool). sum_by (λ mark. cond mark 1 0) l) w.left);
+      weight = omega
+          (arith, one_less m.left place t, w.longer, ap (λ (l : List Bool). sum_by (λ mark. cond mark 1 0) l) w.left);
     }
 
 excluded_goes_of : (choices : List Choice) (m : Marking) (place : ℕ) (c : Choice) → KeepsMarks choices m
     → At choices place c → MarksGo choices (λ other. place == other) m (excluded_of m place c.section)
 excluded_goes_of choices m place c keeps at =
-    cond_both (is_left m.left place) (waiting (unmarked m place) c.section) m (MarksGo choices (λ other. place == other) m)
+    cond_both
+    (is_left m.left place) (waiting (unmarked m place) c.section) m (MarksGo choices (λ other. place == other) m)
     (λ t. excluded_anew choices m place c keeps at t)
     (λ f.
     marks_stay choices (λ other. place == other) m keeps
@@ -195,5 +205,7 @@ pub excluded_each_goes : (choices : List Choice) (m : Marking) (victims : List �
 excluded_each_goes choices m [] keeps = marks_stay choices (λ _. false) m keeps (λ place h. refl)
 excluded_each_goes choices m (victim ∷ rest) keeps =
     let next : Marking = excluded choices m victim in
-    let first : MarksGo choices (λ place. victim == place) m next = excluded_goes_from choices m victim (slice_get choices victim) keeps refl in
-    marks_then choices (λ place. victim == place) (λ place. list_any (λ v. v == place) rest) m next (excluded_each choices next rest) first (excluded_each_goes choices next rest first.keeps)
+    let first : MarksGo choices (λ place. victim == place) m next =
+    excluded_goes_from choices m victim (slice_get choices victim) keeps refl in
+    marks_then choices (λ place. victim == place) (λ place. list_any (λ v. v == place) rest) m next
+    (excluded_each choices next rest) first (excluded_each_goes choices next rest first.keeps)

@@ -1,16 +1,20 @@
 -- Laws of the demands that a choice doesn't meet.
-use Rattle.std.proofs.Common.{◌≡◌, ℕ, ◌==◌, Bool, true, false, not, ◌&&◌, List, [], ◌∷◌, set, filter, Contains, refl, sym, ◌∙◌, ap, subst, inl, inr, fold}
+use Rattle.std.proofs.Common.{◌≡◌, ℕ, ◌==◌, Bool, true, false, not, ◌&&◌, List, [], ◌∷◌, set}
+use Rattle.std.proofs.Common.{filter, Contains, refl, sym, ◌∙◌, ap, subst, inl, inr, fold}
 use Rattle.std.specs.List.{list_any}
-use Rattle.std.proofs.lemmas.Bool.{and_parts, and_from, eqb-true, eqb-false, eq-eqb, ne_eqb, not-true, not_from_false, both_ways, true_from_ne_false}
+use Rattle.std.proofs.lemmas.Bool.{and_parts, and_from, eqb-true, eqb-false, eq-eqb, ne_eqb}
+use Rattle.std.proofs.lemmas.Bool.{not-true, not_from_false, both_ways, true_from_ne_false}
 use Rattle.propagation.specs.declared.choice.Demand.{Demand}
 use Rattle.propagation.specs.declared.choice.Choice.{Choice}
 use Rattle.propagation.specs.declared.tables.Entry.{Entry}
 use Rattle.propagation.specs.Choices.{is_unmet}
 use Rattle.propagation.specs.inside.Engine.{Marking, Engine, list_at, excluded_each, saying, meets, refusing, meeting}
 use Rattle.propagation.specs.inside.State.{At, IsLeft, Keeps}
-use Rattle.propagation.proofs.ListLaws.{same_bools, Contains-filter, Contains_of_filter, Contains-map, Contains_of_map, list_any_from, list_any_has, has_from, has_of, set_cases}
+use Rattle.propagation.proofs.ListLaws.{same_bools, Contains-filter, Contains_of_filter, Contains-map}
+use Rattle.propagation.proofs.ListLaws.{Contains_of_map, list_any_from, list_any_has, has_from, has_of, set_cases}
 use Rattle.propagation.proofs.MarkLaws.{MarksGo, excluded_each_goes}
-use Rattle.propagation.proofs.EngineLaws.{Goes, goes_stay, goes_then, goes_like, goes_from, goes_fewer, goes_passed, marks_fewer, claims_fewer, members_fewer, demands_fewer}
+use Rattle.propagation.proofs.EngineLaws.{Goes, goes_stay, goes_then, goes_like, goes_from, goes_fewer}
+use Rattle.propagation.proofs.EngineLaws.{goes_passed, marks_fewer, claims_fewer, members_fewer, demands_fewer}
 use Rattle.propagation.proofs.DemandLaws.{unmet_from, unmet_of}
 
 abbrev is_it : ℕ → ℕ → Demand → Bool
@@ -23,8 +27,10 @@ makes section c number = not (c.section == section) && list_any (is_it section n
 makes_from : (section number : ℕ) (c : Choice) (demand : Demand) → (c.section ≡ section → ⊥) → Contains c.demands demand
     → demand.section ≡ section → demand.number ≡ number → makes section c number ≡ true
 makes_from section number c demand ne h e n =
-    and_from (not (c.section == section)) (list_any (is_it section number) c.demands) (not_from_false (c.section == section) (ne_eqb c.section section ne))
-    (list_any_from (is_it section number) c.demands demand h (and_from (demand.section == section) (demand.number == number) (eq-eqb demand.section section e) (eq-eqb demand.number number n)))
+    and_from (not (c.section == section)) (list_any (is_it section number) c.demands)
+    (not_from_false (c.section == section) (ne_eqb c.section section ne))
+    (list_any_from (is_it section number) c.demands demand h (and_from (demand.section == section)
+    (demand.number == number) (eq-eqb demand.section section e) (eq-eqb demand.number number n)))
 
 record Made (section number : ℕ) (c : Choice) : Type 0 where
   demand : Demand
@@ -76,7 +82,8 @@ module _ (choices : List Choice) (section : ℕ) (e : Engine) (keeps : Keeps cho
       let P : ℕ → Type 0 = λ p. At choices p c in
       let found = keeps.demands.sound number entry kept.0 c (subst P (sym mapped.2) at) in
       let e' = eqb-true entry.value section kept.1 in
-      makes_from section number c (record { section = entry.value; number = number }) (λ same. found.1 (e' ∙ sym same)) found.0 e' refl
+      makes_from section number c
+      (record { section = entry.value; number = number }) (λ same. found.1 (e' ∙ sym same)) found.0 e' refl
 
   victim_from : (place : ℕ) (c : Choice) → At choices place c → IsLeft e.marking.left place → test c ≡ true
       → Contains victims place
@@ -84,7 +91,8 @@ module _ (choices : List Choice) (section : ℕ) (e : Engine) (keeps : Keeps cho
       let made : Made section number c = makes_of section number c h in
       let entry : Entry = record { choice = place; value = made.demand.section } in
       let P : ℕ → Type 0 = λ n. Contains (list_at e.makers n) entry in
-      let found = keeps.demands.makers place c made.demand at t made.stands (λ same. made.elsewhere (sym same ∙ made.on)) in
+      let found =
+      keeps.demands.makers place c made.demand at t made.stands (λ same. made.elsewhere (sym same ∙ made.on)) in
       Contains-map (λ (x : Entry). x.choice) (filter says list) entry
       (Contains-filter says list entry (eq-eqb made.demand.section section made.on) (subst P made.numbered found))
 
@@ -105,7 +113,8 @@ refusing_each_goes choices section e [] keeps = goes_stay choices (λ _. false) 
 refusing_each_goes choices section e (number ∷ rest) keeps =
     let next : Engine = refusing choices section e number in
     let first : Goes choices (λ c. makes section c number) e next = refusing_goes choices section e keeps number in
-    goes_then choices (λ c. makes section c number) (λ c. list_any (makes section c) rest) e next (fold (refusing choices section) next rest) first (refusing_each_goes choices section next rest first.keeps)
+    goes_then choices (λ c. makes section c number) (λ c. list_any (makes section c) rest) e next
+    (fold (refusing choices section) next rest) first (refusing_each_goes choices section next rest first.keeps)
 
 -- whether a choice of another section makes a demand that a choice doesn't meet
 abbrev pub is_failed_by : Choice → Choice → Bool
@@ -134,7 +143,9 @@ module _ (choices : List Choice) (e : Engine) (keeps : Keeps choices e) (c : Cho
   failed_from : (place : ℕ) (other : Choice) (demand : Demand) → (other.section ≡ c.section → ⊥)
       → Contains other.demands demand → is_unmet c demand ≡ true → is_failed_by c other ≡ true
   failed_from place other demand ne h t =
-      and_from (not (other.section == c.section)) (list_any (is_unmet c) other.demands) (not_from_false (other.section == c.section) (ne_eqb other.section c.section ne)) (list_any_from (is_unmet c) other.demands demand h t)
+      and_from (not (other.section == c.section)) (list_any (is_unmet c) other.demands)
+      (not_from_false (other.section == c.section) (ne_eqb other.section c.section ne))
+      (list_any_from (is_unmet c) other.demands demand h t)
 
   there : (place : ℕ) (other : Choice) → list_any (makes c.section other) unmet ≡ true → is_failed_by c other ≡ true
   there place other t =
@@ -153,14 +164,17 @@ module _ (choices : List Choice) (e : Engine) (keeps : Keeps choices e) (c : Cho
       let demand : Demand = some.0 in
       let both = unmet_of c demand some.2 in
       list_any_from (makes c.section other) unmet demand.number
-      (Contains-filter is_missed listed demand.number (not_from_false (meets c demand.number) both.1) (listed_at place other demand at t some.1 both.0 ne))
+      (Contains-filter is_missed listed demand.number
+      (not_from_false (meets c demand.number) both.1) (listed_at place other demand at t some.1 both.0 ne))
       (makes_from c.section demand.number other demand ne some.1 both.0 refl)
 
   refused_goes : Goes choices (is_failed_by c) e refused
   refused_goes =
-      goes_like choices (λ other. list_any (makes c.section other) unmet) (is_failed_by c) e refused (refusing_each_goes choices c.section e unmet keeps)
+      goes_like choices (λ other. list_any (makes c.section other) unmet)
+      (is_failed_by c) e refused (refusing_each_goes choices c.section e unmet keeps)
       (λ place other at t.
-      same_bools (list_any (makes c.section other) unmet) (is_failed_by c other) (there place other) (back place other at t))
+      same_bools
+      (list_any (makes c.section other) unmet) (is_failed_by c other) (there place other) (back place other at t))
 
   abbrev kept : List (List ℕ)
   kept = set refused.numbers c.section (filter (meets c) listed)
@@ -175,8 +189,10 @@ module _ (choices : List Choice) (e : Engine) (keeps : Keeps choices e) (c : Cho
             (let elsewhere : other.section ≡ c.section → ⊥ = λ x. ne (same.0 ∙ sym x) in
             let was = goes_fewer choices (is_failed_by c) e refused refused_goes place other at t in
             let none = goes_passed choices (is_failed_by c) e refused refused_goes place other at t in
-            let met = true_from_ne_false (meets c demand.number) (λ f. both_ways (is_failed_by c other) none (failed_from place other demand elsewhere h (unmet_from c demand same.0 f))) in
-            subst P (sym same.1) (Contains-filter (meets c) listed demand.number met (listed_at place other demand at was h same.0 elsewhere)))
+            let met = true_from_ne_false (meets c demand.number) (λ f. both_ways (is_failed_by c other) none
+            (failed_from place other demand elsewhere h (unmet_from c demand same.0 f))) in
+            subst P (sym same.1) (Contains-filter (meets c) listed demand.number met
+            (listed_at place other demand at was h same.0 elsewhere)))
         | inr old ↦ subst P (sym old) (refused_goes.keeps.demands.numbers place other demand at t h ne)
       ]
 

@@ -1,5 +1,6 @@
 -- A number is found in an ascending list by halving.
-use Rattle.std.proofs.Common.{◌≡◌, ℕ, ◌<◌, ◌≤◌, ◌==◌, List, length, get_or, Contains, Result, Ok, Err, MatchResult, is_ok, sym, ◌∙◌, ap, subst, inl, inr, arith, nat_cmp}
+use Rattle.std.proofs.Common.{◌≡◌, ℕ, ◌<◌, ◌≤◌, ◌==◌, List, length, get_or, Contains, Result, Ok}
+use Rattle.std.proofs.Common.{Err, MatchResult, is_ok, sym, ◌∙◌, ap, subst, inl, inr, arith, nat_cmp}
 use Rattle.std.specs.List.{list_any}
 use Rattle.std.specs.List.Sorted.{IsStrictlyIncreasing, IsBinarySearchResult}
 use Rattle.std.proofs.lemmas.Bool.{cases_eq, cases_lt, false_from_ne_true}
@@ -19,7 +20,8 @@ ascending xs ascend i j le less =
 
 abbrev Search : List ℕ → ℕ → Result ℕ ℕ → Type 0
 Search xs x r =
-    MatchResult r (λ i. (i < length xs) × (get_or xs i 0 ≡ x)) (λ i. (i ≤ length xs) × ((k : ℕ) → k < i → get_or xs k 0 < x) × ((k : ℕ) → i ≤ k → k < length xs → x < get_or xs k 0))
+    MatchResult r (λ i. (i < length xs) × (get_or xs i 0 ≡ x)) (λ i. (i ≤ length xs)
+    × ((k : ℕ) → k < i → get_or xs k 0 < x) × ((k : ℕ) → i ≤ k → k < length xs → x < get_or xs k 0))
 
 told : (xs : List ℕ) (x : ℕ) (r : Result ℕ ℕ) → Search xs x r → is_ok r ≡ list_any (λ other. other == x) xs
 told xs x (Ok i) h =

@@ -1,7 +1,9 @@
 -- Laws of a list that loses choices that aren't left.
-use Rattle.std.proofs.Common.{◌≡◌, ℕ, ◌+◌, ◌-◌, ◌<◌, Bool, false, not, List, [], ◌∷◌, ◌++◌, length, get_or, take, slice_index, Contains, sym, ◌∙◌, ap, subst, inl, inr, arith, eqb}
+use Rattle.std.proofs.Common.{◌≡◌, ℕ, ◌+◌, ◌-◌, ◌<◌, Bool, false, not, List, [], ◌∷◌, ◌++◌, length, get_or}
+use Rattle.std.proofs.Common.{take, slice_index, Contains, sym, ◌∙◌, ap, subst, inl, inr, arith, eqb}
 use Rattle.std.proofs.lemmas.Bool.{cases_lt, cases_eq, false≢true, and_parts, and_from, not_from_false, ne_eqb}
-use Rattle.std.proofs.lemmas.List.{get_or_default, get_or_past, get_or-take, get_or_append_left, get_or_push, length-append, length-take-le}
+use Rattle.std.proofs.lemmas.List.{get_or_default, get_or_past, get_or-take, get_or_append_left}
+use Rattle.std.proofs.lemmas.List.{get_or_push, length-append, length-take-le}
 use Rattle.std.proofs.lemmas.List.Elements.{Contains-append_left, Contains-append_cases, Contains-push, Contains-get_or}
 use Rattle.propagation.specs.inside.Engine.{is_left, is_other}
 use Rattle.propagation.specs.inside.State.{IsLeft, IsEnd, IsNarrowed}
@@ -21,7 +23,8 @@ same_as_except left except place t f =
     elim (cases_eq place except) [
       | inl e ↦ e
       | inr ne ↦
-          absurd (false≢true (sym f ∙ and_from (is_left left place) (not (eqb place except)) t (not_from_false (eqb place except) (ne_eqb place except ne))))
+          absurd (false≢true (sym f ∙ and_from (is_left left place)
+          (not (eqb place except)) t (not_from_false (eqb place except) (ne_eqb place except ne))))
     ]
 
 at_place : (xs : List ℕ) (k place : ℕ) → k < length xs → get_or xs k place ≡ place → get_or xs k 0 ≡ place
@@ -80,7 +83,8 @@ module _ (left : List Bool) (xs : List ℕ) (last before : ℕ) (ends : Ends lef
         | inr behind ↦
             elim (cases_lt k (last - 1)) [
               | inl between ↦
-                  is_only place (sym (same_as_except left only place t (ap (is_other left only) (sym e) ∙ ends.second.past k behind between)))
+                  is_only place (sym (same_as_except left only place t
+                  (ap (is_other left only) (sym e) ∙ ends.second.past k behind between)))
               | inr late ↦
                   elim (cases_eq k (last - 1)) [
                     | inl same ↦ is_only place (ap (λ n. get_or xs n 0) (sym same) ∙ e)
@@ -94,8 +98,11 @@ module _ (left : List Bool) (xs : List ℕ) (last before : ℕ) (ends : Ends lef
   from place h =
       elim (Contains-append_cases (take before xs) (only ∷ []) place h) [
         | inl front ↦
-            (let less : front.0 < before = omega (arith, front.1, length_front) in
-            (front.0, omega (arith, less, ends.second.within, ends.first.within), sym (get_or-take before xs front.0 place less) ∙ front.2))
+            (let less : front.0 < before = omega (arith, front.1, length_front) in (
+              front.0,
+              omega (arith, less, ends.second.within, ends.first.within),
+              sym (get_or-take before xs front.0 place less) ∙ front.2,
+            ))
         | inr last_one ↦
             elim (Contains-cases only place [] last_one) [
               | inl e ↦
@@ -125,5 +132,6 @@ module _ (left : List Bool) (xs : List ℕ) (last before : ℕ) (ends : Ends lef
         subst P (sym at_end) (and_parts (is_left left only) _ (ends.first.found ends.some)).0);
     other = λ less.
         (let some : 0 < before = omega (arith, less, length_shorter) in
-        ap (λ n. is_other left n (slice_index shorter (length shorter - 2))) at_end ∙ ap (is_other left only) (before_end some) ∙ ends.second.found some);
+        ap (λ n. is_other left n (slice_index shorter (length shorter - 2))) at_end
+        ∙ ap (is_other left only) (before_end some) ∙ ends.second.found some);
   }

@@ -1,17 +1,21 @@
 -- What is left of choices and what remains of them by the rounds.
-use Rattle.std.proofs.Common.{◌≡◌, ℕ, zero, suc, ◌<◌, ◌==◌, Bool, true, false, not, ◌||◌, List, [], ◌∷◌, length, map, Contains, Some, slice_get, refl, sym, ◌∙◌, ap, subst, inl, inr, arith}
+use Rattle.std.proofs.Common.{◌≡◌, ℕ, zero, suc, ◌<◌, ◌==◌, Bool, true, false, not, ◌||◌, List, [], ◌∷◌, length}
+use Rattle.std.proofs.Common.{map, Contains, Some, slice_get, refl, sym, ◌∙◌, ap, subst, inl, inr, arith}
 use Rattle.std.specs.List.{list_any}
-use Rattle.std.proofs.lemmas.Bool.{cases_Bool, cases_order, and_parts, and_from, or_cases, or_left, or_right, eqb-true, eq-eqb, not-true, not_from_false, both_ways, false_from_ne_true}
+use Rattle.std.proofs.lemmas.Bool.{cases_Bool, cases_order, and_parts, and_from, or_cases, or_left, or_right}
+use Rattle.std.proofs.lemmas.Bool.{eqb-true, eq-eqb, not-true, not_from_false, both_ways, false_from_ne_true}
 use Rattle.std.proofs.lemmas.List.{length-map, ext_get_or}
 use Rattle.std.proofs.lemmas.Option.{slice_get-map, get_or_from_slice_get}
 use Rattle.std.specs.Option.{option_map}
 use Rattle.propagation.specs.declared.choice.Choice.{Choice}
-use Rattle.propagation.specs.Rounds.{Rules, is_forced, forced_among, clashes_with_one, left_in, remaining, forced, is_among}
+use Rattle.propagation.specs.Rounds.{Rules, is_forced, forced_among, clashes_with_one}
+use Rattle.propagation.specs.Rounds.{left_in, remaining, forced, is_among}
 use Rattle.propagation.specs.RoundLaws.{remaining_is_kept}
 use Rattle.propagation.specs.Choices.{ComesBefore, same_section, same_choice, can_be_chosen, clash, choice_rules}
 use Rattle.propagation.specs.inside.Engine.{is_left}
 use Rattle.propagation.specs.inside.State.{At, IsLeft, IsAlone, IsClosed}
-use Rattle.propagation.proofs.ListLaws.{same_bools, Contains-filter, Contains_of_filter, list_any_from, list_any_has, list_all_has, list_all_from, contains_place, place_of}
+use Rattle.propagation.proofs.ListLaws.{same_bools, Contains-filter, Contains_of_filter, list_any_from}
+use Rattle.propagation.proofs.ListLaws.{list_any_has, list_all_has, list_all_from, contains_place, place_of}
 use Rattle.propagation.proofs.CarryLaws.{clash_of}
 
 -- what is left in a round is among the items, and matches
@@ -20,7 +24,8 @@ pub left_in_all : {X : Type 0} (rules : Rules X) (round : ℕ) (all : List X) (x
 unfolding left_in
 left_in_all rules zero all x h = Contains_of_filter rules.matches all x h
 left_in_all rules (suc round) all x h =
-    left_in_all rules round all x (Contains_of_filter (λ y. not (clashes_with_one rules (forced_among rules all (left_in rules round all)) y)) (left_in rules round all) x h).0
+    left_in_all rules round all x (Contains_of_filter (λ y. not
+    (clashes_with_one rules (forced_among rules all (left_in rules round all)) y)) (left_in rules round all) x h).0
 
 pub remaining_all : {X : Type 0} (rules : Rules X) (all : List X) (x : X) → Contains (remaining rules all) x
     → Contains all x × (rules.matches x ≡ true)
@@ -56,7 +61,8 @@ pub same_at : (choices : List Choice) → IsInOrder choices → (i j : ℕ) (a b
     → same_choice a b ≡ true → a ≡ b
 same_at choices order i j a b one other t =
     let parts = and_parts (a.section == b.section) (a.home == b.home) t in
-    let e = same_place choices order i j a b one other (eqb-true a.section b.section parts.0) (eqb-true a.home b.home parts.1) in
+    let e = same_place choices order i j a b one other
+    (eqb-true a.section b.section parts.0) (eqb-true a.home b.home parts.1) in
     let both : Some a ≡ Some b = sym one ∙ ap (slice_get choices) e ∙ other in
     cc
 
@@ -71,7 +77,9 @@ at_within (x ∷ xs) (suc place) less = at_within xs place (omega (arith, less))
 
 module _ (choices : List Choice) (order : IsInOrder choices) (left : List Bool) where
   -- ---- all that is left remains, where nothing that is left clashes with what is alone
-  module _ (matching : (place : ℕ) (c : Choice) → At choices place c → IsLeft left place → c.matches ≡ true) (closed : (place : ℕ) (c : Choice) → At choices place c → c.matches ≡ true → IsAlone choices left c → IsClosed choices left c) where
+  module _ (matching : (place : ℕ) (c : Choice) → At choices place c → IsLeft left place → c.matches ≡ true)
+      (closed : (place : ℕ) (c : Choice)
+      → At choices place c → c.matches ≡ true → IsAlone choices left c → IsClosed choices left c) where
     left_stays : (round : ℕ) (place : ℕ) (c : Choice) → At choices place c → IsLeft left place
         → Contains (left_in choice_rules round choices) c
     unfolding left_in
@@ -88,7 +96,8 @@ module _ (choices : List Choice) (order : IsInOrder choices) (left : List Bool) 
         let x : Choice = some.0 in
         let kept = Contains_of_filter (is_forced choice_rules before) choices x some.1 in
         let k = place_of choices x kept.0 in
-        let alone : IsAlone choices left x = λ j y there still section. alone_of round x k.0 k.1 kept.1 j y there (left_stays round j y there still) section in
+        let alone : IsAlone choices left x = λ j y there still section.
+        alone_of round x k.0 k.1 kept.1 j y there (left_stays round j y there still) section in
         both_ways (clash c x) (closed k.0 x k.1 (clash_of c x some.2).second alone place c at t) some.2))))
         (left_stays round place c at t)
       where
@@ -96,9 +105,11 @@ module _ (choices : List Choice) (order : IsInOrder choices) (left : List Bool) 
             → is_forced choice_rules (left_in choice_rules round choices) x ≡ true → (j : ℕ) (y : Choice)
             → At choices j y → Contains (left_in choice_rules round choices) y → y.section ≡ x.section → y ≡ x
         alone_of round x k here is j y there h section =
-            elim (or_cases (not (same_section y x)) (same_choice y x) (list_all_has (λ z. not (same_section z x) || same_choice z x) (left_in choice_rules round choices) y is h)) [
+            elim (or_cases (not (same_section y x)) (same_choice y x) (list_all_has
+            (λ z. not (same_section z x) || same_choice z x) (left_in choice_rules round choices) y is h)) [
               | inl elsewhere ↦
-                  absurd (both_ways (same_section y x) (not-true (same_section y x) elsewhere) (eq-eqb y.section x.section section))
+                  absurd (both_ways (same_section y x)
+                  (not-true (same_section y x) elsewhere) (eq-eqb y.section x.section section))
               | inr same ↦ same_at choices order j k y x there here same
             ]
 
@@ -130,7 +141,8 @@ module _ (choices : List Choice) (order : IsInOrder choices) (left : List Bool) 
           (λ place less.
           (let here = at_within choices place (omega (arith, less, size)) in
           mark_at place here.0 here.1
-          ∙ sym (get_or_from_slice_get (map among choices) place (among here.0) false (slice_get-map among choices place ∙ ap (option_map among) here.1))))
+          ∙ sym (get_or_from_slice_get (map among choices) place
+          (among here.0) false (slice_get-map among choices place ∙ ap (option_map among) here.1))))
 
   -- ---- what clashes with what is alone doesn't remain
   pub clashing_goes : IsSound choices left → (place : ℕ) (c : Choice) → At choices place c → IsAlone choices left c
@@ -142,9 +154,11 @@ module _ (choices : List Choice) (order : IsInOrder choices) (left : List Bool) 
       let test : Choice → Bool = λ y. not (same_section y c) || same_choice y c in
       let is : is_forced choice_rules rest c ≡ true = list_all_from test rest (λ y k. is_it y k) in
       let P : List Choice → Type 0 = λ l. Contains l other in
-      let kept = Contains_of_filter (λ x. not (clashes_with_one choice_rules ones x)) rest other (subst P (remaining_is_kept choice_rules choices) h) in
+      let kept = Contains_of_filter (λ x. not (clashes_with_one choice_rules ones x)) rest other
+      (subst P (remaining_is_kept choice_rules choices) h) in
       both_ways (list_any (clash other) ones) (not-true (list_any (clash other) ones) kept.1)
-      (list_any_from (clash other) ones c (Contains-filter (is_forced choice_rules rest) choices c is (contains_place choices place c at)) t)
+      (list_any_from (clash other) ones c
+      (Contains-filter (is_forced choice_rules rest) choices c is (contains_place choices place c at)) t)
     where
       is_it : (y : Choice) → Contains (remaining choice_rules choices) y
           → (not (same_section y c) || same_choice y c) ≡ true

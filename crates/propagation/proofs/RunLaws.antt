@@ -1,5 +1,6 @@
 -- Laws of several choices carried out.
-use Rattle.std.proofs.Common.{◌≡◌, ℕ, ◌≤◌, Bool, true, false, not, List, [], ◌∷◌, Contains, Option, Some, None, slice_get, refl, sym, ◌∙◌, ap, subst, inl, inr, arith, fold}
+use Rattle.std.proofs.Common.{◌≡◌, ℕ, ◌≤◌, Bool, true, false, not, List, [], ◌∷◌, Contains, Option}
+use Rattle.std.proofs.Common.{Some, None, slice_get, refl, sym, ◌∙◌, ap, subst, inl, inr, arith, fold}
 use Rattle.std.proofs.lemmas.Bool.{cases_Bool, cond_both, and_from, not_from_false, both_ways, false_from_ne_true}
 use Rattle.propagation.specs.declared.choice.Choice.{Choice}
 use Rattle.propagation.specs.Choices.{IsChoice, clash, AreChoices}
@@ -56,7 +57,8 @@ matching_fewer choices a b fewer matching place c at t = matching place c at (fe
 
 pub alone_fewer : (choices : List Choice) (old new : List Bool) (c : Choice) → Fewer choices old new
     → IsAlone choices old c → IsAlone choices new c
-alone_fewer choices old new c fewer alone place other at t section = alone place other at (fewer place other at t) section
+alone_fewer choices old new c fewer alone place other at t section =
+    alone place other at (fewer place other at t) section
 
 pub closed_fewer : (choices : List Choice) (old new : List Bool) (c : Choice) → Fewer choices old new
     → IsClosed choices old c → IsClosed choices new c
@@ -79,7 +81,8 @@ module _ (choices : List Choice) (are : AreChoices choices) where
       → Carried place e (carried_out choices e c)
   carried_out_onward e place c keeps matching sound at chosen alone =
       let new : Engine = carried_out choices e c in
-      let goes : Goes choices (λ other. clash other c) e new = carried_out_goes choices e c (is_choice place c at).agree chosen matching alone keeps in
+      let goes : Goes choices (λ other. clash other c) e new =
+      carried_out_goes choices e c (is_choice place c at).agree chosen matching alone keeps in
       record {
         onward = record {
           keeps = goes.keeps;
@@ -88,12 +91,15 @@ module _ (choices : List Choice) (are : AreChoices choices) where
           put = goes.put;
           weight = goes.weight;
           sound = λ s k other there rest.
-              (let none = false_from_ne_true (clash other c) (λ t. clashing_goes choices are.order e.marking.left sound place c at alone other t rest) in
-              goes.left k other there ∙ and_from (is_left e.marking.left k) (not (clash other c)) (s k other there rest) (not_from_false (clash other c) none));
+              (let none = false_from_ne_true (clash other c)
+              (λ t. clashing_goes choices are.order e.marking.left sound place c at alone other t rest) in
+              goes.left k other there ∙ and_from (is_left e.marking.left k)
+              (not (clash other c)) (s k other there rest) (not_from_false (clash other c) none));
         };
         closed = λ x there matches.
             (let P : Choice → Type 0 = IsClosed choices new.marking.left in
-            subst P (same_choices choices place c x at there) (λ k other here t. goes_passed choices (λ y. clash y c) e new goes k other here t));
+            subst P (same_choices choices place c x at there)
+            (λ k other here t. goes_passed choices (λ y. clash y c) e new goes k other here t));
       }
 
   carried_if_onward : (e : Engine) (place : ℕ) (o : Option Choice) → Keeps choices e → AreMatching choices e
@@ -101,7 +107,10 @@ module _ (choices : List Choice) (are : AreChoices choices) where
       → ((c : Choice) → At choices place c → IsAlone choices e.marking.left c)
       → Carried place e (carried_if choices e o)
   carried_if_onward e place None keeps matching sound at alone =
-      record { onward = onward_same choices e keeps; closed = λ c there t. (let no : None ≡ Some c = sym at ∙ there in cc) }
+      record {
+        onward = onward_same choices e keeps;
+        closed = λ c there t. (let no : None ≡ Some c = sym at ∙ there in cc);
+      }
   carried_if_onward e place (Some c) keeps matching sound at alone =
       cond_both c.matches (carried_out choices e c) e (Carried place e)
       (λ chosen. carried_out_onward e place c keeps matching sound at chosen (alone c at))
@@ -116,7 +125,8 @@ module _ (choices : List Choice) (are : AreChoices choices) where
       → IsSound choices e.marking.left → ((c : Choice) → At choices place c → IsAlone choices e.marking.left c)
       → Carried place e (carried_at choices e place)
   unfolding carried_at
-  carried_at_onward e place keeps matching sound alone = carried_if_onward e place (slice_get choices place) keeps matching sound refl alone
+  carried_at_onward e place keeps matching sound alone =
+      carried_if_onward e place (slice_get choices place) keeps matching sound refl alone
 
   -- each of some places carried out
   pub record CarriedEach (places : List ℕ) (old new : Engine) : Type 0 where
@@ -133,15 +143,19 @@ module _ (choices : List Choice) (are : AreChoices choices) where
   carried_each e (first ∷ rest) keeps matching sound alone =
       let next : Engine = carried_at choices e first in
       let last : Engine = fold (carried_at choices) next rest in
-      let one : Carried first e next = carried_at_onward e first keeps matching sound (alone first (Contains-here first rest)) in
+      let one : Carried first e next =
+      carried_at_onward e first keeps matching sound (alone first (Contains-here first rest)) in
       let fewer = one.onward.fewer in
-      let others : CarriedEach rest next last = carried_each next rest one.onward.keeps (matching_fewer choices e next fewer matching) (one.onward.sound sound) (λ place h c at. alone_fewer choices e.marking.left next.marking.left c fewer (alone place (Contains-there first place rest h) c at)) in
+      let others : CarriedEach rest next last = carried_each next rest one.onward.keeps
+      (matching_fewer choices e next fewer matching) (one.onward.sound sound) (λ place h c at. alone_fewer
+      choices e.marking.left next.marking.left c fewer (alone place (Contains-there first place rest h) c at)) in
       record {
         onward = onward_then choices e next last one.onward others.onward;
         closed = λ place h c at t.
             elim (Contains-cases first place rest h) [
               | inl same ↦
-                  closed_fewer choices next.marking.left last.marking.left c others.onward.fewer (one.closed c (ap (slice_get choices) same ∙ at) t)
+                  closed_fewer choices next.marking.left last.marking.left c others.onward.fewer
+                  (one.closed c (ap (slice_get choices) same ∙ at) t)
               | inr later ↦ others.closed place later c at t
             ];
       }

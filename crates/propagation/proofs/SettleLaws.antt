@@ -1,13 +1,19 @@
 -- Laws of a section that is looked at.
-use Rattle.std.proofs.Common.{◌≡◌, ◌⊎◌, ℕ, ◌+◌, ◌-◌, ◌<◌, ◌==◌, Bool, true, false, not, cond, List, [], ◌∷◌, ◌++◌, length, get_or, set, sum_by, slice_index, Contains, Option, Some, None, slice_get, refl, sym, ◌∙◌, ap, subst, inl, inr, arith, fold}
-use Rattle.std.proofs.lemmas.Bool.{cases_Bool, cases_eq, cases_lt, cond-true, cond-false, and_parts, eqb-true, eqb-false, eq-eqb, not-true, both_ways}
+use Rattle.std.proofs.Common.{◌≡◌, ◌⊎◌, ℕ, ◌+◌, ◌-◌, ◌<◌, ◌==◌, Bool, true, false, not, cond, List, []}
+use Rattle.std.proofs.Common.{◌∷◌, ◌++◌, length, get_or, set, sum_by, slice_index, Contains, Option}
+use Rattle.std.proofs.Common.{Some, None, slice_get, refl, sym, ◌∙◌, ap, subst, inl, inr, arith, fold}
+use Rattle.std.proofs.lemmas.Bool.{cases_Bool, cases_eq, cases_lt, cond-true, cond-false}
+use Rattle.std.proofs.lemmas.Bool.{and_parts, eqb-true, eqb-false, eq-eqb, not-true, both_ways}
 use Rattle.std.proofs.lemmas.List.{length-set, length-append, get_or-set_same, get_or-set_other, get_or_past, set_past}
 use Rattle.std.proofs.lemmas.List.Elements.{Contains-get_or, Contains-append_cases}
 use Rattle.std.proofs.lemmas.Option.{slice_get_within}
 use Rattle.propagation.specs.declared.choice.Choice.{Choice}
 use Rattle.propagation.specs.Choices.{AreChoices}
-use Rattle.propagation.specs.inside.Engine.{Marking, Engine, list_at, is_left, carried_at, members_at, member_from, place_if}
-use Rattle.propagation.specs.inside.State.{At, IsLeft, KeepsMarks, KeepsClaims, KeepsMembers, KeepsDemands, Keeps, IsAlone, IsClosed, IsNarrowed, IsSettled, IsWhole, Popped, State, carried_of, waits, weight}
+use Rattle.propagation.specs.inside.Engine.{Marking, Engine, list_at, is_left, carried_at}
+use Rattle.propagation.specs.inside.Engine.{members_at, member_from, place_if}
+use Rattle.propagation.specs.inside.State.{At, IsLeft, KeepsMarks, KeepsClaims, KeepsMembers}
+use Rattle.propagation.specs.inside.State.{KeepsDemands, Keeps, IsAlone, IsClosed, IsNarrowed}
+use Rattle.propagation.specs.inside.State.{IsSettled, IsWhole, Popped, State, carried_of, waits, weight}
 use Rattle.propagation.proofs.ListLaws.{Contains-none, Contains-here, Contains-cases, set_cases, said_has, said_of}
 use Rattle.propagation.proofs.NarrowLaws.{left_within}
 use Rattle.propagation.proofs.MarkLaws.{same_choices}
@@ -18,7 +24,8 @@ use Rattle.propagation.proofs.RunLaws.{AreMatching, matching_fewer, closed_fewer
 member_in : (section place : ℕ) (c : Choice) → c.section ≡ section → Contains (place_if section c.section place) place
 member_in section place c e =
     let P : List ℕ → Type 0 = λ l. Contains l place in
-    subst P (sym (cond-true (section == c.section) (place ∷ []) [] (eq-eqb section c.section (sym e)))) (Contains-here place [])
+    subst P (sym (cond-true (section == c.section) (place ∷ []) [] (eq-eqb section c.section (sym e))))
+    (Contains-here place [])
 
 record Member (section i place : ℕ) (o : Option Choice) : Type 0 where
   choice : Choice
@@ -37,7 +44,8 @@ member_of section i place (Some c) h =
             choice = c;
             is = refl;
             of = sym (eqb-true section c.section t);
-            same = elim (Contains-cases i place [] (subst P (cond-true (section == c.section) (i ∷ []) [] t) h)) [ inl e ↦ e | inr none ↦ absurd (Contains-none place none) ];
+            same = elim (Contains-cases i place [] (subst P (cond-true (section == c.section) (i ∷ []) [] t) h))
+                [ inl e ↦ e | inr none ↦ absurd (Contains-none place none) ];
           }
       | inr f ↦ absurd (Contains-none place (subst P (cond-false (section == c.section) (i ∷ []) [] f) h))
     ]
@@ -48,14 +56,16 @@ pub whole_has : (choices : List Choice) (whole : List (List ℕ)) → IsWhole ch
 whole_has choices whole is section place c at e =
     let P : List ℕ → Type 0 = λ l. Contains l place in
     subst P (sym (is section))
-    (said_has (members_at choices section) (length choices) place place (slice_get_within choices place c at) (subst P (sym (ap (member_from section place) at)) (member_in section place c e)))
+    (said_has (members_at choices section) (length choices) place place (slice_get_within choices place c at)
+    (subst P (sym (ap (member_from section place) at)) (member_in section place c e)))
 
 pub whole_of : (choices : List Choice) (whole : List (List ℕ)) → IsWhole choices whole → (section place : ℕ)
     → Contains (list_at whole section) place → (c : Choice) → At choices place c → c.section ≡ section
 whole_of choices whole is section place h c at =
     let P : List ℕ → Type 0 = λ l. Contains l place in
     let some = said_of (members_at choices section) (length choices) place (subst P (is section) h) in
-    let m : Member section some.0 place (slice_get choices some.0) = member_of section some.0 place (slice_get choices some.0) some.2 in
+    let m : Member section some.0 place (slice_get choices some.0) =
+    member_of section some.0 place (slice_get choices some.0) some.2 in
     let e : m.choice ≡ c = same_choices choices place m.choice c (ap (slice_get choices) (sym m.same) ∙ m.is) at in
     ap (λ (x : Choice). x.section) (sym e) ∙ m.of
 
@@ -82,7 +92,8 @@ module _ (choices : List Choice) (section : ℕ) (old new : Marking) (popped : P
         | inl e ↦ absurd (both_ways (waits new s) (ap (waits new) e ∙ no_more) t)
         | inr ne ↦
             (let P : List ℕ → Type 0 = λ l. Contains l s in
-            let before : Contains (new.queue ++ section ∷ []) s = subst P popped.queue (queue s (sym (still_waits s ne) ∙ t)) in
+            let before : Contains (new.queue ++ section ∷ []) s =
+            subst P popped.queue (queue s (sym (still_waits s ne) ∙ t)) in
             elim (Contains-append_cases new.queue (section ∷ []) s before) [
               | inl there ↦ there
               | inr last ↦
@@ -109,7 +120,8 @@ module _ (choices : List Choice) (section : ℕ) (old new : Marking) (popped : P
       let two = ap (λ (l : List ℕ). length l) popped.queue in
       omega (arith, one, two, length-append new.queue (section ∷ []))
 
-popped_keeps : (choices : List Choice) (section : ℕ) (e : Engine) (m : Marking) → Popped section e.marking m → Keeps choices e → Keeps choices (record e { marking = m })
+popped_keeps : (choices : List Choice) (section : ℕ) (e : Engine) (m : Marking)
+    → Popped section e.marking m → Keeps choices e → Keeps choices (record e { marking = m })
 popped_keeps choices section e m popped keeps =
     let P : List Bool → Type 0 = λ left. KeepsClaims choices left e.claims e.fixed in
     let Q : List Bool → Type 0 = λ left. KeepsMembers choices left e.members e.asked in
@@ -122,7 +134,8 @@ popped_keeps choices section e m popped keeps =
     }
 
 -- ---- the section's list narrowed, and what must be chosen carried out
-module _ (choices : List Choice) (are : AreChoices choices) (whole : List (List ℕ)) (is : IsWhole choices whole) (e : Engine) (keeps : Keeps choices e) (section : ℕ) where
+module _ (choices : List Choice) (are : AreChoices choices)
+    (whole : List (List ℕ)) (is : IsWhole choices whole) (e : Engine) (keeps : Keeps choices e) (section : ℕ) where
   abbrev with_list : List ℕ → Engine
   with_list list = record e { members = set e.members section list }
 
@@ -179,7 +192,8 @@ module _ (choices : List Choice) (are : AreChoices choices) (whole : List (List 
       → Contains (carried_of (list_at whole section) list) place → (c : Choice) → At choices place c
       → IsAlone choices e.marking.left c
   carried_alone [] narrowed place h c at p other there t same =
-      absurd (Contains-none p (has_all [] narrowed p other there t (same ∙ whole_of choices whole is section place h c at)))
+      absurd (Contains-none p
+      (has_all [] narrowed p other there t (same ∙ whole_of choices whole is section place h c at)))
   carried_alone (x ∷ []) narrowed place h c at p other there t same =
       let its : c.section ≡ section = has_its (x ∷ []) narrowed place h c at in
       let e1 = one_of x p (has_all (x ∷ []) narrowed p other there t (same ∙ its)) in
@@ -219,21 +233,25 @@ module _ (choices : List Choice) (are : AreChoices choices) (whole : List (List 
       let P : Engine → Type 0 = λ x. IsAlone choices x.marking.left c in
       let before : IsAlone choices e.marking.left c = subst P same alone in
       let both : a.0 ≡ b.0 = before p a.0 a.1 one (a_of ∙ sym its) ∙ sym (before q b.0 b.1 parts.0 (b_of ∙ sym its)) in
-      let apart = same_place choices are.order p q a.0 b.0 a.1 b.1 (ap (λ (z : Choice). z.section) both) (ap (λ (z : Choice). z.home) both) in
+      let apart = same_place choices are.order p q a.0 b.0 a.1 b.1
+      (ap (λ (z : Choice). z.section) both) (ap (λ (z : Choice). z.home) both) in
       absurd (eqb-false q p (not-true (q == p) parts.1) (sym apart))
 
   settled_each : (list : List ℕ) → IsNarrowed e.marking.left (list_at e.members section) list → AreMatching choices e
       → IsSound choices e.marking.left
       → CarriedEach choices are (carried_of (list_at whole section) list) (with_list list) (after list)
   settled_each list narrowed matching below =
-      carried_each choices are (with_list list) (carried_of (list_at whole section) list) (list_keeps list narrowed) matching below (carried_alone list narrowed)
+      carried_each choices are (with_list list) (carried_of (list_at whole section) list)
+      (list_keeps list narrowed) matching below (carried_alone list narrowed)
 
 -- ---- one step
 pub record Stepped (choices : List Choice) (old new : Engine) : Type 0 where
   pub state : State choices new
   pub lighter : weight new.marking < weight old.marking
 
-module _ (choices : List Choice) (are : AreChoices choices) (whole : List (List ℕ)) (is : IsWhole choices whole) (section : ℕ) (old : Engine) (m : Marking) (state : State choices old) (popped : Popped section old.marking m) (list : List ℕ) (narrowed : IsNarrowed m.left (list_at old.members section) list) where
+module _ (choices : List Choice) (are : AreChoices choices) (whole : List (List ℕ)) (is : IsWhole choices whole)
+    (section : ℕ) (old : Engine) (m : Marking) (state : State choices old) (popped : Popped section old.marking m)
+    (list : List ℕ) (narrowed : IsNarrowed m.left (list_at old.members section) list) where
   abbrev taken : Engine
   taken = record old { marking = m }
 
@@ -248,9 +266,11 @@ module _ (choices : List Choice) (are : AreChoices choices) (whole : List (List 
       let P : List Bool → Type 0 = λ l. IsLeft l place in
       state.matching place c at (subst P popped.left t)
 
-  each : CarriedEach choices are (carried_of (list_at whole section) list) (with_list choices are whole is taken taken_keeps section list) new
+  each : CarriedEach choices are
+      (carried_of (list_at whole section) list) (with_list choices are whole is taken taken_keeps section list) new
   each = settled_each choices are whole is taken taken_keeps section list narrowed taken_matching
-      (λ place c at h. (let P : List Bool → Type 0 = λ l. IsLeft l place in subst P (sym popped.left) (state.sound place c at h)))
+      (λ place c at h.
+      (let P : List Bool → Type 0 = λ l. IsLeft l place in subst P (sym popped.left) (state.sound place c at h)))
 
   was_alone : (c : Choice) → waits new.marking c.section ≡ false → IsAlone choices new.marking.left c
       → IsAlone choices m.left c
@@ -259,7 +279,8 @@ module _ (choices : List Choice) (are : AreChoices choices) (whole : List (List 
         | inl still ↦ alone place other at still same
         | inr gone ↦
             (let P : ℕ → Type 0 = λ s. waits new.marking s ≡ true in
-            absurd (both_ways (waits new.marking c.section) quiet (subst P same (each.onward.put place other at t gone))))
+            absurd
+            (both_ways (waits new.marking c.section) quiet (subst P same (each.onward.put place other at t gone))))
       ]
 
   elsewhere : (place : ℕ) (c : Choice) → At choices place c → c.matches ≡ true → waits new.marking c.section ≡ false
@@ -268,7 +289,8 @@ module _ (choices : List Choice) (are : AreChoices choices) (whole : List (List 
       let P : List Bool → Type 0 = λ l. IsAlone choices l c in
       elim (state.closed place c at chosen (subst P popped.left (was_alone c quiet alone))) [
         | inl waited ↦
-            absurd (both_ways (waits new.marking c.section) quiet (each.onward.stays c.section (still_waits choices section old.marking m popped c.section ne ∙ waited)))
+            absurd (both_ways (waits new.marking c.section) quiet
+            (each.onward.stays c.section (still_waits choices section old.marking m popped c.section ne ∙ waited)))
         | inr closed ↦
             (let Q : List Bool → Type 0 = λ l. IsClosed choices l c in
             closed_fewer choices m.left new.marking.left c each.onward.fewer (subst Q (sym popped.left) closed))
@@ -282,7 +304,8 @@ module _ (choices : List Choice) (are : AreChoices choices) (whole : List (List 
         | inr quiet ↦
             elim (cases_eq c.section section) [
               | inl same ↦
-                  elim (settled choices are whole is taken taken_keeps section list narrowed new each refl place c at chosen alone same) [
+                  elim (settled choices are
+                  whole is taken taken_keeps section list narrowed new each refl place c at chosen alone same) [
                     | inl waited ↦ inl (ap (waits new.marking) same ∙ waited)
                     | inr closed ↦ inr closed
                   ]
@@ -296,13 +319,17 @@ module _ (choices : List Choice) (are : AreChoices choices) (whole : List (List 
       keeps = each.onward.keeps;
       matching = matching_fewer choices taken new each.onward.fewer taken_matching;
       sound = each.onward.sound
-          (λ place c at h. (let P : List Bool → Type 0 = λ l. IsLeft l place in subst P (sym popped.left) (state.sound place c at h)));
+          (λ place c at h. (let P : List Bool → Type 0 = λ l. IsLeft l place in
+          subst P (sym popped.left) (state.sound place c at h)));
       closed = closed_or_waits;
     };
-    lighter = (let less = each.onward.weight in let one = popped_weight choices section old.marking m popped in omega (arith, less, one));
+    lighter = (let less = each.onward.weight in
+        let one = popped_weight choices section old.marking m popped in omega (arith, less, one));
   }
 
-pub settled_steps : (choices : List Choice) → AreChoices choices → (whole : List (List ℕ)) → IsWhole choices whole → (section : ℕ) (old : Engine) (m : Marking) (last : Engine) → State choices old → Popped section old.marking m → IsSettled choices whole section (record old { marking = m }) last → Stepped choices old last
+pub settled_steps : (choices : List Choice) → AreChoices choices → (whole : List (List ℕ)) → IsWhole choices whole
+    → (section : ℕ) (old : Engine) (m : Marking) (last : Engine) → State choices old → Popped section old.marking m
+    → IsSettled choices whole section (record old { marking = m }) last → Stepped choices old last
 settled_steps choices are whole is section old m last state popped done =
     let P : Engine → Type 0 = Stepped choices old in
     subst P (sym done.is) (stepped choices are whole is section old m state popped done.list done.narrowed)

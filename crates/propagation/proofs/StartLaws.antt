@@ -1,7 +1,10 @@
 -- Laws of the state at first.
-use Rattle.std.proofs.Common.{◌≡◌, ℕ, ◌<◌, ◌==◌, Bool, true, false, not, ◌&&◌, List, length, get_or, map, filter, replicate, slice_index, Contains, All, Option, Some, None, slice_get, refl, sym, ◌∙◌, ap, subst, inl, inr, arith}
+use Rattle.std.proofs.Common.{◌≡◌, ℕ, ◌<◌, ◌==◌, Bool, true, false, not, ◌&&◌, List, length, get_or, map}
+use Rattle.std.proofs.Common.{filter, replicate, slice_index, Contains, All, IfOk, Option, Some, None}
+use Rattle.std.proofs.Common.{Result, Ok, Err, slice_get, refl, sym, ◌∙◌, ap, subst, inl, inr, arith}
 use Rattle.std.specs.Option.{option_map}
-use Rattle.std.proofs.lemmas.Bool.{cases_lt, and_parts, and_from, eqb-true, eqb-false, eq-eqb, ne_eqb, not-true, not_from_false, false≢true}
+use Rattle.std.proofs.lemmas.Bool.{cases_lt, and_parts, and_from, eqb-true, eqb-false}
+use Rattle.std.proofs.lemmas.Bool.{eq-eqb, ne_eqb, not-true, not_from_false, false≢true}
 use Rattle.std.proofs.lemmas.List.{length-replicate, get_or-replicate, get_or_default, get_or_past}
 use Rattle.std.proofs.lemmas.Option.{slice_get-map, slice_get_within, get_or_from_slice_get}
 use Rattle.propagation.specs.declared.choice.Claim.{Claim}
@@ -9,9 +12,12 @@ use Rattle.propagation.specs.declared.choice.Demand.{Demand}
 use Rattle.propagation.specs.declared.choice.Choice.{Choice}
 use Rattle.propagation.specs.declared.tables.Entry.{Entry}
 use Rattle.propagation.specs.Choices.{can_be_chosen, choice_rules}
-use Rattle.propagation.specs.inside.Engine.{Engine, list_at, is_value, is_known, is_left, said_below, claims_at, claims_from, demands_at, demands_from, HasNumbers}
-use Rattle.propagation.specs.inside.State.{At, KeepsMarks, KeepsClaims, KeepsMembers, KeepsDemands, Keeps, AllWait, IsWhole, State}
-use Rattle.propagation.proofs.ListLaws.{Contains-none, Contains-filter, Contains_of_filter, Contains-map, Contains_of_map, contains_place, said_has, said_of}
+use Rattle.propagation.specs.inside.Engine.{Engine, list_at, is_value, is_known, is_left, said_below}
+use Rattle.propagation.specs.inside.Engine.{claims_at, claims_from, demands_at, demands_from, HasNumbers}
+use Rattle.propagation.specs.inside.State.{At, KeepsMarks, KeepsClaims, KeepsMembers}
+use Rattle.propagation.specs.inside.State.{KeepsDemands, Keeps, AllWait, IsWhole, State}
+use Rattle.propagation.proofs.ListLaws.{Contains-none, Contains-filter, Contains_of_filter, Contains-map}
+use Rattle.propagation.proofs.ListLaws.{Contains_of_map, contains_place, said_has, said_of}
 use Rattle.propagation.proofs.NarrowLaws.{left_within}
 use Rattle.propagation.proofs.MarkLaws.{same_choices}
 use Rattle.propagation.proofs.RemainLaws.{remaining_all}
@@ -43,7 +49,8 @@ nothing_at room key none =
 nothing_known : (known : List (Option ℕ)) (room key value : ℕ) → known ≡ replicate room None
     → is_known known key value ≡ true → ⊥
 nothing_known known room key value e t =
-    false≢true (sym (ap (λ o. is_value o value) (ap (λ (l : List (Option ℕ)). get_or l key None) e ∙ nothing_at room key None)) ∙ t)
+    false≢true (sym (ap (λ o. is_value o value)
+    (ap (λ (l : List (Option ℕ)). get_or l key None) e ∙ nothing_at room key None)) ∙ t)
 
 -- ---- entries
 record Claimed (unknown i : ℕ) (entry : Entry) (o : Option Choice) : Type 0 where
@@ -95,10 +102,12 @@ demanded_of number i entry (Some c) h =
       is = refl;
       place = ap (λ (x : Entry). x.choice) mapped.2;
       has = subst Q value (subst P (eqb-true demand.number number parts.0) kept.0);
-      elsewhere = λ same. eqb-false demand.section c.section (not-true (demand.section == c.section) parts.1) (value ∙ same);
+      elsewhere =
+          λ same. eqb-false demand.section c.section (not-true (demand.section == c.section) parts.1) (value ∙ same);
     }
 
-module _ (choices : List Choice) (sections fixed_room asked_room : ℕ) (e : Engine) (built : Built choices sections fixed_room asked_room e) where
+module _ (choices : List Choice)
+    (sections fixed_room asked_room : ℕ) (e : Engine) (built : Built choices sections fixed_room asked_room e) where
   below : (place : ℕ) (c : Choice) → At choices place c → c.section < sections
   below place c at =
       let h = contains_place choices place c at in
@@ -129,11 +138,13 @@ module _ (choices : List Choice) (sections fixed_room asked_room : ℕ) (e : Eng
         let on : Claim → Bool = λ x. x.unknown == claim.unknown in
         subst P (sym (built.claims claim.unknown))
         (said_has (claims_at choices claim.unknown) (length choices) place entry (slice_get_within choices place c at)
-        (subst P (sym (ap (claims_from claim.unknown place) at)) (Contains-map make (filter on c.claims) claim (Contains-filter on c.claims claim (eq-eqb claim.unknown claim.unknown refl) h)))));
+        (subst P (sym (ap (claims_from claim.unknown place) at)) (Contains-map make (filter on c.claims) claim
+        (Contains-filter on c.claims claim (eq-eqb claim.unknown claim.unknown refl) h)))));
     sound = λ unknown entry h c at.
         (let P : List Entry → Type 0 = λ l. Contains l entry in
         let some = said_of (claims_at choices unknown) (length choices) entry (subst P (built.claims unknown) h) in
-        let k : Claimed unknown some.0 entry (slice_get choices some.0) = claimed_of unknown some.0 entry (slice_get choices some.0) some.2 in
+        let k : Claimed unknown some.0 entry (slice_get choices some.0) =
+        claimed_of unknown some.0 entry (slice_get choices some.0) some.2 in
         let same = same_choices choices entry.choice k.choice c (ap (slice_get choices) (sym k.place) ∙ k.is) at in
         let Q : Choice → Type 0 = λ x. Contains x.claims (record { unknown = unknown; value = entry.value }) in
         subst Q same k.has);
@@ -155,14 +166,18 @@ module _ (choices : List Choice) (sections fixed_room asked_room : ℕ) (e : Eng
         let P : List Entry → Type 0 = λ l. Contains l entry in
         let make : Demand → Entry = λ x. record { choice = place; value = x.section } in
         let on : Demand → Bool = λ x. x.number == demand.number && not (x.section == c.section) in
-        let passes = and_from (demand.number == demand.number) (not (demand.section == c.section)) (eq-eqb demand.number demand.number refl) (not_from_false (demand.section == c.section) (ne_eqb demand.section c.section ne)) in
+        let passes = and_from (demand.number == demand.number)
+        (not (demand.section == c.section)) (eq-eqb demand.number demand.number refl)
+        (not_from_false (demand.section == c.section) (ne_eqb demand.section c.section ne)) in
         subst P (sym (built.makers demand.number))
         (said_has (demands_at choices demand.number) (length choices) place entry (slice_get_within choices place c at)
-        (subst P (sym (ap (demands_from demand.number place) at)) (Contains-map make (filter on c.demands) demand (Contains-filter on c.demands demand passes h)))));
+        (subst P (sym (ap (demands_from demand.number place) at))
+        (Contains-map make (filter on c.demands) demand (Contains-filter on c.demands demand passes h)))));
     sound = λ number entry h c at.
         (let P : List Entry → Type 0 = λ l. Contains l entry in
         let some = said_of (demands_at choices number) (length choices) entry (subst P (built.makers number) h) in
-        let k : Demanded number some.0 entry (slice_get choices some.0) = demanded_of number some.0 entry (slice_get choices some.0) some.2 in
+        let k : Demanded number some.0 entry (slice_get choices some.0) =
+        demanded_of number some.0 entry (slice_get choices some.0) some.2 in
         let same = same_choices choices entry.choice k.choice c (ap (slice_get choices) (sym k.place) ∙ k.is) at in
         let Q : Choice → Type 0 = λ x. Contains x.demands (record { section = entry.value; number = number }) in
         (subst Q same k.has, λ its. k.elsewhere (its ∙ ap (λ (x : Choice). x.section) (sym same))));
@@ -173,15 +188,26 @@ module _ (choices : List Choice) (sections fixed_room asked_room : ℕ) (e : Eng
 
   pub built_waits : AllWait choices e.marking
   built_waits place c at =
-      ap (λ (l : List Bool). get_or l c.section false) built.queued ∙ get_or-replicate sections c.section true false (below place c at)
+      ap (λ (l : List Bool). get_or l c.section false) built.queued
+      ∙ get_or-replicate sections c.section true false (below place c at)
 
-pub start_state : (choices : List Choice) (e : Engine) → Keeps choices e → e.marking.left ≡ map can_be_chosen choices
+start_state : (choices : List Choice) (e : Engine) → Keeps choices e → e.marking.left ≡ map can_be_chosen choices
     → AllWait choices e.marking → State choices e
 start_state choices e keeps left all =
-    let at_left : (place : ℕ) (c : Choice) → At choices place c → is_left e.marking.left place ≡ c.matches = λ place c at. ap (λ (l : List Bool). get_or l place false) left ∙ get_or_from_slice_get (map can_be_chosen choices) place c.matches false (slice_get-map can_be_chosen choices place ∙ ap (option_map can_be_chosen) at) in
+    let at_left : (place : ℕ) (c : Choice) → At choices place c → is_left e.marking.left place ≡ c.matches =
+    λ place c at. ap (λ (l : List Bool). get_or l place false) left
+    ∙ get_or_from_slice_get (map can_be_chosen choices) place c.matches false
+    (slice_get-map can_be_chosen choices place ∙ ap (option_map can_be_chosen) at) in
     record {
       keeps = keeps;
       matching = λ place c at t. sym (at_left place c at) ∙ t;
       sound = λ place c at h. at_left place c at ∙ (remaining_all choice_rules choices c h).1;
       closed = λ place c at t alone. inl (all place c at);
     }
+
+-- the same of what a call answers
+pub start_answer : {E : Type 0} (choices : List Choice) (left : List Bool) (answer : Result Engine E)
+    → left ≡ map can_be_chosen choices → IfOk answer (Keeps choices) → IfOk answer (λ e. e.marking.left ≡ left)
+    → IfOk answer (λ e. AllWait choices e.marking) → IfOk answer (State choices)
+start_answer choices left (Ok e) is keeps same all = start_state choices e keeps (same ∙ is) all
+start_answer choices left (Err fault) is keeps same all = tt

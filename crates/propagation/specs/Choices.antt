@@ -30,8 +30,8 @@ is_unmet b demand = demand.section == b.section && not (list_any (λ number. num
 abbrev pub demands_clash : Choice → Choice → Bool
 demands_clash a b = list_any (is_unmet b) a.demands
 
--- Two choices for different sections, which both can be chosen, clash where their claims give one unknown two values, or one doesn't
--- meet a demand of the other.
+-- Two choices for different sections, which both can be chosen, clash where their claims give one unknown two values,
+-- or one doesn't meet a demand of the other.
 unfoldable pub clash : Choice → Choice → Bool
 clash a b =
     not (same_section a b) && can_be_chosen a && can_be_chosen b

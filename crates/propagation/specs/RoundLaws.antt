@@ -1,13 +1,16 @@
 -- Laws of rounds, and of the first conflict, for the crates above: a function that keeps all rules maps what is left,
 -- what is forced and the first conflict; and no round after the last one excludes more.
-use Rattle.std.specs.Prelude.{◌≡◌, ◌⊎◌, ◌<◌, ◌≤◌, ℕ, zero, suc, ◌+◌, Bool, true, false, cond, not, ◌&&◌, ◌||◌, List, [], ◌∷◌, map, length, All, Option, Some, None, option_map, refl}
+use Rattle.std.specs.Prelude.{◌≡◌, ◌⊎◌, ◌<◌, ◌≤◌, ℕ, zero, suc, ◌+◌, Bool, true, false, cond, not, ◌&&◌}
+use Rattle.std.specs.Prelude.{◌||◌, List, [], ◌∷◌, map, length, All, Option, Some, None, option_map, refl}
 use Rattle.std.specs.List.{filter, list_any, list_all}
 use Rattle.std.specs.Option.{option_or}
-use Rattle.std.proofs.Common.{sym, ◌∙◌, ap, inl, inr, le_refl, le_trans, le_of_eq, add-suc, suc-add, add-zero, suc-le-suc, add-le-add}
+use Rattle.std.proofs.Common.{sym, ◌∙◌, ap, inl, inr, le_refl, le_trans, le_of_eq}
+use Rattle.std.proofs.Common.{add-suc, suc-add, add-zero, suc-le-suc, add-le-add}
 use Rattle.std.proofs.Math.Nat.{le-suc, le-add_left, not-suc-le_self}
 use Rattle.std.proofs.lemmas.List.{length-map}
 use Rattle.std.proofs.lemmas.List.Elements.{All-head, All-tail, All-filter}
-use Rattle.propagation.specs.Rounds.{Rules, is_forced, forced_among, clashes_with_one, without_clashes, left_in, remaining, forced}
+use Rattle.propagation.specs.Rounds.{Rules, is_forced, forced_among, clashes_with_one}
+use Rattle.propagation.specs.Rounds.{without_clashes, left_in, remaining, forced}
 use Rattle.propagation.specs.Conflicts.{first_some, first_of_two, first_between, clashing, conflict}
 
 -- ---- items mapped
@@ -69,14 +72,16 @@ module _ {X Y : Type 0} (P : X → Type 0) (from : Rules X) (to : Rules Y) (f : 
       filter-map P (is_forced to (map f left)) (is_forced from left) f
       (λ x h.
       list_all-map P _ _ f
-      (λ y k. ap (λ b. not b || to.same (f y) (f x)) (maps.same_section y x k h) ∙ ap (λ b. not (from.same_section y x) || b) (maps.same y x k h))
+      (λ y k. ap (λ b. not b || to.same (f y) (f x)) (maps.same_section y x k h)
+      ∙ ap (λ b. not (from.same_section y x) || b) (maps.same y x k h))
       left these)
       all each
 
   without_clashes-map : (ones left : List X) → All P ones → All P left
       → without_clashes to (map f ones) (map f left) ≡ map f (without_clashes from ones left)
   without_clashes-map ones left each these =
-      filter-map P _ _ f (λ x h. ap not (list_any-map P (to.clashes (f x)) (from.clashes x) f (λ y k. maps.clashes x y h k) ones each)) left these
+      filter-map P _ _ f (λ x h. ap not
+      (list_any-map P (to.clashes (f x)) (from.clashes x) f (λ y k. maps.clashes x y h k) ones each)) left these
 
   pub left_in_maps : (round : ℕ) (all : List X) → All P all
       → left_in to round (map f all) ≡ map f (left_in from round all)
@@ -129,10 +134,13 @@ module _ {X Y : Type 0} (P : X → Type 0) (from : Rules X) (to : Rules Y) (f : 
       ap (λ c. cond c (Some (f a, f b)) None) (maps.clashes a b h k) ∙ clashing-cond a b (from.clashes a b)
 
   of_two-map : (ones others : List X) → All P ones → All P others
-      → first_of_two (clashing to) (map f ones) (map f others) ≡ option_map (both f) (first_of_two (clashing from) ones others)
+      → first_of_two (clashing to) (map f ones) (map f others)
+      ≡ option_map (both f) (first_of_two (clashing from) ones others)
   of_two-map ones others each these =
-      first_some-map P (both f) f (λ x. first_some (clashing from x) others) (λ y. first_some (clashing to y) (map f others))
-      (λ x h. first_some-map P (both f) f (clashing from x) (clashing to (f x)) (λ y k. clashing-map x y h k) others these)
+      first_some-map P
+      (both f) f (λ x. first_some (clashing from x) others) (λ y. first_some (clashing to y) (map f others))
+      (λ x h.
+      first_some-map P (both f) f (clashing from x) (clashing to (f x)) (λ y k. clashing-map x y h k) others these)
       ones each
 
   pub conflict_maps : (sections : List (List X)) → All (All P) sections
@@ -143,9 +151,12 @@ module _ {X Y : Type 0} (P : X → Type 0) (from : Rules X) (to : Rules Y) (f : 
       let here = All-head (All P) ones rest each in
       let later = All-tail (All P) ones rest each in
       ap (λ o. option_or o (first_between (clashing to) (map (map f) rest)))
-      (first_some-map (All P) (both f) (map f) (first_of_two (clashing from) ones) (first_of_two (clashing to) (map f ones)) (λ others these. of_two-map ones others here these) rest later)
-      ∙ ap (λ o. option_or (option_map (both f) (first_some (first_of_two (clashing from) ones) rest)) o) (conflict_maps rest later)
-      ∙ option_or-map (both f) (first_some (first_of_two (clashing from) ones) rest) (first_between (clashing from) rest)
+      (first_some-map (All P) (both f) (map f) (first_of_two (clashing from) ones)
+      (first_of_two (clashing to) (map f ones)) (λ others these. of_two-map ones others here these) rest later)
+      ∙ ap (λ o. option_or (option_map (both f) (first_some (first_of_two (clashing from) ones) rest)) o)
+      (conflict_maps rest later)
+      ∙ option_or-map
+      (both f) (first_some (first_of_two (clashing from) ones) rest) (first_between (clashing from) rest)
 
 -- ---- no later round excludes more
 length-cond : {X : Type 0} (b : Bool) (x : X) (xs : List X) → length (cond b (x ∷ xs) xs) ≤ suc (length xs)
@@ -172,7 +183,8 @@ filter-cases p (x ∷ xs) = filter-cases_cons (p x) x xs (filter p xs) (length-f
 none_from_length : {X : Type 0} (xs : List X) (n : ℕ) → length xs + n ≤ n → xs ≡ []
 none_from_length [] n le = refl
 none_from_length (x ∷ xs) n le =
-    absurd (not-suc-le_self n (le_trans (suc-le-suc (le-add_left n (length xs))) (le_trans (le_of_eq (sym (suc-add (length xs) n))) le)))
+    absurd (not-suc-le_self n
+    (le_trans (suc-le-suc (le-add_left n (length xs))) (le_trans (le_of_eq (sym (suc-add (length xs) n))) le)))
 
 -- what is left after one more round
 abbrev pub next_round : {X : Type 0} → Rules X → List X → List X → List X
@@ -180,7 +192,8 @@ next_round rules all left = without_clashes rules (forced_among rules all left) 
 
 next_cases : {X : Type 0} (rules : Rules X) (all : List X) (n : ℕ) (left : List X)
     → (next_round rules all left ≡ left) ⊎ (length left + n ≤ length all)
-    → (next_round rules all (next_round rules all left) ≡ next_round rules all left) ⊎ (length (next_round rules all left) + suc n ≤ length all)
+    → (next_round rules all (next_round rules all left) ≡ next_round rules all left)
+    ⊎ (length (next_round rules all left) + suc n ≤ length all)
 next_cases rules all n left cases =
     elim cases [
       | inl e ↦ inl (ap (next_round rules all) e)
@@ -193,7 +206,8 @@ next_cases rules all n left cases =
     ]
 
 rounds_cases : {X : Type 0} (rules : Rules X) (all : List X) (n : ℕ)
-    → (next_round rules all (left_in rules n all) ≡ left_in rules n all) ⊎ (length (left_in rules n all) + n ≤ length all)
+    → (next_round rules all (left_in rules n all) ≡ left_in rules n all)
+    ⊎ (length (left_in rules n all) + n ≤ length all)
 unfolding left_in
 rounds_cases rules all zero =
     inr (le_trans (le_of_eq (add-zero _)) (length-filter rules.matches all))
@@ -216,7 +230,8 @@ pub rounds_end : {X : Type 0} (rules : Rules X) (all : List X) (k : ℕ)
 unfolding left_in remaining
 rounds_end rules all zero = ap (λ n. left_in rules n all) (add-zero (length all))
 rounds_end rules all (suc k) =
-    ap (λ n. left_in rules n all) (add-suc (length all) k) ∙ ap (next_round rules all) (rounds_end rules all k) ∙ remaining_stays rules all
+    ap (λ n. left_in rules n all) (add-suc (length all) k)
+    ∙ ap (next_round rules all) (rounds_end rules all k) ∙ remaining_stays rules all
 
 -- no remaining item clashes with a forced one
 pub remaining_is_kept : {X : Type 0} (rules : Rules X) (all : List X)

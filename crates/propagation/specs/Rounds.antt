@@ -25,8 +25,8 @@ clashes_with_one rules forced x = list_any (rules.clashes x) forced
 abbrev pub without_clashes : {X : Type 0} → Rules X → List X → List X → List X
 without_clashes rules forced left = filter (λ x. not (clashes_with_one rules forced x)) left
 
--- The items that aren't excluded in a round: in round 0 those that match, and in the next round those of them that don't
--- clash with a forced one.
+-- The items that aren't excluded in a round: in round 0 those that match, and in the next round those of them that
+-- don't clash with a forced one.
 unfoldable pub left_in : {X : Type 0} → Rules X → ℕ → List X → List X
 left_in rules zero all = filter rules.matches all
 left_in rules (suc round) all =

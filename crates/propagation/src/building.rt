@@ -2,7 +2,9 @@
 ghost use Rattle.std.specs.Prelude.{◌≡◌, ◌<◌, ◌++◌, ◌∷◌, [], ℕ, length, All, OnOk, IfOk};
 ghost use Rattle.std.specs.List.{Contains};
 ghost use Rattle.propagation.specs.declared.choice.Demand.{Demand};
-ghost use Rattle.propagation.specs.inside.Engine.{list_at, is_known, said_below, claims_of, claims_at, demands_of, demands_at, place_if, members_at, AreListed, Grows, HasDemands, HasNumbers};
+ghost use Rattle.propagation.specs.inside.Engine.{list_at, is_known, said_below, claims_of, claims_at};
+ghost use Rattle.propagation.specs.inside.Engine.{demands_of, demands_at, place_if, members_at};
+ghost use Rattle.propagation.specs.inside.Engine.{AreListed, Grows, HasDemands, HasNumbers};
 
 use crate::choice::{Choice, Claim, Demand};
 use crate::tables::{Entry, Known, Table};

@@ -1,5 +1,6 @@
 //! Which choices that must be chosen are in each other's way.
-ghost use Rattle.std.specs.Prelude.{◌≡◌, ◌<◌, ◌&&◌, ℕ, false, true, length, IfOk, IfNone, IfSome, IsSome, All, map, option_map};
+ghost use Rattle.std.specs.Prelude.{◌≡◌, ◌<◌, ◌&&◌, ℕ, false, true, length, IfOk};
+ghost use Rattle.std.specs.Prelude.{IfNone, IfSome, IsSome, All, map, option_map};
 ghost use Rattle.std.specs.List.{list_any};
 ghost use Rattle.std.specs.Option.{option_and_then};
 ghost use Rattle.propagation.specs.declared.choice.Choice.{Choice};
@@ -30,25 +31,24 @@ pub fn first_conflict(
     requires order { AreChoices choices.now }
     requires within { All (λ choice. choice.section < sections) choices.now }
     requires left { left.now ≡ map (is_among choice_rules (remaining choice_rules choices.now)) choices.now }
-    ensures { IfOk result (λ places.
+    ensures conflict { IfOk result (λ places.
         option_and_then (pair_at choices.now) places
         ≡ conflict choice_rules (by_section sections (forced choice_rules choices.now))) }
+    ensures within { IfOk result (λ places.
+        IfSome places (λ p. (p.0 < length choices.now) × (p.1 < length choices.now))) }
 {
     let whole = members_by_section(alloc, choices)?;
     let alive = alive_sections(alloc, left, &whole, sections as usize)?;
-    match first_stuck(choices, alive.as_slice()) {
-        Some(place) => {
-            let found = conflict_around(
-                alloc,
-                choices,
-                &whole,
-                alive.as_slice(),
-                choices[place].section,
-            )?;
-            Ok(found)
-        }
-        None => Ok(None),
-    }
+    let Some(place) = first_stuck(choices, alive.as_slice()) else {
+        return Ok(None);
+    };
+    conflict_around(
+        alloc,
+        choices,
+        &whole,
+        alive.as_slice(),
+        choices[place].section,
+    )
 }
 
 // Whether one of some choices is left.
@@ -173,8 +173,7 @@ fn conflict_around(
     match first_struck(alloc, choices, others.as_slice(), whole.get(one as usize))? {
         Some(place) => {
             let two = choices[place].section;
-            let found = conflict_between(alloc, choices, whole, alive, one, two)?;
-            Ok(found)
+            conflict_between(alloc, choices, whole, alive, one, two)
         }
         None => Ok(None),
     }

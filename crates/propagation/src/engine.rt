@@ -1,9 +1,11 @@
 //! Carrying out a choice that must be chosen: those that clash with it are excluded.
-ghost use Rattle.std.specs.Prelude.{◌≡◌, ◌<◌, true, false, [], All, ℕ, not, length, filter, map, slice_set, fold, OnOk, IfOk};
+ghost use Rattle.std.specs.Prelude.{◌≡◌, ◌<◌, true, false, [], All, ℕ, not, length};
+ghost use Rattle.std.specs.Prelude.{filter, map, slice_set, fold, OnOk, IfOk};
 ghost use Rattle.std.specs.List.{slice_get, list_any};
 ghost use Rattle.propagation.specs.Choices.{AreChoices};
 ghost use Rattle.propagation.specs.inside.State.{carried_of, AllWait, IsSettled, IsWhole, Keeps, State, weight};
-ghost use Rattle.propagation.specs.inside.Engine.{Ascends, meets, fails, saying, saying_other, fixing, claimed, asking, asked_by, refusing, meeting, carried_out, carried_at, list_at};
+ghost use Rattle.propagation.specs.inside.Engine.{Ascends, meets, fails, saying, saying_other, fixing, claimed, asking};
+ghost use Rattle.propagation.specs.inside.Engine.{asked_by, refusing, meeting, carried_out, carried_at, list_at};
 
 use crate::building::{
     claims_by_unknown, demands_by_number, members_by_section, numbers_by_section, section_count,
@@ -153,8 +155,7 @@ impl Engine {
         ensures { IfOk result (λ engine. State choices.now engine) }
     {
         let left = possible(alloc, choices)?;
-        let engine = Engine::of(alloc, choices, left)?;
-        Ok(engine)
+        Engine::of(alloc, choices, left)
     }
 
     // Excludes the choices that claim another value of a claim's unknown.

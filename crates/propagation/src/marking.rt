@@ -1,9 +1,11 @@
 //! Marks of the choices that are left.
-ghost use Rattle.std.specs.Prelude.{◌≡◌, ◌<◌, ◌≤◌, ◌-◌, ◌++◌, ℕ, false, true, length, map, slice_set, filter, replicate, MatchOption, option_to_list, [], OnOk, IfOk, IfNone, IfSome};
+ghost use Rattle.std.specs.Prelude.{◌≡◌, ◌<◌, ◌≤◌, ◌-◌, ◌++◌, ℕ, false, true, length, map, slice_set, filter};
+ghost use Rattle.std.specs.Prelude.{replicate, MatchOption, option_to_list, [], OnOk, IfOk, IfNone, IfSome};
 ghost use Rattle.std.specs.List.{slice_index_or, slice_index};
 ghost use Rattle.propagation.specs.Choices.{can_be_chosen};
 ghost use Rattle.propagation.specs.inside.State.{IsEnd, IsNarrowed, Popped};
-ghost use Rattle.propagation.specs.inside.Engine.{is_left, is_other, waiting, excluded_of, excluded, excluded_each, entries_left};
+ghost use Rattle.propagation.specs.inside.Engine.{is_left, is_other, waiting, excluded_of};
+ghost use Rattle.propagation.specs.inside.Engine.{excluded, excluded_each, entries_left};
 
 use crate::choice::Choice;
 use crate::tables::Entry;

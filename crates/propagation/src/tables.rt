@@ -1,5 +1,6 @@
 //! Lists and values by number.
-ghost use Rattle.std.specs.Prelude.{◌≡◌, ◌==◌, ◌<◌, ◌++◌, ◌∷◌, ℕ, [], length, slice_set, OnOk, IfOk, Some, None, replicate, if◌then◌else◌};
+ghost use Rattle.std.specs.Prelude.{◌≡◌, ◌==◌, ◌<◌, ◌++◌, ◌∷◌, ℕ, [], length, slice_set};
+ghost use Rattle.std.specs.Prelude.{OnOk, IfOk, Some, None, replicate, if◌then◌else◌};
 ghost use Rattle.propagation.specs.inside.Engine.{list_at, is_value, is_known};
 
 use ks_base::ListOf;

@@ -132,7 +132,7 @@ impl<'n, 'a> PreCode<'n, 'a> {
         table: &SymbolTable,
         home: u32,
         base: u32,
-    ) -> Result<Matched, MatchFault>
+    ) -> Result<Matched<'a>, MatchFault>
         ensures { Comes (outcome (candidate self.now (S.contents space.now) table.now.symbols home base)) result }
     {
         let run = list_run(alloc, space, base, self.places.kept_count())?;
@@ -184,18 +184,18 @@ impl<'n, 'a> PreCode<'n, 'a> {
 /// Whether the code section of a name is what runs at a base, for a function whose home is given.
 ///
 /// Its length in bytes, what it claims of functions, data and outside names, and where its references lead into other
-/// functions. [`MatchFault::Undecoded`] comes exactly where the section's own code can't be matched, with the least
-/// offset, [`MatchFault::Differs`] exactly where it can and differs from what runs, with the first difference, and
-/// [`MatchFault::Memory`] for want of memory alone.
-pub fn match_body<S: Space>(
+/// functions, with names that are borrowed from the object's file. [`MatchFault::Undecoded`] comes exactly where the
+/// section's own code can't be matched, with the least offset, [`MatchFault::Differs`] exactly where it can and differs
+/// from what runs, with the first difference, and [`MatchFault::Memory`] for want of memory alone.
+pub fn match_body<'a, S: Space>(
     alloc: Global,
-    pre: &Normal<'_>,
+    pre: &Normal<'a>,
     section: &Name,
     space: &S,
     table: &SymbolTable,
     home: u32,
     base: u32,
-) -> Result<Matched, MatchFault>
+) -> Result<Matched<'a>, MatchFault>
     requires { IsTrue (is_in is_code_class pre.now section.now) }
     ensures { (place : ℕ) (own : NormalSection) → place_named pre.now section.now ≡ Some place →
         slice_get pre.now place ≡ Some own

@@ -3,6 +3,7 @@
 #![tactic(auto)]
 
 mod bodies;
+mod borrowed;
 mod candidate;
 mod code;
 mod comparing;
@@ -29,6 +30,7 @@ pub mod types;
 mod values;
 
 pub use bodies::Body;
+pub use borrowed::{BorrowedSpot, BorrowedUnknown, UnknownKind};
 pub use code::{PreCode, PreObject, match_body};
 pub use laws::{
     alike_memories_match_alike, bodies_lie_in_code, claims_agree, matches_have_one_valuation,

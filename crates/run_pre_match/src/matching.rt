@@ -43,12 +43,7 @@ impl<'m, 'a, S: Space> Candidate<'m, 'a, S> {
     }
 
     /// Adds what the fields of a pair say.
-    fn state_pair(
-        &self,
-        alloc: Global,
-        said: &mut Said,
-        pair: &Pair<'_, '_, 'a>,
-    ) -> Result<(), AllocError>
+    fn state_pair(&self, said: &mut Said<'a>, pair: &Pair<'_, '_, 'a>) -> Result<(), AllocError>
         requires { pre_instruction_at self.now.section pair.now.pre.place ≡ Some pair.now.pre }
         ensures claims { OnOk result (said.new.claims ≡ said.old.claims
             ++ filter_map (claim_of self.now) (stated_by_pair self.now pair.now)) }
@@ -61,7 +56,7 @@ impl<'m, 'a, S: Space> Candidate<'m, 'a, S> {
         for j in 0..refs.len() {
             let r = &refs[j];
             let given = self.given_in_pair(pair, first + j, r);
-            self.state(alloc, said, &section.name, r.offset, &given)?;
+            self.state(said, &section.name, r.offset, &given)?;
         }
         Ok(())
     }
@@ -81,7 +76,7 @@ impl<'m, 'a, S: Space> Candidate<'m, 'a, S> {
         &self,
         alloc: Global,
         values: &mut Values<'a>,
-        said: &mut Said,
+        said: &mut Said<'a>,
     ) -> Result<Option<Difference>, AllocError>
         requires known { AreKnown self.now.object self.now.contents.pieces values.old.texts }
         requires home { Keeps self.now (own_home self.now ∷ []) values.old }
@@ -102,13 +97,13 @@ impl<'m, 'a, S: Space> Candidate<'m, 'a, S> {
             if let Some(kind) = self.compare(alloc, values, &pair)? {
                 return Ok(Some(pair.difference(kind)));
             }
-            self.state_pair(alloc, said, &pair)?;
+            self.state_pair(said, &pair)?;
         }
         Ok(self.break_off())
     }
 
     /// What comes of the candidate: what it says, or the first difference.
-    pub(crate) fn outcome(&self, alloc: Global) -> Result<Matched, MatchFault>
+    pub(crate) fn outcome(&self, alloc: Global) -> Result<Matched<'a>, MatchFault>
         ensures { Comes (outcome self.now) result }
     {
         let mut values = self.first_values(alloc)?;
@@ -116,7 +111,7 @@ impl<'m, 'a, S: Space> Candidate<'m, 'a, S> {
         if let Some(difference) = self.compare_pairs(alloc, &mut values, &mut said)? {
             return Err(MatchFault::Differs(difference));
         }
-        self.state_constants(alloc, &mut said, &values)?;
+        self.state_constants(&mut said, &values)?;
         Ok(Matched {
             length: self.run.end.saturating_sub(self.base),
             claims: said.claims,

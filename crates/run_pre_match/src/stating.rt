@@ -7,66 +7,60 @@ ghost use Rattle.run_pre_match.specs.Matched.{claim_of, interior_of, home_claim}
 ghost use Rattle.run_pre_match.specs.inside.Kept.{Keeps};
 ghost use Rattle.run_pre_match.specs.inside.Reached.{stated_in};
 
+use crate::borrowed::{BorrowedSpot, BorrowedUnknown, UnknownKind};
 use crate::candidate::Candidate;
 use crate::goals::{Given, Goal};
 use crate::types::{Claim, Claims, Interior, Interiors};
 use crate::values::Values;
 use i386_reloc::{NormalSection, Span};
 use image_memory::Space;
-use ks_base::{Name, Spot};
 use std::alloc::{AllocError, Global};
-use symbol_table::Unknown;
 
 /// What some fields say, in the order of the fields.
 #[derive(Drop)]
-pub(crate) struct Said {
-    pub(crate) claims: Claims,
-    pub(crate) interiors: Interiors,
-}
-
-/// The place at an offset of the section of a name.
-fn spot(alloc: Global, section: &Span<'_>, offset: u32) -> Result<Spot, AllocError>
-    ensures { IfOk result (λ spot. spot ≡ spot_at section.now offset) }
-{
-    Ok(Spot {
-        section: Name::from_slice(alloc, section.as_slice())?,
-        offset,
-    })
+pub(crate) struct Said<'a> {
+    pub(crate) claims: Claims<'a>,
+    pub(crate) interiors: Interiors<'a>,
 }
 
 impl<'m, 'a, S: Space> Candidate<'m, 'a, S> {
     /// The name of the section at a place, empty where there is none.
-    fn name_at(&self, alloc: Global, place: usize) -> Result<Name, AllocError>
-        ensures { IfOk result (λ name. name ≡ name_at self.now place) }
+    fn name_at(&self, place: usize) -> &'a [u8]
+        ensures { result.now ≡ name_at self.now place }
     {
         match self.section(place) {
-            Some(section) => Name::from_slice(alloc, section.name.as_slice()),
-            None => Ok(Name::new(alloc)),
+            Some(section) => section.name.as_slice(),
+            None => &[],
         }
     }
 
     /// What a field claims the value of that goes to a goal: nothing of read-only sections, texts and interiors.
-    fn unknown_of(&self, alloc: Global, goal: &Goal<'a>) -> Result<Option<Unknown>, AllocError>
-        ensures { IfOk result (λ unknown. unknown ≡ unknown_of self.now goal.now) }
+    fn unknown_of(&self, goal: &Goal<'a>) -> Option<BorrowedUnknown<'a>>
+        ensures { result ≡ unknown_of self.now goal.now }
     {
         match goal {
-            Goal::Entry(place) => Ok(Some(Unknown::Code(self.name_at(alloc, *place)?))),
-            Goal::Variable(place) => Ok(Some(Unknown::Data(self.name_at(alloc, *place)?))),
-            Goal::Outside(name) => {
-                let name = Name::from_slice(alloc, name.as_slice())?;
-                Ok(Some(Unknown::Outside(name)))
+            Goal::Entry(place) => {
+                let name = self.name_at(*place);
+                Some(BorrowedUnknown::new(UnknownKind::CodeSection, name))
             }
-            Goal::Inside { .. } => Ok(None),
-            Goal::Constant(_) => Ok(None),
-            Goal::Text { .. } => Ok(None),
+            Goal::Variable(place) => {
+                let name = self.name_at(*place);
+                Some(BorrowedUnknown::new(UnknownKind::DataSection, name))
+            }
+            Goal::Outside(name) => {
+                let name = name.as_slice();
+                Some(BorrowedUnknown::new(UnknownKind::OutsideName, name))
+            }
+            Goal::Inside { .. } => None,
+            Goal::Constant(_) => None,
+            Goal::Text { .. } => None,
         }
     }
 
     /// Adds what the field at an offset of a section claims.
     fn state_claim(
         &self,
-        alloc: Global,
-        claims: &mut Claims,
+        claims: &mut Claims<'a>,
         section: &Span<'a>,
         offset: u32,
         given: &Given<'a>,
@@ -74,12 +68,11 @@ impl<'m, 'a, S: Space> Candidate<'m, 'a, S> {
         ensures { OnOk result (claims.new ≡ claims.old
             ++ option_to_list (claim_of self.now (record { spot = spot_at section.now offset; given = given.now }))) }
     {
-        if let Some(unknown) = self.unknown_of(alloc, &given.goal)? {
-            let place = spot(alloc, section, offset)?;
+        if let Some(unknown) = self.unknown_of(&given.goal) {
             claims.push(Claim {
                 unknown,
                 value: given.value,
-                place,
+                place: BorrowedSpot::new(section.as_slice(), offset),
             })?;
         }
         Ok(())
@@ -88,8 +81,7 @@ impl<'m, 'a, S: Space> Candidate<'m, 'a, S> {
     /// Adds the interior of another code section that the field at an offset of a section names.
     fn state_interior(
         &self,
-        alloc: Global,
-        interiors: &mut Interiors,
+        interiors: &mut Interiors<'a>,
         section: &Span<'a>,
         offset: u32,
         given: &Given<'a>,
@@ -109,10 +101,10 @@ impl<'m, 'a, S: Space> Candidate<'m, 'a, S> {
             return Ok(());
         }
         let interior = Interior {
-            section: self.name_at(alloc, *other)?,
+            section: Span::new(self.name_at(*other)),
             offset: *inside,
             address: given.value.wrapping_add(*inside),
-            place: spot(alloc, section, offset)?,
+            place: BorrowedSpot::new(section.as_slice(), offset),
         };
         interiors.push(interior)
     }
@@ -120,8 +112,7 @@ impl<'m, 'a, S: Space> Candidate<'m, 'a, S> {
     /// Adds what the field at an offset of a section says.
     pub(crate) fn state(
         &self,
-        alloc: Global,
-        said: &mut Said,
+        said: &mut Said<'a>,
         section: &Span<'a>,
         offset: u32,
         given: &Given<'a>,
@@ -132,15 +123,14 @@ impl<'m, 'a, S: Space> Candidate<'m, 'a, S> {
             ++ option_to_list (interior_of self.now
             (record { spot = spot_at section.now offset; given = given.now }))) }
     {
-        self.state_claim(alloc, &mut said.claims, section, offset, given)?;
-        self.state_interior(alloc, &mut said.interiors, section, offset, given)
+        self.state_claim(&mut said.claims, section, offset, given)?;
+        self.state_interior(&mut said.interiors, section, offset, given)
     }
 
     /// Adds what the fields of the section at a place say, where the section lies at a base.
     fn state_constant(
         &self,
-        alloc: Global,
-        said: &mut Said,
+        said: &mut Said<'a>,
         place: usize,
         section: &NormalSection<'a>,
         base: u32,
@@ -156,26 +146,20 @@ impl<'m, 'a, S: Space> Candidate<'m, 'a, S> {
         for k in 0..refs.len() {
             let r = &refs[k];
             let given = self.given_in_constant(place, k, base, r);
-            self.state(alloc, said, &section.name, r.offset, &given)?;
+            self.state(said, &section.name, r.offset, &given)?;
         }
         Ok(())
     }
 
     /// Adds what the fields of the section at a place say, where it lies at a base: nothing where there is no section.
-    fn state_reached(
-        &self,
-        alloc: Global,
-        said: &mut Said,
-        place: usize,
-        base: u32,
-    ) -> Result<(), AllocError>
+    fn state_reached(&self, said: &mut Said<'a>, place: usize, base: u32) -> Result<(), AllocError>
         ensures claims { OnOk result (said.new.claims ≡ said.old.claims
             ++ filter_map (claim_of self.now) (stated_in self.now base (slice_get self.now.object place))) }
         ensures interiors { OnOk result (said.new.interiors ≡ said.old.interiors
             ++ filter_map (interior_of self.now) (stated_in self.now base (slice_get self.now.object place))) }
     {
         match self.section(place) {
-            Some(section) => self.state_constant(alloc, said, place, section, base),
+            Some(section) => self.state_constant(said, place, section, base),
             None => Ok(()),
         }
     }
@@ -183,8 +167,7 @@ impl<'m, 'a, S: Space> Candidate<'m, 'a, S> {
     /// Adds what the fields of the read-only sections say for which values were found, in the order of the sections.
     pub(crate) fn state_constants(
         &self,
-        alloc: Global,
-        said: &mut Said,
+        said: &mut Said<'a>,
         values: &Values<'a>,
     ) -> Result<(), AllocError>
         ensures claims { OnOk result ((found : List Found) → Keeps self.now found values.now
@@ -195,22 +178,22 @@ impl<'m, 'a, S: Space> Candidate<'m, 'a, S> {
             ++ filter_map (interior_of self.now) (stated_from self.now found 0 self.now.object)) }
     {
         for (place, first) in values.constants.iter() {
-            self.state_reached(alloc, said, *place, first.value)?;
+            self.state_reached(said, *place, first.value)?;
         }
         Ok(())
     }
 
     /// What is said before any field: the own home.
-    pub(crate) fn home_said(&self, alloc: Global) -> Result<Said, AllocError>
+    pub(crate) fn home_said(&self, alloc: Global) -> Result<Said<'a>, AllocError>
         ensures claims { IfOk result (λ said. said.claims ≡ home_claim self.now ∷ []) }
         ensures interiors { IfOk result (λ said. said.interiors ≡ []) }
     {
-        let name = Name::from_slice(alloc, self.section.name.as_slice())?;
+        let name = self.section.name.as_slice();
         let mut claims = Claims::new(alloc);
         claims.push(Claim {
-            unknown: Unknown::Code(name),
+            unknown: BorrowedUnknown::new(UnknownKind::CodeSection, name),
             value: self.home,
-            place: spot(alloc, &self.section.name, 0)?,
+            place: BorrowedSpot::new(name, 0),
         })?;
         Ok(Said {
             claims,

@@ -1,47 +1,48 @@
-//! What matching finds.
-use ks_base::{Difference, ListOf, Name, Spot};
+//! What matching finds. Names are borrowed from the object's file.
+use crate::borrowed::{BorrowedSpot, BorrowedUnknown};
+use i386_reloc::Span;
+use ks_base::{Difference, ListOf};
 use std::alloc::AllocError;
-use symbol_table::Unknown;
 
 /// That something has a value, and the place of the field that says so.
-#[derive(PartialEq, Eq, Debug, Drop)]
-pub struct Claim {
+#[derive(Debug, Drop)]
+pub struct Claim<'a> {
     /// What has the value.
-    pub unknown: Unknown,
+    pub unknown: BorrowedUnknown<'a>,
     /// The value: of a code section the home of its function, otherwise an address.
     pub value: u32,
     /// Where the field begins.
-    pub place: Spot,
+    pub place: BorrowedSpot<'a>,
 }
 
 /// Claims in the order of their places.
-pub type Claims = ListOf<Claim>;
+pub type Claims<'a> = ListOf<Claim<'a>>;
 
 /// That an address is that of an offset in another code section, and the place of the field that says so.
-#[derive(PartialEq, Eq, Debug, Drop)]
-pub struct Interior {
+#[derive(Debug, Drop)]
+pub struct Interior<'a> {
     /// The name of the other section.
-    pub section: Name,
+    pub section: Span<'a>,
     /// The offset in it, in bytes.
     pub offset: u32,
     /// The address.
     pub address: u32,
     /// Where the field begins.
-    pub place: Spot,
+    pub place: BorrowedSpot<'a>,
 }
 
 /// Interiors in the order of their places.
-pub type Interiors = ListOf<Interior>;
+pub type Interiors<'a> = ListOf<Interior<'a>>;
 
 /// What is known where the code of a section is what runs at a base.
-#[derive(PartialEq, Eq, Debug, Drop)]
-pub struct Matched {
+#[derive(Debug, Drop)]
+pub struct Matched<'a> {
     /// How many bytes the running body has, from its base to the end of its last instruction that isn't padding.
     pub length: u32,
     /// Its claims, the own home first.
-    pub claims: Claims,
+    pub claims: Claims<'a>,
     /// Its references to the interiors of other code sections.
-    pub interiors: Interiors,
+    pub interiors: Interiors<'a>,
 }
 
 /// Why the code of a section doesn't match.

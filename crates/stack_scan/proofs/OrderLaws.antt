@@ -14,7 +14,8 @@ use Rattle.ia32_step.specs.declared.types.State.{State}
 use Rattle.ia32_step.specs.declared.types.State.TheVariants.{Running, Exited, Stopped}
 use Rattle.ia32_step.specs.declared.types.Thread.{Thread}
 use Rattle.stack_scan.specs.declared.types.StackOut.{StackOut}
-use Rattle.stack_scan.specs.Standing.{in_one, first_place, places, standing_at, stack_out, is_stack_out, stands_by, stands}
+use Rattle.stack_scan.specs.Standing.{in_one, first_place, places, standing_at}
+use Rattle.stack_scan.specs.Standing.{stack_out, is_stack_out, stands_by, stands}
 use Rattle.stack_scan.specs.Standing.{standing_refused, thread_refusal}
 
 module _ (pieces : List Piece) (ranges others : List Range) (same : IsPermutation ranges others) where

@@ -1,5 +1,6 @@
 -- Why a part of a stack can be read.
-use Rattle.std.proofs.Common.{◌≡◌, ℕ, zero, suc, ◌+◌, ◌-◌, ◌≤◌, ◌<◌, true, false, List, [], ◌∷◌, length, get_or, Option, Some, None, refl, arith, ◌⊎◌, inl, inr}
+use Rattle.std.proofs.Common.{◌≡◌, ℕ, zero, suc, ◌+◌, ◌-◌, ◌≤◌, ◌<◌, true, false, List, [], ◌∷◌}
+use Rattle.std.proofs.Common.{length, get_or, Option, Some, None, refl, arith, ◌⊎◌, inl, inr}
 use Rattle.std.specs.Option.{option_or}
 use Rattle.std.specs.List.{Any}
 use Rattle.std.proofs.lemmas.Bool.Decides.{nat_tests}
@@ -33,7 +34,8 @@ held_by floor (p ∷ ps) (suc i) a d up l low high =
     let elsewhere : lies_in a (piece_range p) ≡ false = grind (arith, nat_tests) in
     rw elsewhere (held_by (piece_range p).high ps i a d up.2 (omega arith) low high)
 
-readable_at : (pieces : List Piece) (stack : Range) (a : ℕ) → Ascends piece_range 0 pieces → Any (LiesInWritable stack) pieces
+readable_at : (pieces : List Piece) (stack : Range) (a : ℕ)
+    → Ascends piece_range 0 pieces → Any (LiesInWritable stack) pieces
     → stack.low ≤ a → a < stack.high → read_fault pieces a ≡ None
 readable_at pieces stack a up held low high =
     let i = held.0 in
@@ -44,14 +46,16 @@ readable_at pieces stack a up held low high =
     held_by 0 pieces i a piece up held.2 (rw is (omega (arith, lies.low))) (rw is (omega (arith, lies.high))) in
     rw (here, is, lies.kind) refl
 
-none_bad : (fault_at : ℕ → Option Fault) (a n : ℕ) → ((k : ℕ) → k < n → fault_at (a + k) ≡ None) → first_fault fault_at a n ≡ None
+none_bad : (fault_at : ℕ → Option Fault) (a n : ℕ)
+    → ((k : ℕ) → k < n → fault_at (a + k) ≡ None) → first_fault fault_at a n ≡ None
 unfolding first_fault
 none_bad fault_at a zero h = refl
 none_bad fault_at a (suc n) h =
     let before = none_bad fault_at a n (λ k l. h k (omega arith)) in
     rw before (h n (omega arith))
 
-all_good : (fault_at : ℕ → Option Fault) (a n : ℕ) → first_fault fault_at a n ≡ None → (k : ℕ) → k < n → fault_at (a + k) ≡ None
+all_good : (fault_at : ℕ → Option Fault) (a n : ℕ)
+    → first_fault fault_at a n ≡ None → (k : ℕ) → k < n → fault_at (a + k) ≡ None
 unfolding first_fault
 all_good fault_at a zero h k l = absurd (omega arith)
 all_good fault_at a (suc n) h k l =
@@ -72,13 +76,15 @@ all_good fault_at a (suc n) h k l =
     second (Some x) y h = cc
 
 -- bytes of a stack can be read
-pub stack_readable : (pieces : List Piece) (stack : Range) (a n : ℕ) → Ascends piece_range 0 pieces → IsStack pieces stack
+pub stack_readable : (pieces : List Piece) (stack : Range) (a n : ℕ)
+    → Ascends piece_range 0 pieces → IsStack pieces stack
     → stack.low ≤ a → a + n ≤ stack.high → first_fault (read_fault pieces) a n ≡ None
 stack_readable pieces stack a n up is low high =
     none_bad (read_fault pieces) a n (λ k l. readable_at pieces stack (a + k) up is.held (omega arith) (omega arith))
 
 -- and so can a part of what can be read
-pub part_readable : (pieces : List Piece) (a n b m : ℕ) → first_fault (read_fault pieces) a n ≡ None → a ≤ b → b + m ≤ a + n
+pub part_readable : (pieces : List Piece) (a n b m : ℕ)
+    → first_fault (read_fault pieces) a n ≡ None → a ≤ b → b + m ≤ a + n
     → first_fault (read_fault pieces) b m ≡ None
 part_readable pieces a n b m h low high =
     none_bad (read_fault pieces) b m (λ k l.

@@ -13,7 +13,8 @@ use Rattle.stack_scan.specs.inside.Words.{AreWithin, AreInOrder}
 below_or_same : (i j : ℕ) → i ≤ j → (i < j) ⊎ (i ≡ j)
 below_or_same i j l = grind arith
 
-pub highs_rise : (ranges : List Range) → AreInOrder (length ranges) ranges → IsNonDecreasingBy (λ range. range.high) ranges
+pub highs_rise : (ranges : List Range)
+    → AreInOrder (length ranges) ranges → IsNonDecreasingBy (λ range. range.high) ranges
 highs_rise ranges h i j d l m = elim (below_or_same i j l) [
   | inl less ↦
       let before = h.apart i j d less m in
@@ -26,7 +27,8 @@ misses : (word : ℕ) (range : Range) → (word < range.low) ⊎ (range.high ≤
 misses word range h = grind (arith, nat_tests)
 
 -- a word outside the bounds of all ranges is an address of none
-pub outside : (low high word : ℕ) (ranges : List Range) → AreWithin low high (length ranges) ranges → (word < low) ⊎ (high ≤ word)
+pub outside : (low high word : ℕ) (ranges : List Range)
+    → AreWithin low high (length ranges) ranges → (word < low) ⊎ (high ≤ word)
     → in_one ranges word ≡ false
 outside low high word ranges within out = list_any_none (lies_in word) ranges (λ k d l.
     let bounds = within k d l in
@@ -36,7 +38,8 @@ outside low high word ranges within out = list_any_none (lies_in word) ranges (�
     ]))
 
 -- nor is one at or above the end of all of them
-pub past_all : (word : ℕ) (ranges : List Range) → AllWithin (λ range. range.high ≤ word) ranges 0 (length ranges) → in_one ranges word ≡ false
+pub past_all : (word : ℕ) (ranges : List Range)
+    → AllWithin (λ range. range.high ≤ word) ranges 0 (length ranges) → in_one ranges word ≡ false
 past_all word ranges ended = list_any_none (lies_in word) ranges (λ k d l.
     misses word (get_or ranges k d) (inr (ended k d (omega arith) l)))
 
@@ -45,10 +48,12 @@ order_of k n = grind arith
 
 -- where ranges are in order, the first that ends above a word tells
 pub by_first : (word n : ℕ) (d : Range) (ranges : List Range) → AreInOrder (length ranges) ranges → n < length ranges
-    → AllWithin (λ range. range.high ≤ word) ranges 0 n → AllWithin (λ range. word < range.high) ranges n (length ranges)
+    → AllWithin (λ range. range.high ≤ word) ranges 0 n
+    → AllWithin (λ range. word < range.high) ranges n (length ranges)
     → in_one ranges word ≡ nat_le (get_or ranges n d).low word
 by_first word n d ranges h inside below above =
-    elim (nat_le (get_or ranges n d).low word) as (λ b. nat_le (get_or ranges n d).low word ≡ b → in_one ranges word ≡ b) [
+    elim (nat_le (get_or ranges n d).low word)
+    as (λ b. nat_le (get_or ranges n d).low word ≡ b → in_one ranges word ≡ b) [
       | true ↦ λ begun. list_any_at (lies_in word) ranges n d inside (here begun)
       | false ↦ λ not_yet. list_any_none (lies_in word) ranges (λ k e l. elim (order_of k n) [
         | inl before ↦ misses word (get_or ranges k e) (inr (below k e (omega arith) before))

@@ -1,5 +1,6 @@
 -- Addresses of dwords, and the words there.
-use Rattle.std.proofs.Common.{◌≡◌, ℕ, zero, suc, ◌+◌, ◌-◌, ◌*◌, ◌≤◌, ◌<◌, Bool, true, false, cond, nat_lt, List, [], ◌∷◌, ◌++◌, length, get_or, map, Option, Some, None, refl, sym, ap, ◌∙◌, arith}
+use Rattle.std.proofs.Common.{◌≡◌, ℕ, zero, suc, ◌+◌, ◌-◌, ◌*◌, ◌≤◌, ◌<◌, Bool, true, false, cond, nat_lt, List}
+use Rattle.std.proofs.Common.{[], ◌∷◌, ◌++◌, length, get_or, map, Option, Some, None, refl, sym, ap, ◌∙◌, arith}
 use Rattle.std.specs.Option.{option_or}
 use Rattle.std.specs.List.{position, position_or_len, slice_get}
 use Rattle.std.proofs.lemmas.Bool.Decides.{nat_tests}
@@ -54,7 +55,8 @@ pub found_on : (ranges : List Range) (pieces : List Piece) (start m n : ℕ)
 found_on ranges pieces start m n =
     ap (λ (xs : List ℕ). first_place ranges (map (on_stack pieces) xs)) (addresses-append start m n)
     ∙ (ap (first_place ranges) (map-append (on_stack pieces) (addresses start m) (addresses (start + 4 * m) n))
-    ∙ find-append (λ place. in_one ranges place.1) (map (on_stack pieces) (addresses start m)) (map (on_stack pieces) (addresses (start + 4 * m) n)))
+    ∙ find-append (λ place. in_one ranges place.1)
+    (map (on_stack pieces) (addresses start m)) (map (on_stack pieces) (addresses (start + 4 * m) n)))
 
 -- what is found on the stack, where its first dwords have a place, and where they have none
 pub found_early : (ranges : List Range) (pieces : List Piece) (start m n : ℕ) (seen : Place × ℕ) → m ≤ n
@@ -78,7 +80,8 @@ found_late ranges pieces start m n l is =
 
 -- the index that a walk over words answers
 pub position_some : (test : ℕ → Bool) (words : List ℕ) (i : ℕ) → i < length words
-    → ((k : ℕ) → k < i → test (get_or words k 0) ≡ false) → test (get_or words i 0) ≡ true → Some i ≡ position test words
+    → ((k : ℕ) → k < i → test (get_or words k 0) ≡ false)
+    → test (get_or words i 0) ≡ true → Some i ≡ position test words
 position_some test words i l before here =
     let at = position_or_len_is test words i 0 (omega arith) before (λ _. here) in
     rw at (grind (arith, nat_tests))
@@ -105,7 +108,8 @@ found_at ranges pieces xs =
 -- a least index of a word gives the first place
 pub found_some : (ranges : List Range) (pieces : List Piece) (start n k : ℕ)
     → position (in_one ranges) (map (dword_at pieces) (addresses start n)) ≡ Some k
-    → (k < n) × (first_place ranges (map (on_stack pieces) (addresses start n)) ≡ Some (Stack (start + 4 * k), dword_at pieces (start + 4 * k)))
+    → (k < n) × (first_place ranges (map (on_stack pieces) (addresses start n))
+    ≡ Some (Stack (start + 4 * k), dword_at pieces (start + 4 * k)))
 found_some ranges pieces start n k is =
     let words = map (dword_at pieces) (addresses start n) in
     let long : length words ≡ n = length-map (addresses start n) (dword_at pieces) ∙ length-addresses start n in
@@ -136,14 +140,16 @@ found_none ranges pieces start n is =
     let same : length words ≡ length (map (on_stack pieces) (addresses start n)) =
     length-map (addresses start n) (dword_at pieces) ∙ sym (length-map (addresses start n) (on_stack pieces)) in
     found_at ranges pieces (addresses start n)
-    ∙ slice_get_past (map (on_stack pieces) (addresses start n)) (position_or_len (in_one ranges) words) (omega (arith, same))
+    ∙ slice_get_past
+    (map (on_stack pieces) (addresses start n)) (position_or_len (in_one ranges) words) (omega (arith, same))
 
 length-bytes_at : (pieces : List Piece) (a n : ℕ) → length (bytes_at pieces a n) ≡ n
 unfolding bytes_at
 length-bytes_at pieces a zero = refl
 length-bytes_at pieces a (suc n) = ap suc (length-bytes_at pieces (a + 1) n)
 
-get_or-bytes_at : (pieces : List Piece) (a n k b : ℕ) → k < n → a + k ≡ b → get_or (bytes_at pieces a n) k 0 ≡ byte_at pieces b
+get_or-bytes_at : (pieces : List Piece) (a n k b : ℕ)
+    → k < n → a + k ≡ b → get_or (bytes_at pieces a n) k 0 ≡ byte_at pieces b
 unfolding bytes_at
 get_or-bytes_at pieces a zero k b l e = absurd (omega arith)
 get_or-bytes_at pieces a (suc n) zero b l e = ap (byte_at pieces) (omega arith)
@@ -155,7 +161,8 @@ unfolding bytes_at
 four_bytes pieces a b c d e f g = rw (← g, ← f, ← e) refl
 
 -- the word that bytes of memory spell
-pub spelled_is : (pieces : List Piece) (start n k : ℕ) → k < n → spelled (bytes_at pieces start (4 * n)) k ≡ dword_at pieces (start + 4 * k)
+pub spelled_is : (pieces : List Piece) (start n k : ℕ)
+    → k < n → spelled (bytes_at pieces start (4 * n)) k ≡ dword_at pieces (start + 4 * k)
 spelled_is pieces start n k l =
     let a = start + 4 * k in
     let four = four_bytes pieces a (a + 1) (a + 2) (a + 3) (omega arith) (omega arith) (omega arith) in
@@ -168,7 +175,8 @@ spelled_is pieces start n k l =
     ) refl
 
 -- the words that were spelled of memory are those that stand there
-pub words_are : (pieces : List Piece) (start n : ℕ) (bytes words : List ℕ) → bytes ≡ bytes_at pieces start (4 * n) → length words ≡ n
+pub words_are : (pieces : List Piece) (start n : ℕ) (bytes words : List ℕ)
+    → bytes ≡ bytes_at pieces start (4 * n) → length words ≡ n
     → ((k : ℕ) → k < length words → get_or words k 0 ≡ spelled bytes k)
     → words ≡ map (dword_at pieces) (addresses start n)
 words_are pieces start n bytes words from long each =
@@ -180,7 +188,8 @@ words_are pieces start n bytes words from long each =
     each k l
     ∙ (ap (λ (bs : List ℕ). spelled bs k) from
     ∙ (spelled_is pieces start n k low
-    ∙ sym (get_or-map (dword_at pieces) (addresses start n) k 0 0 short ∙ ap (dword_at pieces) (get_or-addresses start n k 0 low)))))
+    ∙ sym (get_or-map (dword_at pieces) (addresses start n) k 0 0 short
+    ∙ ap (dword_at pieces) (get_or-addresses start n k 0 low)))))
 
 -- no dwords have no place
 pub found_done : (ranges : List Range) (pieces : List Piece) (start n : ℕ) → n ≡ 0
@@ -193,4 +202,5 @@ pub word_at : (pieces : List Piece) (start n k : ℕ) → k < n
     → get_or (map (dword_at pieces) (addresses start n)) k 0 ≡ dword_at pieces (start + 4 * k)
 word_at pieces start n k low =
     let short : k < length (addresses start n) = rw (length-addresses start n) low in
-    get_or-map (dword_at pieces) (addresses start n) k 0 0 short ∙ ap (dword_at pieces) (get_or-addresses start n k 0 low)
+    get_or-map (dword_at pieces) (addresses start n) k 0 0 short
+    ∙ ap (dword_at pieces) (get_or-addresses start n k 0 low)

@@ -1,6 +1,7 @@
--- Whether a thread stands in one of some ranges of code: the places in which it may have an address of them, and the first of
--- these whose value lies in one.
-use Rattle.std.specs.Prelude.{◌≡◌, ℕ, zero, suc, ◌+◌, ◌-◌, ◌*◌, ◌/◌, ◌%◌, ◌≤◌, Bool, ◌||◌, nat_lt, if◌then◌else◌, List, [], ◌∷◌, ◌++◌, map, slice_index}
+-- Whether a thread stands in one of some ranges of code: the places in which it may have an address of them, and the
+-- first of these whose value lies in one.
+use Rattle.std.specs.Prelude.{◌≡◌, ℕ, zero, suc, ◌+◌, ◌-◌, ◌*◌, ◌/◌, ◌%◌, ◌≤◌, Bool, ◌||◌}
+use Rattle.std.specs.Prelude.{nat_lt, if◌then◌else◌, List, [], ◌∷◌, ◌++◌, map, slice_index}
 use Rattle.std.specs.Prelude.{Option, Some, None, Result, Ok, Err}
 use Rattle.std.specs.Option.{option_map, option_or}
 use Rattle.std.specs.List.{find, list_any, Any}
@@ -87,8 +88,8 @@ stands_by Running pieces ranges thread =
 stands_by (Exited value) pieces ranges thread = Ok None
 stands_by (Stopped fault) pieces ranges thread = Ok None
 
--- Where a running thread stands in one of the ranges, or that its ESP is below its stack's low bound or above its high one. A
--- thread that has ended stands nowhere.
+-- Where a running thread stands in one of the ranges, or that its ESP is below its stack's low bound or above its high
+-- one. A thread that has ended stands nowhere.
 abbrev pub stands : List Piece → List Range → Thread → Result (Option Standing) StackOut
 stands pieces ranges thread = stands_by thread.state pieces ranges thread
 

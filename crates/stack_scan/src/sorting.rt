@@ -1,6 +1,6 @@
 //! Ranges in the order that the scan is quickest with.
 ghost use Rattle.std.specs.Prelude.{◌≡◌, List, IfOk};
-ghost use Rattle.std.specs.List.Sorted.{IsPermutation};
+ghost use Rattle.std.specs.List.Sorted.{IsNonDecreasingBy, IsPermutation};
 ghost use Rattle.ks_base.specs.declared.places.Range.{Range as RangeOf};
 ghost use Rattle.image_memory.specs.declared.types.Piece.{Piece};
 ghost use Rattle.ia32_step.specs.declared.types.Thread.{Thread};
@@ -11,14 +11,16 @@ use std::alloc::{AllocError, Global};
 
 /// Ranges in ascending order of their lows. `Err` comes for want of memory alone.
 pub fn sorted(alloc: Global, ranges: &[Range]) -> Result<Vec<Range>, AllocError>
-    ensures { IfOk result (λ sorted. IsPermutation ranges.now sorted.items) }
+    ensures same { IfOk result (λ sorted. IsPermutation ranges.now sorted.items) }
+    ensures order { IfOk result (λ sorted. IsNonDecreasingBy (λ range. range.low) sorted.items) }
 {
     Ok(in_order(Vec::from_slice(alloc, ranges)?))
 }
 
 // The same, of ranges of one's own.
 fn in_order(mut ranges: Vec<Range>) -> Vec<Range>
-    ensures { IsPermutation ranges.items result.items }
+    ensures same { IsPermutation ranges.items result.items }
+    ensures order { IsNonDecreasingBy (λ range. range.low) result.items }
 {
     ranges.sort_unstable_by_key(|range| range.low);
     ranges

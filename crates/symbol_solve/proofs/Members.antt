@@ -1,5 +1,6 @@
 -- Members of lists, case by case.
-use Rattle.std.proofs.Common.{arith, ◌≡◌, ◌⊎◌, inl, inr, zero, suc, Bool, true, false, ◌&&◌, ◌||◌, cond, List, [], ◌∷◌, ◌++◌, Option, Some, None, Contains, refl, sym, ap, subst, ◌∙◌}
+use Rattle.std.proofs.Common.{arith, ◌≡◌, ◌⊎◌, inl, inr, zero, suc, Bool, true, false, ◌&&◌, ◌||◌, cond}
+use Rattle.std.proofs.Common.{List, [], ◌∷◌, ◌++◌, Option, Some, None, Contains, refl, sym, ap, subst, ◌∙◌}
 use Rattle.std.specs.List.{All, AllZip, filter, flat_map, list_any, list_all}
 use Rattle.std.specs.Option.{option_or}
 use Rattle.std.proofs.lemmas.List.Elements.{All-nil, All-cons, All-head, All-tail}
@@ -69,7 +70,8 @@ pub filter_has : {X : Type 0} (p : X → Bool) (xs : List X) (x : X) → Has (fi
 filter_has p [] x has = absurd has
 filter_has {X} p (a ∷ xs) x has = by (p a) refl (filter_has p xs x) has
   where
-    by : (b : Bool) → p a ≡ b → (Has (filter p xs) x → Has xs x × (p x ≡ true)) → Has (cond b (a ∷ filter p xs) (filter p xs)) x → Has (a ∷ xs) x × (p x ≡ true)
+    by : (b : Bool) → p a ≡ b → (Has (filter p xs) x → Has xs x × (p x ≡ true))
+        → Has (cond b (a ∷ filter p xs) (filter p xs)) x → Has (a ∷ xs) x × (p x ≡ true)
     by true is later (inl here) = (inl here, ap p (sym here) ∙ is)
     by true is later (inr rest) = (inr (later rest).0, (later rest).1)
     by false is later rest = (inr (later rest).0, (later rest).1)
@@ -89,17 +91,20 @@ has_either [] ys x has = inr has
 has_either (a ∷ xs) ys x (inl is) = inl (inl is)
 has_either (a ∷ xs) ys x (inr rest) = elim (has_either xs ys x rest) [ inl h ↦ inl (inr h) | inr h ↦ inr h ]
 
-pub has_flat : {X Y : Type 0} (f : X → List Y) (xs : List X) (x : X) (y : Y) → Has xs x → Has (f x) y → Has (flat_map f xs) y
+pub has_flat : {X Y : Type 0} (f : X → List Y) (xs : List X) (x : X) (y : Y)
+    → Has xs x → Has (f x) y → Has (flat_map f xs) y
 has_flat f [] x y has inner = absurd has
 has_flat f (a ∷ xs) x y (inl is) inner =
     has_left (f a) (flat_map f xs) y (subst (λ z. Has (f z) y) (sym is) inner)
 has_flat f (a ∷ xs) x y (inr rest) inner = has_right (f a) (flat_map f xs) y (has_flat f xs x y rest inner)
 
-pub flat_has : {X Y : Type 0} (f : X → List Y) (xs : List X) (y : Y) → Has (flat_map f xs) y → (x : X) × Has xs x × Has (f x) y
+pub flat_has : {X Y : Type 0} (f : X → List Y) (xs : List X) (y : Y)
+    → Has (flat_map f xs) y → (x : X) × Has xs x × Has (f x) y
 flat_has f [] y has = absurd has
 flat_has {X} {Y} f (a ∷ xs) y has = by (has_either (f a) (flat_map f xs) y has) (flat_has f xs y)
   where
-    by : Has (f a) y ⊎ Has (flat_map f xs) y → (Has (flat_map f xs) y → (x : X) × Has xs x × Has (f x) y) → (x : X) × Has (a ∷ xs) x × Has (f x) y
+    by : Has (f a) y ⊎ Has (flat_map f xs) y
+        → (Has (flat_map f xs) y → (x : X) × Has xs x × Has (f x) y) → (x : X) × Has (a ∷ xs) x × Has (f x) y
     by (inl here) later = (a, inl refl, here)
     by (inr rest) later = let (x, has_x, inner) = later rest in (x, inr has_x, inner)
 
@@ -122,12 +127,14 @@ module _ {A B : Type 0} (R : A → B → Type 0) where
       (x, inr has, here)
 
 -- ---- the first of some
-pub first_from : {X Y : Type 0} (f : X → Option Y) (xs : List X) (y : Y) → first_some f xs ≡ Some y → (x : X) × Has xs x × (f x ≡ Some y)
+pub first_from : {X Y : Type 0} (f : X → Option Y) (xs : List X) (y : Y)
+    → first_some f xs ≡ Some y → (x : X) × Has xs x × (f x ≡ Some y)
 unfolding first_some
 first_from f [] y is = absurd cc
 first_from {X} {Y} f (a ∷ xs) y is = by (f a) refl (first_from f xs y) is
   where
-    by : (o : Option Y) → f a ≡ o → (first_some f xs ≡ Some y → (x : X) × Has xs x × (f x ≡ Some y)) → option_or o (first_some f xs) ≡ Some y → (x : X) × Has (a ∷ xs) x × (f x ≡ Some y)
+    by : (o : Option Y) → f a ≡ o → (first_some f xs ≡ Some y → (x : X) × Has xs x × (f x ≡ Some y))
+        → option_or o (first_some f xs) ≡ Some y → (x : X) × Has (a ∷ xs) x × (f x ≡ Some y)
     by (Some z) at later here = (a, inl refl, at ∙ here)
     by None at later rest = let (x, has, found) = later rest in (x, inr has, found)
 
@@ -136,22 +143,27 @@ unfolding first_some
 no_first f [] x none has = absurd has
 no_first {X} {Y} f (a ∷ xs) x none has = by (f a) refl (no_first f xs x) none has
   where
-    by : (o : Option Y) → f a ≡ o → (first_some f xs ≡ None → Has xs x → f x ≡ None) → option_or o (first_some f xs) ≡ None → Has (a ∷ xs) x → f x ≡ None
+    by : (o : Option Y) → f a ≡ o → (first_some f xs ≡ None → Has xs x → f x ≡ None)
+        → option_or o (first_some f xs) ≡ None → Has (a ∷ xs) x → f x ≡ None
     by (Some z) at later is there = absurd cc
     by None at later is (inl here) = ap f (sym here) ∙ at
     by None at later is (inr rest) = later is rest
 
 -- two of two lists of some, one before the other or the other way round
-pub between_from : {X Y : Type 0} (f : X → X → Option Y) (lists : List (List X)) (y : Y) → first_between f lists ≡ Some y
-    → (a : X) × (b : X) × (ones : List X) × (others : List X) × Has lists ones × Has ones a × Has lists others × Has others b × (f a b ≡ Some y)
+pub between_from : {X Y : Type 0} (f : X → X → Option Y) (lists : List (List X)) (y : Y)
+    → first_between f lists ≡ Some y
+    → (a : X) × (b : X) × (ones : List X)
+    × (others : List X) × Has lists ones × Has ones a × Has lists others × Has others b × (f a b ≡ Some y)
 unfolding first_between
 between_from f [] y is = absurd cc
 between_from {X} {Y} f (ones ∷ rest) y is = by (first_some (first_of_two f ones) rest) refl (between_from f rest y) is
   where
     Found : List (List X) → Type 0
-    Found lists = (a : X) × (b : X) × (these : List X) × (others : List X) × Has lists these × Has these a × Has lists others × Has others b × (f a b ≡ Some y)
+    Found lists = (a : X) × (b : X) × (these : List X)
+        × (others : List X) × Has lists these × Has these a × Has lists others × Has others b × (f a b ≡ Some y)
 
-    by : (o : Option Y) → first_some (first_of_two f ones) rest ≡ o → (first_between f rest ≡ Some y → Found rest) → option_or o (first_between f rest) ≡ Some y → Found (ones ∷ rest)
+    by : (o : Option Y) → first_some (first_of_two f ones) rest ≡ o → (first_between f rest ≡ Some y → Found rest)
+        → option_or o (first_between f rest) ≡ Some y → Found (ones ∷ rest)
     by (Some z) at later here =
         let (others, has_others, two) = first_from (first_of_two f ones) rest y (at ∙ here) in
         let (a, has_a, one) = first_from (λ x. first_some (f x) others) ones y two in

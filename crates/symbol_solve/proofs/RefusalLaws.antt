@@ -9,7 +9,8 @@ use Rattle.run_pre_match.specs.Matched.{PreSection}
 use Rattle.run_pre_match.specs.Landing.{undecoded_offset}
 use Rattle.propagation.specs.Conflicts.{first_some}
 use Rattle.match_candidates.specs.Candidates.{Running, candidates, candidates_of, code_sections}
-use Rattle.match_candidates.specs.OwnFaults.{undecoded_in, first_undecoded, missing_in, first_missing, first_mismatch, own_fault}
+use Rattle.match_candidates.specs.OwnFaults.{undecoded_in, first_undecoded, missing_in}
+use Rattle.match_candidates.specs.OwnFaults.{first_missing, first_mismatch, own_fault}
 use Rattle.symbol_solve.specs.Conflicts.{reported}
 use Rattle.symbol_solve.specs.Solve.{twins, first_twins, left_of, obstacle}
 use Rattle.symbol_solve.specs.Solution.{IsSolution}
@@ -35,7 +36,8 @@ module _ (N : Type 0) where
   either_means None b one two = two
   either_means (Some refusal) b one two = one
 
-  first_means : {X : Type 0} (f : X → Option Refusal) (xs : List X) → ((x : X) → MeansOf (f x)) → MeansOf (first_some f xs)
+  first_means : {X : Type 0} (f : X → Option Refusal) (xs : List X)
+      → ((x : X) → MeansOf (f x)) → MeansOf (first_some f xs)
   unfolding first_some
   first_means f [] each = tt
   first_means f (x ∷ xs) each = either_means (f x) (first_some f xs) (each x) (first_means f xs each)
@@ -57,7 +59,8 @@ module _ (N : Type 0) where
 
   two_means : (c d : Candidate) → MeansOf (twins c d)
   two_means c d =
-      elim (eqb c.place d.place) as (λ b. MeansOf (cond b (Some (Ambiguous c.section.name c.home d.home)) None)) [ true ↦ tt | false ↦ tt ]
+      elim (eqb c.place d.place) as (λ b. MeansOf (cond b (Some (Ambiguous c.section.name c.home d.home)) None))
+      [ true ↦ tt | false ↦ tt ]
 
   twins_mean : (cs : List Candidate) → MeansOf (first_twins cs)
   unfolding first_twins
@@ -73,18 +76,24 @@ module _ (running : Running) (object : List NormalSection) where
   own_means : MeansOf NoSolution (own_fault running object)
   unfolding own_fault
   own_means =
-      either_means NoSolution (first_undecoded object) (option_or (first_missing running object) (first_mismatch running object)) (first_means NoSolution undecoded_in (code_sections object) (undecoded_means NoSolution))
+      either_means NoSolution
+      (first_undecoded object) (option_or (first_missing running object) (first_mismatch running object))
+      (first_means NoSolution undecoded_in (code_sections object) (undecoded_means NoSolution))
       (either_means NoSolution (first_missing running object) (first_mismatch running object)
-      (first_means NoSolution (λ pre. missing_in pre (candidates_of running pre)) (code_sections object) (λ pre. missing_means NoSolution pre (candidates_of running pre)))
-      (so_means NoSolution (first_mismatch running object) (λ refusal is chosen it. none_mismatched running object chosen it refusal is)))
+      (first_means NoSolution (λ pre. missing_in pre (candidates_of running pre))
+      (code_sections object) (λ pre. missing_means NoSolution pre (candidates_of running pre)))
+      (so_means NoSolution (first_mismatch running object)
+      (λ refusal is chosen it. none_mismatched running object chosen it refusal is)))
 
   obstacle_means : MeansOf NoSolution (obstacle running object)
   unfolding obstacle
   obstacle_means =
       let report : Option Refusal = reported (length object) (candidates running object) in
-      either_means NoSolution (own_fault running object) (option_or report (first_twins (left_of running object))) own_means
+      either_means NoSolution
+      (own_fault running object) (option_or report (first_twins (left_of running object))) own_means
       (either_means NoSolution report (first_twins (left_of running object))
-      (so_means NoSolution report (λ refusal is chosen it. none_reported running object chosen it (length object) refusal is))
+      (so_means NoSolution report
+      (λ refusal is chosen it. none_reported running object chosen it (length object) refusal is))
       (twins_mean NoSolution (left_of running object)))
 
   pub refused_means : (refusal : Refusal) → obstacle running object ≡ Some refusal → Means NoSolution refusal

@@ -1,5 +1,6 @@
 -- Marks for what is left pick out what is left, where no two items are the same.
-use Rattle.std.proofs.Common.{◌≡◌, ℕ, zero, suc, Bool, true, false, not, ◌&&◌, ◌||◌, cond, List, [], ◌∷◌, length, map, refl, sym, ap, ◌∙◌}
+use Rattle.std.proofs.Common.{◌≡◌, ℕ, zero, suc, Bool, true, false, not, ◌&&◌, ◌||◌}
+use Rattle.std.proofs.Common.{cond, List, [], ◌∷◌, length, map, refl, sym, ap, ◌∙◌}
 use Rattle.std.specs.List.{All, filter, list_any}
 use Rattle.std.proofs.lemmas.List.Elements.{All-nil, All-cons, All-head, All-tail}
 use Rattle.run_pre_match.specs.Candidate.{Candidate}
@@ -10,7 +11,9 @@ filter_both : {X : Type 0} (q r : X → Bool) (xs : List X) → filter r (filter
 filter_both q r [] = refl
 filter_both {X} q r (x ∷ xs) = by (q x) (filter_both q r xs)
   where
-    by : (b : Bool) → filter r (filter q xs) ≡ filter (λ y. q y && r y) xs → filter r (cond b (x ∷ filter q xs) (filter q xs)) ≡ cond (b && r x) (x ∷ filter (λ y. q y && r y) xs) (filter (λ y. q y && r y) xs)
+    by : (b : Bool)
+        → filter r (filter q xs) ≡ filter (λ y. q y && r y) xs → filter r (cond b (x ∷ filter q xs) (filter q xs))
+        ≡ cond (b && r x) (x ∷ filter (λ y. q y && r y) xs) (filter (λ y. q y && r y) xs)
     by true rest = ap (λ (l : List X). cond (r x) (x ∷ l) l) rest
     by false rest = rest
 
@@ -61,19 +64,24 @@ module _ {X : Type 0} (rules : Rules X) where
           | true ↦ ap (λ b. b || list_any (rules.same x) passing) (self x)
           | false ↦ not_among q x xs apart.0
         ] in
-        let skips : (y : X) → rules.same y x ≡ false → is_among rules (cond (q x) (x ∷ passing) passing) y ≡ is_among rules passing y =
-        λ y other. elim (q x) as (λ b. list_any (rules.same y) (cond b (x ∷ passing) passing) ≡ list_any (rules.same y) passing) [
+        let skips : (y : X)
+        → rules.same y x ≡ false → is_among rules (cond (q x) (x ∷ passing) passing) y ≡ is_among rules passing y =
+        λ y other. elim (q x)
+        as (λ b. list_any (rules.same y) (cond b (x ∷ passing) passing) ≡ list_any (rules.same y) passing) [
           | true ↦ ap (λ b. b || list_any (rules.same y) passing) other
           | false ↦ refl
         ] in
         let rest : All (λ y. is_among rules passing y ≡ q y) xs = among q xs apart.1 in
-        All-cons (λ y. is_among rules (cond (q x) (x ∷ passing) passing) y ≡ q y) x xs here (λ k d lt. skips _ ((apart.0 k d lt).1) ∙ rest k d lt)
+        All-cons (λ y. is_among rules (cond (q x) (x ∷ passing) passing) y ≡ q y) x xs here
+        (λ k d lt. skips _ ((apart.0 k d lt).1) ∙ rest k d lt)
 
-    pub remaining_among : (all : List X) → AllApart all → filter (is_among rules (remaining rules all)) all ≡ remaining rules all
+    pub remaining_among : (all : List X)
+        → AllApart all → filter (is_among rules (remaining rules all)) all ≡ remaining rules all
     unfolding remaining
     remaining_among all apart =
         let (q, is) = kept_in (length all) all in
-        ap (λ l. filter (is_among rules l) all) is ∙ filter_alike (is_among rules (filter q all)) q all (among q all apart) ∙ sym is
+        ap (λ l. filter (is_among rules l) all) is
+        ∙ filter_alike (is_among rules (filter q all)) q all (among q all apart) ∙ sym is
 
 -- marks by a test pick out what passes
 pub marked_test : (p : Candidate → Bool) (cs : List Candidate) → marked (map p cs) cs ≡ filter p cs

@@ -48,8 +48,8 @@ claims_clash c d = list_any (λ a. list_any (contradict a) (claims_of d)) (claim
 abbrev pub interiors_clash : Candidate → Candidate → Bool
 interiors_clash c d = list_any (is_unmet d) (interiors_of c)
 
--- Two matching candidates of two sections clash where their claims give one unknown two values, or an interior of one isn't met in
--- the other's body.
+-- Two matching candidates of two sections clash where their claims give one unknown two values, or an interior of one
+-- isn't met in the other's body.
 unfoldable pub clashes : Candidate → Candidate → Bool
 clashes c d =
     not (same_section c d) && matches c && matches d

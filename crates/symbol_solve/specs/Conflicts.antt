@@ -32,10 +32,12 @@ abbrev pub conflict_of_claims : Candidate → Candidate → Option Refusal
 conflict_of_claims c d =
     first_some (λ a. option_map (claims_conflict a) (find (contradict a) (claims_of d))) (claims_of c)
 
--- what is reported of an interior that isn't met in a candidate, with the address of the instruction to which it would have to go
+-- what is reported of an interior that isn't met in a candidate, with the address of the instruction to which it would
+-- have to go
 abbrev pub interior_conflict : Candidate → Interior → Refusal
 interior_conflict d i =
-    Conflict (record { name = i.section; offset = Some i.offset }) i.address (address_of (body_of d) i.offset) i.place (spot_at i.section i.offset)
+    Conflict (record { name = i.section; offset = Some i.offset }) i.address
+    (address_of (body_of d) i.offset) i.place (spot_at i.section i.offset)
 
 abbrev pub conflict_of_interiors : Candidate → Candidate → Option Refusal
 conflict_of_interiors c d = option_map (interior_conflict d) (find (is_unmet d) (interiors_of c))
@@ -52,4 +54,5 @@ by_place count all = map (λ place. filter (is_of place) all) (range_with_len 0 
 
 -- what is reported of the first two forced candidates that clash, nothing where none do
 unfoldable pub reported : ℕ → List Candidate → Option Refusal
-reported count all = option_and_then clash_between (conflict candidate_rules (by_place count (forced candidate_rules all)))
+reported count all =
+    option_and_then clash_between (conflict candidate_rules (by_place count (forced candidate_rules all)))

@@ -1,6 +1,7 @@
--- What is answered for an object in a running program: the values of its code sections and of what they and the read-only data that they
--- reach refer to, or why there are none.
-use Rattle.std.specs.Prelude.{ℕ, Bool, true, false, ◌==◌, if◌then◌else◌, List, [], ◌∷◌, ◌++◌, length, Option, Some, None, Result, Ok, Err}
+-- What is answered for an object in a running program: the values of its code sections and of what they and the
+-- read-only data that they reach refer to, or why there are none.
+use Rattle.std.specs.Prelude.{ℕ, Bool, true, false, ◌==◌, if◌then◌else◌, List, []}
+use Rattle.std.specs.Prelude.{◌∷◌, ◌++◌, length, Option, Some, None, Result, Ok, Err}
 use Rattle.std.specs.Option.{option_or}
 use Rattle.std.specs.List.{flat_map, fold, list_any}
 use Rattle.ks_base.specs.declared.refusals.Refusal.{Refusal}
@@ -42,8 +43,8 @@ first_twins (c ∷ d ∷ rest) = option_or (twins c d) (first_twins (d ∷ rest)
 abbrev pub left_of : Running → List NormalSection → List Candidate
 left_of running object = remaining candidate_rules (candidates running object)
 
--- What stands in the way of an answer, the first that does: what is wrong with one section by itself, two forced candidates that clash, a
--- section of which two are left.
+-- What stands in the way of an answer, the first that does: what is wrong with one section by itself, two forced
+-- candidates that clash, a section of which two are left.
 unfoldable pub obstacle : Running → List NormalSection → Option Refusal
 obstacle running object =
     option_or (own_fault running object)
@@ -78,7 +79,8 @@ has_value values unknown = list_any (λ value. same_unknown unknown value.0) val
 abbrev pub with_value : List Value → Value → List Value
 with_value values value = if has_value values value.0 then values else values ++ value ∷ []
 
--- Code sections in order, each followed by the data sections and outside names of its claims that aren't listed yet, in place order.
+-- Code sections in order, each followed by the data sections and outside names of its claims that aren't listed yet, in
+-- place order.
 unfoldable pub values : List Candidate → List Value
 values chosen = fold with_value [] (flat_map values_of chosen)
 
@@ -89,7 +91,8 @@ values_unless None chosen = Ok (values chosen)
 abbrev pub solved_in : Running → List NormalSection → Result (List Value) Refusal
 solved_in running object = values_unless (obstacle running object) (left_of running object)
 
--- The answer for an object in a running program: the newest base of each home that has one, its memory, and its symbols.
+-- The answer for an object in a running program: the newest base of each home that has one, its memory, and its
+-- symbols.
 unfoldable pub solved : List NormalSection → List (ℕ × ℕ) → Contents → List Symbol → Result (List Value) Refusal
 solved object bodies contents symbols =
     solved_in (record { contents = contents; symbols = symbols; bodies = bodies }) object

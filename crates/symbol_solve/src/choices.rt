@@ -30,13 +30,13 @@ use std::alloc::{AllocError, Global};
 fn numbered_claims(
     alloc: Global,
     numbers: &Numbers,
-    claims: &[Claim],
+    claims: &[Claim<'_>],
 ) -> Result<ListOf<propagation::Claim>, AllocError>
     ensures { IfOk result (λ list. list ≡ map (claim_of numbers.now) claims.now) }
 {
     let mut list = Vec::with_capacity(alloc, claims.len())?;
     for claim in claims {
-        list.push(numbers.claim(claim)?)?;
+        list.push(numbers.claim(alloc, claim)?)?;
     }
     Ok(ListOf::from_vec(list))
 }
@@ -46,7 +46,7 @@ fn demands(
     alloc: Global,
     object: &Normal<'_>,
     numbers: &Numbers,
-    interiors: &[Interior],
+    interiors: &[Interior<'_>],
 ) -> Result<ListOf<Demand>, AllocError>
     ensures { IfOk result (λ list. list ≡ filter_map (demand_of object.now numbers.now) interiors.now) }
 {
@@ -150,7 +150,7 @@ fn choice_of_match<S: Space>(
     space: &S,
     code: &PreCode<'_, '_>,
     t: &Tried,
-    matched: &Matched,
+    matched: &Matched<'_>,
 ) -> Result<Choice, AllocError>
     ensures { LiesIn (body_at code.now (S.contents space.now) t.now.base) t.now.base (t.now.base + matched.now.length)
         → IfOk result (λ choice. choice
@@ -178,7 +178,7 @@ fn choice_at<S: Space>(
     space: &S,
     code: &PreCode<'_, '_>,
     t: &Tried,
-    outcome: &Result<Matched, MatchFault>,
+    outcome: &Result<Matched<'_>, MatchFault>,
 ) -> Result<Choice, AllocError>
     ensures { ((matched : Matched) → outcome.now ≡ Ok matched
         → LiesIn (body_at code.now (S.contents space.now) t.now.base) t.now.base (t.now.base + matched.length))

@@ -12,41 +12,51 @@ use std::alloc::{AllocError, Global};
 use symbol_table::Unknown;
 
 /// The first claim of each thing.
-pub(crate) type FirstClaims<'c> = IndexMap<&'c Unknown, &'c Claim>;
+pub(crate) type FirstClaims<'c, 'a> = IndexMap<Unknown, &'c Claim<'a>>;
 
 /// Takes a claim that stands before those that were taken.
-fn put<'c>(first: &mut FirstClaims<'c>, claim: &'c Claim) -> Result<(), AllocError>
+fn put<'c, 'a>(
+    alloc: Global,
+    first: &mut FirstClaims<'c, 'a>,
+    claim: &'c Claim<'a>,
+) -> Result<(), AllocError>
     ensures { OnOk result ((claims : List Claim) → AreFirst first.old.entries claims
         → AreFirst first.new.entries (claim.now ∷ claims)) }
 {
-    first.insert(&claim.unknown, claim)?;
+    let unknown = claim.unknown.owned(alloc)?;
+    first.insert(unknown, claim)?;
     Ok(())
 }
 
 /// The first claim of each thing among some claims.
-pub(crate) fn first_claims<'c>(
+pub(crate) fn first_claims<'c, 'a>(
     alloc: Global,
-    claims: &'c [Claim],
-) -> Result<FirstClaims<'c>, AllocError>
+    claims: &'c [Claim<'a>],
+) -> Result<FirstClaims<'c, 'a>, AllocError>
     ensures { IfOk result (λ first. AreFirst first.entries claims.now) }
 {
     let mut first = IndexMap::new(alloc);
     for k in (0..claims.len()).rev() {
-        put(&mut first, &claims[k])?;
+        put(alloc, &mut first, &claims[k])?;
     }
     Ok(first)
 }
 
 /// The first of some claims that gives what a claim is of another value, where those of one thing give it one.
-pub(crate) fn contradiction<'c>(first: &FirstClaims<'c>, claim: &'c Claim) -> Option<&'c Claim>
-    ensures { (claims : List Claim) → AreFirst first.now.entries claims → GiveOneValue claims
-        → option_copied result ≡ find (contradict claim.now) claims }
+pub(crate) fn contradiction<'c, 'a>(
+    alloc: Global,
+    first: &FirstClaims<'c, 'a>,
+    claim: &Claim<'_>,
+) -> Result<Option<&'c Claim<'a>>, AllocError>
+    ensures { IfOk result (λ found. (claims : List Claim) → AreFirst first.now.entries claims → GiveOneValue claims
+        → option_copied found ≡ find (contradict claim.now) claims) }
 {
-    let Some(other) = first.get(&&claim.unknown) else {
-        return None;
+    let unknown = claim.unknown.owned(alloc)?;
+    let Some(other) = first.get(&unknown) else {
+        return Ok(None);
     };
     if other.value == claim.value {
-        return None;
+        return Ok(None);
     }
-    Some(*other)
+    Ok(Some(*other))
 }

@@ -25,7 +25,8 @@ pub fn refused_without_solution()
     ensures mismatch { (running : Running) (object : List NormalSection) (name : List ℕ) (difference : Difference)
         → obstacle running object ≡ Some (Mismatch name difference)
         → (chosen : List Candidate) → IsSolution running object chosen → ⊥ }
-    ensures conflict { (running : Running) (object : List NormalSection) (name : ConflictName) (a b : ℕ) (one other : Spot)
+    ensures conflict { (running : Running)
+        (object : List NormalSection) (name : ConflictName) (a b : ℕ) (one other : Spot)
         → obstacle running object ≡ Some (Conflict name a b one other)
         → (chosen : List Candidate) → IsSolution running object chosen → ⊥ }
 {}

@@ -23,7 +23,8 @@ fn take_one<'h, 'n, 'a>(
     held: &mut Vec<Held<'h, 'n, 'a>>,
 ) -> Result<(), AllocError>
     requires { tried.now.section < length codes.now }
-    ensures { OnOk result (Takes (λ c h. IsOf h.code.now c h.tried.now) (IsOneOf codes.now) tried.now mark held.old.items held.new.items) }
+    ensures { OnOk result (Takes (λ c h. IsOf h.code.now c h.tried.now)
+        (IsOneOf codes.now) tried.now mark held.old.items held.new.items) }
 {
     if mark {
         held.push(Held {
@@ -62,7 +63,8 @@ pub(crate) fn held_at<'h, 'n, 'a>(
 ) -> Option<Held<'h, 'n, 'a>>
     ensures some { IfSome result (λ h. (cs : List Candidate) → AllZip (IsOneOf codes.now) cs tried.now
         → (c : Candidate) × (slice_get cs place ≡ Some c) × IsOf h.code.now c h.tried.now) }
-    ensures none { IfNone result ((cs : List Candidate) → AllZip (IsOneOf codes.now) cs tried.now → slice_get cs place ≡ None) }
+    ensures none { IfNone result
+        ((cs : List Candidate) → AllZip (IsOneOf codes.now) cs tried.now → slice_get cs place ≡ None) }
 {
     let tried = tried.get(place)?;
     let code = codes.get(tried.section)?;

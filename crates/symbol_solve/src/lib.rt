@@ -3,7 +3,6 @@
 #![tactic(auto)]
 
 mod choices;
-mod copies;
 mod first_claims;
 pub mod laws;
 mod left;

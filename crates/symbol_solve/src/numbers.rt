@@ -53,10 +53,15 @@ impl Numbers {
     }
 
     /// A claim with the number of its unknown.
-    pub(crate) fn claim(&self, claim: &Claim) -> Result<propagation::Claim, AllocError>
+    pub(crate) fn claim(
+        &self,
+        alloc: Global,
+        claim: &Claim<'_>,
+    ) -> Result<propagation::Claim, AllocError>
         ensures { IfOk result (λ numbered. numbered ≡ claim_of self.now claim.now) }
     {
-        let number = self.unknowns.get_index_of(&claim.unknown).unwrap_or(0);
+        let unknown = claim.unknown.owned(alloc)?;
+        let number = self.unknowns.get_index_of(&unknown).unwrap_or(0);
         Ok(propagation::Claim {
             unknown: word(number)?,
             value: claim.value,
@@ -67,7 +72,7 @@ impl Numbers {
     pub(crate) fn demand(
         &self,
         object: &Normal<'_>,
-        interior: &Interior,
+        interior: &Interior<'_>,
     ) -> Result<Option<Demand>, AllocError>
         ensures { IfOk result (λ demand. demand ≡ demand_of object.now self.now interior.now) }
     {
@@ -82,17 +87,21 @@ impl Numbers {
     }
 
     /// Numbers the unknown of a claim.
-    fn add_claim(&mut self, claim: &Claim) -> Result<(), AllocError>
+    fn add_claim(&mut self, alloc: Global, claim: &Claim<'_>) -> Result<(), AllocError>
         ensures grows { OnOk result (Grows self.old self.new) }
         ensures numbered { OnOk result (IsUnknownNumbered self.new claim.now) }
     {
-        let unknown = claim.unknown.clone()?;
+        let unknown = claim.unknown.owned(alloc)?;
         self.unknowns.insert(unknown)?;
         Ok(())
     }
 
     /// Numbers an interior, where the object has its section.
-    fn add_interior(&mut self, object: &Normal<'_>, interior: &Interior) -> Result<(), AllocError>
+    fn add_interior(
+        &mut self,
+        object: &Normal<'_>,
+        interior: &Interior<'_>,
+    ) -> Result<(), AllocError>
         ensures grows { OnOk result (Grows self.old self.new) }
         ensures numbered { OnOk result (IsInteriorNumbered object.now self.new interior.now) }
     {
@@ -103,12 +112,12 @@ impl Numbers {
     }
 
     /// Numbers the unknowns of claims.
-    fn add_claims(&mut self, claims: &[Claim]) -> Result<(), AllocError>
+    fn add_claims(&mut self, alloc: Global, claims: &[Claim<'_>]) -> Result<(), AllocError>
         ensures grows { OnOk result (Grows self.old self.new) }
         ensures numbered { OnOk result (All (IsUnknownNumbered self.new) claims.now) }
     {
         for claim in claims {
-            self.add_claim(claim)?;
+            self.add_claim(alloc, claim)?;
         }
         Ok(())
     }
@@ -117,7 +126,7 @@ impl Numbers {
     fn add_interiors(
         &mut self,
         object: &Normal<'_>,
-        interiors: &[Interior],
+        interiors: &[Interior<'_>],
     ) -> Result<(), AllocError>
         ensures grows { OnOk result (Grows self.old self.new) }
         ensures numbered { OnOk result (All (IsInteriorNumbered object.now self.new) interiors.now) }
@@ -131,14 +140,15 @@ impl Numbers {
     /// Numbers what a candidate claims and refers to that comes to this.
     fn add_outcome(
         &mut self,
+        alloc: Global,
         object: &Normal<'_>,
-        outcome: &Result<Matched, MatchFault>,
+        outcome: &Result<Matched<'_>, MatchFault>,
     ) -> Result<(), AllocError>
         ensures grows { OnOk result (Grows self.old self.new) }
         ensures numbered { OnOk result (IsNumbered object.now self.new outcome.now) }
     {
         if let Ok(matched) = outcome {
-            self.add_claims(matched.claims.as_slice())?;
+            self.add_claims(alloc, matched.claims.as_slice())?;
             self.add_interiors(object, matched.interiors.as_slice())?;
         }
         Ok(())
@@ -162,7 +172,7 @@ impl Numbers {
             return Ok(());
         }
         let outcome = outcome_of(alloc, running, &codes[tried.section], tried)?;
-        self.add_outcome(object, &outcome)
+        self.add_outcome(alloc, object, &outcome)
     }
 
     /// Gives the points numbers in the order of their addresses.
@@ -185,7 +195,7 @@ pub(crate) fn word(number: usize) -> Result<u32, AllocError>
 }
 
 /// Where an interior lies, by the place of its section, `None` exactly where the object has no section of its name.
-fn point_of(object: &Normal<'_>, interior: &Interior) -> Option<Point>
+fn point_of(object: &Normal<'_>, interior: &Interior<'_>) -> Option<Point>
     ensures { result ≡ point_of object.now interior.now }
 {
     let count = object.len();

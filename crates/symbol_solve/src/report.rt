@@ -12,7 +12,6 @@ ghost use Rattle.symbol_solve.specs.Conflicts.{conflict_of_claims, conflict_of_i
 ghost use Rattle.symbol_solve.specs.inside.Claims.{GiveOneValue, IsAtOne};
 ghost use Rattle.symbol_solve.specs.inside.Left.{IsOf, RunsIn, is_unmet_in};
 
-use crate::copies::copied_spot;
 use crate::first_claims::{contradiction, first_claims};
 use crate::left::Held;
 use image_memory::Space;
@@ -22,44 +21,44 @@ use run_pre_match::{Body, Claim, Interior, MatchFault, Matched, PreCode};
 use std::alloc::{AllocError, Global};
 use symbol_table::Unknown;
 
-fn name_of(unknown: &Unknown) -> &Name
-    ensures { result.now ≡ unknown_name unknown.now }
+fn name_of(unknown: Unknown) -> Name
+    ensures { result ≡ unknown_name unknown }
 {
     match unknown {
         Unknown::Code(name) | Unknown::Data(name) | Unknown::Outside(name) => name,
     }
 }
 
-fn claims_conflict(alloc: Global, a: &Claim, b: &Claim) -> Result<Refusal, AllocError>
+fn claims_conflict(alloc: Global, a: &Claim<'_>, b: &Claim<'_>) -> Result<Refusal, AllocError>
     ensures { IfOk result (λ refusal. refusal ≡ claims_conflict a.now b.now) }
 {
     let named = ConflictName {
-        name: Name::from_slice(alloc, name_of(&a.unknown).as_slice())?,
+        name: name_of(a.unknown.owned(alloc)?),
         offset: None,
     };
     Ok(Refusal::Conflict(
         named,
         a.value,
         b.value,
-        copied_spot(alloc, &a.place)?,
-        copied_spot(alloc, &b.place)?,
+        a.place.owned(alloc)?,
+        b.place.owned(alloc)?,
     ))
 }
 
 /// The first of some claims that one of others contradicts, with the first that does, where others of one thing give it
 /// one value.
 #[tactic(auto, unfolding(propagation::specs::Conflicts::first_some))]
-fn conflict_of_claims<'c>(
+fn conflict_of_claims(
     alloc: Global,
-    ones: &'c [Claim],
-    others: &'c [Claim],
+    ones: &[Claim<'_>],
+    others: &[Claim<'_>],
 ) -> Result<Option<Refusal>, AllocError>
     ensures { GiveOneValue others.now → IfOk result (λ report. report
         ≡ first_some (λ a. option_map (claims_conflict a) (find (contradict a) others.now)) ones.now) }
 {
     let first = first_claims(alloc, others)?;
     for claim in ones {
-        if let Some(other) = contradiction(&first, claim) {
+        if let Some(other) = contradiction(alloc, &first, claim)? {
             return Ok(Some(claims_conflict(alloc, claim, other)?));
         }
     }
@@ -67,18 +66,18 @@ fn conflict_of_claims<'c>(
 }
 
 /// Whether an interior goes to the section of a name and doesn't stand, in its body, for the number of its offset.
-fn is_unmet<S: Space>(body: &Body<'_, '_, '_, S>, name: &[u8], interior: &Interior) -> bool
+fn is_unmet<S: Space>(body: &Body<'_, '_, '_, S>, name: &[u8], interior: &Interior<'_>) -> bool
     ensures { result ≡ is_unmet_in body.now name.now interior.now }
 {
     interior.section.as_slice() == name && !body.is_number_of(interior.offset, interior.address)
 }
 
 /// The first interior that goes to the section of a name and isn't met in its body.
-fn first_unmet<'i, S: Space>(
+fn first_unmet<'i, 'a, S: Space>(
     body: &Body<'_, '_, '_, S>,
     name: &[u8],
-    interiors: &'i [Interior],
-) -> Option<&'i Interior>
+    interiors: &'i [Interior<'a>],
+) -> Option<&'i Interior<'a>>
     ensures { option_copied result ≡ find (is_unmet_in body.now name.now) interiors.now }
 {
     interiors
@@ -89,7 +88,7 @@ fn first_unmet<'i, S: Space>(
 fn interior_conflict<S: Space>(
     alloc: Global,
     body: &Body<'_, '_, '_, S>,
-    i: &Interior,
+    i: &Interior<'_>,
 ) -> Result<Refusal, AllocError>
     ensures { IfOk result (λ refusal. (d : Candidate) → body.now ≡ body_of d → refusal ≡ interior_conflict d i.now) }
 {
@@ -106,7 +105,7 @@ fn interior_conflict<S: Space>(
         named,
         i.address,
         body.address_of(i.offset),
-        copied_spot(alloc, &i.place)?,
+        i.place.owned(alloc)?,
         target,
     ))
 }
@@ -116,7 +115,7 @@ fn interior_conflict<S: Space>(
 fn conflict_of_interiors<S: Space>(
     alloc: Global,
     space: &S,
-    interiors: &[Interior],
+    interiors: &[Interior<'_>],
     code: &PreCode<'_, '_>,
     base: u32,
 ) -> Result<Option<Refusal>, AllocError>
@@ -132,7 +131,7 @@ fn conflict_of_interiors<S: Space>(
 }
 
 /// The claims of a candidate, none where it doesn't match.
-fn claims_of(outcome: &Result<Matched, MatchFault>) -> &[Claim]
+fn claims_of<'o, 'a>(outcome: &'o Result<Matched<'a>, MatchFault>) -> &'o [Claim<'a>]
     ensures { result.now ≡ claims_in outcome.now }
 {
     match outcome {
@@ -142,7 +141,7 @@ fn claims_of(outcome: &Result<Matched, MatchFault>) -> &[Claim]
 }
 
 /// Its references to interiors of other sections.
-fn interiors_of(outcome: &Result<Matched, MatchFault>) -> &[Interior]
+fn interiors_of<'o, 'a>(outcome: &'o Result<Matched<'a>, MatchFault>) -> &'o [Interior<'a>]
     ensures { result.now ≡ interiors_in outcome.now }
 {
     match outcome {
@@ -153,8 +152,8 @@ fn interiors_of(outcome: &Result<Matched, MatchFault>) -> &[Interior]
 
 fn claims_between(
     alloc: Global,
-    one: &Result<Matched, MatchFault>,
-    other: &Result<Matched, MatchFault>,
+    one: &Result<Matched<'_>, MatchFault>,
+    other: &Result<Matched<'_>, MatchFault>,
 ) -> Result<Option<Refusal>, AllocError>
     ensures { IfOk result (λ report. (c d : Candidate) → outcome c ≡ one.now → outcome d ≡ other.now → IsAtOne d
         → report ≡ conflict_of_claims c d) }
@@ -165,7 +164,7 @@ fn claims_between(
 fn interiors_between<S: Space>(
     alloc: Global,
     space: &S,
-    one: &Result<Matched, MatchFault>,
+    one: &Result<Matched<'_>, MatchFault>,
     other: &Held<'_, '_, '_>,
 ) -> Result<Option<Refusal>, AllocError>
     ensures { IfOk result (λ report. (c d : Candidate) → outcome c ≡ one.now
@@ -186,9 +185,9 @@ fn clash_of<S: Space>(
     alloc: Global,
     space: &S,
     one: &Held<'_, '_, '_>,
-    of_one: &Result<Matched, MatchFault>,
+    of_one: &Result<Matched<'_>, MatchFault>,
     other: &Held<'_, '_, '_>,
-    of_other: &Result<Matched, MatchFault>,
+    of_other: &Result<Matched<'_>, MatchFault>,
 ) -> Result<Option<Refusal>, AllocError>
     ensures { IfOk result (λ report. (c d : Candidate) → IsOf one.now.code.now c one.now.tried.now
         → c.contents ≡ S.contents space.now → outcome c ≡ of_one.now

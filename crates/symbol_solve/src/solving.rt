@@ -67,7 +67,8 @@ fn values_of<S: Space>(
     held: &[Held<'_, '_, '_>],
 ) -> Result<Values, AllocError>
     ensures { IfOk result (λ found. (cs : List Candidate)
-        → AllZip (λ c h. IsOf h.code.now c h.tried.now × RunsIn running.now c) cs held.now → found.entries ≡ values cs) }
+        → AllZip (λ c h. IsOf h.code.now c h.tried.now × RunsIn running.now c) cs held.now
+        → found.entries ≡ values cs) }
 {
     let mut found = IndexMap::new(alloc);
     for one in held {
@@ -86,7 +87,8 @@ fn solve_trials<S: Space>(
     requires codes { trials.now.codes ≡ code_sections pre.now }
     requires tried { AreTried running.now pre.now trials.now.tried }
     ensures { Gives (λ values. values.entries) result
-        (values_unless (option_or (reported (length pre.now) (candidates running.now pre.now)) (first_twins (left_of running.now pre.now)))
+        (values_unless (option_or (reported (length pre.now) (candidates running.now pre.now))
+        (first_twins (left_of running.now pre.now)))
         (left_of running.now pre.now)) }
 {
     let found = propagate_candidates(alloc, pre, running, trials)?;
@@ -100,14 +102,14 @@ fn solve_trials<S: Space>(
     Ok(values_of(alloc, running, held.as_slice())?)
 }
 
-/// The values of an object's code sections in a running program, and of what they and the read-only data that they reach refer to: of
-/// its code sections in order, each with its home, base and length, followed by the data sections and outside names that it claims and
-/// that aren't listed yet, in the order of their places.
+/// The values of an object's code sections in a running program, and of what they and the read-only data that they
+/// reach refer to: of its code sections in order, each with its home, base and length, followed by the data sections
+/// and outside names that it claims and that aren't listed yet, in the order of their places.
 ///
-/// [`Refusal::PreUndecoded`] comes where a code section can't be matched; otherwise [`Refusal::NoCandidate`] where there is no function
-/// that one may be; otherwise [`Refusal::Mismatch`] where all that one may be differ from it; otherwise [`Refusal::Conflict`] where two
-/// that are forced clash; otherwise [`Refusal::Ambiguous`] where two are left of one section. [`Refusal::Memory`] comes for want of
-/// memory alone.
+/// [`Refusal::PreUndecoded`] comes where a code section can't be matched; otherwise [`Refusal::NoCandidate`] where
+/// there is no function that one may be; otherwise [`Refusal::Mismatch`] where all that one may be differ from it;
+/// otherwise [`Refusal::Conflict`] where two that are forced clash; otherwise [`Refusal::Ambiguous`] where two are left
+/// of one section. [`Refusal::Memory`] comes for want of memory alone.
 #[tactic(auto, unfolding(crate::specs::Solve::solved, crate::specs::Solve::obstacle))]
 pub fn solve<S: Space>(
     alloc: Global,
@@ -116,7 +118,8 @@ pub fn solve<S: Space>(
     space: &S,
     table: &SymbolTable,
 ) -> Result<Values, Refusal>
-    ensures { Gives (λ values. values.entries) result (solved pre.now bodies.now (S.contents space.now) table.now.symbols) }
+    ensures { Gives
+        (λ values. values.entries) result (solved pre.now bodies.now (S.contents space.now) table.now.symbols) }
 {
     let running = Running {
         bodies,

@@ -2,10 +2,10 @@
 ghost use Rattle.std.specs.Prelude.{◌≡◌, ◌++◌, ◌∷◌, [], false, Ok, OnOk};
 ghost use Rattle.std.specs.List.{flat_map, fold};
 ghost use Rattle.run_pre_match.specs.Candidate.{Candidate};
-ghost use Rattle.symbol_solve.specs.Solve.{has_value, with_value, is_code_unknown, address_value, values_with, values_of};
+ghost use Rattle.symbol_solve.specs.Solve.{has_value, with_value, is_code_unknown};
+ghost use Rattle.symbol_solve.specs.Solve.{address_value, values_with, values_of};
 ghost use Rattle.symbol_solve.specs.inside.Left.{IsOf, RunsIn};
 
-use crate::copies::copied_unknown;
 use image_memory::Space;
 use ks_base::Name;
 use match_candidates::{Running, Tried, outcome_of};
@@ -47,19 +47,20 @@ fn is_code_unknown(unknown: &Unknown) -> bool
 }
 
 /// Adds what a claim says of a data section or an outside name.
-fn put_claim(alloc: Global, values: &mut Values, claim: &Claim) -> Result<(), AllocError>
+fn put_claim(alloc: Global, values: &mut Values, claim: &Claim<'_>) -> Result<(), AllocError>
     ensures { OnOk result (values.new.entries ≡ fold with_value values.old.entries (address_value claim.now)) }
 {
-    if is_code_unknown(&claim.unknown) {
+    let unknown = claim.unknown.owned(alloc)?;
+    if is_code_unknown(&unknown) {
         return Ok(());
     }
-    let unknown = copied_unknown(alloc, &claim.unknown)?;
     put(values, unknown, Solved::Address(claim.value))
 }
 
 /// Adds what claims say of data sections and outside names.
-fn put_claims(alloc: Global, values: &mut Values, claims: &[Claim]) -> Result<(), AllocError>
-    ensures { OnOk result (values.new.entries ≡ fold with_value values.old.entries (flat_map address_value claims.now)) }
+fn put_claims(alloc: Global, values: &mut Values, claims: &[Claim<'_>]) -> Result<(), AllocError>
+    ensures { OnOk result
+        (values.new.entries ≡ fold with_value values.old.entries (flat_map address_value claims.now)) }
 {
     for claim in claims {
         put_claim(alloc, values, claim)?;
@@ -73,7 +74,7 @@ fn put_match(
     values: &mut Values,
     code: &PreCode<'_, '_>,
     tried: &Tried,
-    matched: &Matched,
+    matched: &Matched<'_>,
 ) -> Result<(), AllocError>
     ensures { OnOk result ((c : Candidate) → IsOf code.now c tried.now
         → values.new.entries ≡ fold with_value values.old.entries (values_with c (Ok matched.now))) }
@@ -94,7 +95,7 @@ fn put_outcome(
     values: &mut Values,
     code: &PreCode<'_, '_>,
     tried: &Tried,
-    outcome: &Result<Matched, MatchFault>,
+    outcome: &Result<Matched<'_>, MatchFault>,
 ) -> Result<(), AllocError>
     ensures { OnOk result ((c : Candidate) → IsOf code.now c tried.now
         → values.new.entries ≡ fold with_value values.old.entries (values_with c outcome.now)) }

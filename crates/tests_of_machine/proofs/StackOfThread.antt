@@ -23,18 +23,21 @@ writable_kind Code h = cc
 writable_kind ReadOnly h = cc
 writable_kind Writable h = refl
 
-lies : (stack : Range) (piece : Piece) → (is_writable piece.kind && are_same (piece_range piece) stack) ≡ true → LiesInWritable stack piece
+lies : (stack : Range) (piece : Piece)
+    → (is_writable piece.kind && are_same (piece_range piece) stack) ≡ true → LiesInWritable stack piece
 lies stack piece h =
     let s = same_ends (is_writable piece.kind) piece.base stack.low (piece_range piece).high stack.high h in
     record { kind = writable_kind piece.kind s.0; low = omega arith; high = omega arith }
 
-pub stack_of_thread : (pieces : List Piece) (stacks : List Range) (threads : List Thread) (thread : Thread) → WellPlaced stacks threads
+pub stack_of_thread : (pieces : List Piece) (stacks : List Range) (threads : List Thread) (thread : Thread)
+    → WellPlaced stacks threads
     → AreStacks pieces stacks → Contains threads thread → IsStack pieces thread.stack
 stack_of_thread pieces stacks threads thread placed held there =
     let listed = All-contains (λ (t : Thread). Contains stacks t.stack) threads thread placed.listed there in
     let bounds = All-contains IsStackRange stacks thread.stack placed.bounds listed in
     let writable = All-contains (λ (range : Range). IsTrue (is_stack pieces range)) stacks thread.stack held listed in
-    let found = Any-from_list_any (λ (piece : Piece). is_writable piece.kind && are_same (piece_range piece) thread.stack) pieces writable in
+    let found = Any-from_list_any
+    (λ (piece : Piece). is_writable piece.kind && are_same (piece_range piece) thread.stack) pieces writable in
     record {
       low = let low = bounds.low in omega arith;
       high = let high = bounds.high in omega arith;

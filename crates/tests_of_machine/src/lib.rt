@@ -1,5 +1,5 @@
-//! Tests of instructions, steps and threads: `ia32_alu`, `ia32_decode`, `ia32_step`, `image_threads`, `stack_scan`. They
-//! stand apart so that those crates are proved once, and not once more for their tests.
+//! Tests of instructions, steps and threads: `ia32_alu`, `ia32_decode`, `ia32_step`, `image_threads`, `stack_scan`,
+//! `frame_watch`. They stand apart so that those crates are proved once, and not once more for their tests.
 #![tactic(auto)]
 
 #[cfg(test)]
@@ -14,3 +14,5 @@ mod scanning;
 mod steps;
 #[cfg(test)]
 mod threads;
+#[cfg(test)]
+mod watching;

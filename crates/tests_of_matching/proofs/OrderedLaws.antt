@@ -75,7 +75,8 @@ in_order (x ∷ xs) zero zero a b each less at_i at_j = absurd (omega arith)
 in_order (x ∷ xs) (suc i) zero a b each less at_i at_j = absurd (omega arith)
 in_order (x ∷ xs) zero (suc j) a b each less at_i at_j =
     let first = (and_parts (list_all (comes_before x) xs) (stand_in_order xs) each).0 in
-    subst (λ (z : Choice). ComesBefore z b) (same_Some x a at_i) (before x b (all_at (comes_before x) xs j b first at_j))
+    subst
+    (λ (z : Choice). ComesBefore z b) (same_Some x a at_i) (before x b (all_at (comes_before x) xs j b first at_j))
 in_order (x ∷ xs) (suc i) (suc j) a b each less at_i at_j =
     in_order xs i j a b (and_parts (list_all (comes_before x) xs) (stand_in_order xs) each).1 (omega arith) at_i at_j
 

@@ -6,9 +6,9 @@ ghost use Rattle.i386_reloc.specs.Reaches.{is_in};
 use elf32_object::read_object;
 use i386_reloc::{Normal, normalise};
 use image_memory::{FlatSpace, Kind, Piece, Pieces, Space, are_placed};
-use ks_base::{Bytes, Line, Name, Range, Refusal, Spot};
+use ks_base::{Bytes, Line, Name, Range, Refusal};
 use object_builder::{Section, object};
-use run_pre_match::{Claim, Interior, MatchFault, Matched, match_body};
+use run_pre_match::{BorrowedSpot, Claim, Interior, MatchFault, Matched, match_body};
 use std::alloc::{AllocError, Global};
 use std::process::Abort;
 use std::test::Fail;
@@ -113,7 +113,8 @@ pub(crate) fn normal_of(alloc: Global, file: &[u8]) -> Result<Normal<'_>, Fail> 
     Ok(normalise(alloc, &object).ok().ok_or("no sections")?)
 }
 
-fn put_spot(line: &mut Line, place: &Spot) -> Result<(), AllocError> {
+fn put_spot(alloc: Global, line: &mut Line, place: &BorrowedSpot<'_>) -> Result<(), AllocError> {
+    let place = place.owned(alloc)?;
     line.put_text(" at ")?;
     line.put_name(&place.section)?;
     line.put_text("+")?;
@@ -121,8 +122,9 @@ fn put_spot(line: &mut Line, place: &Spot) -> Result<(), AllocError> {
     line.put_text("\n")
 }
 
-fn put_claim(line: &mut Line, claim: &Claim) -> Result<(), AllocError> {
-    let (kind, name) = match &claim.unknown {
+fn put_claim(alloc: Global, line: &mut Line, claim: &Claim<'_>) -> Result<(), AllocError> {
+    let unknown = claim.unknown.owned(alloc)?;
+    let (kind, name) = match &unknown {
         Unknown::Code(name) => ("code ", name),
         Unknown::Data(name) => ("data ", name),
         Unknown::Outside(name) => ("outside ", name),
@@ -131,28 +133,28 @@ fn put_claim(line: &mut Line, claim: &Claim) -> Result<(), AllocError> {
     line.put_name(name)?;
     line.put_text(" ")?;
     line.put_hex(claim.value)?;
-    put_spot(line, &claim.place)
+    put_spot(alloc, line, &claim.place)
 }
 
-fn put_interior(line: &mut Line, interior: &Interior) -> Result<(), AllocError> {
+fn put_interior(alloc: Global, line: &mut Line, interior: &Interior<'_>) -> Result<(), AllocError> {
     line.put_text("inside ")?;
-    line.put_name(&interior.section)?;
+    line.put_name(&Name::from_slice(alloc, interior.section.as_slice())?)?;
     line.put_text("+")?;
     line.put_offset(interior.offset)?;
     line.put_text(" ")?;
     line.put_hex(interior.address)?;
-    put_spot(line, &interior.place)
+    put_spot(alloc, line, &interior.place)
 }
 
-fn put_matched(line: &mut Line, matched: &Matched) -> Result<(), AllocError> {
+fn put_matched(alloc: Global, line: &mut Line, matched: &Matched<'_>) -> Result<(), AllocError> {
     line.put_text("length ")?;
     line.put_number(u64::from(matched.length))?;
     line.put_text("\n")?;
     for claim in matched.claims.as_slice() {
-        put_claim(line, claim)?;
+        put_claim(alloc, line, claim)?;
     }
     for interior in matched.interiors.as_slice() {
-        put_interior(line, interior)?;
+        put_interior(alloc, line, interior)?;
     }
     Ok(())
 }
@@ -162,11 +164,11 @@ pub(crate) fn put_answer(
     alloc: Global,
     line: &mut Line,
     section: &str,
-    answer: &Result<Matched, MatchFault>,
+    answer: &Result<Matched<'_>, MatchFault>,
 ) -> Result<(), AllocError> {
     let name = Name::from_slice(alloc, section.as_bytes())?;
     match answer {
-        Ok(matched) => put_matched(line, matched),
+        Ok(matched) => put_matched(alloc, line, matched),
         Err(MatchFault::Differs(difference)) => {
             line.put_refusal(&Refusal::Mismatch(name, *difference))
         }
@@ -188,14 +190,14 @@ fn has_code(normal: &Normal<'_>, name: &Name) -> bool
 }
 
 /// What comes of the code section of a name, where there is one.
-fn matched(
+fn matched<'a>(
     alloc: Global,
-    normal: &Normal<'_>,
+    normal: &Normal<'a>,
     name: &Name,
     space: &FlatSpace,
     table: &SymbolTable,
     places: (u32, u32),
-) -> Option<Result<Matched, MatchFault>> {
+) -> Option<Result<Matched<'a>, MatchFault>> {
     if !has_code(normal, name) {
         return None;
     }

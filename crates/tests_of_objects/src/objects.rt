@@ -9,8 +9,9 @@ use elf32_object::types::{Large, Reloc};
 use std::alloc::{AllocError, Global};
 use std::test::Fail;
 
-/// An object of 808 bytes. Its sections are `.text.f` (6 bytes), `.text.main` (11), `.data.d` (8), `.bss.b` (8), `.eh_frame`
-/// (4), the relocations of `.text.f` (one) and `.text.main` (two), the symbol table (9 symbols) and the two string tables.
+/// An object of 808 bytes. Its sections are `.text.f` (6 bytes), `.text.main` (11), `.data.d` (8), `.bss.b` (8),
+/// `.eh_frame` (4), the relocations of `.text.f` (one) and `.text.main` (two), the symbol table (9 symbols) and the two
+/// string tables.
 static OBJECT: [u8; 808] = [
     0x7f, 0x45, 0x4c, 0x46, 0x01, 0x01, 0x01, 0x00, 0x00, 0x00, 0x00, 0x00, 0x00, 0x00, 0x00, 0x00,
     0x01, 0x00, 0x03, 0x00, 0x01, 0x00, 0x00, 0x00, 0x00, 0x00, 0x00, 0x00, 0x00, 0x00, 0x00, 0x00,
@@ -241,8 +242,8 @@ fn files_too_long(rt: HostRuntime) -> Result<(), Fail> {
     Ok(())
 }
 
-/// The object's sections from 1 on: the name; type, flags, alignment, entry size and size; how many bytes stand in the file;
-/// whether it is loaded.
+/// The object's sections from 1 on: the name; type, flags, alignment, entry size and size; how many bytes stand in the
+/// file; whether it is loaded.
 static SECTIONS: [(&[u8], [u32; 5], usize, bool); 10] = [
     (b".text.f", [1, 6, 16, 0, 6], 6, true),
     (b".text.main", [1, 6, 16, 0, 11], 11, true),

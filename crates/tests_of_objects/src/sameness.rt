@@ -5,9 +5,9 @@ use section_equal::{equal_bytes, same_section, same_sections};
 use std::alloc::{AllocError, Global};
 use std::test::Fail;
 
-/// Sections: 1 `.text.f`, which calls `.text.g` and has the address of a text, 2 `.text.g`, 3 the relocations of section 1, 4 `.rodata.x`
-/// of the texts `a`, `b` and `ba`, 5 `.bss.z`, 6 and 7 the symbol table and its strings. Symbols: 1 section 4, 2 the function `f`, 3 the
-/// function `g`, 4 `p`, undefined.
+/// Sections: 1 `.text.f`, which calls `.text.g` and has the address of a text, 2 `.text.g`, 3 the relocations of
+/// section 1, 4 `.rodata.x` of the texts `a`, `b` and `ba`, 5 `.bss.z`, 6 and 7 the symbol table and its strings.
+/// Symbols: 1 section 4, 2 the function `f`, 3 the function `g`, 4 `p`, undefined.
 static TEXTS: [u8; 560] = [
     0x7f, 0x45, 0x4c, 0x46, 0x01, 0x01, 0x01, 0x00, 0x00, 0x00, 0x00, 0x00, 0x00, 0x00, 0x00, 0x00,
     0x01, 0x00, 0x03, 0x00, 0x01, 0x00, 0x00, 0x00, 0x00, 0x00, 0x00, 0x00, 0x00, 0x00, 0x00, 0x00,

@@ -46,10 +46,10 @@ static FUNCTIONS: [u8; 492] = [
     0x00, 0x00, 0x00, 0x00, 0x01, 0x00, 0x00, 0x00, 0x00, 0x00, 0x00, 0x00,
 ];
 
-/// Sections: 1 `.text.f`, 2 `.rodata.str` of the texts `ab` and `cdef`, 3 `.rodata.k`, 4 `.data.v`, 5 `.bss.z`, 6 and 7 the
-/// relocations of sections 1 and 3, 8 to 10 the symbol table and its strings. Symbols: 1 section 2, 2 `.LC` at offset 3 of
-/// section 2, 3 the function `f`, 4 `printf`, undefined, 5 the global variable `v` and 6 the local `w` of section 4, 7 `c`,
-/// common, 8 `abs`, absolute, 9 undefined without a name, 10 section 9.
+/// Sections: 1 `.text.f`, 2 `.rodata.str` of the texts `ab` and `cdef`, 3 `.rodata.k`, 4 `.data.v`, 5 `.bss.z`, 6 and 7
+/// the relocations of sections 1 and 3, 8 to 10 the symbol table and its strings. Symbols: 1 section 2, 2 `.LC` at
+/// offset 3 of section 2, 3 the function `f`, 4 `printf`, undefined, 5 the global variable `v` and 6 the local `w` of
+/// section 4, 7 `c`, common, 8 `abs`, absolute, 9 undefined without a name, 10 section 9.
 static REFERENCES: [u8; 900] = [
     0x7f, 0x45, 0x4c, 0x46, 0x01, 0x01, 0x01, 0x00, 0x00, 0x00, 0x00, 0x00, 0x00, 0x00, 0x00, 0x00,
     0x01, 0x00, 0x03, 0x00, 0x01, 0x00, 0x00, 0x00, 0x00, 0x00, 0x00, 0x00, 0x00, 0x00, 0x00, 0x00,

@@ -55,7 +55,8 @@ places sections parts = map (place_in sections) (names_of parts)
 moved_by : (first : NormalSection) (sections : List NormalSection) (section : NormalSection) (role : Option Role)
     (rest : List NewPart) → same_bytes first.name section.name ≡ false
     → places (first ∷ sections) rest ≡ map suc (places sections rest)
-    → places (first ∷ sections) (part_as section role ++ rest) ≡ map suc (places sections (part_as section role ++ rest))
+    → places (first ∷ sections) (part_as section role ++ rest)
+    ≡ map suc (places sections (part_as section role ++ rest))
 moved_by first sections section None rest apart so_far = so_far
 moved_by first sections section (Some role) rest apart so_far =
     λ i. behind_first first sections section.name apart i ∷ so_far i

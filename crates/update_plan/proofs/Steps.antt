@@ -1,5 +1,6 @@
 -- The old functions and the placed sections of some sections, one section more.
-use Rattle.std.proofs.Common.{◌≡◌, ℕ, ◌+◌, ◌<◌, true, false, cond, List, [], ◌∷◌, ◌++◌, length, get_or, take, sym, ap, ◌∙◌}
+use Rattle.std.proofs.Common.{◌≡◌, ℕ, ◌+◌, ◌<◌, true, false, cond, List, []}
+use Rattle.std.proofs.Common.{◌∷◌, ◌++◌, length, get_or, take, sym, ap, ◌∙◌}
 use Rattle.std.proofs.Common.{append-nil}
 use Rattle.std.specs.List.{flat_map, filter}
 use Rattle.std.proofs.lemmas.List.{take_more}
@@ -42,7 +43,8 @@ pub one_old : (extract : Extract) (values : ValueList) (section : NormalSection)
     → olds_of extract values (section ∷ []) ≡ old_in extract values section
 unfolding olds_of
 one_old extract values section code =
-    ap (λ b. flat_map (old_in extract values) (cond b (section ∷ []) [])) code ∙ append-nil (old_in extract values section)
+    ap (λ b. flat_map (old_in extract values) (cond b (section ∷ []) [])) code
+    ∙ append-nil (old_in extract values section)
 
 pub no_old : (extract : Extract) (values : ValueList) (section : NormalSection) → is_function section ≡ false
     → olds_of extract values (section ∷ []) ≡ []

@@ -65,6 +65,7 @@ planned running retired gaps pre_file post_file = do
   extract ← extracted pre post
   found ← solved pre running.bodies running.contents running.symbols
   values ← resolved pre post running.symbols (names_of (parts_of extract post)) found
-  olds ← unless (code_refusal running.contents running.symbols retired (olds_of extract found pre)) (olds_of extract found pre)
+  olds ← unless
+      (code_refusal running.contents running.symbols retired (olds_of extract found pre)) (olds_of extract found pre)
   placement ← placed (map size_of (parts_of extract post)) gaps
   Ok (plan_of running post values olds (parts_of extract post) placement)

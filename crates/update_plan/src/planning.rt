@@ -42,8 +42,8 @@ use symbol_table::{Bodies, SymbolTable, Values};
 /// The first refusal comes of these, in this order: what is wrong with `pre`, then with `post`, as of
 /// [`read_sections`]; what can't be changed between them, as of [`extract`]; why `pre` has no one reading in the
 /// program, as of [`solve`]; a name or data that the new sections refer to and that has no one address, as of
-/// [`resolve_post`]; a home without room for the jump, or code that overlaps, as of [`code_refusal`]; a new section that
-/// fits in no gap, as of [`place`]. [`Refusal::Memory`] comes for want of memory alone.
+/// [`resolve_post`]; a home without room for the jump, or code that overlaps, as of [`code_refusal`]; a new section
+/// that fits in no gap, as of [`place`]. [`Refusal::Memory`] comes for want of memory alone.
 pub fn plan<'a, S: Space>(
     alloc: Global,
     space: &S,

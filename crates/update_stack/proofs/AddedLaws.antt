@@ -101,7 +101,8 @@ all_based (x ∷ xs) =
 
 -- Pieces that were added to others are, in some order, those that begin at their bases, where the others are what is
 -- left without these.
-pub added_ranges : (pieces more : List Piece) → without_pieces (bases_of more) (fold with_new_piece pieces more) ≡ pieces
+pub added_ranges : (pieces more : List Piece)
+    → without_pieces (bases_of more) (fold with_new_piece pieces more) ≡ pieces
     → IsPermutation (map piece_range more)
     (map piece_range (filter (is_based_at (bases_of more)) (fold with_new_piece pieces more)))
 added_ranges pieces more left =

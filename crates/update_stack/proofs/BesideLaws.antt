@@ -179,7 +179,8 @@ pub kept_write : CodeWasThere → (k : CallTable) (kept : List Kept) (gaps : Lis
     → AreKept k kept gaps → AreKept (wrote start bytes threads k) kept gaps
 kept_write there k kept gaps start bytes threads avoids built (NoneKept _ _ _ none nothing free) =
     NoneKept (wrote start bytes threads k) kept gaps none nothing (free ∙ free_wrote k start bytes threads)
-kept_write there k kept gaps start bytes threads avoids built (OneKept _ update earlier _ one _ newest ends is free before) =
+kept_write there k kept gaps start bytes threads avoids built
+    (OneKept _ update earlier _ one _ newest ends is free before) =
     let has = built_newest k update built newest in
     let below = withdrawn k update in
     let later : AreSpliced (contents_of k) (jump_rows update.report.replaced) =

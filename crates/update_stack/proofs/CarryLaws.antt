@@ -130,7 +130,8 @@ same_olds : (ps qs : List Piece) (rows : List (ℕ × ℕ))
 same_olds ps qs [] same = refl
 same_olds ps qs (row ∷ rows) same =
     let Same : ℕ × ℕ → Type 0 = λ r. five_at ps r.0 ≡ five_at qs r.0 in
-    ap (λ (old : List ℕ). let first : ℕ × List ℕ = (row.0, old) in first ∷ olds_at ps rows) (All-head Same row rows same)
+    ap (λ (old : List ℕ). let first : ℕ × List ℕ = (row.0, old) in first ∷ olds_at ps rows)
+    (All-head Same row rows same)
     ∙ ap (λ (olds : List (ℕ × List ℕ)). let first : ℕ × List ℕ = (row.0, five_at qs row.0) in first ∷ olds)
     (same_olds ps qs rows (All-tail Same row rows same))
 
@@ -214,7 +215,8 @@ module _ (laws : Laws) (before : Program) (arena : Range) (gaps : List Range) (u
     alone =
         All-weaker (λ (piece : Piece). MeetsNone piece_range (piece_range piece) k.pieces)
         (λ (piece : Piece). MeetsNone piece_range (piece_range piece) (jumped rows k.pieces))
-        (λ piece none. meets_by_ranges (piece_range piece) (jumped rows k.pieces) k.pieces (laws.places rows k.pieces) none)
+        (λ piece none.
+        meets_by_ranges (piece_range piece) (jumped rows k.pieces) k.pieces (laws.places rows k.pieces) none)
         plan.pieces can.alone;
     full = can.full;
     retired_apart = can.retired_apart;
@@ -247,7 +249,8 @@ module _ (laws : Laws) (before : Program) (arena : Range) (gaps : List Range) (u
   code_full =
       All-map (λ (row : ℕ × ℕ). HasCode full.pieces row.0 5) jump_row replaced
       (λ i d l. subst (λ (ps : List Piece). HasCode ps (get_or replaced i d).home 5) (sym full_pieces)
-      (laws.memory.pieces_code before.contents plan.pieces (get_or replaced i d).home 5 valid_before can_before.placeable
+      (laws.memory.pieces_code before.contents plan.pieces
+      (get_or replaced i d).home 5 valid_before can_before.placeable
       (pieces_fit before.contents plan can_before) (code_there i d l)))
 
   pub plan_fits : (jumps : List Jump) → rows_of jumps ≡ jump_rows replaced → FitsIn before.contents plan jumps
@@ -442,7 +445,8 @@ module _ (laws : Laws) (before : Program) (arena : Range) (gaps : List Range) (u
       built_now = subst IsBuilt (sym same_now) built_after
 
       kept_now : AreKept now (kept ++ one ∷ []) (gaps_after gaps plan)
-      kept_now = subst (λ (m : CallTable). AreKept m (kept ++ one ∷ []) (gaps_after gaps plan)) (sym same_now) kept_after
+      kept_now =
+          subst (λ (m : CallTable). AreKept m (kept ++ one ∷ []) (gaps_after gaps plan)) (sym same_now) kept_after
 
       code_now : HasOldCode (kept ++ one ∷ []) after.contents.pieces
       unfolding patched

@@ -164,7 +164,8 @@ writes_beside laws updates kept contents start bytes sound clear =
 
 -- Memory of the machine that follows from that which other memory stands for: with the jumps it is sound, and what is
 -- seen of it is this. What is kept of the machine stays with it.
-pub record Follows (updates : List Shown) (kept : List Kept) (gaps : List Range) (k : CallTable) (before machine : Contents)
+pub record Follows
+    (updates : List Shown) (kept : List Kept) (gaps : List Range) (k : CallTable) (before machine : Contents)
     : Type 0 where
   pub sound : Sound updates kept (jumped_memory (rows_in updates) machine)
   pub text : machine_memory updates kept (jumped_memory (rows_in updates) machine) ≡ machine
@@ -179,7 +180,8 @@ follows_itself laws updates kept gaps k contents sound over pieces = record {
   sound = subst (Sound updates kept) sound.stands sound;
   text = ap (machine_memory updates kept) (sym sound.stands);
   fences = sym (ap (λ (c : Contents). c.fences) sound.stands);
-  over = λ threads. subst (λ (ps : List Piece). IsKeptOver kept gaps (record k { pieces = ps; threads = threads })) pieces
+  over =
+      λ threads. subst (λ (ps : List Piece). IsKeptOver kept gaps (record k { pieces = ps; threads = threads })) pieces
       (over_threads laws k kept gaps threads over);
 }
 
@@ -236,7 +238,8 @@ none_spliced : (contents : Contents) → AreSpliced contents []
 none_spliced contents =
     record { each = λ i d below. absurd (omega arith); once = λ i j d before below. absurd (omega arith) }
 
-full_arena : (arena : Range) (limit : ℕ) → All (λ (gap : Range). gap.high ≤ limit) (gaps_in arena) → arena.low < arena.high
+full_arena : (arena : Range) (limit : ℕ)
+    → All (λ (gap : Range). gap.high ≤ limit) (gaps_in arena) → arena.low < arena.high
     → arena.high ≤ limit
 full_arena arena limit low full =
     let test : nat_lt arena.low arena.high ≡ true = grind (arith, nat_tests) in

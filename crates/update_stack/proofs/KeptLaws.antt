@@ -59,13 +59,15 @@ front_same {X} (a ∷ xs) (b ∷ ys) x y same =
     cc
 
 -- and of what is kept: that of the newest update, and of those before it
-pub record HasKept (k : CallTable) (update : Update) (earlier : List Kept) (one : Kept) (gaps : List Range) : Type 0 where
+pub record HasKept
+    (k : CallTable) (update : Update) (earlier : List Kept) (one : Kept) (gaps : List Range) : Type 0 where
   pub is_kept : IsKept k update one
   pub free : gaps ≡ gaps_of k
   pub before : AreKept (withdrawn k update) earlier one.gaps
 
 pub kept_newest : (k : CallTable) (update : Update) (earlier kept : List Kept) (one : Kept) (gaps : List Range)
-    → AreKept k kept gaps → newest_update k ≡ Some update → kept ≡ earlier ++ one ∷ [] → HasKept k update earlier one gaps
+    → AreKept k kept gaps
+    → newest_update k ≡ Some update → kept ≡ earlier ++ one ∷ [] → HasKept k update earlier one gaps
 kept_newest k update earlier kept one gaps (NoneKept _ _ _ none nothing free) is ends =
     let none_newest : newest_update k ≡ None = ap (last_or None) none in
     absurd (cc)

@@ -55,7 +55,8 @@ table_more updates update =
     ∙ fold_more with_replaced [] (replaced_by updates) update.report.replaced
 
 pub live_more : (updates : List Shown) (update : Shown) (kept : List Kept) (one : Kept) → length kept ≡ length updates
-    → live_updates (updates ++ update ∷ []) (kept ++ one ∷ []) ≡ live_updates updates kept ++ live_update update one ∷ []
+    → live_updates (updates ++ update ∷ []) (kept ++ one ∷ [])
+    ≡ live_updates updates kept ++ live_update update one ∷ []
 live_more [] update [] one paired = refl
 live_more [] update (first ∷ kept) one paired = absurd (omega arith)
 live_more (shown ∷ updates) update [] one paired = absurd (omega arith)

@@ -256,6 +256,14 @@ met_home f retired pc (Some bytes) is = by_test (f pc) refl is
     by_test true e is = e
     by_test false e is = absurd (other (list_any (lies_in pc) retired) is)
 
+-- a home that is met is spliced, in each memory in which those with rows are
+pub home_spliced : (k : CallTable) (memory : Contents) (pc : ℕ) → AreSpliced (contents_of k) (bodies_in k.table)
+    → AreSpliced memory (bodies_in k.table) → view_at (contents_of k) pc ≡ AtHome → IsSpliced memory pc
+unfolding view_in view
+home_spliced k memory pc spliced there is =
+    home_row k.table pc (λ row. IsSpliced memory row.0) there.each
+    (met_home (is_home k.table) k.retired pc (code_from k.pieces pc) (sym (met_alike k pc spliced.each) ∙ is))
+
 -- a step of a running thread that doesn't end
 step_beside : Decodes → NoSay → NoFaultSay → (k : CallTable) → SameData (jumped (bodies_in k.table) k.pieces) k.pieces
     → WritesBeside (contents_of k) (bodies_in k.table) → (thread : Thread)

@@ -61,7 +61,8 @@ module _ (arena : Range) (gaps : List Range) (updates : List Shown) (kept : List
       let holds_k = built_sound k holds.built in
       let bytes = first_bytes stack argument in
       let threads = old.threads ++ first_thread (length old.threads) stack pc ∷ [] in
-      let clear_k = stack_clear (contents_of k) old.stacks stack argument holds_k.jumps.valid bounds holds_k.stacks listed in
+      let clear_k =
+      stack_clear (contents_of k) old.stacks stack argument holds_k.jumps.valid bounds holds_k.stacks listed in
       let clear = clear_under stack.low (length bytes) kept old.contents.pieces clear_k in
       let beside = writes_beside laws updates kept old.contents stack.low bytes sound clear in
       let avoids = clear_avoids (contents_of k) stack.low (length bytes) holds_k.jumps.valid clear_k in

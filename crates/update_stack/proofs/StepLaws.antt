@@ -88,7 +88,8 @@ module _ (arena : Range) (gaps : List Range) (updates : List Shown) (kept : List
       (now ≡ Ok (machine new, outcome)) × Sound updates kept new.contents × IsKeptOver kept gaps (machine new)
 
   -- the memory after a step of the machine, with the jumps
-  goes_beside : (old : Program) (n : ℕ) (left : Left) → Follows updates kept gaps (machine old) old.contents left.contents
+  goes_beside : (old : Program) (n : ℕ) (left : Left)
+      → Follows updates kept gaps (machine old) old.contents left.contents
       → Goes (continued old n (jumped_left (rows_in updates) left)) left.outcome
       (Ok (after_step (machine old) n left, left.outcome))
   goes_beside old n left follows =

@@ -45,7 +45,8 @@ use Rattle.update_stack.specs.Apply.{update_as}
 use Rattle.update_stack.specs.Undo.{without_last, withdrawn, ranges_in, newest_update, undone_by, undone}
 use Rattle.update_stack.specs.Events.{Event, Spawn, Step, Apply, Undo, Happened, spawn_answered, step_answered}
 use Rattle.update_stack.specs.Events.{apply_answered, undo_answered, answered, machine_after, after_event, after_events}
-use Rattle.update_stack.specs.TakenBack.{Lasting, is_text, lasting, earlier_by, befores, TakenBackIsRestored, MachinesAreBuilt}
+use Rattle.update_stack.specs.TakenBack.{Lasting, is_text, lasting, earlier_by, befores}
+use Rattle.update_stack.specs.TakenBack.{TakenBackIsRestored, MachinesAreBuilt}
 use Rattle.update_stack.specs.Stacked.{IsSound, IsBuilt, Untouched, Updated}
 use Rattle.update_stack.proofs.TableLaws.{last_back, last_more}
 use Rattle.update_stack.proofs.BuiltLaws.{MemoryLaws, built_sound, built_write, built_commit, committed_back, wrote}

@@ -74,11 +74,13 @@ module _ (data_stay : DataStay) (contents : Contents) (rows : List (ℕ × ℕ))
 
   words_stay : (stack : Range) (start n : ℕ) → Any (LiesInWritable stack) contents.pieces → stack.low ≤ start
       → start + 4 * n ≤ stack.high
-      → map (on_stack (jumped rows contents.pieces)) (addresses start n) ≡ map (on_stack contents.pieces) (addresses start n)
+      → map (on_stack (jumped rows contents.pieces)) (addresses start n)
+      ≡ map (on_stack contents.pieces) (addresses start n)
   unfolding addresses
   words_stay stack start zero held low high = refl
   words_stay stack start (suc n) held low high =
-      ap (λ (value : ℕ). let first : Place × ℕ = (Stack start, value) in first ∷ map (on_stack (jumped rows contents.pieces)) (addresses (start + 4) n))
+      ap (λ (value : ℕ). let first : Place × ℕ = (Stack start, value) in
+      first ∷ map (on_stack (jumped rows contents.pieces)) (addresses (start + 4) n))
       (dword_stays stack start held low (omega arith))
       ∙ ap (λ (ws : List (Place × ℕ)). on_stack contents.pieces start ∷ ws)
       (words_stay stack (start + 4) n held (omega arith) (omega arith))
@@ -100,7 +102,8 @@ module _ (data_stay : DataStay) (contents : Contents) (rows : List (ℕ × ℕ))
     where
       by_out : (out : Bool) → is_stack_out thread ≡ out → IsStack contents.pieces thread.stack
           → (if out then Err (stack_out thread)
-          else Ok (option_map (standing_at thread.number) (first_place ranges (places (jumped rows contents.pieces) thread))))
+          else Ok (option_map (standing_at thread.number)
+          (first_place ranges (places (jumped rows contents.pieces) thread))))
           ≡ (if out then Err (stack_out thread)
           else Ok (option_map (standing_at thread.number) (first_place ranges (places contents.pieces thread))))
       by_out true is stack = refl

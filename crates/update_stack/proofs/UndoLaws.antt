@@ -157,7 +157,8 @@ kept_code there k kept gaps built (OneKept _ update earlier _ one _ newest ends 
 has_based : (ps qs : List Piece) (base : ℕ) → map piece_range ps ≡ map piece_range qs
     → Any (λ (piece : Piece). piece.base ≡ base) qs → Any (λ (piece : Piece). piece.base ≡ base) ps
 has_based ps qs base same (k, piece, less, at, is) =
-    let long : length ps ≡ length qs = omega (arith, length-map ps piece_range, length-map qs piece_range, ap length same) in
+    let long : length ps ≡ length qs =
+    omega (arith, length-map ps piece_range, length-map qs piece_range, ap length same) in
     let other = get_or ps k piece in
     let there : k < length ps = omega arith in
     let ranges : piece_range other ≡ piece_range (get_or qs k piece) =
@@ -270,7 +271,8 @@ module _ (laws : Laws) (program : Program) (arena : Range) (gaps : List Range) (
   restored =
       ap (λ (olds : List (ℕ × List ℕ)). unjumped olds program.contents.pieces) keeps.is_kept.olds
       ∙ ap (λ (c : Contents). unjumped (olds_at under (jump_rows replaced)) c.pieces) memory
-      ∙ ap (λ (t : List Row). unjumped (olds_at under (jump_rows replaced)) (jumped (bodies_in t) k.pieces)) has.top.table
+      ∙ ap (λ (t : List Row). unjumped (olds_at under (jump_rows replaced)) (jumped (bodies_in t) k.pieces))
+      has.top.table
       ∙ ap (unjumped (olds_at under (jump_rows replaced)))
       (jumps_stacked laws.added laws.over (contents_of k) before.table replaced has.sound.jumps.valid spliced)
       ∙ laws.taken_back (jumped_memory (bodies_in before.table) (contents_of k)) (jump_rows replaced)
@@ -299,7 +301,8 @@ module _ (laws : Laws) (program : Program) (arena : Range) (gaps : List Range) (
     abbrev now : CallTable
     now = machine_of after arena updates kept
 
-    pieces_now : after.contents.pieces ≡ without_pieces one.pieces (unjumped (olds_of one.jumps) program.contents.pieces)
+    pieces_now : after.contents.pieces
+        ≡ without_pieces one.pieces (unjumped (olds_of one.jumps) program.contents.pieces)
     unfolding withdrawn_memory
     pieces_now = ap (λ (s : Seen). s.contents.pieces) is
 

@@ -98,7 +98,8 @@ first_machine image = record {
 abbrev pub with_replaced : List Row → Replaced → List Row
 with_replaced [] new = record { home = new.home; bases = new.base ∷ [] } ∷ []
 with_replaced (row ∷ rows) new =
-    if row.home == new.home then record row { bases = row.bases ++ new.base ∷ [] } ∷ rows else row ∷ with_replaced rows new
+    if row.home == new.home
+    then record row { bases = row.bases ++ new.base ∷ [] } ∷ rows else row ∷ with_replaced rows new
 
 -- replaced functions as homes with their new bases
 abbrev pub jump_row : Replaced → ℕ × ℕ

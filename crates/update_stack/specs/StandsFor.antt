@@ -22,7 +22,12 @@ pub record Seen : Type 0 where
 
 abbrev pub seen : Program → Seen
 seen program =
-    record { contents = program.contents; symbols = program.table.symbols; stacks = program.stacks; threads = program.threads }
+    record {
+      contents = program.contents;
+      symbols = program.table.symbols;
+      stacks = program.stacks;
+      threads = program.threads;
+    }
 
 -- what is seen of a program that stands for the machine
 abbrev pub seen_of : CallTable → Seen

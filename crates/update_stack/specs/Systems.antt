@@ -70,7 +70,8 @@ HasJumpCode pieces jump = HasCode pieces jump.home (length jump.old)
 
 -- What holds of a system at every moment: its program stands for the machine, whose updates lie one upon the other;
 -- with each is kept what taking it back needs; and the bytes that were kept have their place in code.
-pub record Holds (program : Program) (arena : Range) (gaps : List Range) (updates : List Shown) (kept : List Kept) : Type 0 where
+pub record Holds
+    (program : Program) (arena : Range) (gaps : List Range) (updates : List Shown) (kept : List Kept) : Type 0 where
   pub stands : StandsFor program (machine_of program arena updates kept)
   pub built : IsBuilt (machine_of program arena updates kept)
   pub are_kept : AreKept (machine_of program arena updates kept) kept gaps

@@ -78,7 +78,8 @@ pub(crate) fn change<S: Space>(
     requires spare { length symbols ≤ machine.old.table.spare }
     requires addable { AreAddable machine.old.contents pieces }
     requires retirable { AreRetirable (with_pieces machine.old.contents pieces) fences.now }
-    requires code { All (HasHomeCode (with_fences (with_pieces machine.old.contents pieces) fences.now).pieces) jumps.now }
+    requires code { All
+        (HasHomeCode (with_fences (with_pieces machine.old.contents pieces) fences.now).pieces) jumps.now }
     ensures { seen machine.new ≡ record (seen machine.old) {
       contents = jumped_memory (rows_of jumps.now) (with_fences (with_pieces machine.old.contents pieces) fences.now);
       symbols = machine.old.table.symbols ++ symbols;
@@ -110,7 +111,8 @@ pub(crate) fn jumps_of<S: Space>(
 ) -> Result<Jumps, AllocError>
     requires { All EndsLow replaced.now }
     ensures rows { IfOk result (λ jumps. rows_of jumps ≡ jump_rows replaced.now) }
-    ensures olds { IfOk result (λ jumps. olds_of jumps ≡ olds_at (S.contents space.now).pieces (jump_rows replaced.now)) }
+    ensures olds { IfOk result
+        (λ jumps. olds_of jumps ≡ olds_at (S.contents space.now).pieces (jump_rows replaced.now)) }
 {
     let jumps = bare_jumps(alloc, replaced)?;
     Ok(Jumps::from_vec(with_old_code(space, jumps)))
@@ -267,14 +269,16 @@ pub(crate) fn push_both(
     Ok(())
 }
 
-// A plan that can be made on a system's machine fits in its program, each of its jumps ends at an address of 32 bits, and
-// when it is carried out, the system holds, as the machine after the update.
+// A plan that can be made on a system's machine fits in its program, each of its jumps ends at an address of 32 bits,
+// and when it is carried out, the system holds, as the machine after the update.
 pub(crate) fn plans_are_carried_out()
-    ensures fits { (program : Program) (arena : RangeOf) (gaps : List RangeOf) (updates : List Shown) (kept : List KeptOf)
+    ensures fits { (program : Program)
+        (arena : RangeOf) (gaps : List RangeOf) (updates : List Shown) (kept : List KeptOf)
         (plan : Planned) (jumps : List Jumped) → Holds program arena gaps updates kept
         → CanBeMade (contents_of (machine_of program arena updates kept)) plan
         → rows_of jumps ≡ jump_rows plan.report.replaced → FitsIn program.contents plan jumps }
-    ensures ends { (program : Program) (arena : RangeOf) (gaps : List RangeOf) (updates : List Shown) (kept : List KeptOf)
+    ensures ends { (program : Program)
+        (arena : RangeOf) (gaps : List RangeOf) (updates : List Shown) (kept : List KeptOf)
         (plan : Planned) → Holds program arena gaps updates kept
         → CanBeMade (contents_of (machine_of program arena updates kept)) plan → All EndsLow plan.report.replaced }
     ensures holds { (before after : Program) (arena : RangeOf) (gaps : List RangeOf) (updates : List Shown)

@@ -1,4 +1,5 @@
-//! The running system: a program whose functions can be replaced while it runs, seen as a machine that never patches code.
+//! The running system: a program whose functions can be replaced while it runs, seen as a machine that never patches
+//! code.
 #![tactic(auto)]
 
 mod carrying;

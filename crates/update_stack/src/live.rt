@@ -21,7 +21,8 @@ type Bases = IndexMap<u32, u32>;
 #[tactic(auto, using(crate::proofs::LiveLaws::homes_distinct))]
 pub(crate) fn bodies_of(alloc: Global, updates: &[Update]) -> Result<Bodies, AllocError>
     ensures rows { IfOk result (λ bodies. IsPermutation (bodies_in (table_of updates.now)) bodies) }
-    ensures newest { IfOk result (λ bodies. (home : ℕ) → newest bodies home ≡ newest (bodies_in (table_of updates.now)) home) }
+    ensures newest { IfOk result
+        (λ bodies. (home : ℕ) → newest bodies home ≡ newest (bodies_in (table_of updates.now)) home) }
 {
     let bases = newest_bases(alloc, updates)?;
     let rows = rows_of(alloc, &bases)?;

@@ -1,8 +1,9 @@
 //! A running program with its updates.
-ghost use Rattle.std.specs.Prelude.{◌≡◌, ◌≢◌, ◌<◌, [], map, IfOk, IsSomeAnd, OnOk, OnErr, MatchResult, Ok, Err, is_some};
+ghost use Rattle.std.specs.Prelude.{◌≡◌, ◌≢◌, [], map, IfOk, IsSomeAnd, OnOk, OnErr, MatchResult, None, Ok, Err};
+ghost use Rattle.std.specs.Prelude.{is_some};
 ghost use Rattle.std.specs.Result.{is_ok, result_err};
 ghost use Rattle.ks_base.specs.declared.refusals.Refusal.TheVariants.{Memory};
-ghost use Rattle.ia32_step.specs.Step.{after_store, fetched_count};
+ghost use Rattle.ia32_step.specs.Step.{store_fault, after_store, stored, fetched_count};
 ghost use Rattle.image_threads.specs.Program.{running_at};
 ghost use Rattle.image_threads.specs.Spawning.{AreStacks};
 ghost use Rattle.update_stack.specs.CallTable.{contents_of, shown_update};
@@ -16,8 +17,9 @@ ghost use Rattle.update_stack.specs.Apply.{committed, gaps_of, planned_in, retir
 ghost use Rattle.update_stack.specs.Events.{Apply, Spawn, Step, Undo, Applied, Spawned, Stepped, Undone, happened};
 ghost use Rattle.update_stack.specs.Events.{answered, after_event};
 ghost use Rattle.update_stack.specs.Stacked.{IsBuilt};
-ghost use Rattle.update_stack.specs.StandsFor.{StandsFor};
+ghost use Rattle.update_stack.specs.StandsFor.{StandsFor, patched};
 ghost use Rattle.update_stack.specs.Undo.{newest_update};
+ghost use Rattle.update_stack.specs.inside.Stepping.{ComesOfStep};
 ghost use Rattle.update_stack.specs.inside.TakingBack.{undo_refusal, ComesOfUndo};
 
 use crate::carrying::{
@@ -48,8 +50,8 @@ use update_plan::{Plan, plan};
 const MOST_UPDATES: usize = 64;
 
 /// A program that runs over a memory, with the arena that new versions of its functions are placed in, and its live
-/// updates. A clause sees it as the machine that never patches code: its text stays as it is, and a table says where the
-/// newest version of a function begins.
+/// updates. A clause sees it as the machine that never patches code: its text stays as it is, and a table says where
+/// the newest version of a function begins.
 #[derive(Drop)]
 pub struct System<S: Space> {
     alloc: Global,
@@ -130,8 +132,8 @@ impl<S: Space> System<S> {
         self.machine.spawn(name, argument)
     }
 
-    /// Steps the running thread of a number, and answers what the step came to. [`Refusal::NoThread`] comes exactly where
-    /// no running thread has the number; all is then as before. It takes no memory.
+    /// Steps the running thread of a number, and answers what the step came to. [`Refusal::NoThread`] comes exactly
+    /// where no running thread has the number; all is then as before. It takes no memory.
     pub fn step(&mut self, thread: u32) -> Result<Outcome, Refusal>
         ensures answered { MatchResult result
             (λ outcome. answered self.old (Step thread) ≡ Ok (happened self.new (Stepped outcome)))
@@ -143,20 +145,33 @@ impl<S: Space> System<S> {
         Ok(self.step_traced(thread)?.outcome)
     }
 
-    /// Steps the running thread of a number, as [`System::step`] does, and answers what it wrote beside what it
-    /// came to, and how many bytes it fetched, where these are more than the five of a jump.
+    /// Steps the running thread of a number, as [`System::step`] does, and answers what it wrote and how many bytes it
+    /// fetched beside what it came to. At the home of a replaced function these are the five of the jump.
     pub fn step_traced(&mut self, thread: u32) -> Result<Traced, Refusal>
         ensures answered { MatchResult result
             (λ traced. answered self.old (Step thread) ≡ Ok (happened self.new (Stepped traced.outcome)))
             (λ refusal. answered self.old (Step thread) ≡ Err refusal) }
         ensures written { IfOk result (λ traced.
             self.new.pieces ≡ (after_store (contents_of self.old) traced.store).pieces) }
-        ensures fetched { IfOk result (λ traced. 5 < traced.fetched → IsSomeAnd (running_at self.old.threads thread)
+        ensures clear { IfOk result (λ traced. store_fault (contents_of self.old) traced.store ≡ None) }
+        ensures store { IfOk result (λ traced. IsSomeAnd (running_at self.old.threads thread)
+            (λ running. traced.store ≡ stored (patched self.old) running)) }
+        ensures fetched { IfOk result (λ traced. IsSomeAnd (running_at self.old.threads thread)
+            (λ running. traced.fetched ≡ fetched_count (patched self.old) running)) }
+        ensures text { IfOk result (λ traced. IsSomeAnd (running_at self.old.threads thread)
             (λ running. traced.fetched ≡ fetched_count (contents_of self.old) running)) }
         ensures refused { OnErr result (self.new ≡ self.old) }
         ensures after { self.new ≡ after_event self.old (Step thread) }
         ensures runs { is_ok result ≡ is_some (running_at self.old.threads thread) }
     {
+        self.step_program(thread)
+    }
+
+    // Steps a thread of the program.
+    fn step_program(&mut self, thread: u32) -> Result<Traced, Refusal>
+        ensures { ComesOfStep self.old self.new thread result }
+    {
+        // The laws say that the machine makes the same step, and that what is told of it is so of the machine's memory.
         steps_stand();
         jumps_leave_views();
         data_are_written_past_jumps();

@@ -39,7 +39,8 @@ pub(crate) fn take_back<S: Space>(machine: &mut Machine<S>, one: &Kept)
 
 // What is kept of the newest update can be taken away, and the system holds then, as the machine without that update.
 pub(crate) fn updates_are_taken_back()
-    ensures can { (program : Program) (arena : RangeOf) (gaps : List RangeOf) (updates : List Shown) (kept : List KeptOf)
+    ensures can { (program : Program)
+        (arena : RangeOf) (gaps : List RangeOf) (updates : List Shown) (kept : List KeptOf)
         (update : Shown) (one : KeptOf)
         → Holds program arena gaps (updates ++ update ∷ []) (kept ++ one ∷ []) → CanBeTaken program one }
     ensures held { (before after : Program) (arena : RangeOf) (gaps : List RangeOf) (updates : List Shown)

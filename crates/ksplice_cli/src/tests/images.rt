@@ -13,8 +13,9 @@ pub const PROGRAM: [u8; 113] = [
     0x00,
 ];
 
-/// Code at 0x00100000: `p` and, 16 bytes behind it, `q` load words at 0x00200000 and 0x00200008 and return; then two functions `tw`
-/// that return 0; then `start`, which calls the second of them and `ext`; and `ext`, which returns. An arena.
+/// Code at 0x00100000: `p` and, 16 bytes behind it, `q` load words at 0x00200000 and 0x00200008 and return; then two
+/// functions `tw` that return 0; then `start`, which calls the second of them and `ext`; and `ext`, which returns. An
+/// arena.
 pub const PAIR: [u8; 227] = [
     0x4b, 0x49, 0x4d, 0x31, 0x01, 0x00, 0x00, 0x00, 0x06, 0x00, 0x00, 0x00, 0x00, 0x00, 0x00, 0x00,
     0x00, 0x00, 0x80, 0x00, 0x00, 0x00, 0x81, 0x00, 0x01, 0x00, 0x00, 0x00, 0x00, 0x00, 0x10, 0x00,

@@ -1,5 +1,7 @@
--- What propagation keeps: the marks of the choices that are left, the sections that wait, and tables of what choices say.
-use Rattle.std.specs.Prelude.{◌≡◌, ◌<◌, ℕ, zero, suc, Bool, true, false, not, ◌&&◌, ◌||◌, ◌==◌, List, [], ◌∷◌, ◌++◌, map, slice_set, Option, Some, None, if◌then◌else◌}
+-- What propagation keeps: the marks of the choices that are left, the sections that wait, and tables of what choices
+-- say.
+use Rattle.std.specs.Prelude.{◌≡◌, ◌<◌, ℕ, zero, suc, Bool, true, false, not, ◌&&◌, ◌||◌, ◌==◌, List}
+use Rattle.std.specs.Prelude.{[], ◌∷◌, ◌++◌, map, slice_set, Option, Some, None, if◌then◌else◌}
 use Rattle.std.specs.List.{Contains, slice_index_or, slice_get, filter, fold, list_any}
 use Rattle.std.specs.List.Sorted.{IsStrictlyIncreasing}
 use Rattle.propagation.specs.declared.choice.Claim.{Claim}
@@ -33,12 +35,14 @@ is_left left choice = slice_index_or left choice false
 -- a section made to wait, where it doesn't yet
 abbrev pub waiting : Marking → ℕ → Marking
 waiting m section =
-    if slice_index_or m.queued section false then m else record { left = m.left; queue = m.queue ++ section ∷ []; queued = slice_set m.queued section true }
+    if slice_index_or m.queued section false
+    then m else record { left = m.left; queue = m.queue ++ section ∷ []; queued = slice_set m.queued section true }
 
 -- a choice excluded, whose section is then to be looked at
 abbrev pub excluded_of : Marking → ℕ → ℕ → Marking
 excluded_of m choice section =
-    if is_left m.left choice then waiting (record { left = slice_set m.left choice false; queue = m.queue; queued = m.queued }) section else m
+    if is_left m.left choice then waiting
+    (record { left = slice_set m.left choice false; queue = m.queue; queued = m.queued }) section else m
 
 abbrev pub excluded_from : Marking → ℕ → Option Choice → Marking
 excluded_from m choice None = m
@@ -108,7 +112,8 @@ fails number (Some c) = not (meets c number)
 unfoldable pub asking : List Choice → Engine → Demand → Engine
 asking choices e demand =
     let m =
-    excluded_each choices e.marking (filter (λ choice. fails demand.number (slice_get choices choice)) (list_at e.members demand.section)) in
+    excluded_each choices e.marking
+    (filter (λ choice. fails demand.number (slice_get choices choice)) (list_at e.members demand.section)) in
     record e {
       marking = m;
       members = slice_set e.members demand.section (filter (is_left m.left) (list_at e.members demand.section));
@@ -128,7 +133,8 @@ refusing choices section e number =
 -- the demands on a choice's section that it doesn't meet carried out
 unfoldable pub meeting : List Choice → Engine → Choice → Engine
 meeting choices e c =
-    let after = fold (refusing choices c.section) e (filter (λ number. not (meets c number)) (list_at e.numbers c.section)) in
+    let after =
+    fold (refusing choices c.section) e (filter (λ number. not (meets c number)) (list_at e.numbers c.section)) in
     record after { numbers = slice_set after.numbers c.section (filter (meets c) (list_at e.numbers c.section)) }
 
 -- a choice that must be chosen carried out: those that clash with it are excluded
@@ -165,7 +171,8 @@ claims_at choices unknown place = claims_from unknown place (slice_get choices p
 -- the demands with a number that are made on other sections than their own
 abbrev pub demands_of : ℕ → ℕ → ℕ → List Demand → List Entry
 demands_of number place own demands =
-    map (λ demand. record { choice = place; value = demand.section }) (filter (λ demand. demand.number == number && not (demand.section == own)) demands)
+    map (λ demand. record { choice = place; value = demand.section })
+    (filter (λ demand. demand.number == number && not (demand.section == own)) demands)
 
 abbrev pub demands_from : ℕ → ℕ → Option Choice → List Entry
 demands_from number place None = []
@@ -187,7 +194,8 @@ members_at choices section place = member_from section place (slice_get choices 
 
 -- what is known of numbers stands in a table
 abbrev pub AreListed : List (Option ℕ) → List (List ℕ) → Type 0
-AreListed listed table = (number section : ℕ) → is_known listed number section ≡ true → Contains (list_at table section) number
+AreListed listed table =
+    (number section : ℕ) → is_known listed number section ≡ true → Contains (list_at table section) number
 
 -- a table's lists grow
 abbrev pub Grows : List (List ℕ) → List (List ℕ) → Type 0
@@ -196,7 +204,8 @@ Grows old new = (section number : ℕ) → Contains (list_at old section) number
 -- A table has the numbers of the demands that are made on other sections than a given one.
 abbrev pub HasDemands : ℕ → List Demand → List (List ℕ) → Type 0
 HasDemands own demands table =
-    (demand : Demand) → Contains demands demand → (demand.section ≡ own → ⊥) → Contains (list_at table demand.section) demand.number
+    (demand : Demand)
+    → Contains demands demand → (demand.section ≡ own → ⊥) → Contains (list_at table demand.section) demand.number
 
 -- A table has the numbers of the demands that the first choices make on other sections than their own.
 abbrev pub HasNumbers : List Choice → ℕ → List (List ℕ) → Type 0

@@ -1,12 +1,14 @@
 -- What holds of the state between two steps.
-use Rattle.std.specs.Prelude.{◌≡◌, ◌⊎◌, ◌<◌, ◌≤◌, ◌+◌, ◌-◌, ℕ, Bool, true, false, cond, List, [], ◌∷◌, ◌++◌, length, Contains, Option, Some, slice_get, slice_set, slice_index, slice_index_or, sum_by, fold}
+use Rattle.std.specs.Prelude.{◌≡◌, ◌⊎◌, ◌<◌, ◌≤◌, ◌+◌, ◌-◌, ℕ, Bool, true, false, cond, List, [], ◌∷◌, ◌++◌, length}
+use Rattle.std.specs.Prelude.{Contains, Option, Some, slice_get, slice_set, slice_index, slice_index_or, sum_by, fold}
 use Rattle.propagation.specs.declared.choice.Claim.{Claim}
 use Rattle.propagation.specs.declared.choice.Demand.{Demand}
 use Rattle.propagation.specs.declared.choice.Choice.{Choice}
 use Rattle.propagation.specs.declared.tables.Entry.{Entry}
 use Rattle.propagation.specs.Rounds.{remaining}
 use Rattle.propagation.specs.Choices.{choice_rules, clash}
-use Rattle.propagation.specs.inside.Engine.{Marking, Engine, list_at, is_known, is_left, is_other, meets, carried_at, said_below, members_at}
+use Rattle.propagation.specs.inside.Engine.{Marking, Engine, list_at, is_known, is_left}
+use Rattle.propagation.specs.inside.Engine.{is_other, meets, carried_at, said_below, members_at}
 
 -- a choice stands at a place
 abbrev pub At : List Choice → ℕ → Choice → Type 0
@@ -16,17 +18,21 @@ abbrev pub IsLeft : List Bool → ℕ → Type 0
 IsLeft left place = is_left left place ≡ true
 
 -- ---- tables
--- The claims of what is left stand in the table, and the table has none that isn't made. What is left claims of an unknown the value
--- that it was given.
-pub record KeepsClaims (choices : List Choice) (left : List Bool) (table : List (List Entry)) (known : List (Option ℕ)) : Type 0 where
-  pub complete : (place : ℕ) (c : Choice) (claim : Claim) → At choices place c → IsLeft left place → Contains c.claims claim → Contains (list_at table claim.unknown) (record { choice = place; value = claim.value })
-  pub sound : (unknown : ℕ) (entry : Entry) → Contains (list_at table unknown) entry → (c : Choice) → At choices entry.choice c → Contains c.claims (record { unknown = unknown; value = entry.value })
+-- The claims of what is left stand in the table, and the table has none that isn't made. What is left claims of an
+-- unknown the value that it was given.
+pub record KeepsClaims
+    (choices : List Choice) (left : List Bool) (table : List (List Entry)) (known : List (Option ℕ)) : Type 0 where
+  pub complete : (place : ℕ) (c : Choice) (claim : Claim) → At choices place c → IsLeft left place → Contains
+      c.claims claim → Contains (list_at table claim.unknown) (record { choice = place; value = claim.value })
+  pub sound : (unknown : ℕ) (entry : Entry) → Contains (list_at table unknown) entry → (c : Choice)
+      → At choices entry.choice c → Contains c.claims (record { unknown = unknown; value = entry.value })
   pub fixed : (unknown value : ℕ) → is_known known unknown value ≡ true → (place : ℕ) (c : Choice) (claim : Claim)
       → At choices place c → IsLeft left place → Contains c.claims claim → claim.unknown ≡ unknown → claim.value ≡ value
 
--- What is left stands in its section's list, which has choices of this section alone. What is left of a section meets a demand that it
--- was asked.
-pub record KeepsMembers (choices : List Choice) (left : List Bool) (table : List (List ℕ)) (known : List (Option ℕ)) : Type 0 where
+-- What is left stands in its section's list, which has choices of this section alone. What is left of a section meets a
+-- demand that it was asked.
+pub record KeepsMembers
+    (choices : List Choice) (left : List Bool) (table : List (List ℕ)) (known : List (Option ℕ)) : Type 0 where
   pub complete : (place : ℕ) (c : Choice) → At choices place c → IsLeft left place
       → Contains (list_at table c.section) place
   pub sound : (section place : ℕ) → Contains (list_at table section) place → (c : Choice) → At choices place c
@@ -34,13 +40,19 @@ pub record KeepsMembers (choices : List Choice) (left : List Bool) (table : List
   pub asked : (number section : ℕ) → is_known known number section ≡ true → (place : ℕ) (c : Choice)
       → At choices place c → IsLeft left place → c.section ≡ section → meets c number ≡ true
 
--- The demands of what is left on other sections stand in both tables, and that of their makers has none that isn't made.
-pub record KeepsDemands (choices : List Choice) (left : List Bool) (listed : List (List ℕ)) (table : List (List Entry)) : Type 0 where
+-- The demands of what is left on other sections stand in both tables, and that of their makers has none that isn't
+-- made.
+pub record KeepsDemands
+    (choices : List Choice) (left : List Bool) (listed : List (List ℕ)) (table : List (List Entry)) : Type 0 where
   pub numbers : (place : ℕ) (c : Choice) (demand : Demand) → At choices place c → IsLeft left place
       → Contains c.demands demand → (demand.section ≡ c.section → ⊥)
       → Contains (list_at listed demand.section) demand.number
-  pub makers : (place : ℕ) (c : Choice) (demand : Demand) → At choices place c → IsLeft left place → Contains c.demands demand → (demand.section ≡ c.section → ⊥) → Contains (list_at table demand.number) (record { choice = place; value = demand.section })
-  pub sound : (number : ℕ) (entry : Entry) → Contains (list_at table number) entry → (c : Choice) → At choices entry.choice c → Contains c.demands (record { section = entry.value; number = number }) × (entry.value ≡ c.section → ⊥)
+  pub makers : (place : ℕ) (c : Choice) (demand : Demand)
+      → At choices place c → IsLeft left place → Contains c.demands demand → (demand.section ≡ c.section → ⊥)
+      → Contains (list_at table demand.number) (record { choice = place; value = demand.section })
+  pub sound : (number : ℕ) (entry : Entry)
+      → Contains (list_at table number) entry → (c : Choice) → At choices entry.choice c
+      → Contains c.demands (record { section = entry.value; number = number }) × (entry.value ≡ c.section → ⊥)
 
 -- ---- marks
 abbrev pub waits : Marking → ℕ → Bool
@@ -75,11 +87,13 @@ pub record Popped (section : ℕ) (old new : Marking) : Type 0 where
 -- ---- sections
 -- what is left of a choice's section is this choice alone
 abbrev pub IsAlone : List Choice → List Bool → Choice → Type 0
-IsAlone choices left c = (place : ℕ) (other : Choice) → At choices place other → IsLeft left place → other.section ≡ c.section → other ≡ c
+IsAlone choices left c =
+    (place : ℕ) (other : Choice) → At choices place other → IsLeft left place → other.section ≡ c.section → other ≡ c
 
 -- nothing that is left clashes with a choice
 abbrev pub IsClosed : List Choice → List Bool → Choice → Type 0
-IsClosed choices left c = (place : ℕ) (other : Choice) → At choices place other → IsLeft left place → clash other c ≡ false
+IsClosed choices left c =
+    (place : ℕ) (other : Choice) → At choices place other → IsLeft left place → clash other c ≡ false
 
 -- The front of a list that ends with the last choice that is left, and isn't at a place, among the first ones.
 pub record IsEnd (left : List Bool) (list : List ℕ) (bound except end : ℕ) : Type 0 where
@@ -105,14 +119,16 @@ carried_of whole (place ∷ other ∷ rest) = []
 pub record IsSettled (choices : List Choice) (whole : List (List ℕ)) (section : ℕ) (old new : Engine) : Type 0 where
   pub list : List ℕ
   pub narrowed : IsNarrowed old.marking.left (list_at old.members section) list
-  pub is : new ≡ fold (carried_at choices) (record old { members = slice_set old.members section list }) (carried_of (list_at whole section) list)
+  pub is : new ≡ fold (carried_at choices)
+      (record old { members = slice_set old.members section list }) (carried_of (list_at whole section) list)
 
 -- a table has each choice at its section
 abbrev pub IsWhole : List Choice → List (List ℕ) → Type 0
 IsWhole choices whole =
     (section : ℕ) → list_at whole section ≡ said_below (members_at choices section) (length choices)
 
--- What is left has all that remains in the end, and can be chosen. What is alone in its section is closed, or its section waits.
+-- What is left has all that remains in the end, and can be chosen. What is alone in its section is closed, or its
+-- section waits.
 pub record State (choices : List Choice) (engine : Engine) : Type 0 where
   pub keeps : Keeps choices engine
   pub matching : (place : ℕ) (c : Choice) → At choices place c → IsLeft engine.marking.left place → c.matches ≡ true

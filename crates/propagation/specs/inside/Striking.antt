@@ -1,5 +1,6 @@
 -- The search for two choices that clash, where nothing is left of their sections.
-use Rattle.std.specs.Prelude.{◌≡◌, ◌<◌, ℕ, Bool, true, false, not, ◌&&◌, ◌==◌, List, [], ◌∷◌, map, Contains, Option, Some, None, slice_get}
+use Rattle.std.specs.Prelude.{◌≡◌, ◌<◌, ℕ, Bool, true, false, not, ◌&&◌, ◌==◌, List}
+use Rattle.std.specs.Prelude.{[], ◌∷◌, map, Contains, Option, Some, None, slice_get}
 use Rattle.std.specs.List.{list_any}
 use Rattle.propagation.specs.declared.choice.Choice.{Choice}
 use Rattle.propagation.specs.Choices.{clash}
@@ -17,7 +18,8 @@ is_struck choices by c = list_any (λ place. clash_at c (slice_get choices place
 -- no marked choice is of the section of one at some places
 abbrev pub AreApart : List Choice → List Bool → List ℕ → Type 0
 AreApart choices marks by =
-    (place : ℕ) (c : Choice) → Contains by place → At choices place c → (other : ℕ) (x : Choice) → At choices other x → IsLeft marks other → x.section ≡ c.section → ⊥
+    (place : ℕ) (c : Choice) → Contains by place → At choices place c
+    → (other : ℕ) (x : Choice) → At choices other x → IsLeft marks other → x.section ≡ c.section → ⊥
 
 abbrev pub AreMarkedMatching : List Choice → List Bool → Type 0
 AreMarkedMatching choices marks =
@@ -28,7 +30,8 @@ pub data FirstStruck (choices : List Choice) (marks : List Bool) (by : List ℕ)
   NotAny : ((place : ℕ) (c : Choice) → At choices place c → IsLeft marks place → is_struck choices by c ≡ false)
       → FirstStruck choices marks by None
   First : (place : ℕ) → IsLeft marks place → ((c : Choice) → At choices place c → is_struck choices by c ≡ true)
-      → ((before : ℕ) (c : Choice) → before < place → At choices before c → IsLeft marks before → is_struck choices by c ≡ false) → FirstStruck choices marks by (Some place)
+      → ((before : ℕ) (c : Choice) → before < place → At choices before c
+      → IsLeft marks before → is_struck choices by c ≡ false) → FirstStruck choices marks by (Some place)
 
 -- a choice that can be chosen, of a section of which nothing is left; `alive` marks the others
 abbrev pub is_stuck : List Bool → Choice → Bool
@@ -41,7 +44,8 @@ abbrev pub is_stuck_out : List Bool → ℕ → Choice → Bool
 is_stuck_out alive section c = is_stuck alive c && not (c.section == section)
 
 -- the search in two sections
-pub data Between (choices : List Choice) (whole : List (List ℕ)) (alive : List Bool) (one two : ℕ) : Option (ℕ × ℕ) → Type 0 where
+pub data Between (choices : List Choice) (whole : List (List ℕ)) (alive : List Bool) (one two : ℕ) : Option (ℕ × ℕ)
+    → Type 0 where
   NoFirst : FirstStruck choices (map (is_stuck_in alive one) choices) (list_at whole two) None
       → Between choices whole alive one two None
   NoSecond : (first : ℕ) → FirstStruck choices (map (is_stuck_in alive one) choices) (list_at whole two) (Some first)
@@ -52,7 +56,8 @@ pub data Between (choices : List Choice) (whole : List (List ℕ)) (alive : List
       → Between choices whole alive one two (Some (first, second))
 
 -- the search in a section and all others
-pub data Around (choices : List Choice) (whole : List (List ℕ)) (alive : List Bool) (one : ℕ) : Option (ℕ × ℕ) → Type 0 where
+pub data Around (choices : List Choice) (whole : List (List ℕ)) (alive : List Bool) (one : ℕ) : Option (ℕ × ℕ)
+    → Type 0 where
   NoOther : FirstStruck choices (map (is_stuck_out alive one) choices) (list_at whole one) None
       → Around choices whole alive one None
   Other : (place : ℕ) (c : Choice) (found : Option (ℕ × ℕ))

@@ -15,10 +15,9 @@ abbrev pub is_about : Unknown → Claim → Bool
 is_about unknown claim = same_unknown claim.unknown unknown
 
 -- that a map has of each thing the first of some claims
-abbrev pub AreFirst : List (Bor Unknown × Bor Claim) → List Claim → Type 0
+abbrev pub AreFirst : List (Unknown × Bor Claim) → List Claim → Type 0
 AreFirst entries claims =
-    (about : Unknown) → option_map (λ (claim : Bor Claim). claim.now)
-    (lookup (λ (key : Bor Unknown). same_unknown about key.now) entries)
+    (about : Unknown) → option_map (λ (claim : Bor Claim). claim.now) (lookup (same_unknown about) entries)
     ≡ find (is_about about) claims
 
 -- that claims of one thing give it one value

@@ -1,5 +1,6 @@
 -- Candidates that are left, by a mark for each in a list of them.
-use Rattle.std.specs.Prelude.{◌≡◌, ℕ, Bool, not, ◌&&◌, if◌then◌else◌, List, [], ◌∷◌, ◌++◌, take, length, Option, Some, None}
+use Rattle.std.specs.Prelude.{◌≡◌, ℕ, Bool, not, ◌&&◌, if◌then◌else◌, List}
+use Rattle.std.specs.Prelude.{[], ◌∷◌, ◌++◌, take, length, Option, Some, None}
 use Rattle.std.specs.List.{slice_get, AllZip}
 use Rattle.i386_reloc.specs.Normal.{same_bytes}
 use Rattle.run_pre_match.specs.declared.types.Interior.{Interior}

@@ -117,7 +117,8 @@ abbrev pub IsInteriorNumbered : List NormalSection → Numbers → Interior → 
 IsInteriorNumbered object numbers i = HasPoint numbers.points (point_of object i)
 
 -- all that is claimed and referred to has a number
-pub record IsNumbered (object : List NormalSection) (numbers : Numbers) (came : Result Matched MatchFault) : Type 0 where
+pub record IsNumbered
+    (object : List NormalSection) (numbers : Numbers) (came : Result Matched MatchFault) : Type 0 where
   pub claims : All (IsUnknownNumbered numbers) (claims_in came)
   pub interiors : All (IsInteriorNumbered object numbers) (interiors_in came)
 

@@ -29,7 +29,8 @@ unfoldable pub planned_with : Running → (retired gaps : List Range) → (pre p
     → ValueList → Result Plan Refusal
 planned_with running retired gaps pre post extract found = do
   values ← resolved pre post running.symbols (names_of (parts_of extract post)) found
-  olds ← unless (code_refusal running.contents running.symbols retired (olds_of extract found pre)) (olds_of extract found pre)
+  olds ← unless
+      (code_refusal running.contents running.symbols retired (olds_of extract found pre)) (olds_of extract found pre)
   planned_at running gaps post (parts_of extract post) values olds
 
 unfoldable pub planned_between : Running → (retired gaps : List Range) → (pre post : List NormalSection)

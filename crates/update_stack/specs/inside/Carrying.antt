@@ -73,7 +73,8 @@ abbrev pub gaps_after : List Range → Plan → List Range
 gaps_after gaps plan = fold without gaps (map piece_range plan.pieces)
 
 -- what comes of a plan that is carried out: the system holds, as the machine after the update
-pub record HoldsAfter (before after : Program) (arena : Range) (gaps : List Range) (updates : List Shown) (kept : List Kept)
+pub record HoldsAfter
+    (before after : Program) (arena : Range) (gaps : List Range) (updates : List Shown) (kept : List Kept)
     (name : List ℕ) (plan : Plan) (one : Kept) : Type 0 where
   pub holds : Holds after arena (gaps_after gaps plan) (updates ++ shown_as name plan.report ∷ []) (kept ++ one ∷ [])
   pub same : machine_of after arena (updates ++ shown_as name plan.report ∷ []) (kept ++ one ∷ [])

@@ -50,9 +50,11 @@ after_taking one s = record s {
 }
 
 -- The system holds as it did before the update, which is gone from the machine.
-pub record IsHeldBefore (before after : Program) (arena : Range) (updates : List Shown) (kept : List Kept) (update : Shown) (one : Kept)
+pub record IsHeldBefore
+    (before after : Program) (arena : Range) (updates : List Shown) (kept : List Kept) (update : Shown) (one : Kept)
     : Type 0 where
-  pub newest : newest_update (machine_of before arena (updates ++ update ∷ []) (kept ++ one ∷ [])) ≡ Some (live_update update one)
+  pub newest : newest_update (machine_of before arena (updates ++ update ∷ []) (kept ++ one ∷ []))
+      ≡ Some (live_update update one)
   pub holds : Holds after arena one.gaps updates kept
   pub same : machine_of after arena updates kept
       ≡ withdrawn (machine_of before arena (updates ++ update ∷ []) (kept ++ one ∷ [])) (live_update update one)

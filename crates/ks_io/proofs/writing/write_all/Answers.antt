@@ -7,8 +7,10 @@ use Rattle.ks_io.specs.Fronts.{grown-append}
 use Rattle.ks_io.specs.KeptLaws.{SinkKept-trans}
 use Rattle.ks_io.proofs.writing.write_all.Goals as goal
 
-splits_further : (front rest piece : List ℕ) (n : ℕ) → front ++ rest ≡ piece → (front ++ take n rest) ++ drop n rest ≡ piece
-splits_further front rest piece n h = append_assoc front (take n rest) (drop n rest) ∙ ap (λ bytes. front ++ bytes) (take-append-drop n rest) ∙ h
+splits_further : (front rest piece : List ℕ) (n : ℕ)
+    → front ++ rest ≡ piece → (front ++ take n rest) ++ drop n rest ≡ piece
+splits_further front rest piece n h =
+    append_assoc front (take n rest) (drop n rest) ∙ ap (λ bytes. front ++ bytes) (take-append-drop n rest) ∙ h
 
 pub loop-rest-preserved : goal.loop-rest-preserved
 loop-rest-preserved g c =
@@ -18,7 +20,8 @@ loop-rest-preserved g c =
     record {
       front = before.front ++ take n c.loop-rest.rest.now;
       splits = grind (arith, common_steps, further);
-      written = c.in_ok-count.ensures.took ∙ ap (λ was. grown was (take n c.loop-rest.rest.now)) before.written ∙ grown-append _ _ _;
+      written = c.in_ok-count.ensures.took
+          ∙ ap (λ was. grown was (take n c.loop-rest.rest.now)) before.written ∙ grown-append _ _ _;
       steady = c.in_ok-count.ensures.steady (omega arith) ∙ before.steady;
       kept = SinkKept-trans before.kept (record {
         never_falls = c.write.ensures.never_falls;

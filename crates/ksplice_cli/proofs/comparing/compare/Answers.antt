@@ -10,8 +10,10 @@ returns-in_err-both-clause-refused c =
 
 pub returns-clause-ok : goal.returns-clause-ok
 returns-clause-ok c =
-    listed c.args.pre.now c.args.post.now c.in_ok-both.both.0 c.in_ok-both.both.1 c.difference.result c.in_ok-both.ensures c.difference.ensures.ok
+    listed c.args.pre.now c.args.post.now
+    c.in_ok-both.both.0 c.in_ok-both.both.1 c.difference.result c.in_ok-both.ensures c.difference.ensures.ok
 
 pub returns-clause-refused : goal.returns-clause-refused
 returns-clause-refused c =
-    none_extracted c.args.pre.now c.args.post.now c.in_ok-both.both.0 c.in_ok-both.both.1 c.difference.result c.in_ok-both.ensures c.difference.ensures.refused
+    none_extracted c.args.pre.now c.args.post.now
+    c.in_ok-both.both.0 c.in_ok-both.both.1 c.difference.result c.in_ok-both.ensures c.difference.ensures.refused

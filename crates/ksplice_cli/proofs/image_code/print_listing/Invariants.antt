@@ -6,7 +6,8 @@ use Rattle.ksplice_cli.proofs.image_code.print_listing.Given as goal
 -- whatever comes out of the rest is the whole that comes out
 abbrev pub invariant-loop-status : goal.invariant-loop-status
 invariant-loop-status g l = record {
-  comes_out : (now : Option (List ℕ)) (status : ℕ) → ComesOut (answer_of l.listing 0) (g.O.Sink.taken l.out) now status → ComesOut (answer_of l.fn.listing 0) (g.O.Sink.taken l.fn.out) now status;
+  comes_out : (now : Option (List ℕ)) (status : ℕ) → ComesOut (answer_of l.listing 0) (g.O.Sink.taken l.out) now status
+      → ComesOut (answer_of l.fn.listing 0) (g.O.Sink.taken l.fn.out) now status;
   steady : g.O.Sink.faults l.out ≡ g.O.Sink.faults l.fn.out;
   kept : SinkKept g.O.Sink.faults g.O.Sink.quiet l.fn.out l.out;
 }

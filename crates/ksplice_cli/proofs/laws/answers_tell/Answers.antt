@@ -1,4 +1,4 @@
-use Rattle.ksplice_cli.proofs.Promised.{usage_line, replies_some, ends_with_file, counts_tell}
+use Rattle.ksplice_cli.proofs.Promised.{usage_line, replies_some, ends_with_file, counts_tell, stay_or_loses}
 use Rattle.ksplice_cli.proofs.laws.answers_tell.Goals as goal
 
 pub returns-clause-no_reading : goal.returns-clause-no_reading
@@ -12,3 +12,6 @@ returns-clause-file c = ends_with_file
 
 pub returns-clause-rises : goal.returns-clause-rises
 returns-clause-rises c = counts_tell
+
+pub returns-clause-lost : goal.returns-clause-lost
+returns-clause-lost c = stay_or_loses

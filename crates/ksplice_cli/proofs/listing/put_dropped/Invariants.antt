@@ -6,4 +6,5 @@ use Rattle.ksplice_cli.proofs.listing.put_dropped.Given as goal
 -- the lines so far, and then those of the other functions, are those of all
 abbrev pub invariant-loop-name : goal.invariant-loop-name
 invariant-loop-name l =
-    l.lines ++ flat_map (dropped_line l.old) (drop l.name-index l.name-items) ≡ l.fn.lines ++ flat_map (dropped_line l.old) l.names
+    l.lines ++ flat_map (dropped_line l.old) (drop l.name-index l.name-items)
+    ≡ l.fn.lines ++ flat_map (dropped_line l.old) l.names

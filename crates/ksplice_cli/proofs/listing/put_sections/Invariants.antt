@@ -7,4 +7,5 @@ use Rattle.ksplice_cli.proofs.listing.put_sections.Given as goal
 -- the lines so far, and then those of the other sections, are those of all
 abbrev pub invariant-loop-section : goal.invariant-loop-section
 invariant-loop-section l =
-    l.lines ++ flat_map (line_in (role_at l.roles) l.old) (drop l.section-index l.section-items) ≡ l.fn.lines ++ flat_map (line_in (role_at l.roles) l.old) l.new
+    l.lines ++ flat_map (line_in (role_at l.roles) l.old) (drop l.section-index l.section-items)
+    ≡ l.fn.lines ++ flat_map (line_in (role_at l.roles) l.old) l.new

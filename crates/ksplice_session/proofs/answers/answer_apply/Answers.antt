@@ -6,4 +6,5 @@ pub returns-then-held-ne2 : goal.returns-then-held-ne2
 returns-then-held-ne2 c =
     let k = c.args.session.now in
     read_answers k (Ok c.new.result) c.told.result
-    (not_two_files k.machine c.args.name.now c.args.tries c.args.gap c.args.held.now c.if-held-ne2.true) c.new.ensures c.told.ensures
+    (not_two_files k.machine c.args.name.now c.args.tries c.args.gap c.args.held.now c.if-held-ne2.true)
+    c.new.ensures c.told.ensures

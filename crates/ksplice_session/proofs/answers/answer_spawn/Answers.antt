@@ -3,7 +3,8 @@ use Rattle.script_lines.specs.declared.types.Command.TheVariants.{Spawn}
 use Rattle.update_stack.specs.Events.{Spawn as SpawnEvent}
 use Rattle.ksplice_session.specs.Replies.{Told, told_of}
 use Rattle.ksplice_session.specs.Answers.{MadeFront}
-use Rattle.ksplice_session.proofs.AnswerLaws.{told_answers, refused_answers, one_event, told_spawn, told_spawned, told_spawn_refused, front_told}
+use Rattle.ksplice_session.proofs.AnswerLaws.{told_answers, refused_answers, one_event, told_spawn}
+use Rattle.ksplice_session.proofs.AnswerLaws.{told_spawned, told_spawn_refused, front_told}
 use Rattle.ksplice_session.proofs.answers.answer_spawn.Goals as goal
 
 pub returns-in-Ok : goal.returns-in-Ok
@@ -12,15 +13,19 @@ returns-in-Ok c =
     let now = c.spawn.new.self in
     let name = c.args.name.now in
     told_answers k now c.spawned_reply.result c.told.result
-    (told_spawned k now.machine name c.args.argument c.in-Ok.number c.in-Ok.ensures.answered) refl c.spawned_reply.ensures
+    (told_spawned k now.machine name c.args.argument c.in-Ok.number c.in-Ok.ensures.answered)
+    refl c.spawned_reply.ensures
     (one_event k now (SpawnEvent name c.args.argument) c.in-Ok.ensures.noted) c.told.ensures
 
 pub returns-in-Err : goal.returns-in-Err
 returns-in-Err c =
-    refused_answers c.args.session.now c.spawn.new.self (told_of c.args.session.now (Spawn c.args.name.now c.args.argument) []) c.in-Err.refusal c.refused.result
+    refused_answers c.args.session.now c.spawn.new.self
+    (told_of c.args.session.now (Spawn c.args.name.now c.args.argument) []) c.in-Err.refusal c.refused.result
     c.in-Err.ensures.refused
-    (λ other. told_spawn_refused c.args.session.now c.args.name.now c.args.argument c.in-Err.refusal (c.in-Err.ensures.answered other))
+    (λ other. told_spawn_refused c.args.session.now c.args.name.now c.args.argument c.in-Err.refusal
+    (c.in-Err.ensures.answered other))
     (subst (λ (told : Told). MadeFront c.args.session.now told.events c.spawn.new.self)
     (sym (told_spawn c.args.session.now c.args.name.now c.args.argument))
-    (front_told c.args.session.now c.spawn.new.self (SpawnEvent c.args.name.now c.args.argument) c.in-Err.ensures.front))
+    (front_told c.args.session.now c.spawn.new.self
+    (SpawnEvent c.args.name.now c.args.argument) c.in-Err.ensures.front))
     c.refused.ensures

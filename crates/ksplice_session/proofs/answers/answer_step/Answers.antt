@@ -12,7 +12,8 @@ use Rattle.ksplice_session.proofs.answers.answer_step.Goals as goal
 pub returns-then-not-runs : goal.returns-then-not-runs
 returns-then-not-runs c =
     let k = c.args.session.now in
-    refused_answers k k (told_of k (Step c.args.thread c.args.count) []) (NoThread c.args.thread) c.refused.result (λ _. refl)
+    refused_answers k k
+    (told_of k (Step c.args.thread c.args.count) []) (NoThread c.args.thread) c.refused.result (λ _. refl)
     (λ _. told_step_refused k c.args.thread c.args.count (sym c.runs.ensures ∙ c.if-not-runs.true))
     (none_made k k (told_of k (Step c.args.thread c.args.count) []).events refl) c.refused.ensures
 
@@ -25,4 +26,5 @@ returns c =
     ap (λ (n : Watched). n.machine) c.run_thread-made.ensures.after ∙ machine_after_all k events in
     told_answers k now c.stepped_reply.result c.told.result
     (told_stepped k c.args.thread c.args.count (sym c.runs.ensures ∙ c.if-not-runs.false)) refl
-    (rw (← machine, ← c.run_thread-made.ensures.made) c.stepped_reply.ensures) c.run_thread-made.ensures.after c.told.ensures
+    (rw (← machine, ← c.run_thread-made.ensures.made) c.stepped_reply.ensures)
+    c.run_thread-made.ensures.after c.told.ensures

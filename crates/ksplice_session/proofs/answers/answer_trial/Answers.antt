@@ -14,7 +14,8 @@ loop-number-preserved c = λ final r h.
     (again_answers c.loop-number.session outcome.new.self c.run_turns.new.self final (trial_of c.args.trial.now)
     c.args.gap number (c.args.tries - (number + 1)) (c.args.tries - number) outcome.result r
     (sym c.is_busy.ensures ∙ c.if-not-is_busy.false) (omega arith)
-    (record { answered = outcome.ensures.answered; noted = outcome.ensures.noted; refused = outcome.ensures.refused }) c.run_turns.ensures.after h)
+    (record { answered = outcome.ensures.answered; noted = outcome.ensures.noted; refused = outcome.ensures.refused })
+    c.run_turns.ensures.after h)
 
 pub returns-then-not-is_busy : goal.returns-then-not-is_busy
 returns-then-not-is_busy c =
@@ -23,7 +24,8 @@ returns-then-not-is_busy c =
     c.loop-number.invariant outcome.new.self c.answer_outcome.result
     (ended_answers c.loop-number.session outcome.new.self (trial_of c.args.trial.now) c.args.gap number
     (c.args.tries - number) outcome.result c.answer_outcome.result (sym c.is_busy.ensures ∙ c.if-not-is_busy.true)
-    (record { answered = outcome.ensures.answered; noted = outcome.ensures.noted; refused = outcome.ensures.refused }) c.answer_outcome.ensures)
+    (record { answered = outcome.ensures.answered; noted = outcome.ensures.noted; refused = outcome.ensures.refused })
+    c.answer_outcome.ensures)
 
 pub returns : goal.returns
 returns c =

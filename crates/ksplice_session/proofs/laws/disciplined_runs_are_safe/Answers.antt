@@ -19,7 +19,9 @@ premises c = record {
 }
 
 pub returns-clause-frames : goal.returns-clause-frames
-returns-clause-frames c = open_frames_keep (premises (goal.at.returns-clause-frames c).After-instructions_are_never_stray)
+returns-clause-frames c =
+    open_frames_keep (premises (goal.at.returns-clause-frames c).After-instructions_are_never_stray)
 
 pub returns-clause-returns : goal.returns-clause-returns
-returns-clause-returns c = no_return_is_lost (premises (goal.at.returns-clause-returns c).After-instructions_are_never_stray)
+returns-clause-returns c =
+    no_return_is_lost (premises (goal.at.returns-clause-returns c).After-instructions_are_never_stray)

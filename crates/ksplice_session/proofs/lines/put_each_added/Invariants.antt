@@ -5,4 +5,5 @@ use Rattle.ksplice_session.proofs.lines.put_each_added.Given as goal
 
 -- the lines so far, and then those of the other functions, are those of all
 abbrev pub invariant-loop-function : goal.invariant-loop-function
-invariant-loop-function l = l.line ++ flat_map added_line (drop l.function-index l.functions) ≡ l.fn.line ++ flat_map added_line l.functions
+invariant-loop-function l =
+    l.line ++ flat_map added_line (drop l.function-index l.functions) ≡ l.fn.line ++ flat_map added_line l.functions

@@ -9,5 +9,6 @@ returns-in-Memory-clause-ends g c = MemoryLost (nothing_taken (g.O.Sink.taken c.
 
 pub returns-clause-ends : goal.returns-clause-ends
 returns-clause-ends g c =
-    rw c.file_end.ensures (file_exit (needed_by c.args.file.now) c.args.fault c.write_file_line.result (g.O.Sink.taken c.args.out.now) (g.O.Sink.taken c.write_file_line.new.out)
+    rw c.file_end.ensures (file_exit (needed_by c.args.file.now) c.args.fault c.write_file_line.result
+    (g.O.Sink.taken c.args.out.now) (g.O.Sink.taken c.write_file_line.new.out)
     c.in_default.not-Memory c.write_file_line.ensures.ok c.write_file_line.ensures.part)

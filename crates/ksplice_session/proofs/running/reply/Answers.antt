@@ -13,7 +13,8 @@ returns-in-Ok-clause-ends g c =
     let new = g.O.Sink.taken c.write_all.new.out in
     let P : Result Bool SessionEnd → Type 0 = λ r. ToldEnds c.args.session.now told old new c.answer.new.session r in
     subst P (sym c.written_end.ensures)
-    (reply_written c.args.session.now c.answer.new.session told c.in-Ok.answer old new c.write_all.result c.in-Ok.ensures.0 c.in-Ok.ensures.1
+    (reply_written c.args.session.now
+    c.answer.new.session told c.in-Ok.answer old new c.write_all.result c.in-Ok.ensures.0 c.in-Ok.ensures.1
     (rw c.bytes.ensures at c.write_all.ensures.ok) (rw c.bytes.ensures at c.write_all.ensures.part))
 
 pub returns-in-Err-clause-ends : goal.returns-in-Err-clause-ends

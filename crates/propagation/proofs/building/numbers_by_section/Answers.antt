@@ -12,7 +12,10 @@ loop-choice-preserved c =
     let P : List Demand → Type 0 = λ demands. HasDemands choice.section demands c.put_numbers.new.table in
     record {
       listed = c.in_ok-put_numbers.ensures.listed;
-      has = numbers_more choices c.loop-choice.choice-index c.loop-choice.table c.put_numbers.new.table choice (slice_get-get_or choices c.loop-choice.choice-index choice c.loop-choice-test.true ∙ ap Some (sym c.choice-item.is)) c.in_ok-put_numbers.ensures.grows c.loop-choice.invariant.has (subst P c.as_slice.ensures c.in_ok-put_numbers.ensures.put);
+      has = numbers_more choices c.loop-choice.choice-index c.loop-choice.table c.put_numbers.new.table choice
+          (slice_get-get_or choices c.loop-choice.choice-index choice c.loop-choice-test.true
+          ∙ ap Some (sym c.choice-item.is)) c.in_ok-put_numbers.ensures.grows c.loop-choice.invariant.has
+          (subst P c.as_slice.ensures c.in_ok-put_numbers.ensures.put);
     }
 
 pub returns : goal.returns

@@ -4,4 +4,5 @@ use Rattle.propagation.proofs.building.put_claims.Given as goal
 
 abbrev pub invariant-loop-claim : goal.invariant-loop-claim
 invariant-loop-claim l =
-    (unknown : ℕ) → list_at l.table unknown ≡ list_at l.initial.table unknown ++ claims_of unknown l.place (take l.claim-index l.claims)
+    (unknown : ℕ) → list_at l.table unknown
+    ≡ list_at l.initial.table unknown ++ claims_of unknown l.place (take l.claim-index l.claims)

@@ -6,7 +6,8 @@ use Rattle.propagation.proofs.building.put_number.Goals as goal
 pub returns-clause-listed : goal.returns-clause-listed
 returns-clause-listed c =
     let P : List (Option ℕ) → Type 0 = λ l. AreListed l c.push.new.self in
-    subst P (sym c.set.ensures) (listed_more c.args.listed.now c.args.table.now c.push.new.self c.args.demand.section c.args.demand.number c.in_ok-push.ensures c.requires)
+    subst P (sym c.set.ensures) (listed_more c.args.listed.now
+    c.args.table.now c.push.new.self c.args.demand.section c.args.demand.number c.in_ok-push.ensures c.requires)
 
 pub returns-clause-put : goal.returns-clause-put
 returns-clause-put c =

@@ -1,8 +1,9 @@
 use Rattle.std.proofs.Common.{ℕ, Bool, List, Option, map, get_or, sym, ◌∙◌, subst, arith}
 use Rattle.std.proofs.lemmas.List.{length-map}
 use Rattle.std.proofs.lemmas.Option.{slice_get-get_or}
+use Rattle.std.proofs.lemmas.Result.{IfOk-weaker}
 use Rattle.propagation.specs.inside.Engine.{list_at}
-use Rattle.propagation.specs.inside.Striking.{AreApart, FirstStruck, is_stuck_out}
+use Rattle.propagation.specs.inside.Striking.{AreApart, FirstStruck, is_stuck_out, Between, Around}
 use Rattle.propagation.specs.inside.Striking.Around.{NoOther, Other}
 use Rattle.propagation.proofs.NarrowLaws.{left_within}
 use Rattle.propagation.proofs.ConflictLaws.{out_apart, other_section, first_marked}
@@ -53,7 +54,11 @@ returns-in-Some c =
     let within = left_within others place (first_marked first) in
     let found = c.index-choices-place.result in
     let at = slice_get-get_or choices place found (omega (arith, long, within)) in
-    Other place (get_or choices place found) c.in_ok-found-in-Some.found first at c.in_ok-found-in-Some.ensures
+    let P : Option (ℕ × ℕ) → Type 0 = Between choices whole alive c.args.one (get_or choices place found).section in
+    let Q : Option (ℕ × ℕ) → Type 0 = Around choices whole alive c.args.one in
+    IfOk-weaker c.conflict_between.result P Q
+    (λ pair between. Other place (get_or choices place found) pair first at between)
+    c.conflict_between.ensures
 
 pub returns : goal.returns
 returns c =

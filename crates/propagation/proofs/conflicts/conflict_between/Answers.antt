@@ -14,7 +14,8 @@ first_struck-requires-clause-apart c =
     let marks = c.as_slice.ensures.value ∙ c.in_ok-ones.ensures in
     let P : List Bool → Type 0 = λ l. AreApart choices l c.get.result.now in
     let Q : List ℕ → Type 0 = λ l. AreApart choices ones l in
-    subst P (sym marks) (subst Q (sym c.get.ensures) (in_apart choices whole alive c.args.one c.args.two c.requires.whole c.requires.apart))
+    subst P (sym marks) (subst Q
+    (sym c.get.ensures) (in_apart choices whole alive c.args.one c.args.two c.requires.whole c.requires.apart))
 
 pub first_struck-requires-in-Some-clause-marked : goal.first_struck-requires-in-Some-clause-marked
 first_struck-requires-in-Some-clause-marked c =
@@ -39,7 +40,8 @@ first_struck-requires-in-Some-clause-apart c =
     let others : List Bool = map (is_stuck_in alive c.args.two) choices in
     let marks_2 = c.as_slice-in-Some.ensures.value ∙ c.in_ok-others-in-Some.ensures in
     let P : List Bool → Type 0 = λ l. AreApart choices l (c.in-Some.first ∷ []) in
-    subst P (sym marks_2) (single_apart choices alive c.args.one c.args.two c.in-Some.first c.requires.apart (first_marked first))
+    subst P (sym marks_2)
+    (single_apart choices alive c.args.one c.args.two c.in-Some.first c.requires.apart (first_marked first))
 
 pub returns-in-Some-2 : goal.returns-in-Some-2
 returns-in-Some-2 c =

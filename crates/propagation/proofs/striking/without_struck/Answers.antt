@@ -16,7 +16,9 @@ returns c =
     let left = c.in_ok-engine.ensures.left ∙ c.in_ok-from_slice.ensures.items in
     let P : List Bool → Type 0 = AreMarkedMatching choices in
     let Q : List Bool → Type 0 = λ l. AreApart choices l by in
-    let goes : Goes choices (is_struck choices by) engine (fold (carried_at choices) engine by) = struck_each choices c.requires.choices engine by c.in_ok-engine.ensures.keeps (subst P (sym left) c.requires.marked) (subst Q (sym left) c.requires.apart) in
+    let goes : Goes choices (is_struck choices by) engine (fold (carried_at choices) engine by) =
+    struck_each choices c.requires.choices engine by c.in_ok-engine.ensures.keeps
+    (subst P (sym left) c.requires.marked) (subst Q (sym left) c.requires.apart) in
     λ place x at.
     ap (λ (l : List Bool). is_left l place) c.into_left.ensures
     ∙ ap (λ (e : Engine). is_left e.marking.left place) c.in_ok-carry_out_each.ensures

@@ -16,7 +16,8 @@ pub returns-in-Some : goal.returns-in-Some
 returns-in-Some g c =
     let pieces = (g.S.Space.contents c.args.space.now).pieces in
     let passed = c.loop-passed.passed in
-    found_early c.args.targets.now pieces (c.args.start + 4 * passed) c.min-some.result (c.args.count - passed) c.in-Some.found
+    found_early c.args.targets.now pieces
+    (c.args.start + 4 * passed) c.min-some.result (c.args.count - passed) c.in-Some.found
     (omega (arith, c.min-some.ensures)) (sym c.in-Some.is ∙ c.first_in_chunk.ensures)
     ∙ c.loop-passed.invariant.1
 
@@ -30,9 +31,12 @@ loop-passed-preserved g c =
     let start : c.args.start + 4 * passed + 4 * some ≡ c.args.start + 4 * (passed + some) = omega arith in
     let rest : c.args.count - passed - some ≡ c.args.count - (passed + some) = omega arith in (
       omega (arith, c.min-some.ensures),
-      ap (λ (a : ℕ). first_place targets (map (on_stack pieces) (addresses a (c.args.count - (passed + some))))) (sym start)
-          ∙ (ap (λ (n : ℕ). first_place targets (map (on_stack pieces) (addresses (c.args.start + 4 * passed + 4 * some) n))) (sym rest)
-          ∙ (found_late targets pieces (c.args.start + 4 * passed) some (c.args.count - passed) (omega (arith, c.min-some.ensures)) (sym c.in_default.is ∙ c.first_in_chunk.ensures)
+      ap (λ (a : ℕ).
+          first_place targets (map (on_stack pieces) (addresses a (c.args.count - (passed + some))))) (sym start)
+          ∙ (ap (λ (n : ℕ). first_place targets
+          (map (on_stack pieces) (addresses (c.args.start + 4 * passed + 4 * some) n))) (sym rest)
+          ∙ (found_late targets pieces (c.args.start + 4 * passed) some (c.args.count - passed)
+          (omega (arith, c.min-some.ensures)) (sym c.in_default.is ∙ c.first_in_chunk.ensures)
           ∙ c.loop-passed.invariant.1)),
     )
 

@@ -11,4 +11,5 @@ first_on_stack-requires-clause-readable g c =
     let high = c.requires.high in
     let valid = g.met.S.Space.valid space in
     let even = stack.low in
-    stack_readable (g.S.Space.contents space).pieces thread.stack _ _ valid.placed.ascend stack (omega arith) (omega arith)
+    stack_readable
+    (g.S.Space.contents space).pieces thread.stack _ _ valid.placed.ascend stack (omega arith) (omega arith)

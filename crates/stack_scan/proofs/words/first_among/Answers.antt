@@ -5,7 +5,8 @@ use Rattle.stack_scan.proofs.words.first_among.Goals as goal
 
 pub returns-then-has : goal.returns-then-has
 returns-then-has c =
-    position_some (in_one c.args.targets.now) c.args.words.now c.loop-index.index (omega arith) c.loop-index.invariant (search rules)
+    position_some (in_one c.args.targets.now) c.args.words.now c.loop-index.index
+    (omega arith) c.loop-index.invariant (search rules)
 
 pub returns : goal.returns
 returns c =

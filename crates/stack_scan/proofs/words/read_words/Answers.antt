@@ -4,4 +4,5 @@ use Rattle.stack_scan.proofs.words.read_words.Goals as goal
 
 pub returns : goal.returns
 returns g c =
-    words_are (g.S.Space.contents c.args.space.now).pieces c.args.start _ _ c.spell.new.words (search rules) (search rules) c.spell.ensures
+    words_are (g.S.Space.contents c.args.space.now).pieces c.args.start _ _ c.spell.new.words
+    (search rules) (search rules) c.spell.ensures

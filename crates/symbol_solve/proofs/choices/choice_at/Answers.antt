@@ -15,15 +15,20 @@ use Rattle.symbol_solve.specs.inside.Points.{LiesIn}
 use Rattle.symbol_solve.proofs.ChoiceLaws.{told_as}
 use Rattle.symbol_solve.proofs.choices.choice_at.Goals as goal
 
-by : {E : Type 0} (object : List NormalSection) (numbers : Numbers) (code : PreSection) (home base : ℕ) (own : List ℕ) (m : Matched) (came : Result Matched MatchFault) (contents : Contents) (r : Result Choice E)
+by : {E : Type 0} (object : List NormalSection) (numbers : Numbers) (code : PreSection) (home base : ℕ)
+    (own : List ℕ) (m : Matched) (came : Result Matched MatchFault) (contents : Contents) (r : Result Choice E)
     → came ≡ Ok m
-    → (LiesIn (body_at code contents base) base (base + m.length) → IfOk r (λ choice. choice ≡ choice_from object numbers code.place home (Ok m) (standing numbers.points (body_at code contents base) own)))
+    → (LiesIn (body_at code contents base) base (base + m.length) → IfOk r (λ choice. choice ≡ choice_from
+    object numbers code.place home (Ok m) (standing numbers.points (body_at code contents base) own)))
     → ((n : Matched) → came ≡ Ok n → LiesIn (body_at code contents base) base (base + n.length))
-    → IfOk r (λ choice. choice ≡ choice_from object numbers code.place home came (standing numbers.points (body_at code contents base) own))
+    → IfOk r (λ choice. choice
+    ≡ choice_from object numbers code.place home came (standing numbers.points (body_at code contents base) own))
 by object numbers code home base own m came contents r is told lies =
-    told_as r (choice_from object numbers code.place home (Ok m) (standing numbers.points (body_at code contents base) own))
+    told_as r
+    (choice_from object numbers code.place home (Ok m) (standing numbers.points (body_at code contents base) own))
     (choice_from object numbers code.place home came (standing numbers.points (body_at code contents base) own))
-    (λ i. choice_from object numbers code.place home (sym is i) (standing numbers.points (body_at code contents base) own))
+    (λ i. choice_from object numbers code.place home
+    (sym is i) (standing numbers.points (body_at code contents base) own))
     (told (lies m is))
 
 pub returns-in-Ok : goal.returns-in-Ok

@@ -11,5 +11,7 @@ pub met-requires : goal.met-requires
 met-requires g c =
     let table : List (List ℕ) = c.args.naming.now.own.items in
     subst (λ (points : List Point). Ascend points c.points_of-own.result.now) (sym c.points.ensures)
-    (subst (Ascend c.args.naming.now.numbers.now.points) (sym (c.points_of-own.ensures ∙ (λ i. unwrap_or (slice_get (c.deref.ensures.value i) c.place.result) [])))
-    (own_ascend c.args.naming.now.numbers.now.points table c.place.result c.args.naming.now.order c.args.naming.now.lists))
+    (subst (Ascend c.args.naming.now.numbers.now.points)
+    (sym (c.points_of-own.ensures ∙ (λ i. unwrap_or (slice_get (c.deref.ensures.value i) c.place.result) [])))
+    (own_ascend c.args.naming.now.numbers.now.points
+    table c.place.result c.args.naming.now.order c.args.naming.now.lists))

@@ -6,10 +6,13 @@ use Rattle.symbol_solve.proofs.choices.met.Goals as goal
 
 pub returns-then-is_empty : goal.returns-then-is_empty
 returns-then-is_empty g c = λ lies.
-    none_met c.args.points.now (body_at c.args.code.now (g.S.Space.contents c.args.space.now) c.args.base) c.args.base (c.args.base + c.args.length) lies
+    none_met c.args.points.now (body_at c.args.code.now (g.S.Space.contents c.args.space.now) c.args.base) c.args.base
+    (c.args.base + c.args.length) lies
     c.args.own.now c.points_within-own.result.now c.new.result c.points_within-own.ensures (search rules) (search rules)
 
 pub returns : goal.returns
 returns g c = λ lies.
-    some_met c.args.points.now (body_at c.args.code.now (g.S.Space.contents c.args.space.now) c.args.base) c.args.base (c.args.base + c.args.length) lies
-    c.args.own.now c.points_within-own.result.now c.in_ok-body.body c.standing.result c.points_within-own.ensures c.in_ok-body.ensures c.standing.ensures
+    some_met c.args.points.now (body_at c.args.code.now (g.S.Space.contents c.args.space.now) c.args.base) c.args.base
+    (c.args.base + c.args.length) lies
+    c.args.own.now c.points_within-own.result.now
+    c.in_ok-body.body c.standing.result c.points_within-own.ensures c.in_ok-body.ensures c.standing.ensures

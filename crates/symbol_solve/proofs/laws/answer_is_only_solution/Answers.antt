@@ -10,6 +10,7 @@ returns-clause-only c = only_left
 
 pub returns-clause-exactly : goal.returns-clause-exactly
 returns-clause-exactly c = λ running object. (
-  (λ clear. let (decoded, there) = parts_clear running object clear in (decoded, there, (solution_left running object clear).choice)),
+  (λ clear. let (decoded, there) = parts_clear running object clear in
+      (decoded, there, (solution_left running object clear).choice)),
   (λ parts. none_in_the_way running object parts.2 parts.0 parts.1),
 )

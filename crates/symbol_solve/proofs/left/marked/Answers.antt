@@ -10,7 +10,8 @@ use Rattle.symbol_solve.proofs.left.marked.Goals as goal
 pub loop-i-init : goal.loop-i-init
 loop-i-init c = λ cs all.
     rw (c.new-held.ensures.items)
-    (none_held (λ a (h : Held). IsOf h.code.now a h.tried.now) (IsOneOf c.args.codes.now) c.args.tried.now c.args.left.now cs all)
+    (none_held (λ a (h : Held). IsOf h.code.now a h.tried.now)
+    (IsOneOf c.args.codes.now) c.args.tried.now c.args.left.now cs all)
 
 after : (i : ℕ) → suc i ≡ i + 1
 after i = omega arith
@@ -20,4 +21,6 @@ loop-i-preserved c =
     let R : Candidate → Held → Type 0 = λ a (h : Held). IsOf h.code.now a h.tried.now in
     let Q : Candidate → Tried → Type 0 = IsOneOf c.args.codes.now in
     subst (λ n. AreHeldUpTo R Q c.args.tried.now c.args.left.now n c.take_one.new.held.items) (after c.loop-i.i)
-    (one_more_held R Q c.args.tried.now c.args.left.now c.loop-i.i (read c.args.tried.now c.loop-i.i) (get_or c.args.left.now c.loop-i.i false) false unread c.loop-i.held.items c.take_one.new.held.items (search rules) c.requires.marks refl refl c.loop-i.invariant c.in_ok-take_one.ensures)
+    (one_more_held R Q c.args.tried.now c.args.left.now c.loop-i.i (read c.args.tried.now c.loop-i.i)
+    (get_or c.args.left.now c.loop-i.i false) false unread c.loop-i.held.items c.take_one.new.held.items
+    (search rules) c.requires.marks refl refl c.loop-i.invariant c.in_ok-take_one.ensures)

@@ -5,4 +5,5 @@ use Rattle.symbol_solve.specs.inside.Numbers.{IsNumbered}
 use Rattle.symbol_solve.proofs.numbers.number_all.Given as goal
 
 abbrev pub invariant-loop-t : goal.invariant-loop-t
-invariant-loop-t g l = All (λ c. IsNumbered l.object l.numbers (outcome c)) (take l.t-index (candidates l.running l.object))
+invariant-loop-t g l =
+    All (λ c. IsNumbered l.object l.numbers (outcome c)) (take l.t-index (candidates l.running l.object))

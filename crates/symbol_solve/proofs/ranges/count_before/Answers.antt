@@ -7,4 +7,5 @@ pub returns-clause-point : goal.returns-clause-point
 returns-clause-point c =
     IsPartitionPoint-from_clause (is_before c.args.points.now c.args.address) c.args.own.now c.partition_point.result
     c.partition_point.ensures.partitioned
-    (IsPartitionedBy-ltb (address_at c.args.points.now) c.args.own.now c.args.address c.requires) (λ a r q k. search rules)
+    (IsPartitionedBy-ltb (address_at c.args.points.now) c.args.own.now c.args.address c.requires)
+    (λ a r q k. search rules)

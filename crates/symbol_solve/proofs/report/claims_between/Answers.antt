@@ -17,11 +17,14 @@ use Rattle.symbol_solve.proofs.report.claims_between.Goals as goal
 
 by : {E : Type 0} (one other : Result Matched MatchFault) (ones others : List Claim) (r : Result (Option Refusal) E)
     → ones ≡ claims_in one → others ≡ claims_in other
-    → (GiveOneValue others → IfOk r (λ report. report ≡ first_some (λ a. option_map (claims_conflict a) (find (contradict a) others)) ones))
-    → IfOk r (λ report. (c d : Candidate) → outcome c ≡ one → outcome d ≡ other → IsAtOne d → report ≡ conflict_of_claims c d)
+    → (GiveOneValue others → IfOk r
+    (λ report. report ≡ first_some (λ a. option_map (claims_conflict a) (find (contradict a) others)) ones))
+    → IfOk r (λ report. (c d : Candidate)
+    → outcome c ≡ one → outcome d ≡ other → IsAtOne d → report ≡ conflict_of_claims c d)
 by one other ones others (Ok report) are these told = λ c d is_one is_other at_one.
     claims_told c d one other report is_one is_other
-    (told (subst GiveOneValue (ap claims_in is_other ∙ sym these) at_one) ∙ (λ i. first_some (λ a. option_map (claims_conflict a) (find (contradict a) (these i))) (are i)))
+    (told (subst GiveOneValue (ap claims_in is_other ∙ sym these) at_one)
+    ∙ (λ i. first_some (λ a. option_map (claims_conflict a) (find (contradict a) (these i))) (are i)))
 by one other ones others (Err fault) are these told = tt
 
 pub returns : goal.returns

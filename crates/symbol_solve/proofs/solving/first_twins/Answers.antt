@@ -17,7 +17,8 @@ returns-in-Some c = λ cs all.
     let next : suc (k - 1) ≡ k = omega arith in
     let within : k < length c.args.held.now = omega arith in
     sym (c.loop-k.invariant cs all
-    ∙ twins_step Is cs c.args.held.now (k - 1) k c.index-held-k.result c.index-held-k-in-loop-k.result c.in_ok-refusal.field-0 all next within c.index-held-k.is c.index-held-k-in-loop-k.is c.in_ok-refusal.ensures
+    ∙ twins_step Is cs c.args.held.now (k - 1) k c.index-held-k.result c.index-held-k-in-loop-k.result
+    c.in_ok-refusal.field-0 all next within c.index-held-k.is c.index-held-k-in-loop-k.is c.in_ok-refusal.ensures
     ∙ ap (λ (o : Option Refusal). option_or o (first_twins (drop k cs))) c.in-Some.is)
 
 pub loop-k-preserved : goal.loop-k-preserved
@@ -27,7 +28,8 @@ loop-k-preserved c = λ cs all.
     let within : k < length c.args.held.now = omega arith in
     let later : k ≡ c.loop-k.k + 1 - 1 = omega arith in
     c.loop-k.invariant cs all
-    ∙ twins_step Is cs c.args.held.now (k - 1) k c.index-held-k.result c.index-held-k-in-loop-k.result c.in_ok-refusal.field-0 all next within c.index-held-k.is c.index-held-k-in-loop-k.is c.in_ok-refusal.ensures
+    ∙ twins_step Is cs c.args.held.now (k - 1) k c.index-held-k.result c.index-held-k-in-loop-k.result
+    c.in_ok-refusal.field-0 all next within c.index-held-k.is c.index-held-k-in-loop-k.is c.in_ok-refusal.ensures
     ∙ ap (λ (o : Option Refusal). option_or o (first_twins (drop k cs))) c.in_default.is
     ∙ ap (λ n. first_twins (drop n cs)) later
 

@@ -13,15 +13,19 @@ Is running c h = IsOf h.code.now c h.tried.now × RunsIn running c
 
 pub loop-one-init : goal.loop-one-init
 unfolding values
-loop-one-init g c = λ cs all. ap (λ (l : List Value). fold with_value l (flat_map values_of cs)) (sym c.new-found.ensures.empty)
+loop-one-init g c =
+    λ cs all. ap (λ (l : List Value). fold with_value l (flat_map values_of cs)) (sym c.new-found.ensures.empty)
 
 pub loop-one-preserved : goal.loop-one-preserved
 loop-one-preserved g c = λ cs all.
     let within : c.loop-one.one-index < length c.args.held.now = omega arith in
     c.loop-one.invariant cs all
-    ∙ values_step (Is c.args.running.now) cs c.args.held.now c.loop-one.one-index c.one-item.result c.loop-one.found.entries c.put_candidate.new.values.entries all within c.one-item.is (λ d one. c.in_ok-put_candidate.ensures d one.0 one.1)
+    ∙ values_step (Is c.args.running.now) cs c.args.held.now c.loop-one.one-index
+    c.one-item.result c.loop-one.found.entries c.put_candidate.new.values.entries all within c.one-item.is
+    (λ d one. c.in_ok-put_candidate.ensures d one.0 one.1)
 
 pub returns : goal.returns
 returns g c = λ cs all.
     let few : length c.args.held.now ≤ c.loop-one.one-index = omega arith in
-    sym (c.loop-one.invariant cs all ∙ values_end (Is c.args.running.now) cs c.args.held.now c.loop-one.one-index c.loop-one.found.entries all few)
+    sym (c.loop-one.invariant cs all
+    ∙ values_end (Is c.args.running.now) cs c.args.held.now c.loop-one.one-index c.loop-one.found.entries all few)

@@ -9,4 +9,5 @@ pub returns : goal.returns
 returns c =
     let before = c.args.values.now in
     c.in_ok-insert.ensures.entries
-    ∙ insert_entry-new ((impl.eq-value).it) before c.args.unknown c.args.solved (not_found c.args.unknown before.entries c.requires)
+    ∙ insert_entry-new
+    ((impl.eq-value).it) before c.args.unknown c.args.solved (not_found c.args.unknown before.entries c.requires)

@@ -4,4 +4,5 @@ use Rattle.symbol_solve.proofs.Unknowns.{found}
 use Rattle.symbol_solve.proofs.values.has_value.Goals as goal
 
 pub returns : goal.returns
-returns c = c.is_some.ensures ∙ ap is_some (c.copied.ensures ∙ c.get.ensures.value) ∙ found c.args.unknown.now c.args.values.now.entries
+returns c = c.is_some.ensures
+    ∙ ap is_some (c.copied.ensures ∙ c.get.ensures.value) ∙ found c.args.unknown.now c.args.values.now.entries

@@ -12,5 +12,6 @@ returns g c =
     (λ told d held runs.
     told d held
     ∙ (λ i. fold with_value c.args.values.now.entries
-    (values_with d ((c.in_ok-outcome.ensures ∙ sym (again_of c.args.running.now c.args.code.now d c.args.tried.now held runs)) i))))
+    (values_with d ((c.in_ok-outcome.ensures ∙ sym
+    (again_of c.args.running.now c.args.code.now d c.args.tried.now held runs)) i))))
     c.put_outcome.ensures

@@ -6,6 +6,7 @@ use Rattle.tests_of_images.proofs.memory.drop_at.Goals as goal
 
 pub drop_piece-requires : goal.drop_piece-requires
 drop_piece-requires c =
-    let there = Any-from_list_any (λ (piece : Piece). piece.base == c.args.base) c.args.space.now.pieces.items c.requires in
+    let there =
+    Any-from_list_any (λ (piece : Piece). piece.base == c.args.base) c.args.space.now.pieces.items c.requires in
     let same = there.4 in
     (there.0, there.1, there.2, there.3, grind (arith, nat_tests))

@@ -54,4 +54,5 @@ returns-in_err-olds g c =
     let p = err_from_is_err_and refused.result refused.ensures.1 in
     rw (p.1, p.2) (λ free. olds_end running c.args.retired.now c.args.gaps.now c.args.pre.now c.args.post.now
     c.args.extract.now c.args.found.now.entries c.as_slice.result.now
-    (c.as_slice.ensures.value ∙ c.in_ok-parts.ensures.parts) c.in_ok-values.values.entries c.in_ok-values.ensures _ (c.in_err-olds.ensures.olds free))
+    (c.as_slice.ensures.value ∙ c.in_ok-parts.ensures.parts) c.in_ok-values.values.entries c.in_ok-values.ensures _
+    (c.in_err-olds.ensures.olds free))

@@ -8,14 +8,17 @@ use Rattle.image_threads.proofs.machine.Machine.free_stack.Goals as goal
 pub returns-clause-free : goal.returns-clause-free
 returns-clause-free g c =
     let P : Program → Type 0 = λ p. IfSome c.free_among.result (λ stack. is_taken p.threads stack ≡ false) in
-    subst P c.self.view_is (stack_free c.self.inside.stacks c.self.inside.threads _ (rw c.as_slice.ensures at c.free_among.ensures))
+    subst P c.self.view_is
+    (stack_free c.self.inside.stacks c.self.inside.threads _ (rw c.as_slice.ensures at c.free_among.ensures))
 
 pub returns-clause-listed : goal.returns-clause-listed
 returns-clause-listed g c =
     let P : Program → Type 0 = λ p. IfSome c.free_among.result (Contains p.stacks) in
-    subst P c.self.view_is (stack_listed c.self.inside.stacks c.self.inside.threads _ (rw c.as_slice.ensures at c.free_among.ensures))
+    subst P c.self.view_is
+    (stack_listed c.self.inside.stacks c.self.inside.threads _ (rw c.as_slice.ensures at c.free_among.ensures))
 
 pub returns-clause-tall : goal.returns-clause-tall
 returns-clause-tall g c =
     stack_has (λ (stack : Range). stack.low + 32 ≤ stack.high) c.self.inside.stacks _
-    (stack_listed c.self.inside.stacks c.self.inside.threads _ (rw c.as_slice.ensures at c.free_among.ensures)) (all_tall c.self.inside.stacks c.self.invariant.bounds)
+    (stack_listed c.self.inside.stacks c.self.inside.threads _ (rw c.as_slice.ensures at c.free_among.ensures))
+    (all_tall c.self.inside.stacks c.self.invariant.bounds)

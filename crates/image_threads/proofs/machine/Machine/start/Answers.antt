@@ -12,5 +12,6 @@ invariant_of-self-2 g c =
     let W : List Thread → Type 0 = λ threads. WellPlaced c.self.inside.stacks threads in
     let thread = first_thread (length c.self.inside.threads) c.args.stack c.args.pc in
     subst W (sym c.in_ok-number.ensures.ok)
-    (placed_on c.self.inside.stacks c.self.inside.threads thread c.self.invariant (subst S (sym c.self.view_is) c.requires.listed)
+    (placed_on c.self.inside.stacks c.self.inside.threads thread c.self.invariant
+    (subst S (sym c.self.view_is) c.requires.listed)
     (subst F (sym c.self.view_is) c.requires.free))

@@ -10,4 +10,5 @@ invariant_of-self-else-is_err c =
     let few : length c.self.inside.threads < 4096 = omega (arith, ap length c.self.view_is, c.requires.few) in
     let number : c.len-number.result ≡ length c.self.inside.threads = grind (arith, common_steps) in
     let grown : c.push-2.new.self ≡ c.self.inside.threads ++ thread ∷ [] = grind (arith, common_steps) in
-    listed_on c.self.inside.threads _ c.self.inside.running.items _ thread c.self.invariant few number refl grown c.in_ok-push.ensures.items
+    listed_on c.self.inside.threads
+    _ c.self.inside.running.items _ thread c.self.invariant few number refl grown c.in_ok-push.ensures.items

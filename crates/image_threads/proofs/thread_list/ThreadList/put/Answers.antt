@@ -8,7 +8,8 @@ use Rattle.image_threads.proofs.thread_list.ThreadList.put.Goals as goal
 pub invariant_of-self : goal.invariant_of-self
 invariant_of-self c =
     let P : List Thread → Type 0 = λ threads. IsSome (running_at threads c.args.thread.number) in
-    let kept = filter_same _ (is_other c.args.thread.number) _ (λ x b f k. search rules) _ _ c.retain.ensures.filtered in
+    let kept =
+    filter_same _ (is_other c.args.thread.number) _ (λ x b f k. search rules) _ _ c.retain.ensures.filtered in
     rw c.set.ensures
     (listed_ended c.self.inside.threads c.self.inside.running.items _ c.args.thread c.self.invariant
     (subst P (sym c.self.view_is) c.requires) (sym c.is_running.ensures ∙ c.if-not-is_running.true) kept)

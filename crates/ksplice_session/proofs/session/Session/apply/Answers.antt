@@ -14,7 +14,8 @@ invariant_of-self-2 c =
     let left = happened now (Applied c.in_ok-report.report) in
     subst (IsInStep now) (sym c.note_update.ensures)
     (kept_in_step k now c.self.inside.watch
-    (c.updates_keep_slots.ensures.updated_threads k c.args.name.now c.args.pre.now c.args.post.now left c.in_ok-report.ensures.answered)
+    (c.updates_keep_slots.ensures.updated_threads k
+    c.args.name.now c.args.pre.now c.args.post.now left c.in_ok-report.ensures.answered)
     (c.updates_keep_slots.ensures.updates k c.args.name.now c.args.pre.now c.args.post.now left c.machine.ensures.built
     c.machine-machine.ensures.built c.in_ok-report.ensures.answered)
     (placed_of c.machine.result.now k c.machine.ensures.stands c.threads-threads.ensures.placed) c.self.invariant)

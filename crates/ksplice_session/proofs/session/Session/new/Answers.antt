@@ -15,15 +15,18 @@ all_pieces-requires-clause-stacks c = image_fits (contents_of c.args.image) c.im
 pub new-requires : goal.new-requires
 new-requires c =
     subst ArePlaced (sym c.in_ok-pieces.ensures)
-    (placed_with_stacks c.pieces_stay_placed.ensures c.args.image.pieces c.args.image.stacks c.image_keeps_rules.ensures.regions_placed
+    (placed_with_stacks c.pieces_stay_placed.ensures
+    c.args.image.pieces c.args.image.stacks c.image_keeps_rules.ensures.regions_placed
     (image_fits (contents_of c.args.image) c.image_keeps_rules.ensures))
 
 pub new-requires-3-clause-stacks : goal.new-requires-3-clause-stacks
 new-requires-3-clause-stacks c =
     let P : Program → Type 0 = λ m. AreStacks m.contents.pieces m.stacks in
     let Q : List Piece → Type 0 = λ pieces. AreStacks pieces c.args.image.stacks in
-    let there = subst Q (sym c.in_ok-pieces.ensures) (image_stacks (contents_of c.args.image) c.image_keeps_rules.ensures) in
-    subst P (sym c.in_ok-machine.ensures) (subst Q (sym (ap (λ (k : Contents). k.pieces) c.in_ok-space.ensures.contents)) there)
+    let there =
+    subst Q (sym c.in_ok-pieces.ensures) (image_stacks (contents_of c.args.image) c.image_keeps_rules.ensures) in
+    subst P (sym c.in_ok-machine.ensures)
+    (subst Q (sym (ap (λ (k : Contents). k.pieces) c.in_ok-space.ensures.contents)) there)
 
 pub new-requires-3-clause-gaps : goal.new-requires-3-clause-gaps
 new-requires-3-clause-gaps c =

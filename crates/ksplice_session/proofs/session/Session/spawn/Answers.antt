@@ -22,7 +22,8 @@ on_err (Err e) P p = p
 pub returns-in_err-number-clause-front : goal.returns-in_err-number-clause-front
 returns-in_err-number-clause-front c =
     on_err c.from_residual.result _
-    (none_made c.args.self.now (watched c.spawn.new.self c.self.inside.watch) (Spawn c.args.name.now c.args.argument ∷ [])
+    (none_made c.args.self.now
+    (watched c.spawn.new.self c.self.inside.watch) (Spawn c.args.name.now c.args.argument ∷ [])
     (ap (λ (k : CallTable). watched k c.self.inside.watch) c.in_err-number.ensures.refused ∙ c.self.view_is))
 
 -- the thread that was started
@@ -36,7 +37,8 @@ got_after c =
 abbrev memory : After-space → Contents
 memory c = record { pieces = c.space.result.now.pieces.items; fences = c.space.result.now.fences.items }
 
-begun : (c : After-space) → IsBegun (memory c) c.self.inside.system c.spawn.new.self c.self.inside.watch c.in-Some.thread.now
+begun : (c : After-space)
+    → IsBegun (memory c) c.self.inside.system c.spawn.new.self c.self.inside.watch c.in-Some.thread.now
 begun c =
     let jumps : JumpLaws = record {
       views = c.jumps_leave_views.ensures;
@@ -47,7 +49,8 @@ begun c =
     let now = c.spawn.new.self in
     let machine = c.machine-machine.result.now in
     let there : memory c ≡ machine.contents = c.space.ensures.contents in
-    spawn_begun jumps k now c.self.inside.watch c.args.name.now c.args.argument c.in_ok-number.number c.in-Some.thread.now
+    spawn_begun
+    jumps k now c.self.inside.watch c.args.name.now c.args.argument c.in_ok-number.number c.in-Some.thread.now
     (memory c) c.machine-machine.ensures.built c.self.invariant
     (placed_of c.machine.result.now k c.machine.ensures.stands c.threads-threads.ensures.placed)
     c.in_ok-number.ensures.answered (got_after c) (there ∙ memory_of machine now c.machine-machine.ensures.stands)
@@ -78,10 +81,13 @@ pub returns-in_err-note_spawn_alone-clause-front : goal.returns-in_err-note_spaw
 returns-in_err-note_spawn_alone-clause-front c =
     let now = c.spawn.new.self in
     on_err c.from_residual-in_err-note_spawn_alone.result _
-    (subst (λ (s : Watched). MadeFront s (Spawn c.args.name.now c.args.argument ∷ []) (watched now c.note_spawn_alone.new.self)) c.self.view_is
-    (subst (λ (v : Watching). MadeFront (watched c.self.inside.system c.self.inside.watch) (Spawn c.args.name.now c.args.argument ∷ []) (watched now v))
+    (subst (λ (s : Watched). MadeFront s
+    (Spawn c.args.name.now c.args.argument ∷ []) (watched now c.note_spawn_alone.new.self)) c.self.view_is
+    (subst (λ (v : Watching). MadeFront (watched c.self.inside.system c.self.inside.watch)
+    (Spawn c.args.name.now c.args.argument ∷ []) (watched now v))
     (sym c.in_err-note_spawn_alone.ensures.refused)
-    (spawn_unnoted (watched c.self.inside.system c.self.inside.watch) now c.args.name.now c.args.argument c.in_ok-number.number
+    (spawn_unnoted (watched c.self.inside.system c.self.inside.watch)
+    now c.args.name.now c.args.argument c.in_ok-number.number
     c.in_ok-number.ensures.answered)))
 
 pub invariant_of-self-in_default : goal.invariant_of-self-in_default
@@ -101,5 +107,7 @@ returns-clause-noted c =
     let now = c.spawn.new.self in
     let v = c.note_spawn_alone.new.self in
     subst (λ (s : Watched). watched now v ≡ watched_after s (Spawn c.args.name.now c.args.argument)) c.self.view_is
-    (spawn_watched (watched c.self.inside.system c.self.inside.watch) now v c.args.name.now c.args.argument c.in_ok-number.number
-    c.in-Some.thread.now c.in_ok-number.ensures.answered (got_after here) (c.in_ok-note_spawn_alone.ensures.noted ∙ (begun here).same))
+    (spawn_watched (watched c.self.inside.system c.self.inside.watch)
+    now v c.args.name.now c.args.argument c.in_ok-number.number
+    c.in-Some.thread.now c.in_ok-number.ensures.answered
+    (got_after here) (c.in_ok-note_spawn_alone.ensures.noted ∙ (begun here).same))

@@ -10,7 +10,8 @@ use Rattle.ksplice_session.specs.Answers.{watched}
 use Rattle.ksplice_session.specs.Watching.{Watched, watched_after}
 use Rattle.ksplice_session.specs.inside.InStep.{IsInStep}
 use Rattle.ksplice_session.proofs.SeenLaws.{JumpLaws, memory_of, threads_of, numbered_of}
-use Rattle.ksplice_session.proofs.MoveLaws.{StepLaws, IsMade, step_made, fetched_windows, after_there, step_watched, step_refused, step_missing}
+use Rattle.ksplice_session.proofs.MoveLaws.{StepLaws, IsMade, step_made, fetched_windows}
+use Rattle.ksplice_session.proofs.MoveLaws.{after_there, step_watched, step_refused, step_missing}
 use Rattle.ksplice_session.proofs.session.Session.step.Goals.{After-space, In_default-get}
 use Rattle.ksplice_session.proofs.session.Session.step.Goals as goal
 
@@ -31,7 +32,8 @@ laws c = record {
 
 -- the thread before the step and after it
 got : (c : After-space) → slice_get c.self.inside.system.threads c.args.thread ≡ Some c.in-Some.before
-got c = ap (λ (s : Watched). slice_get s.machine.threads c.args.thread) c.self.view_is ∙ sym c.thread.ensures ∙ c.in-Some.is
+got c = ap (λ (s : Watched). slice_get s.machine.threads c.args.thread) c.self.view_is
+    ∙ sym c.thread.ensures ∙ c.in-Some.is
 
 got_after : (c : After-space) → slice_get c.step_traced.new.self.threads c.args.thread ≡ Some c.in-Some-get.after.now
 got_after c =
@@ -46,15 +48,18 @@ memory c = record { pieces = c.space.result.now.pieces.items; fences = c.space.r
 memory_is : (c : After-space) → memory c ≡ c.machine-machine.result.now.contents
 memory_is c = c.space.ensures.contents
 
-made : (c : After-space) → IsMade (memory c) c.self.inside.system c.step_traced.new.self c.self.inside.watch c.in-Some.before
+made : (c : After-space)
+    → IsMade (memory c) c.self.inside.system c.step_traced.new.self c.self.inside.watch c.in-Some.before
     c.in-Some-get.after.now c.in-Ok.traced.outcome c.in-Ok.traced.store
 made c =
     let k = c.self.inside.system in
     let now = c.step_traced.new.self in
     step_made (jumps c) (laws c) k now c.self.inside.watch c.args.thread c.in-Some.before c.in-Some-get.after.now
-    c.in-Ok.traced.outcome c.in-Ok.traced.store (memory c) c.machine.ensures.built c.machine-machine.ensures.built c.self.invariant
+    c.in-Ok.traced.outcome c.in-Ok.traced.store
+    (memory c) c.machine.ensures.built c.machine-machine.ensures.built c.self.invariant
     (numbered_of c.machine.result.now k c.machine.ensures.stands c.threads-threads.ensures.numbered) (got c)
-    c.in-Ok.ensures.answered (got_after c) c.registers_fit.ensures.count c.registers_fit.ensures.esp c.in-Ok.ensures.written
+    c.in-Ok.ensures.answered
+    (got_after c) c.registers_fit.ensures.count c.registers_fit.ensures.esp c.in-Ok.ensures.written
     (memory_is c ∙ memory_of c.machine-machine.result.now now c.machine-machine.ensures.stands)
 
 -- the thread that made the step is there after it
@@ -81,7 +86,8 @@ returns-in_default-step_traced-clause-after c =
     let came = c.in_default-step_traced.ensures in
     ap (λ (k : CallTable). watched k w) came.refused ∙ c.self.view_is
     ∙ step_refused c.args.self.now c.args.thread c.in_default-step_traced.field-0
-    (subst (λ (s : Watched). answered s.machine (Step c.args.thread) ≡ Err c.in_default-step_traced.field-0) c.self.view_is came.answered)
+    (subst (λ (s : Watched). answered s.machine (Step c.args.thread) ≡ Err c.in_default-step_traced.field-0)
+    c.self.view_is came.answered)
 
 pub note_traced-requires-clause-step : goal.note_traced-requires-clause-step
 note_traced-requires-clause-step c = λ unbroken. (made c).step
@@ -96,9 +102,10 @@ note_traced-requires-clause-fetched c =
     let traced = c.in-Ok.traced in
     λ unbroken many. subst (λ (m : Contents). HaveWindows m c.in-Some.before.pc traced.fetched)
     (sym (memory_is c ∙ memory_of c.machine-machine.result.now now c.machine-machine.ensures.stands))
-    (fetched_windows (jumps c) c.threads_keep_windows.ensures.steps c.fetched_bytes_have_windows.ensures k now c.args.thread
+    (fetched_windows (jumps c)
+    c.threads_keep_windows.ensures.steps c.fetched_bytes_have_windows.ensures k now c.args.thread
     c.in-Some.before traced.outcome traced.fetched c.machine.ensures.built c.machine-machine.ensures.built (got c)
-    c.in-Ok.ensures.answered c.in-Ok.ensures.fetched many)
+    c.in-Ok.ensures.answered c.in-Ok.ensures.text many)
 
 pub invariant_of-self-in_default-get : goal.invariant_of-self-in_default-get
 invariant_of-self-in_default-get c = absurd (nothing_lost (goal.at.invariant_of-self-in_default-get c).In_default-get)
@@ -114,8 +121,11 @@ returns-clause-after c =
     let now = c.step_traced.new.self in
     let v = c.note_traced.new.self in
     subst (λ (s : Watched). watched now v ≡ watched_after s (Step c.args.thread)) c.self.view_is
-    (step_watched (watched c.self.inside.system c.self.inside.watch) now v c.args.thread c.in-Some.before c.in-Some-get.after.now
-    c.in-Ok.traced.outcome c.in-Ok.ensures.answered (got here) (got_after here) (c.note_traced.ensures ∙ (made here).same))
+    (step_watched (watched c.self.inside.system c.self.inside.watch)
+    now v c.args.thread c.in-Some.before c.in-Some-get.after.now
+    c.in-Ok.traced.outcome c.in-Ok.ensures.answered
+    (got here) (got_after here) (c.note_traced.ensures ∙ (made here).same))
 
 pub returns-in_default-get-clause-after : goal.returns-in_default-get-clause-after
-returns-in_default-get-clause-after c = absurd (nothing_lost (goal.at.returns-in_default-get-clause-after c).In_default-get)
+returns-in_default-get-clause-after c =
+    absurd (nothing_lost (goal.at.returns-in_default-get-clause-after c).In_default-get)

@@ -21,7 +21,8 @@ returns-clause-keeps c =
       queue = c.in_ok-new.ensures.queue;
       queued = c.in_ok-new.ensures.queued;
       within = c.section_count.ensures;
-      claims = λ unknown. ap (λ (t : List (List Entry)). list_at t unknown) c.claims.view_is ∙ c.in_ok-claims.ensures unknown;
+      claims = λ unknown. ap (λ (t : List (List Entry)). list_at t unknown) c.claims.view_is
+          ∙ c.in_ok-claims.ensures unknown;
       fixed = c.in_ok-new-2.ensures;
       members = c.in_ok-members_by_section.ensures;
       numbers = c.in_ok-numbers_by_section.ensures;
@@ -47,7 +48,8 @@ returns-clause-waits c =
       queue = c.in_ok-new.ensures.queue;
       queued = c.in_ok-new.ensures.queued;
       within = c.section_count.ensures;
-      claims = λ unknown. ap (λ (t : List (List Entry)). list_at t unknown) c.claims.view_is ∙ c.in_ok-claims.ensures unknown;
+      claims = λ unknown. ap (λ (t : List (List Entry)). list_at t unknown) c.claims.view_is
+          ∙ c.in_ok-claims.ensures unknown;
       fixed = c.in_ok-new-2.ensures;
       members = c.in_ok-members_by_section.ensures;
       numbers = c.in_ok-numbers_by_section.ensures;

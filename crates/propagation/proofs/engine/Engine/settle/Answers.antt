@@ -21,12 +21,16 @@ returns c =
     let carry : Engine → List ℕ → Engine = λ e places. fold (carried_at c.args.choices.now) e places in
     let places = carried_of (list_at c.args.whole.now section) list in
     let whole = c.get.result.now in
-    let carried : c.as_slice-2.result.now ≡ places = c.as_slice-2.ensures.value ∙ c.in_ok-places.ensures ∙ ap (carried_of whole) c.as_slice.ensures.value ∙ ap (λ w. carried_of w list) c.get.ensures in
-    let members : c.put.new.self ≡ set inside.members section list = c.put.ensures ∙ ap (λ (t : List (List ℕ)). set t section list) c.take.ensures.after ∙ set-set inside.members section [] list in
+    let carried : c.as_slice-2.result.now ≡ places = c.as_slice-2.ensures.value ∙ c.in_ok-places.ensures
+    ∙ ap (carried_of whole) c.as_slice.ensures.value ∙ ap (λ w. carried_of w list) c.get.ensures in
+    let members : c.put.new.self ≡ set inside.members section list = c.put.ensures ∙ ap
+    (λ (t : List (List ℕ)). set t section list) c.take.ensures.after ∙ set-set inside.members section [] list in
     let P : Engine → Type 0 = λ e. IsNarrowed e.marking.left (list_at e.members section) list in
     let Q : List ℕ → Type 0 = λ l. IsNarrowed inside.marking.left l list in
     record {
       list = list;
       narrowed = subst P c.self.view_is (subst Q c.take.ensures.items c.narrowed-list.ensures);
-      is = c.in_ok-carry_out_each.ensures ∙ ap (carry (record inside { members = c.put.new.self })) carried ∙ ap (λ (t : List (List ℕ)). carry (record inside { members = t }) places) members ∙ ap (λ (e : Engine). carry (record e { members = set e.members section list }) places) c.self.view_is;
+      is = c.in_ok-carry_out_each.ensures ∙ ap (carry (record inside { members = c.put.new.self })) carried
+          ∙ ap (λ (t : List (List ℕ)). carry (record inside { members = t }) places) members
+          ∙ ap (λ (e : Engine). carry (record e { members = set e.members section list }) places) c.self.view_is;
     }

@@ -20,7 +20,9 @@ returns-in_ok-settle-in-Some-clause-state c =
       asked = c.self.inside.asked;
     } in
     let P : Engine → Type 0 = State choices in
-    let steps : Stepped choices inside c.settle.new.self = settled_steps choices c.requires.choices c.args.whole.now c.requires.whole c.in-Some.section inside c.pop.new.self c.settle.new.self (subst P (sym c.self.view_is) c.requires.state) c.in-Some.ensures.popped c.in_ok-settle-in-Some.ensures in
+    let steps : Stepped choices inside c.settle.new.self = settled_steps choices
+    c.requires.choices c.args.whole.now c.requires.whole c.in-Some.section inside c.pop.new.self c.settle.new.self
+    (subst P (sym c.self.view_is) c.requires.state) c.in-Some.ensures.popped c.in_ok-settle-in-Some.ensures in
     steps.state
 
 pub returns-in_ok-settle-in-Some-clause-lighter : goal.returns-in_ok-settle-in-Some-clause-lighter
@@ -36,6 +38,8 @@ returns-in_ok-settle-in-Some-clause-lighter c =
       asked = c.self.inside.asked;
     } in
     let P : Engine → Type 0 = State choices in
-    let steps : Stepped choices inside c.settle.new.self = settled_steps choices c.requires.choices c.args.whole.now c.requires.whole c.in-Some.section inside c.pop.new.self c.settle.new.self (subst P (sym c.self.view_is) c.requires.state) c.in-Some.ensures.popped c.in_ok-settle-in-Some.ensures in
+    let steps : Stepped choices inside c.settle.new.self = settled_steps choices
+    c.requires.choices c.args.whole.now c.requires.whole c.in-Some.section inside c.pop.new.self c.settle.new.self
+    (subst P (sym c.self.view_is) c.requires.state) c.in-Some.ensures.popped c.in_ok-settle-in-Some.ensures in
     let Q : Engine → Type 0 = λ e. weight c.settle.new.self.marking < weight e.marking in
     λ _. subst Q c.self.view_is steps.lighter

@@ -2,7 +2,8 @@
 use Rattle.std.proofs.Common.{arith, sym, inl, inr}
 use Rattle.stack_scan.proofs.TargetLaws.{outside}
 use Rattle.stack_scan.proofs.targets.Targets.has.Goals as goal
-use Rattle.stack_scan.proofs.targets.Targets.has.Goals.{then-word-self-via-then-word-self, then-word-self-via-else-word-self+then-word-self-2}
+use Rattle.stack_scan.proofs.targets.Targets.has.Goals.{then-word-self-via-then-word-self}
+use Rattle.stack_scan.proofs.targets.Targets.has.Goals.{then-word-self-via-else-word-self+then-word-self-2}
 
 pub returns-then-word-self : goal.returns-then-word-self
 returns-then-word-self c =

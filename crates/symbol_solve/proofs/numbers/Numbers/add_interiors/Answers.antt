@@ -9,9 +9,12 @@ loop-interior-preserved c =
     let after = c.add_interior.new.self in
     record {
       grows = grows_on c.args.self.now before after c.loop-interior.invariant.grows c.in_ok-add_interior.ensures.grows;
-      numbered = interiors_more c.args.object.now before after c.args.interiors.now c.loop-interior.interior-index c.interior-item.result c.loop-interior-test.true c.interior-item.is c.in_ok-add_interior.ensures.grows c.in_ok-add_interior.ensures.numbered c.loop-interior.invariant.numbered;
+      numbered = interiors_more c.args.object.now before after c.args.interiors.now
+          c.loop-interior.interior-index c.interior-item.result c.loop-interior-test.true c.interior-item.is
+          c.in_ok-add_interior.ensures.grows c.in_ok-add_interior.ensures.numbered c.loop-interior.invariant.numbered;
     }
 
 pub returns-clause-numbered : goal.returns-clause-numbered
 returns-clause-numbered c =
-    at_end (IsInteriorNumbered c.args.object.now c.loop-interior.self) c.args.interiors.now c.loop-interior.interior-index c.loop-interior-test.false c.loop-interior.invariant.numbered
+    at_end (IsInteriorNumbered c.args.object.now c.loop-interior.self) c.args.interiors.now
+    c.loop-interior.interior-index c.loop-interior-test.false c.loop-interior.invariant.numbered

@@ -30,7 +30,8 @@ returns-in-Some g c =
     ∙ ap (λ (ks : List Kept). slice_get ks (length ks - 1)) (sym c.as_slice.ensures)
     ∙ sym c.last.ensures.value ∙ ap option_copied c.in-Some.is in
     c.check_ranges.ensures
-    ∙ ap (λ (rs : List Range). thread_refusal c.args.self.now.pieces rs c.args.self.now.threads) c.as_slice-in-Some.ensures
+    ∙ ap (λ (rs : List Range). thread_refusal c.args.self.now.pieces rs c.args.self.now.threads)
+    c.as_slice-in-Some.ensures
     ∙ ap (λ (k : CallTable). thread_refusal k.pieces one.ranges k.threads) (sym c.self.view_is)
     ∙ last_refused c.order_has_no_say.ensures.threads
     (machine_of inside.machine inside.arena inside.updates inside.kept) inside.kept inside.gaps one

@@ -16,7 +16,8 @@ take_back-requires g c =
     let update = c.in-Some.update in
     let one = c.in-Some-pop.one in
     let holds : Holds inside.machine inside.arena inside.gaps (updates ++ update ∷ []) (kept ++ one ∷ []) =
-    subst (λ (us : List Shown). Holds inside.machine inside.arena inside.gaps us (kept ++ one ∷ [])) c.in-Some.ensures.parts
+    subst (λ (us : List Shown). Holds inside.machine inside.arena inside.gaps us (kept ++ one ∷ []))
+    c.in-Some.ensures.parts
     (subst (λ (ks : List Kept). Holds inside.machine inside.arena inside.gaps inside.updates ks)
     c.in-Some-pop.ensures.parts c.self.invariant) in
     c.updates_are_taken_back.ensures.can inside.machine inside.arena inside.gaps updates kept update one holds
@@ -29,7 +30,8 @@ invariant_of-self-2 g c =
     let update = c.in-Some.update in
     let one = c.in-Some-pop.one in
     let holds : Holds inside.machine inside.arena inside.gaps (updates ++ update ∷ []) (kept ++ one ∷ []) =
-    subst (λ (us : List Shown). Holds inside.machine inside.arena inside.gaps us (kept ++ one ∷ [])) c.in-Some.ensures.parts
+    subst (λ (us : List Shown). Holds inside.machine inside.arena inside.gaps us (kept ++ one ∷ []))
+    c.in-Some.ensures.parts
     (subst (λ (ks : List Kept). Holds inside.machine inside.arena inside.gaps inside.updates ks)
     c.in-Some-pop.ensures.parts c.self.invariant) in
     let held : IsHeldBefore inside.machine c.take_back.new.machine inside.arena updates kept update one =
@@ -45,7 +47,8 @@ returns g c =
     let update = c.in-Some.update in
     let one = c.in-Some-pop.one in
     let holds : Holds inside.machine inside.arena inside.gaps (updates ++ update ∷ []) (kept ++ one ∷ []) =
-    subst (λ (us : List Shown). Holds inside.machine inside.arena inside.gaps us (kept ++ one ∷ [])) c.in-Some.ensures.parts
+    subst (λ (us : List Shown). Holds inside.machine inside.arena inside.gaps us (kept ++ one ∷ []))
+    c.in-Some.ensures.parts
     (subst (λ (ks : List Kept). Holds inside.machine inside.arena inside.gaps inside.updates ks)
     c.in-Some-pop.ensures.parts c.self.invariant) in
     let held : IsHeldBefore inside.machine c.take_back.new.machine inside.arena updates kept update one =
@@ -56,7 +59,8 @@ returns g c =
     let Comes : CallTable → Type 0 = λ k. ComesOfUndo (newest_update k) k now result in
     let before = machine_of inside.machine inside.arena (updates ++ update ∷ []) (kept ++ one ∷ []) in
     subst Comes c.self.view_is
-    (subst (λ (us : List Shown). Comes (machine_of inside.machine inside.arena us inside.kept)) (sym c.in-Some.ensures.parts)
+    (subst (λ (us : List Shown). Comes (machine_of inside.machine inside.arena us inside.kept))
+    (sym c.in-Some.ensures.parts)
     (subst (λ (ks : List Kept). Comes (machine_of inside.machine inside.arena (updates ++ update ∷ []) ks))
     (sym c.in-Some-pop.ensures.parts)
     (subst (λ (o : Option Update). ComesOfUndo o before now result) (sym held.newest) (refl, held.same))))
