@@ -1,5 +1,6 @@
 -- When the four bytes of a relocation's field share none with those of earlier ones.
-use Rattle.std.proofs.Common.{◌≡◌, ℕ, zero, suc, ◌+◌, ◌<◌, Bool, true, false, ◌==◌, ◌||◌, ◌&&◌, cond, List, [], refl, ap, ◌∙◌, inl, inr, ◌⊎◌, arith}
+use Rattle.std.proofs.Common.{◌≡◌, ℕ, zero, suc, ◌+◌, ◌<◌, Bool, true, false, ◌==◌, ◌||◌}
+use Rattle.std.proofs.Common.{◌&&◌, cond, List, [], refl, ap, ◌∙◌, inl, inr, ◌⊎◌, arith}
 use Rattle.std.proofs.lemmas.Bool.Decides.{nat_tests}
 use Rattle.std.proofs.lemmas.Bool.{cases_lt, cases_Bool, eqb-true}
 use Rattle.std.specs.Ordering.{nat_cmp}
@@ -59,7 +60,8 @@ any_some test (suc n) e =
     ]
 
 -- what holds at each place from which a field would share a byte
-apart_by : (a : Bool) (offset at : ℕ) → ((x : ℕ) → x < offset + 4 → offset < x + 4 → (a && at == x) ≡ false) → (a && meets offset at) ≡ false
+apart_by : (a : Bool) (offset at : ℕ) → ((x : ℕ) → x < offset + 4 → offset < x + 4 → (a && at == x) ≡ false)
+    → (a && meets offset at) ≡ false
 apart_by a offset at h =
     elim (cases_lt at (offset + 4)) [
       | inl l ↦
@@ -70,19 +72,27 @@ apart_by a offset at h =
       | inr l ↦ grind (arith, nat_tests)
     ]
 
-met_by : (a : Bool) (offset at x : ℕ) → x < offset + 4 → offset < x + 4 → (a && at == x) ≡ true → (a && meets offset at) ≡ true
+met_by : (a : Bool) (offset at x : ℕ) → x < offset + 4 → offset < x + 4 → (a && at == x) ≡ true
+    → (a && meets offset at) ≡ true
 met_by a offset at x l g e = grind (arith, nat_tests)
 
-entry_apart : (bytes : List ℕ) (section offset i k : ℕ) → ((at : ℕ) → at < offset + 4 → offset < at + 4 → is_field bytes section at i k ≡ false) → is_met_by bytes section offset i k ≡ false
+entry_apart : (bytes : List ℕ) (section offset i k : ℕ)
+    → ((at : ℕ) → at < offset + 4 → offset < at + 4 → is_field bytes section at i k ≡ false)
+    → is_met_by bytes section offset i k ≡ false
 entry_apart bytes section offset i k h =
-    apart_by ((section_header bytes i).info == section && has_field (relocation bytes i k)) offset (relocation bytes i k).offset h
+    apart_by ((section_header bytes i).info == section && has_field (relocation bytes i k)) offset
+    (relocation bytes i k).offset h
 
-entry_met : (bytes : List ℕ) (section offset at i k : ℕ) → at < offset + 4 → offset < at + 4 → is_field bytes section at i k ≡ true → is_met_by bytes section offset i k ≡ true
+entry_met : (bytes : List ℕ) (section offset at i k : ℕ) → at < offset + 4 → offset < at + 4
+    → is_field bytes section at i k ≡ true → is_met_by bytes section offset i k ≡ true
 entry_met bytes section offset at i k l g e =
-    met_by ((section_header bytes i).info == section && has_field (relocation bytes i k)) offset (relocation bytes i k).offset at l g e
+    met_by ((section_header bytes i).info == section && has_field (relocation bytes i k)) offset
+    (relocation bytes i k).offset at l g e
 
 -- a field that shares a byte with none is met by none
-pub free_is_apart : (bytes : List ℕ) (section offset i k : ℕ) → ((at : ℕ) → at < offset + 4 → offset < at + 4 → is_taken bytes section at i k ≡ false) → is_met_before bytes section offset i k ≡ false
+pub free_is_apart : (bytes : List ℕ) (section offset i k : ℕ)
+    → ((at : ℕ) → at < offset + 4 → offset < at + 4 → is_taken bytes section at i k ≡ false)
+    → is_met_before bytes section offset i k ≡ false
 unfolding is_taken is_met_before
 free_is_apart bytes section offset i k h =
     let earlier : any_below (λ j. any_below (is_met_by bytes section offset j) (entry_count bytes j)) i ≡ false =
@@ -90,26 +100,35 @@ free_is_apart bytes section offset i k h =
     (λ j jl. none_any (is_met_by bytes section offset j) (entry_count bytes j)
     (λ m ml. entry_apart bytes section offset j m
     (λ at l g. any_false (is_field bytes section at j) (entry_count bytes j) m
-    (any_false (λ x. any_below (is_field bytes section at x) (entry_count bytes x)) i j (or_false (any_below (λ x. any_below (is_field bytes section at x) (entry_count bytes x)) i) (any_below (is_field bytes section at i) k) (h at l g)).0 jl) ml))) in
+    (any_false (λ x. any_below (is_field bytes section at x) (entry_count bytes x)) i j
+    (or_false (any_below (λ x. any_below (is_field bytes section at x) (entry_count bytes x)) i)
+    (any_below (is_field bytes section at i) k) (h at l g)).0 jl) ml))) in
     let here : any_below (is_met_by bytes section offset i) k ≡ false =
     none_any (is_met_by bytes section offset i) k
     (λ m ml. entry_apart bytes section offset i m
-    (λ at l g. any_false (is_field bytes section at i) k m (or_false (any_below (λ x. any_below (is_field bytes section at x) (entry_count bytes x)) i) (any_below (is_field bytes section at i) k) (h at l g)).1 ml)) in
+    (λ at l g. any_false (is_field bytes section at i) k m
+    (or_false (any_below (λ x. any_below (is_field bytes section at x) (entry_count bytes x)) i)
+    (any_below (is_field bytes section at i) k) (h at l g)).1 ml)) in
     ap (λ b. b || any_below (is_met_by bytes section offset i) k) earlier ∙ here
 
-pub taken_is_met : (bytes : List ℕ) (section offset at i k : ℕ) → at < offset + 4 → offset < at + 4 → is_taken bytes section at i k ≡ true → is_met_before bytes section offset i k ≡ true
+pub taken_is_met : (bytes : List ℕ) (section offset at i k : ℕ) → at < offset + 4 → offset < at + 4
+    → is_taken bytes section at i k ≡ true → is_met_before bytes section offset i k ≡ true
 unfolding is_taken is_met_before
 taken_is_met bytes section offset at i k h g e =
-    elim (or_true (any_below (λ x. any_below (is_field bytes section at x) (entry_count bytes x)) i) (any_below (is_field bytes section at i) k) e) [
+    elim (or_true (any_below (λ x. any_below (is_field bytes section at x) (entry_count bytes x)) i)
+    (any_below (is_field bytes section at i) k) e) [
       | inl earlier ↦
           let j = any_some (λ x. any_below (is_field bytes section at x) (entry_count bytes x)) i earlier in
           let m = any_some (is_field bytes section at j.0) (entry_count bytes j.0) j.2 in
-          left_or (any_below (λ x. any_below (is_met_by bytes section offset x) (entry_count bytes x)) i) (any_below (is_met_by bytes section offset i) k)
+          left_or (any_below (λ x. any_below (is_met_by bytes section offset x) (entry_count bytes x)) i)
+          (any_below (is_met_by bytes section offset i) k)
           (any_at (λ x. any_below (is_met_by bytes section offset x) (entry_count bytes x)) i j.0
-          (any_at (is_met_by bytes section offset j.0) (entry_count bytes j.0) m.0 (entry_met bytes section offset at j.0 m.0 h g m.2) m.1) j.1)
+          (any_at (is_met_by bytes section offset j.0) (entry_count bytes j.0) m.0
+          (entry_met bytes section offset at j.0 m.0 h g m.2) m.1) j.1)
       | inr here ↦
           let m = any_some (is_field bytes section at i) k here in
-          right_or (any_below (λ x. any_below (is_met_by bytes section offset x) (entry_count bytes x)) i) (any_below (is_met_by bytes section offset i) k)
+          right_or (any_below (λ x. any_below (is_met_by bytes section offset x) (entry_count bytes x)) i)
+          (any_below (is_met_by bytes section offset i) k)
           (any_at (is_met_by bytes section offset i) k m.0 (entry_met bytes section offset at i m.0 h g m.2) m.1)
     ]
 
@@ -120,20 +139,24 @@ or_none : (a b c : Bool) → c ≡ false → (a || b) ≡ (a || (b || c))
 or_none a b c e = grind arith
 
 -- an entry without a field leaves the fields as they are
-pub same_taken : (bytes : List ℕ) (i k : ℕ) (fields : BTreeSet ℕ) → has_field (relocation bytes i k) ≡ false → AreTaken bytes i k fields → AreTaken bytes i (suc k) fields
+pub same_taken : (bytes : List ℕ) (i k : ℕ) (fields : BTreeSet ℕ) → has_field (relocation bytes i k) ≡ false
+    → AreTaken bytes i k fields → AreTaken bytes i (suc k) fields
 unfolding is_taken
 same_taken bytes i k fields none taken =
     record {
       same = λ section offset small.
           taken.same section offset small
-          ∙ or_none (any_below (λ j. any_below (is_field bytes section offset j) (entry_count bytes j)) i) (any_below (is_field bytes section offset i) k) (is_field bytes section offset i k)
-          (no_field ((section_header bytes i).info == section) (has_field (relocation bytes i k)) ((relocation bytes i k).offset == offset) none);
+          ∙ or_none (any_below (λ j. any_below (is_field bytes section offset j) (entry_count bytes j)) i)
+          (any_below (is_field bytes section offset i) k) (is_field bytes section offset i k)
+          (no_field ((section_header bytes i).info == section) (has_field (relocation bytes i k))
+          ((relocation bytes i k).offset == offset) none);
     }
 
 is_number : (x y : ℕ) → is_at (nat_cmp x) y ≡ (x == y)
 is_number x y = grind (arith, nat_tests)
 
-both_numbers : (a b section offset : ℕ) → b < 4294967296 → offset < 4294967296 → (field_key a b == field_key section offset) ≡ (a == section && b == offset)
+both_numbers : (a b section offset : ℕ) → b < 4294967296 → offset < 4294967296
+    → (field_key a b == field_key section offset) ≡ (a == section && b == offset)
 both_numbers a b section offset l g =
     elim (cases_Bool (field_key a b == field_key section offset)) [
       | inl same ↦
@@ -145,8 +168,10 @@ both_numbers a b section offset l g =
     ]
 
 -- two fields are one where their numbers are
-same_key : (a b section offset : ℕ) → b < 4294967296 → offset < 4294967296 → is_at (nat_cmp (field_key a b)) (field_key section offset) ≡ (a == section && b == offset)
-same_key a b section offset l g = is_number (field_key a b) (field_key section offset) ∙ both_numbers a b section offset l g
+same_key : (a b section offset : ℕ) → b < 4294967296 → offset < 4294967296
+    → is_at (nat_cmp (field_key a b)) (field_key section offset) ≡ (a == section && b == offset)
+same_key a b section offset l g = is_number (field_key a b) (field_key section offset)
+    ∙ both_numbers a b section offset l g
 
 with_field : (a b c : Bool) → b ≡ true → (a && c) ≡ ((a && b) && c)
 with_field a b c e = grind arith
@@ -155,7 +180,8 @@ or_more : (t e a : Bool) → cond t true (e || a) ≡ (e || (a || t))
 or_more t e a = grind arith
 
 -- an entry with one adds it
-pub more_taken : (bytes : List ℕ) (i k : ℕ) (old new : BTreeSet ℕ) → has_field (relocation bytes i k) ≡ true → (relocation bytes i k).offset < 4294967296
+pub more_taken : (bytes : List ℕ) (i k : ℕ) (old new : BTreeSet ℕ) → has_field (relocation bytes i k) ≡ true
+    → (relocation bytes i k).offset < 4294967296
     → Updates nat_cmp old new (field_key (section_header bytes i).info (relocation bytes i k).offset) true
     → AreTaken bytes i k old → AreTaken bytes i (suc k) new
 unfolding is_taken
@@ -165,23 +191,29 @@ more_taken bytes i k old new field here updates taken =
           updates.0 (field_key section offset)
           ∙ ap (λ t. cond t true (contains nat_cmp old (field_key section offset)))
           (same_key (section_header bytes i).info (relocation bytes i k).offset section offset here small
-          ∙ with_field ((section_header bytes i).info == section) (has_field (relocation bytes i k)) ((relocation bytes i k).offset == offset) field)
+          ∙ with_field ((section_header bytes i).info == section) (has_field (relocation bytes i k))
+          ((relocation bytes i k).offset == offset) field)
           ∙ ap (λ o. cond (is_field bytes section offset i k) true o) (taken.same section offset small)
-          ∙ or_more (is_field bytes section offset i k) (any_below (λ j. any_below (is_field bytes section offset j) (entry_count bytes j)) i) (any_below (is_field bytes section offset i) k);
+          ∙ or_more (is_field bytes section offset i k)
+          (any_below (λ j. any_below (is_field bytes section offset j) (entry_count bytes j)) i)
+          (any_below (is_field bytes section offset i) k);
     }
 
 regroup : (a b : Bool) → (a || (b || false)) ≡ ((a || b) || false)
 regroup a b = grind arith
 
 -- the entries of all earlier sections
-pub next_taken : (bytes : List ℕ) (i : ℕ) (fields : BTreeSet ℕ) → AreTaken bytes i (entry_count bytes i) fields → AreTaken bytes (suc i) 0 fields
+pub next_taken : (bytes : List ℕ) (i : ℕ) (fields : BTreeSet ℕ) → AreTaken bytes i (entry_count bytes i) fields
+    → AreTaken bytes (suc i) 0 fields
 unfolding is_taken
 next_taken bytes i fields taken =
     record {
       same = λ section offset small.
           taken.same section offset small
-          ∙ or_none (any_below (λ j. any_below (is_field bytes section offset j) (entry_count bytes j)) i) (any_below (is_field bytes section offset i) (entry_count bytes i)) false refl
-          ∙ regroup (any_below (λ j. any_below (is_field bytes section offset j) (entry_count bytes j)) i) (any_below (is_field bytes section offset i) (entry_count bytes i));
+          ∙ or_none (any_below (λ j. any_below (is_field bytes section offset j) (entry_count bytes j)) i)
+          (any_below (is_field bytes section offset i) (entry_count bytes i)) false refl
+          ∙ regroup (any_below (λ j. any_below (is_field bytes section offset j) (entry_count bytes j)) i)
+          (any_below (is_field bytes section offset i) (entry_count bytes i));
     }
 
 -- the empty set has those of no entry
@@ -191,15 +223,19 @@ none_taken bytes fields empty =
     record { same = λ section offset small. ap (list_any (is_at (nat_cmp (field_key section offset)))) empty }
 
 -- an entry before one that meets none isn't met
-pub none_before : (bytes : List ℕ) (section offset i k j m : ℕ) → is_met_before bytes section offset i k ≡ false → j < i → m < entry_count bytes j → is_met_by bytes section offset j m ≡ false
+pub none_before : (bytes : List ℕ) (section offset i k j m : ℕ) → is_met_before bytes section offset i k ≡ false → j < i
+    → m < entry_count bytes j → is_met_by bytes section offset j m ≡ false
 unfolding is_met_before
 none_before bytes section offset i k j m e jl ml =
     any_false (is_met_by bytes section offset j) (entry_count bytes j) m
     (any_false (λ x. any_below (is_met_by bytes section offset x) (entry_count bytes x)) i j
-    (or_false (any_below (λ x. any_below (is_met_by bytes section offset x) (entry_count bytes x)) i) (any_below (is_met_by bytes section offset i) k) e).0 jl) ml
+    (or_false (any_below (λ x. any_below (is_met_by bytes section offset x) (entry_count bytes x)) i)
+    (any_below (is_met_by bytes section offset i) k) e).0 jl) ml
 
-pub none_here : (bytes : List ℕ) (section offset i k m : ℕ) → is_met_before bytes section offset i k ≡ false → m < k → is_met_by bytes section offset i m ≡ false
+pub none_here : (bytes : List ℕ) (section offset i k m : ℕ) → is_met_before bytes section offset i k ≡ false → m < k
+    → is_met_by bytes section offset i m ≡ false
 unfolding is_met_before
 none_here bytes section offset i k m e ml =
     any_false (is_met_by bytes section offset i) k m
-    (or_false (any_below (λ x. any_below (is_met_by bytes section offset x) (entry_count bytes x)) i) (any_below (is_met_by bytes section offset i) k) e).1 ml
+    (or_false (any_below (λ x. any_below (is_met_by bytes section offset x) (entry_count bytes x)) i)
+    (any_below (is_met_by bytes section offset i) k) e).1 ml

@@ -23,7 +23,8 @@ none_below f (suc n) e i h =
     ]
 
 -- the first that there is, where none stands below it
-pub first_at : {X : Type 0} (f : ℕ → Option X) (n i : ℕ) (x : X) → first_below f i ≡ None → f i ≡ Some x → i < n → first_below f n ≡ Some x
+pub first_at : {X : Type 0} (f : ℕ → Option X) (n i : ℕ) (x : X) → first_below f i ≡ None → f i ≡ Some x → i < n
+    → first_below f n ≡ Some x
 first_at f zero i x none here h = absurd (omega arith)
 first_at f (suc n) i x none here h =
     elim (cases_lt i n) [

@@ -1,9 +1,13 @@
 -- The fields of a 32-bit object file (System V gABI, chapter 4), each a function of the whole file. All numbers
 -- are little-endian. A byte behind the file's end reads as 0, so that each field has a value in every file.
-use Rattle.std.specs.Prelude.{◌≡◌, ◌<◌, ℕ, ◌+◌, ◌*◌, ◌/◌, ◌%◌, Bool, true, not, ◌&&◌, ◌||◌, ◌==◌, nat_eq, nat_lt, nat_le, if◌then◌else◌, List, [], ◌∷◌, ◌++◌, take, drop, length, slice_index, bit_and, codes, Option, Some, None, unwrap_or}
+use Rattle.std.specs.Prelude.{◌≡◌, ◌<◌, ℕ, ◌+◌, ◌*◌, ◌/◌, ◌%◌, Bool, true, not, ◌&&◌, ◌||◌, ◌==◌}
+use Rattle.std.specs.Prelude.{nat_eq, nat_lt, nat_le, if◌then◌else◌, List, [], ◌∷◌, ◌++◌, take, drop}
+use Rattle.std.specs.Prelude.{length, slice_index, bit_and, codes, Option, Some, None, unwrap_or}
 use Rattle.std.specs.List.{list_any, before_first, starts_with}
 use Rattle.byteorder.specs.Endian.{little_number}
-use Rattle.elf32_object.specs.declared.elf.TheConstants.{E_SHOFF, E_SHNUM, E_SHSTRNDX, SHDR_SIZE, SYM_SIZE, REL_SIZE, SHT_NULL, SHT_PROGBITS, SHT_SYMTAB, SHT_STRTAB, SHT_NOBITS, SHT_REL, SHT_INIT_ARRAY, SHT_FINI_ARRAY, SHF_ALLOC}
+use Rattle.elf32_object.specs.declared.elf.TheConstants.{E_SHOFF, E_SHNUM, E_SHSTRNDX, SHDR_SIZE, SYM_SIZE, REL_SIZE}
+use Rattle.elf32_object.specs.declared.elf.TheConstants.{SHT_NULL, SHT_PROGBITS, SHT_SYMTAB, SHT_STRTAB, SHT_NOBITS}
+use Rattle.elf32_object.specs.declared.elf.TheConstants.{SHT_REL, SHT_INIT_ARRAY, SHT_FINI_ARRAY, SHF_ALLOC}
 use Rattle.elf32_object.specs.declared.types.SectionHeader.{SectionHeader}
 use Rattle.elf32_object.specs.declared.types.SymbolEntry.{SymbolEntry}
 use Rattle.elf32_object.specs.declared.types.Reloc.{Reloc}
@@ -135,7 +139,8 @@ symbol_entry_at bytes place =
     }
 
 unfoldable pub symbol_entry : List ℕ → ℕ → SymbolEntry
-symbol_entry bytes k = symbol_entry_at bytes ((section_header bytes (unwrap_or (symbol_table bytes) 0)).offset + SYM_SIZE * k)
+symbol_entry bytes k = symbol_entry_at bytes
+    ((section_header bytes (unwrap_or (symbol_table bytes) 0)).offset + SYM_SIZE * k)
 
 -- the symbols' names: the string table that the symbol table links to
 unfoldable pub symbol_names : List ℕ → List ℕ

@@ -1,17 +1,27 @@
 -- The rules that an object keeps, in the order in which they are tried: the first that is broken is the refusal.
 -- They are those of the System V gABI, chapter 4, and of its supplement for the Intel386, for relocatable files,
 -- with the limits of this reader.
-use Rattle.std.specs.Prelude.{ℕ, zero, suc, ◌+◌, ◌*◌, ◌/◌, ◌%◌, Bool, true, false, not, ◌&&◌, ◌||◌, ◌==◌, nat_eq, nat_lt, nat_le, if◌then◌else◌, List, [], ◌∷◌, length, slice_index, Option, None}
+use Rattle.std.specs.Prelude.{ℕ, zero, suc, ◌+◌, ◌*◌, ◌/◌, ◌%◌, Bool, true, false, not, ◌&&◌, ◌||◌, ◌==◌, nat_eq}
+use Rattle.std.specs.Prelude.{nat_lt, nat_le, if◌then◌else◌, List, [], ◌∷◌, length, slice_index, Option, None}
 use Rattle.std.specs.List.{list_any, starts_with}
-use Rattle.elf32_object.specs.declared.elf.TheConstants.{EI_CLASS, EI_DATA, EI_VERSION, ELFCLASS32, ELFDATA2LSB, EV_CURRENT, E_TYPE, E_MACHINE, E_VERSION, E_SHOFF, E_EHSIZE, E_SHENTSIZE, E_SHNUM, E_SHSTRNDX, ET_REL, EM_386, EHDR_SIZE, SHDR_SIZE, SHT_SYMTAB, SHT_RELA, SHT_NOBITS, SHF_TLS, SHF_COMPRESSED, SHN_UNDEF, SHN_ABS, SHN_COMMON, SYM_SIZE, REL_SIZE, R_386_32, R_386_PC32, R_386_PLT32}
+use Rattle.elf32_object.specs.declared.elf.TheConstants.{EI_CLASS, EI_DATA, EI_VERSION, ELFCLASS32, ELFDATA2LSB}
+use Rattle.elf32_object.specs.declared.elf.TheConstants.{EV_CURRENT, E_TYPE, E_MACHINE, E_VERSION, E_SHOFF, E_EHSIZE}
+use Rattle.elf32_object.specs.declared.elf.TheConstants.{E_SHENTSIZE, E_SHNUM, E_SHSTRNDX, ET_REL, EM_386, EHDR_SIZE}
+use Rattle.elf32_object.specs.declared.elf.TheConstants.{SHDR_SIZE, SHT_SYMTAB, SHT_RELA, SHT_NOBITS, SHF_TLS}
+use Rattle.elf32_object.specs.declared.elf.TheConstants.{SHF_COMPRESSED, SHN_UNDEF, SHN_ABS, SHN_COMMON, SYM_SIZE}
+use Rattle.elf32_object.specs.declared.elf.TheConstants.{REL_SIZE, R_386_32, R_386_PC32, R_386_PLT32}
 use Rattle.elf32_object.specs.declared.types.ObjectFault.{ObjectFault}
-use Rattle.elf32_object.specs.declared.types.ObjectFault.TheVariants.{NotElf, NotRel386, BadHeader, BadSection, BadSymbol, BadReloc, TooLarge}
+use Rattle.elf32_object.specs.declared.types.ObjectFault.TheVariants.{NotElf, NotRel386, BadHeader, BadSection}
+use Rattle.elf32_object.specs.declared.types.ObjectFault.TheVariants.{BadSymbol, BadReloc, TooLarge}
 use Rattle.elf32_object.specs.declared.types.Large.TheVariants as large
 use Rattle.elf32_object.specs.declared.types.SectionHeader.{SectionHeader}
 use Rattle.elf32_object.specs.declared.types.Reloc.{Reloc}
 use Rattle.elf32_object.specs.Below.{first_of, any_below, sum_below, count_below, first_below}
 use Rattle.elf32_object.specs.Rule.{◌orElse◌, first_broken}
-use Rattle.elf32_object.specs.Fields.{half_at, word_at, section_table, section_count, name_table, section_header, is_section, has_no_bytes, lies_in_file, ends_in, section_names, section_name, has_flag, is_loaded, is_symbol_table, is_string_table, symbol_count, symbol_entry, symbol_names, symbol_name, patches_loaded, entry_count, relocation}
+use Rattle.elf32_object.specs.Fields.{half_at, word_at, section_table, section_count, name_table, section_header}
+use Rattle.elf32_object.specs.Fields.{is_section, has_no_bytes, lies_in_file, ends_in, section_names, section_name}
+use Rattle.elf32_object.specs.Fields.{has_flag, is_loaded, is_symbol_table, is_string_table, symbol_count, symbol_entry}
+use Rattle.elf32_object.specs.Fields.{symbol_names, symbol_name, patches_loaded, entry_count, relocation}
 
 -- the rules that hold only of what passes a test
 abbrev pub only_where : Bool → Option ObjectFault → Option ObjectFault
@@ -55,7 +65,8 @@ is_alignment n =
 
 -- a loaded section ("Sections") is aligned, and neither thread-local nor compressed
 abbrev pub can_be_loaded : SectionHeader → Bool
-can_be_loaded header = is_alignment header.align && not (has_flag SHF_TLS header.flags) && not (has_flag SHF_COMPRESSED header.flags)
+can_be_loaded header = is_alignment header.align && not (has_flag SHF_TLS header.flags)
+    && not (has_flag SHF_COMPRESSED header.flags)
 
 -- every section: its name, its place in the file, and what a loaded one may be
 unfoldable pub place_fault : List ℕ → ℕ → Option ObjectFault
@@ -94,7 +105,8 @@ loaded_size bytes i = if is_loaded bytes i then (section_header bytes i).size el
 unfoldable pub content_fault : List ℕ → ℕ → Option ObjectFault
 content_fault bytes i =
     first_broken (
-    (not ((section_header bytes i).kind == SHT_RELA && is_loaded bytes (section_header bytes i).info) orElse BadSection i)
+    (not ((section_header bytes i).kind == SHT_RELA && is_loaded bytes (section_header bytes i).info) orElse BadSection
+    i)
     ∷ (nat_le (sum_below (loaded_size bytes) (suc i)) 8388608 orElse TooLarge large.Content) ∷ [])
 
 -- all rules of one section; section 0 is not looked at
@@ -134,7 +146,8 @@ meets a b = nat_lt a (b + 4) && nat_lt b (a + 4)
 -- whether an entry changes a field of this section that shares a byte with the four bytes at this offset
 abbrev pub is_met_by : List ℕ → ℕ → ℕ → ℕ → ℕ → Bool
 is_met_by bytes section offset i k =
-    (section_header bytes i).info == section && has_field (relocation bytes i k) && meets offset (relocation bytes i k).offset
+    (section_header bytes i).info == section && has_field (relocation bytes i k)
+    && meets offset (relocation bytes i k).offset
 
 -- whether an entry before entry k of relocation section i does: an entry of an earlier section, or an earlier
 -- entry of this one

@@ -1,7 +1,8 @@
 //! Checks the ELF header (System V gABI, chapter 4, "ELF Header").
 
 ghost use Rattle.std.specs.Prelude.{◌≡◌, ◌+◌, ◌*◌, ◌≤◌, ◌<◌, ◌&&◌, true, nat_le, nat_lt, length, OnOk, IfOk};
-ghost use Rattle.elf32_object.specs.Fields.{section_table, section_count, name_table, section_header, is_string_table, lies_in_file};
+ghost use Rattle.elf32_object.specs.Fields.{section_table, section_count, name_table};
+ghost use Rattle.elf32_object.specs.Fields.{section_header, is_string_table, lies_in_file};
 ghost use Rattle.elf32_object.specs.Below.{first_of};
 ghost use Rattle.elf32_object.specs.Rules.{is_relocatable_386, kind_fault, header_fault};
 ghost use Rattle.elf32_object.specs.Rule.{Finds};
@@ -64,7 +65,8 @@ fn has_section_table(bytes: &[u8]) -> bool
 fn has_name_table(bytes: &[u8]) -> bool
     requires whole { EHDR_SIZE ≤ length bytes.now }
     requires in_file { section_table bytes.now + SHDR_SIZE * section_count bytes.now ≤ length bytes.now }
-    ensures { result ≡ (nat_lt (name_table bytes.now) (section_count bytes.now) && is_string_table bytes.now (section_header bytes.now (name_table bytes.now))) }
+    ensures { result ≡ (nat_lt (name_table bytes.now) (section_count bytes.now)
+        && is_string_table bytes.now (section_header bytes.now (name_table bytes.now))) }
 {
     let names = half(bytes, E_SHSTRNDX);
     if names >= half(bytes, E_SHNUM) {

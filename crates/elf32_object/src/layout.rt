@@ -2,7 +2,10 @@
 
 ghost use Rattle.std.specs.Prelude.{◌≡◌, ◌+◌, ◌*◌, ◌≤◌, ◌<◌, ◌||◌, true, length};
 ghost use Rattle.elf32_object.specs.declared.elf.TheConstants.{SHDR_SIZE};
-ghost use Rattle.elf32_object.specs.Fields.{section_table, section_count, section_header, is_section, has_flag, has_no_bytes, lies_in_file, holds_program, ends_in, section_names, section_name, section_bytes, is_unwind_table, is_loaded, is_symbol_table, is_string_table, patches_loaded, entry_count, relocation};
+ghost use Rattle.elf32_object.specs.Fields.{section_table, section_count, section_header, is_section, has_flag};
+ghost use Rattle.elf32_object.specs.Fields.{has_no_bytes, lies_in_file, holds_program, ends_in, section_names};
+ghost use Rattle.elf32_object.specs.Fields.{section_name, section_bytes, is_unwind_table, is_loaded, is_symbol_table};
+ghost use Rattle.elf32_object.specs.Fields.{is_string_table, patches_loaded, entry_count, relocation};
 
 use crate::elf::{
     REL_SIZE, SHDR_SIZE, SHF_ALLOC, SHT_FINI_ARRAY, SHT_INIT_ARRAY, SHT_NOBITS, SHT_NULL,
@@ -158,7 +161,8 @@ impl<'a> Layout<'a> {
     #[tactic(auto, unfolding(crate::specs::Fields::section_bytes))]
     pub fn content(&self, i: u32) -> &'a [u8]
         requires within { i < self.now.count }
-        requires in_file { (has_no_bytes (section_header self.now.bytes.now i) || lies_in_file self.now.bytes.now (section_header self.now.bytes.now i)) ≡ true }
+        requires in_file { (has_no_bytes (section_header self.now.bytes.now i)
+            || lies_in_file self.now.bytes.now (section_header self.now.bytes.now i)) ≡ true }
         ensures { result.now ≡ section_bytes self.now.bytes.now i }
     {
         let header = self.header(i);
@@ -172,7 +176,8 @@ impl<'a> Layout<'a> {
     #[tactic(auto, unfolding(crate::specs::Fields::relocation))]
     pub fn entry(&self, i: u32, k: u32) -> Reloc
         requires within { i < self.now.count }
-        requires in_file { (section_header self.now.bytes.now i).offset + REL_SIZE * (k + 1) ≤ length self.now.bytes.now }
+        requires in_file { (section_header self.now.bytes.now i).offset + REL_SIZE * (k + 1)
+            ≤ length self.now.bytes.now }
         ensures { result ≡ relocation self.now.bytes.now i k }
     {
         entry_at(

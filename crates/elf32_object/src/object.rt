@@ -3,7 +3,9 @@
 ghost use Rattle.std.specs.Prelude.{◌≡◌, ℕ, ◌<◌, ◌≤◌, ◌+◌, ◌==◌, true, false, length, None, IfOk, IfErr, ◌≢◌};
 ghost use Rattle.elf32_object.specs.declared.types.Reloc.{Reloc};
 ghost use Rattle.elf32_object.specs.Rules.{object_fault, is_alignment, is_section_of_symbol, has_field, meets};
-ghost use Rattle.elf32_object.specs.Fields.{has_no_bytes, section_count, section_header, section_name, section_bytes, is_loaded, symbol_count, symbol_entry, symbol_name, relocations_below, IsRelocation};
+ghost use Rattle.elf32_object.specs.Fields.{has_no_bytes, section_count, section_header, section_name};
+ghost use Rattle.elf32_object.specs.Fields.{section_bytes, is_loaded, symbol_count, symbol_entry};
+ghost use Rattle.elf32_object.specs.Fields.{symbol_name, relocations_below, IsRelocation};
 
 use crate::elf::SHT_NOBITS;
 use crate::layout::Layout;
@@ -43,7 +45,8 @@ impl<'a> Object<'a> {
         self.layout.count
     }
 
-    /// A section. Its name, its bytes and whether it is loaded are as the definitions say, the other fields as in its header.
+    /// A section. Its name, its bytes and whether it is loaded are as the definitions say, the other fields as in its
+    /// header.
     pub fn section(&self, i: u32) -> Section<'a>
         requires above_null { 0 < i }
         requires within { i < section_count self.now }
@@ -92,7 +95,8 @@ impl<'a> Object<'a> {
         ensures section { result.section ≡ (symbol_entry self.now k).section }
         ensures short_name { length result.name.now ≤ 4096 }
         ensures known_section { is_section_of_symbol self.now result.section ≡ true }
-        ensures within { is_loaded self.now result.section ≡ true → result.value ≤ (section_header self.now result.section).size }
+        ensures within { is_loaded self.now result.section ≡ true
+            → result.value ≤ (section_header self.now result.section).size }
     {
         let entry = self.symbols.entry(k);
         Symbol {
@@ -123,7 +127,8 @@ impl<'a> Object<'a> {
         ensures filled { ((section_header self.now section).kind == SHT_NOBITS) ≡ false }
         ensures begins { result.offset < (section_header self.now section).size }
         ensures field { has_field result ≡ true → result.offset + 4 ≤ length (section_bytes self.now section) }
-        ensures apart { (j : ℕ) (other : Reloc) → j < k → IsRelocation self.now section j other → has_field result ≡ true → has_field other ≡ true → meets result.offset other.offset ≡ false }
+        ensures apart { (j : ℕ) (other : Reloc) → j < k → IsRelocation self.now section j other
+            → has_field result ≡ true → has_field other ≡ true → meets result.offset other.offset ≡ false }
     {
         relocation_of(&self.layout, &self.rows, section, k)
     }

@@ -12,9 +12,9 @@ use crate::table::rows_by_section;
 use crate::types::ObjectFault;
 use std::alloc::Global;
 
-/// Reads an object file. A file that breaks a rule is refused by the first one that it breaks, in this order: the file's
-/// size and kind, the ELF header, the sections by index, the symbols by index, the relocations by section and entry.
-/// `Memory` comes where memory runs out, and for nothing else.
+/// Reads an object file. A file that breaks a rule is refused by the first one that it breaks, in this order: the
+/// file's size and kind, the ELF header, the sections by index, the symbols by index, the relocations by section and
+/// entry. `Memory` comes where memory runs out, and for nothing else.
 #[tactic(auto, unfolding(crate::specs::Rules::object_fault))]
 pub fn read_object(alloc: Global, bytes: &[u8]) -> Result<Object<'_>, ObjectFault>
     ensures ok { IfOk result (λ object. (object ≡ bytes.now) × (object_fault bytes.now ≡ None)) }

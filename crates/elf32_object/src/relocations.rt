@@ -1,11 +1,13 @@
 //! Checks the relocations of loaded sections.
 
-ghost use Rattle.std.specs.Prelude.{◌≡◌, ℕ, ◌+◌, ◌*◌, ◌≤◌, ◌<◌, ◌&&◌, ◌||◌, not, true, false, suc, length, None, OnOk, IfErr};
+ghost use Rattle.std.specs.Prelude.{◌≡◌, ℕ, ◌+◌, ◌*◌, ◌≤◌, ◌<◌, ◌&&◌, ◌||◌, not};
+ghost use Rattle.std.specs.Prelude.{true, false, suc, length, None, OnOk, IfErr};
 ghost use Rattle.std.specs.Ordering.{nat_cmp};
 ghost use Rattle.std.specs.BTreeSet.{contains, Updates};
 ghost use Rattle.elf32_object.specs.Below.{first_below};
 ghost use Rattle.elf32_object.specs.Fields.{section_count, section_header, symbol_count, relocation, entry_count};
-ghost use Rattle.elf32_object.specs.Rules.{has_field, is_met_before, is_placed, relocation_fault, relocations_fault, section_fault};
+ghost use Rattle.elf32_object.specs.Rules.{has_field, is_met_before, is_placed};
+ghost use Rattle.elf32_object.specs.Rules.{relocation_fault, relocations_fault, section_fault};
 ghost use Rattle.elf32_object.specs.Rule.{Finds};
 ghost use Rattle.elf32_object.specs.inside.Taken.{field_key, AreTaken, IsFree, IsMet};
 
@@ -57,7 +59,8 @@ fn is_apart(
 #[tactic(auto, unfolding(crate::specs::Rules::is_placed))]
 fn is_placed(layout: &Layout<'_>, fields: &BTreeSet<u64>, i: u32, k: u32) -> bool
     requires within { i < layout.now.count }
-    requires in_file { (section_header layout.now.bytes.now i).offset + REL_SIZE * (k + 1) ≤ length layout.now.bytes.now }
+    requires in_file { (section_header layout.now.bytes.now i).offset + REL_SIZE * (k + 1)
+        ≤ length layout.now.bytes.now }
     requires target { (section_header layout.now.bytes.now i).info < layout.now.count }
     requires taken { AreTaken layout.now.bytes.now i k fields.now }
     ensures { result ≡ is_placed layout.now.bytes.now i k }
@@ -82,7 +85,8 @@ fn add_field(
     k: u32,
 ) -> Result<(), AllocError>
     requires within { i < layout.now.count }
-    requires in_file { (section_header layout.now.bytes.now i).offset + REL_SIZE * (k + 1) ≤ length layout.now.bytes.now }
+    requires in_file { (section_header layout.now.bytes.now i).offset + REL_SIZE * (k + 1)
+        ≤ length layout.now.bytes.now }
     requires taken { AreTaken layout.now.bytes.now i k fields.old }
     ensures { OnOk result (AreTaken layout.now.bytes.now i (suc k) fields.new) }
 {
@@ -104,7 +108,8 @@ fn check_relocation(
     k: u32,
 ) -> Result<(), ObjectFault>
     requires within { i < layout.now.count }
-    requires in_file { (section_header layout.now.bytes.now i).offset + REL_SIZE * (k + 1) ≤ length layout.now.bytes.now }
+    requires in_file { (section_header layout.now.bytes.now i).offset + REL_SIZE * (k + 1)
+        ≤ length layout.now.bytes.now }
     requires target { (section_header layout.now.bytes.now i).info < layout.now.count }
     requires symbols { symbols ≡ symbol_count layout.now.bytes.now }
     requires taken { AreTaken layout.now.bytes.now i k fields.old }
@@ -152,7 +157,8 @@ pub(crate) fn check_relocations(
 ) -> Result<(), ObjectFault>
     requires sections { first_below (section_fault layout.now.bytes.now) (section_count layout.now.bytes.now) ≡ None }
     requires symbols { symbols ≡ symbol_count layout.now.bytes.now }
-    ensures { Finds ObjectFault.Memory result (first_below (relocations_fault layout.now.bytes.now) (section_count layout.now.bytes.now)) }
+    ensures { Finds ObjectFault.Memory result
+        (first_below (relocations_fault layout.now.bytes.now) (section_count layout.now.bytes.now)) }
 {
     let mut fields = BTreeSet::new(alloc);
     for i in 0..layout.count {

@@ -2,8 +2,10 @@
 
 ghost use Rattle.std.specs.Prelude.{◌≡◌, ◌+◌, ◌≤◌, ◌<◌, ◌&&◌, ◌||◌, ◌==◌, ◌%◌, true, suc, nat_le, IfOk};
 ghost use Rattle.elf32_object.specs.Below.{sum_below, count_below, first_below};
-ghost use Rattle.elf32_object.specs.Fields.{section_count, section_header, has_no_bytes, lies_in_file, is_section, is_symbol_table, is_string_table, patches_loaded, entry_count, is_loaded};
-ghost use Rattle.elf32_object.specs.Rules.{only_where, is_alignment, can_be_loaded, place_fault, symbol_table_fault, relocation_section_fault, loaded_size, content_fault, section_fault};
+ghost use Rattle.elf32_object.specs.Fields.{section_count, section_header, has_no_bytes, lies_in_file, is_section};
+ghost use Rattle.elf32_object.specs.Fields.{is_symbol_table, is_string_table, patches_loaded, entry_count, is_loaded};
+ghost use Rattle.elf32_object.specs.Rules.{only_where, is_alignment, can_be_loaded, place_fault, symbol_table_fault};
+ghost use Rattle.elf32_object.specs.Rules.{relocation_section_fault, loaded_size, content_fault, section_fault};
 ghost use Rattle.elf32_object.specs.inside.Kept.{AreTotals};
 ghost use Rattle.elf32_object.specs.Rule.{Finds};
 
@@ -64,7 +66,8 @@ fn check_place(layout: &Layout<'_>, i: u32) -> Result<(), ObjectFault>
 fn links_to_strings(layout: &Layout<'_>, i: u32) -> bool
     requires { i < layout.now.count }
     ensures { result ≡ (is_section layout.now.bytes.now (section_header layout.now.bytes.now i).link
-        && is_string_table layout.now.bytes.now (section_header layout.now.bytes.now (section_header layout.now.bytes.now i).link)) }
+        && is_string_table layout.now.bytes.now
+        (section_header layout.now.bytes.now (section_header layout.now.bytes.now i).link)) }
 {
     let link = layout.header(i).link;
     layout.is_section(link) && is_string_table(layout.bytes, layout.header(link))
@@ -75,7 +78,9 @@ fn links_to_strings(layout: &Layout<'_>, i: u32) -> bool
 fn check_symbol_table(layout: &Layout<'_>, tables: u32, i: u32) -> Result<(), ObjectFault>
     requires within { i < layout.now.count }
     requires tables { tables ≡ count_below (is_symbol_table layout.now.bytes.now) (section_count layout.now.bytes.now) }
-    ensures { Finds ObjectFault.Memory result (only_where ((section_header layout.now.bytes.now i).kind == SHT_SYMTAB) (symbol_table_fault layout.now.bytes.now i)) }
+    ensures { Finds ObjectFault.Memory result
+        (only_where ((section_header layout.now.bytes.now i).kind == SHT_SYMTAB)
+        (symbol_table_fault layout.now.bytes.now i)) }
 {
     let header = layout.header(i);
     if header.kind != SHT_SYMTAB {
@@ -101,7 +106,8 @@ fn check_relocation_section(layout: &Layout<'_>, total: u32, i: u32) -> Result<u
     requires within { i < layout.now.count }
     requires total { total ≡ sum_below (entry_count layout.now.bytes.now) i }
     requires few { total ≤ 262144 }
-    ensures finds { Finds ObjectFault.Memory result (only_where (patches_loaded layout.now.bytes.now i) (relocation_section_fault layout.now.bytes.now i)) }
+    ensures finds { Finds ObjectFault.Memory result
+        (only_where (patches_loaded layout.now.bytes.now i) (relocation_section_fault layout.now.bytes.now i)) }
     ensures total { IfOk result (λ t. t ≡ sum_below (entry_count layout.now.bytes.now) (suc i)) }
     ensures few { IfOk result (λ t. t ≤ 262144) }
 {
@@ -135,8 +141,8 @@ fn loaded_size(layout: &Layout<'_>, i: u32) -> u32
     }
 }
 
-/// Checks that no relocations with addends change a loaded section, and how many bytes are loaded. `total` is what earlier
-/// sections load, and the answer that with this section's.
+/// Checks that no relocations with addends change a loaded section, and how many bytes are loaded. `total` is what
+/// earlier sections load, and the answer that with this section's.
 #[tactic(auto, unfolding(crate::specs::Rules::content_fault))]
 fn check_content(layout: &Layout<'_>, total: u64, i: u32) -> Result<u64, ObjectFault>
     requires within { i < layout.now.count }
@@ -204,7 +210,8 @@ fn symbol_tables(layout: &Layout<'_>) -> u32
 
 /// Checks the sections, in their order.
 pub(crate) fn check_sections(layout: &Layout<'_>) -> Result<(), ObjectFault>
-    ensures { Finds ObjectFault.Memory result (first_below (section_fault layout.now.bytes.now) (section_count layout.now.bytes.now)) }
+    ensures { Finds ObjectFault.Memory result
+        (first_below (section_fault layout.now.bytes.now) (section_count layout.now.bytes.now)) }
 {
     let tables = symbol_tables(layout);
     let mut totals = Totals {

@@ -1,8 +1,10 @@
 //! The symbol table of a file.
 
-ghost use Rattle.std.specs.Prelude.{◌≡◌, ◌+◌, ◌*◌, ◌/◌, ◌≤◌, ◌<◌, ◌||◌, not, nat_le, true, length, Some, None, unwrap_or};
+ghost use Rattle.std.specs.Prelude.{◌≡◌, ◌+◌, ◌*◌, ◌/◌, ◌≤◌, ◌<◌, ◌||◌, not};
+ghost use Rattle.std.specs.Prelude.{nat_le, true, length, Some, None, unwrap_or};
 ghost use Rattle.elf32_object.specs.declared.elf.TheConstants.{SYM_SIZE};
-ghost use Rattle.elf32_object.specs.Fields.{section_header, symbol_table, symbol_count, ends_in, symbol_entry, symbol_names, symbol_name, section_count, lies_in_file, is_loaded};
+ghost use Rattle.elf32_object.specs.Fields.{section_header, symbol_table, symbol_count, ends_in, symbol_entry};
+ghost use Rattle.elf32_object.specs.Fields.{symbol_names, symbol_name, section_count, lies_in_file, is_loaded};
 ghost use Rattle.elf32_object.specs.Below.{first_below};
 ghost use Rattle.elf32_object.specs.Rules.{section_fault, is_section_of_symbol, symbol_fault};
 ghost use Rattle.elf32_object.specs.Rule.{Finds};
@@ -72,7 +74,8 @@ fn symbols_in<'a>(layout: &Layout<'a>, i: u32) -> Symbols<'a>
     requires few { (section_header layout.now.bytes.now i).size / SYM_SIZE ≤ 65536 }
     requires in_file { lies_in_file layout.now.bytes.now (section_header layout.now.bytes.now i) ≡ true }
     requires link { (section_header layout.now.bytes.now i).link < layout.now.count }
-    requires names_in_file { lies_in_file layout.now.bytes.now (section_header layout.now.bytes.now (section_header layout.now.bytes.now i).link) ≡ true }
+    requires names_in_file { lies_in_file layout.now.bytes.now
+        (section_header layout.now.bytes.now (section_header layout.now.bytes.now i).link) ≡ true }
     ensures { result.bytes.now ≡ layout.now.bytes.now }
 {
     let header = layout.header(i);
@@ -145,7 +148,8 @@ fn check_symbol(layout: &Layout<'_>, symbols: &Symbols<'_>, k: u32) -> Result<()
 /// Checks the symbols, in their order.
 pub(crate) fn check_symbols(layout: &Layout<'_>, symbols: &Symbols<'_>) -> Result<(), ObjectFault>
     requires { symbols.now.bytes.now ≡ layout.now.bytes.now }
-    ensures { Finds ObjectFault.Memory result (first_below (symbol_fault layout.now.bytes.now) (symbol_count layout.now.bytes.now)) }
+    ensures { Finds ObjectFault.Memory result
+        (first_below (symbol_fault layout.now.bytes.now) (symbol_count layout.now.bytes.now)) }
 {
     for k in 1..symbols.count {
         check_symbol(layout, symbols, k)?;

@@ -1,6 +1,7 @@
 //! Lists the relocations of each section.
 
-ghost use Rattle.std.specs.Prelude.{◌≡◌, ℕ, ◌+◌, ◌<◌, ◌≤◌, ◌∷◌, [], ◌++◌, get_or, slice_set, length, OnOk, IfOk, vec_len, suc, None};
+ghost use Rattle.std.specs.Prelude.{◌≡◌, ℕ, ◌+◌, ◌<◌, ◌≤◌, ◌∷◌, [], ◌++◌, get_or};
+ghost use Rattle.std.specs.Prelude.{slice_set, length, OnOk, IfOk, vec_len, suc, None};
 ghost use Rattle.elf32_object.specs.Below.{each_below, first_below};
 ghost use Rattle.elf32_object.specs.Fields.{section_count, relocations_below, IsRelocation};
 ghost use Rattle.elf32_object.specs.Rules.{section_fault};
@@ -15,7 +16,8 @@ use std::alloc::{AllocError, Global};
 fn add_spot(rows: &mut Vec<Vec<Spot>>, section: u32, spot: Spot) -> Result<(), AllocError>
     requires { section < vec_len rows.old }
     ensures len { vec_len rows.new ≡ vec_len rows.old }
-    ensures added { OnOk result (rows_of rows.new.items ≡ slice_set (rows_of rows.old.items) section (get_or (rows_of rows.old.items) section [] ++ spot ∷ [])) }
+    ensures added { OnOk result (rows_of rows.new.items ≡ slice_set (rows_of rows.old.items) section
+        (get_or (rows_of rows.old.items) section [] ++ spot ∷ [])) }
 {
     rows[section as usize].push(spot)?;
     Ok(())
@@ -41,7 +43,8 @@ fn add_entries(
     count: u32,
 ) -> Result<(), AllocError>
     requires { section < vec_len rows.old }
-    ensures { OnOk result (rows_of rows.new.items ≡ slice_set (rows_of rows.old.items) section (get_or (rows_of rows.old.items) section [] ++ each_below (spot_of from) count)) }
+    ensures { OnOk result (rows_of rows.new.items ≡ slice_set (rows_of rows.old.items) section
+        (get_or (rows_of rows.old.items) section [] ++ each_below (spot_of from) count)) }
 {
     for index in 0..count {
         add_spot(rows, section, Spot { from, index })?;
@@ -66,7 +69,8 @@ pub(crate) fn rows_by_section(
     alloc: Global,
     layout: &Layout<'_>,
 ) -> Result<Vec<Vec<Spot>>, AllocError>
-    ensures { IfOk result (λ rows. AreRows layout.now.bytes.now (section_count layout.now.bytes.now) (rows_of rows.items)) }
+    ensures { IfOk result (λ rows. AreRows layout.now.bytes.now (section_count layout.now.bytes.now)
+        (rows_of rows.items)) }
 {
     let mut rows = empty_rows(alloc, layout.count)?;
     for i in 0..layout.count {

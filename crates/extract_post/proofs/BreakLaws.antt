@@ -1,5 +1,6 @@
 -- What the search for broken references tells.
-use Rattle.std.proofs.Common.{◌≡◌, ◌⊎◌, inl, inr, ℕ, Bool, true, false, not, ◌&&◌, List, length, Option, Some, None, refl, sym, ap, subst, ◌∙◌}
+use Rattle.std.proofs.Common.{◌≡◌, ◌⊎◌, inl, inr, ℕ, Bool, true, false, not, ◌&&◌, List}
+use Rattle.std.proofs.Common.{length, Option, Some, None, refl, sym, ap, subst, ◌∙◌}
 use Rattle.std.specs.List.{slice_get}
 use Rattle.std.proofs.lemmas.Bool.{and_parts, and_from, or_cases, or_left, or_right}
 use Rattle.std.proofs.lemmas.List.{length-map}
@@ -17,7 +18,8 @@ use Rattle.extract_post.specs.Extract.IsBroken.{OldData, NewData}
 use Rattle.extract_post.specs.inside.Closures.{HasDistinctNames, SeedReaches}
 use Rattle.i386_reloc.specs.Places.{place_of_target}
 use Rattle.extract_post.specs.inside.Found.{FirstBroken, Broken}
-use Rattle.extract_post.specs.inside.Marks.{marked, TellEach, TellWhich, tests, TellDataOf, AreBoth, AreApart, Stays, breaks_at, breaks, breaks_in, NoBreakBelow, FirstBreak}
+use Rattle.extract_post.specs.inside.Marks.{marked, TellEach, TellWhich, tests, TellDataOf, AreBoth, AreApart}
+use Rattle.extract_post.specs.inside.Marks.{Stays, breaks_at, breaks, breaks_in, NoBreakBelow, FirstBreak}
 use Rattle.i386_reloc.specs.NamedPlaces.{section_found}
 use Rattle.extract_post.proofs.Links.{option_cases, target_of_place, place_of_goes}
 use Rattle.extract_post.proofs.Tells.{tells_through}
@@ -38,9 +40,11 @@ tested_members pre post sections f members passed marks told tested both =
       len = both.len ∙ (ap length tested ∙ length-map sections (λ s. f s.name));
       each = λ i s at.
           let a : marked passed i ≡ f s.name = ap (λ m. marked m i) tested ∙ tests_at f sections i s at in
-          tells_through (marked marks i) (λ (x : (f s.name ≡ true) × Member pre post s.name). (x.1, x.0)) (λ (x : Member pre post s.name × (f s.name ≡ true)). (x.1, x.0))
+          tells_through (marked marks i) (λ (x : (f s.name ≡ true) × Member pre post s.name). (x.1, x.0))
+          (λ (x : Member pre post s.name × (f s.name ≡ true)). (x.1, x.0))
           (rw (both.each i)
-          (rw a (tells_and (f s.name ≡ true) (Member pre post s.name) (f s.name) (marked members i) (tells_test (f s.name)) (λ _. told i s at))));
+          (rw a (tells_and (f s.name ≡ true) (Member pre post s.name) (f s.name) (marked members i)
+          (tells_test (f s.name)) (λ _. told i s at))));
     }
 
 tells_and_not : (P Q : Type 0) (a b : Bool) → Tells a P → Tells b Q → Tells (a && not b) (P × (Q → ⊥))
@@ -55,9 +59,12 @@ tell_staying pre post members code marks told tested apart =
     record {
       len = apart.len ∙ (ap length tested ∙ length-map post (λ s. is_in is_code_class post s.name));
       each = λ i s at.
-          let a : marked code i ≡ is_in is_code_class post s.name = ap (λ m. marked m i) tested ∙ tests_at (is_in is_code_class post) post i s at in
+          let a : marked code i ≡ is_in is_code_class post s.name =
+          ap (λ m. marked m i) tested ∙ tests_at (is_in is_code_class post) post i s at in
           rw (apart.each i)
-          (rw a (tells_and_not (is_in is_code_class post s.name ≡ true) (Member pre post s.name) (is_in is_code_class post s.name) (marked members i) (tells_test (is_in is_code_class post s.name)) (told i s at)));
+          (rw a (tells_and_not (is_in is_code_class post s.name ≡ true) (Member pre post s.name)
+          (is_in is_code_class post s.name) (marked members i) (tells_test (is_in is_code_class post s.name))
+          (told i s at)));
     }
 
 -- data
@@ -73,22 +80,36 @@ tell_data_marks post test there_is starts marks tested told =
       start i s at = ap (λ m. marked m i) tested ∙ tests_at test post i s at
 
       there : (i : ℕ) (s : NormalSection) → slice_get post i ≡ Some s →
-          ((marked starts i ≡ true) ⊎ SeedReaches post starts s.name) × ((is_in is_read_only_class post s.name ≡ true) ⊎ (marked starts i ≡ true)) →
+          ((marked starts i ≡ true) ⊎ SeedReaches post starts s.name)
+          × ((is_in is_read_only_class post s.name ≡ true) ⊎ (marked starts i ≡ true)) →
           IsDataOf post test s.name
       there i s at (inl seeded, more) = Itself s.name (sym (start i s at) ∙ seeded)
       there i s at (inr it, inr seeded) = Itself s.name (sym (start i s at) ∙ seeded)
-      there i s at (inr it, inl constant) = Reached it.section.name s.name (sym (start it.place it.section it.at) ∙ it.seeded) it.reaches constant
+      there i s at (inr it, inl constant) = Reached it.section.name s.name
+          (sym (start it.place it.section it.at) ∙ it.seeded) it.reaches constant
 
       back : (i : ℕ) (s : NormalSection) → slice_get post i ≡ Some s → (name : List ℕ) → s.name ≡ name →
           IsDataOf post test name →
-          ((marked starts i ≡ true) ⊎ SeedReaches post starts name) × ((is_in is_read_only_class post name ≡ true) ⊎ (marked starts i ≡ true))
-      back i s at name same (Itself n passes) = let e : marked starts i ≡ true = start i s at ∙ (ap test same ∙ passes) in (inl e, inr e)
+          ((marked starts i ≡ true) ⊎ SeedReaches post starts name)
+          × ((is_in is_read_only_class post name ≡ true) ⊎ (marked starts i ≡ true))
+      back i s at name same (Itself n passes) = let e : marked starts i ≡ true =
+          start i s at ∙ (ap test same ∙ passes) in (inl e, inr e)
       back i s at name same (Reached from n passes reaches constant) =
           elim (option_cases (section_named post from)) [
-            | inl none ↦ absurd (let data_there = there_is from passes in let e : false ≡ true = rw none at data_there in cc)
+            | inl none ↦ absurd (let data_there = there_is from passes in let e : false ≡ true =
+                rw none at data_there in cc)
             | inr some ↦
-                let (k, at_k, is) = section_found post from some.0 some.1 in
-                (inr (record { place = k; section = some.0; at = at_k; seeded = start k some.0 at_k ∙ (ap test is ∙ passes); reaches = rw is reaches }), inl constant)
+                let (k, at_k, is) = section_found post from some.0 some.1 in (
+                  inr (record {
+                    place = k;
+                    section = some.0;
+                    at = at_k;
+                    seeded =
+                        start k some.0 at_k ∙ (ap test is ∙ passes);
+                    reaches = rw is reaches;
+                  }),
+                  inl constant,
+                )
           ]
 
 pub both_is_data : (pre post : List NormalSection) (name : List ℕ) → is_in_both is_data_class pre post name ≡ true →
@@ -123,11 +144,17 @@ module _ (pre post : List NormalSection) (distinct : HasDistinctNames post) (old
       elim (or_cases (marked old i && marked changed p) (marked new i && marked stays p) it) [
         | inl here ↦
             let parts = and_parts (marked old i) (marked changed p) here in
-            OldData s.name r t.name (true_tells (IsDataOf post (is_in_both is_data_class pre post) s.name) (marked old i) (old_told.each i s at) parts.0) (and_from (goes_to t.name r) (is_interior r) goes interior) (true_tells (IsChanged pre post t.name) (marked changed p) (changed_told.each p t at_t) parts.1)
+            OldData s.name r t.name (true_tells (IsDataOf post (is_in_both is_data_class pre post) s.name)
+            (marked old i) (old_told.each i s at) parts.0) (and_from (goes_to t.name r) (is_interior r) goes interior)
+            (true_tells (IsChanged pre post t.name) (marked changed p) (changed_told.each p t at_t) parts.1)
         | inr there ↦
             let parts = and_parts (marked new i) (marked stays p) there in
-            let staying : Stays pre post t.name = true_tells (Stays pre post t.name) (marked stays p) (stays_told.each p t at_t) parts.1 in
-            NewData s.name r t.name (true_tells (IsDataOf post (is_new_data pre post) s.name) (marked new i) (new_told.each i s at) parts.0) (three (is_in is_code_class post t.name) (goes_to t.name r) (is_interior r) staying.0 goes interior) staying.1
+            let staying : Stays pre post t.name = true_tells (Stays pre post t.name) (marked stays p)
+            (stays_told.each p t at_t) parts.1 in
+            NewData s.name r t.name (true_tells (IsDataOf post (is_new_data pre post) s.name) (marked new i)
+            (new_told.each i s at) parts.0)
+            (three (is_in is_code_class post t.name) (goes_to t.name r) (is_interior r) staying.0 goes interior)
+            staying.1
       ]
 
   record CodeAt (r : Ref) (code : List ℕ) : Type 0 where
@@ -144,50 +171,76 @@ module _ (pre post : List NormalSection) (distinct : HasDistinctNames post) (old
         | inr some ↦
             let (k, at_k, same) = section_found post code some.0 some.1 in
             let goes_k : goes_to_target some.0.name r.target ≡ true = rw same goes in
-            record { place = k; section = some.0; at = at_k; same = same; target = place_of_goes post distinct r.target k some.0 at_k goes_k }
+            record {
+              place = k;
+              section = some.0;
+              at = at_k;
+              same = same;
+              target =
+                  place_of_goes post distinct r.target k some.0 at_k goes_k;
+            }
       ]
 
   breaks_back : (i : ℕ) (s : NormalSection) → slice_get post i ≡ Some s → (x : List ℕ × Ref) → s.name ≡ x.0 →
       IsBroken pre post x →
-      (is_interior x.1 ≡ true) × (breaks_at (marked old i) (marked new i) changed stays (place_of_target post x.1.target) ≡ true)
+      (is_interior x.1 ≡ true) × (breaks_at (marked old i) (marked new i) changed stays
+      (place_of_target post x.1.target) ≡ true)
   breaks_back i s at x same (OldData name r code is goes changed_is) =
       let parts = and_parts (goes_to code r) (is_interior r) goes in
-      let there = code_at r code (and_parts (is_in is_code_class pre code) (is_in is_code_class post code) changed_is.1).1 parts.0 in
+      let there = code_at r code (and_parts (is_in is_code_class pre code)
+      (is_in is_code_class post code) changed_is.1).1 parts.0 in
       let k = there.place in
-      let a : marked old i ≡ true = tells_true (IsDataOf post (is_in_both is_data_class pre post) s.name) (marked old i) (old_told.each i s at) (subst (IsDataOf post (is_in_both is_data_class pre post)) (sym same) is) in
-      let b : marked changed k ≡ true = tells_true (IsChanged pre post there.section.name) (marked changed k) (changed_told.each k there.section there.at) (subst (IsChanged pre post) (sym there.same) changed_is) in
-      (parts.1, rw there.target (or_left (marked old i && marked changed k) (marked new i && marked stays k) (and_from (marked old i) (marked changed k) a b)))
+      let a : marked old i ≡ true = tells_true (IsDataOf post (is_in_both is_data_class pre post) s.name) (marked old i)
+      (old_told.each i s at) (subst (IsDataOf post (is_in_both is_data_class pre post)) (sym same) is) in
+      let b : marked changed k ≡ true = tells_true (IsChanged pre post there.section.name) (marked changed k)
+      (changed_told.each k there.section there.at) (subst (IsChanged pre post) (sym there.same) changed_is) in (
+        parts.1,
+        rw there.target (or_left (marked old i && marked changed k) (marked new i && marked stays k)
+            (and_from (marked old i) (marked changed k) a b)),
+      )
   breaks_back i s at x same (NewData name r code is goes stays_is) =
       let parts = three_parts (is_in is_code_class post code) (goes_to code r) (is_interior r) goes in
       let there = code_at r code parts.0 parts.1 in
       let k = there.place in
       let stay : Stays pre post code = (parts.0, stays_is) in
-      let a : marked new i ≡ true = tells_true (IsDataOf post (is_new_data pre post) s.name) (marked new i) (new_told.each i s at) (subst (IsDataOf post (is_new_data pre post)) (sym same) is) in
-      let b : marked stays k ≡ true = tells_true (Stays pre post there.section.name) (marked stays k) (stays_told.each k there.section there.at) (subst (Stays pre post) (sym there.same) stay) in
-      (parts.2, rw there.target (or_right (marked old i && marked changed k) (marked new i && marked stays k) (and_from (marked new i) (marked stays k) a b)))
+      let a : marked new i ≡ true = tells_true (IsDataOf post (is_new_data pre post) s.name) (marked new i)
+      (new_told.each i s at) (subst (IsDataOf post (is_new_data pre post)) (sym same) is) in
+      let b : marked stays k ≡ true = tells_true (Stays pre post there.section.name) (marked stays k)
+      (stays_told.each k there.section there.at) (subst (Stays pre post) (sym there.same) stay) in (
+        parts.2,
+        rw there.target (or_right (marked old i && marked changed k) (marked new i && marked stays k)
+            (and_from (marked new i) (marked stays k) a b)),
+      )
 
   break_tells : (i : ℕ) (s : NormalSection) → slice_get post i ≡ Some s → (r : Ref) →
       Tells (breaks post (marked old i) (marked new i) changed stays r) (IsBroken pre post (s.name, r))
   break_tells i s at r =
       tells_both_ways (IsBroken pre post (s.name, r)) (breaks post (marked old i) (marked new i) changed stays r)
-      (λ it. let parts = and_parts (is_interior r) (breaks_at (marked old i) (marked new i) changed stays (place_of_target post r.target)) it in breaks_there i s at r (place_of_target post r.target) refl parts.0 parts.1)
-      (λ broken. let parts = breaks_back i s at (s.name, r) refl broken in and_from (is_interior r) (breaks_at (marked old i) (marked new i) changed stays (place_of_target post r.target)) parts.0 parts.1)
+      (λ it. let parts = and_parts (is_interior r)
+      (breaks_at (marked old i) (marked new i) changed stays (place_of_target post r.target)) it in
+      breaks_there i s at r (place_of_target post r.target) refl parts.0 parts.1)
+      (λ broken. let parts = breaks_back i s at (s.name, r) refl broken in
+      and_from (is_interior r) (breaks_at (marked old i) (marked new i) changed stays (place_of_target post r.target))
+      parts.0 parts.1)
 
   no_break : (i : ℕ) (s : NormalSection) → slice_get post i ≡ Some s →
       breaks_in post old new changed stays i s ≡ None → NoneIs (λ r. IsBroken pre post (s.name, r)) s.refs
   no_break i s at none =
-      none_of_test (breaks post (marked old i) (marked new i) changed stays) (λ r. IsBroken pre post (s.name, r)) (break_tells i s at) s.refs none
+      none_of_test (breaks post (marked old i) (marked new i) changed stays) (λ r. IsBroken pre post (s.name, r))
+      (break_tells i s at) s.refs none
 
   found_break : (i k : ℕ) → NoBreakBelow post old new changed stays i → (s : NormalSection) →
       slice_get post i ≡ Some s → breaks_in post old new changed stays i s ≡ Some k → FirstBroken pre post i k
   found_break i k none s at found =
-      let (r, at_r, first) = first_of_test (breaks post (marked old i) (marked new i) changed stays) (λ r. IsBroken pre post (s.name, r)) (break_tells i s at) s.refs k found in
+      let (r, at_r, first) = first_of_test (breaks post (marked old i) (marked new i) changed stays)
+      (λ r. IsBroken pre post (s.name, r)) (break_tells i s at) s.refs k found in
       record {
         section = s;
         reference = r;
         at = at;
         at_reference = at_r;
-        first = first_placed (IsBroken pre post) post i s r at (λ j t below at_j. no_break j t at_j (none j t below at_j)) first;
+        first = first_placed (IsBroken pre post) post i s r at
+            (λ j t below at_j. no_break j t at_j (none j t below at_j)) first;
       }
 
   pub tell_broken : (found : Option (ℕ × ℕ)) → FirstBreak post old new changed stays found → Broken pre post found

@@ -1,5 +1,6 @@
 -- The function `extracted` gives the one answer of the relation `Extracts`.
-use Rattle.std.proofs.Common.{◌≡◌, ◌⊎◌, inl, inr, ℕ, Bool, true, false, not, ◌&&◌, ◌||◌, List, [], ◌∷◌, ◌++◌, find, Option, Some, None, Result, Decides, refl, sym, ap, subst, ◌∙◌}
+use Rattle.std.proofs.Common.{◌≡◌, ◌⊎◌, inl, inr, ℕ, Bool, true, false, not, ◌&&◌, ◌||◌, List, [], ◌∷◌}
+use Rattle.std.proofs.Common.{◌++◌, find, Option, Some, None, Result, Decides, refl, sym, ap, subst, ◌∙◌}
 use Rattle.std.specs.List.{list_any}
 use Rattle.std.specs.Cmp.Lexicographic.{bytes_decides}
 use Rattle.std.proofs.lemmas.Bool.{cases_Bool, and_parts, and_from, or_cases, or_left, or_right}
@@ -12,24 +13,31 @@ use Rattle.i386_reloc.specs.declared.types.Ref.{Ref}
 use Rattle.i386_reloc.specs.declared.types.NormalSection.{NormalSection}
 use Rattle.i386_reloc.specs.Classes.{is_code_class}
 use Rattle.i386_reloc.specs.Normal.{same_bytes, section_named}
-use Rattle.i386_reloc.specs.Reaches.{is_constant_class, is_read_only_class, is_data_class, is_in, some_reference, goes_to, is_interior, refers_on, Reaches}
+use Rattle.i386_reloc.specs.Reaches.{is_constant_class, is_read_only_class, is_data_class, is_in}
+use Rattle.i386_reloc.specs.Reaches.{some_reference, goes_to, is_interior, refers_on, Reaches}
 use Rattle.i386_reloc.specs.Reaches.Reaches.{Refers, Further}
 use Rattle.section_equal.specs.Same.{same_in}
 use Rattle.extract_post.specs.declared.types.Extract.{Extract}
-use Rattle.extract_post.specs.Members.{is_there, is_changed_read_only, is_in_both, is_new_data, points_into, PointsInto, ReachesChanged, Differs, Tied, Member, IsChanged, IsAdded, IsDropped, IsCarried}
+use Rattle.extract_post.specs.Members.{is_there, is_changed_read_only, is_in_both, is_new_data}
+use Rattle.extract_post.specs.Members.{points_into, PointsInto, ReachesChanged, Differs, Tied}
+use Rattle.extract_post.specs.Members.{Member, IsChanged, IsAdded, IsDropped, IsCarried}
 use Rattle.extract_post.specs.Members.PointsInto.{Itself as PointsItself, Through as PointsThrough}
 use Rattle.extract_post.specs.Members.ReachesChanged.{InPre as ReachesInPre, InPost as ReachesInPost}
 use Rattle.extract_post.specs.Members.Differs.{Itself as DiffersItself, Through as DiffersThrough}
 use Rattle.extract_post.specs.Members.Tied.{InPre, InPost, Back}
 use Rattle.extract_post.specs.Members.Member.{Differing, OnlyInPost, Joined}
-use Rattle.extract_post.specs.Extract.{Picks, IsFirst, NoneIs, other_class, DataDiffers, IsDataOf, IsBroken, places, IsExtract, Extracts}
+use Rattle.extract_post.specs.Extract.{Picks, IsFirst, NoneIs, other_class, DataDiffers}
+use Rattle.extract_post.specs.Extract.{IsDataOf, IsBroken, places, IsExtract, Extracts}
 use Rattle.extract_post.specs.Extract.Picks.{Ends, Takes, Leaves}
 use Rattle.extract_post.specs.Extract.IsFirst.{Here, Later}
 use Rattle.extract_post.specs.Extract.DataDiffers.{OtherClass, Itself as DataItself, Through as DataThrough}
 use Rattle.extract_post.specs.Extract.IsDataOf.{Itself as OfItself, Reached as OfReached}
 use Rattle.extract_post.specs.Extract.IsBroken.{OldData, NewData}
 use Rattle.extract_post.specs.Extract.Extracts.{OtherData, Broken, NoMember, Extracted}
-use Rattle.extract_post.specs.Extracted.{leads, names_of, reaches, reaches_changed_in, reaches_changed, is_first_member, points_on, ties_in, is_tied, is_member, is_changed, is_added, is_dropped, is_carried, data_differs, is_data_of, is_broken, picked, lists_of, extracted_with, extracted_by, extracted}
+use Rattle.extract_post.specs.Extracted.{leads, names_of, reaches, reaches_changed_in, reaches_changed}
+use Rattle.extract_post.specs.Extracted.{is_first_member, points_on, ties_in, is_tied, is_member, is_changed}
+use Rattle.extract_post.specs.Extracted.{is_added, is_dropped, is_carried, data_differs, is_data_of, is_broken}
+use Rattle.extract_post.specs.Extracted.{picked, lists_of, extracted_with, extracted_by, extracted}
 use Rattle.extract_post.proofs.OneAnswer.{one_result}
 
 -- ---- tests that decide facts
@@ -41,7 +49,11 @@ of_test : (b : Bool) → Decides b (b ≡ true)
 of_test b = (λ is. is, λ is. is)
 
 both : {P Q : Type 0} (a b : Bool) → Decides a P → Decides b Q → Decides (a && b) (P × Q)
-both a b p q = (λ is. let parts = and_parts a b is in (p.0 parts.0, q.0 parts.1), λ (x : _ × _). and_from a b (p.1 x.0) (q.1 x.1))
+both a b p q = (
+  λ is. let parts = and_parts a b is in
+      (p.0 parts.0, q.0 parts.1),
+  λ (x : _ × _). and_from a b (p.1 x.0) (q.1 x.1),
+)
 
 either : {P Q : Type 0} (a b : Bool) → Decides a P → Decides b Q → Decides (a || b) (P ⊎ Q)
 either {P} {Q} a b p q = (
@@ -89,16 +101,19 @@ in_names wanted (s ∷ rest) name is =
       | inl same ↦ or_left (same_bytes s.name name) (list_any (λ other. same_bytes other name) (names_of rest)) same
       | inr apart ↦
           let later : is_in wanted rest name ≡ true = rw apart at is in
-          or_right (same_bytes s.name name) (list_any (λ other. same_bytes other name) (names_of rest)) (in_names wanted rest name later)
+          or_right (same_bytes s.name name) (list_any (λ other. same_bytes other name) (names_of rest))
+          (in_names wanted rest name later)
     ]
 
 among_left : (xs ys : List (List ℕ)) (name : List ℕ) → IsAmong xs name → IsAmong (xs ++ ys) name
 among_left xs ys name is =
-    list_any-append (λ other. same_bytes other name) xs ys ∙ or_left (list_any (λ other. same_bytes other name) xs) (list_any (λ other. same_bytes other name) ys) is
+    list_any-append (λ other. same_bytes other name) xs ys
+    ∙ or_left (list_any (λ other. same_bytes other name) xs) (list_any (λ other. same_bytes other name) ys) is
 
 among_right : (xs ys : List (List ℕ)) (name : List ℕ) → IsAmong ys name → IsAmong (xs ++ ys) name
 among_right xs ys name is =
-    list_any-append (λ other. same_bytes other name) xs ys ∙ or_right (list_any (λ other. same_bytes other name) xs) (list_any (λ other. same_bytes other name) ys) is
+    list_any-append (λ other. same_bytes other name) xs ys
+    ∙ or_right (list_any (λ other. same_bytes other name) xs) (list_any (λ other. same_bytes other name) ys) is
 
 -- ---- steps, one after another
 
@@ -111,7 +126,8 @@ leads_step step (x ∷ xs) a b is =
 around : (step : List ℕ → List ℕ → Bool) (xs : List (List ℕ)) (x a b : List ℕ) → leads step xs a x ≡ true →
     leads step xs x b ≡ true → leads step (x ∷ xs) a b ≡ true
 around step xs x a b to from =
-    or_right (leads step xs a b) (leads step xs a x && leads step xs x b) (and_from (leads step xs a x) (leads step xs x b) to from)
+    or_right (leads step xs a b) (leads step xs a x && leads step xs x b)
+    (and_from (leads step xs a x) (leads step xs x b) to from)
 
 -- what leads to or from the first name does so by the others alone
 to_first : (step : List ℕ → List ℕ → Bool) (xs : List (List ℕ)) (x a : List ℕ) → leads step (x ∷ xs) a x ≡ true →
@@ -144,7 +160,8 @@ leads_through step (x ∷ xs) a m b among to from =
           elim (or_cases (leads step xs a m) (leads step xs a x && leads step xs x m) to) [
             | inl to_m ↦
                 elim (or_cases (leads step xs m b) (leads step xs m x && leads step xs x b) from) [
-                  | inl from_m ↦ or_left (leads step xs a b) (leads step xs a x && leads step xs x b) (leads_through step xs a m b later to_m from_m)
+                  | inl from_m ↦ or_left (leads step xs a b) (leads step xs a x && leads step xs x b)
+                      (leads_through step xs a m b later to_m from_m)
                   | inr by_x ↦
                       let parts = and_parts (leads step xs m x) (leads step xs x b) by_x in
                       around step xs x a b (leads_through step xs a m x later to_m parts.0) parts.1
@@ -180,7 +197,9 @@ reaches_on sections a m b to (Further x n y from refers) = Further a n y (reache
 refers_names : (sections : List NormalSection) (name other : List ℕ) → refers_on sections name other ≡ true →
     IsAmong (names_of sections) other
 refers_names sections name other refers =
-    in_names is_constant_class sections other (and_parts (is_in is_constant_class sections other) (some_reference (goes_to other) (section_named sections name)) refers).0
+    in_names is_constant_class sections other
+    (and_parts (is_in is_constant_class sections other)
+    (some_reference (goes_to other) (section_named sections name)) refers).0
 
 reaches_names : (sections : List NormalSection) (name other : List ℕ) → Reaches sections name other →
     IsAmong (names_of sections) other
@@ -190,26 +209,33 @@ reaches_names sections name other (Further x m y to refers) = refers_names secti
 reaches_back : (sections : List NormalSection) (a b : List ℕ) → Reaches sections a b → reaches sections a b ≡ true
 reaches_back sections a b (Refers x y refers) = leads_step (refers_on sections) (names_of sections) x y refers
 reaches_back sections a b (Further x m y to refers) =
-    leads_through (refers_on sections) (names_of sections) x m y (reaches_names sections x m to) (reaches_back sections x m to)
+    leads_through (refers_on sections) (names_of sections) x m y (reaches_names sections x m to)
+    (reaches_back sections x m to)
     (leads_step (refers_on sections) (names_of sections) m y refers)
 
 reaches_is : (sections : List NormalSection) (a b : List ℕ) → Decides (reaches sections a b) (Reaches sections a b)
 reaches_is sections a b = (
-  leads_sound (refers_on sections) (Reaches sections) (λ x y refers. Refers x y refers) (λ x m y to from. reaches_on sections x m y to from) (names_of sections) a b,
+  leads_sound (refers_on sections) (Reaches sections) (λ x y refers. Refers x y refers)
+      (λ x m y to from. reaches_on sections x m y to from) (names_of sections) a b,
   reaches_back sections a b,
 )
 
 changed_in_is : (of pre post : List NormalSection) (name : List ℕ) →
-    Decides (reaches_changed_in of pre post name) ((other : List ℕ) × (Reaches of name other × (is_changed_read_only of pre post other ≡ true)))
+    Decides (reaches_changed_in of pre post name) ((other : List ℕ)
+    × (Reaches of name other × (is_changed_read_only of pre post other ≡ true)))
 changed_in_is of pre post name =
-    some_of {P = λ other. Reaches of name other × (is_changed_read_only of pre post other ≡ true)} (λ other. reaches of name other && is_changed_read_only of pre post other) (names_of of)
-    (λ other. both (reaches of name other) (is_changed_read_only of pre post other) (reaches_is of name other) (of_test (is_changed_read_only of pre post other)))
+    some_of {P = λ other. Reaches of name other × (is_changed_read_only of pre post other ≡ true)}
+    (λ other. reaches of name other && is_changed_read_only of pre post other) (names_of of)
+    (λ other. both (reaches of name other) (is_changed_read_only of pre post other) (reaches_is of name other)
+    (of_test (is_changed_read_only of pre post other)))
     (λ other x. reaches_names of name other x.0)
 
 reaches_changed_is : (pre post : List NormalSection) (name : List ℕ) →
     Decides (reaches_changed pre post name) (ReachesChanged pre post name)
 reaches_changed_is pre post name =
-    through (reaches_changed pre post name) there back (either (reaches_changed_in pre pre post name) (reaches_changed_in post pre post name) (changed_in_is pre pre post name) (changed_in_is post pre post name)) where
+    through (reaches_changed pre post name) there back
+    (either (reaches_changed_in pre pre post name) (reaches_changed_in post pre post name)
+    (changed_in_is pre pre post name) (changed_in_is post pre post name)) where
       At : List NormalSection → Type 0
       At of = (other : List ℕ) × (Reaches of name other × (is_changed_read_only of pre post other ≡ true))
 
@@ -224,16 +250,22 @@ reaches_changed_is pre post name =
 -- ---- members
 
 abbrev IsFirstMember : List NormalSection → List NormalSection → List ℕ → Type 0
-IsFirstMember pre post name = Differs pre post name ⊎ ((is_in is_code_class post name && not (is_there pre name)) ≡ true)
+IsFirstMember pre post name = Differs pre post name
+    ⊎ ((is_in is_code_class post name && not (is_there pre name)) ≡ true)
 
 differs_is : (pre post : List NormalSection) (name : List ℕ) →
-    Decides (is_in_both is_code_class pre post name && (not (same_in pre post name) || reaches_changed pre post name)) (Differs pre post name)
+    Decides (is_in_both is_code_class pre post name && (not (same_in pre post name) || reaches_changed pre post name))
+    (Differs pre post name)
 differs_is pre post name =
-    through (is_in_both is_code_class pre post name && (not (same_in pre post name) || reaches_changed pre post name)) there back
-    (both (is_in_both is_code_class pre post name) (not (same_in pre post name) || reaches_changed pre post name) (of_test (is_in_both is_code_class pre post name))
-    (either (not (same_in pre post name)) (reaches_changed pre post name) (of_test (not (same_in pre post name))) (reaches_changed_is pre post name))) where
+    through (is_in_both is_code_class pre post name && (not (same_in pre post name) || reaches_changed pre post name))
+    there back
+    (both (is_in_both is_code_class pre post name) (not (same_in pre post name) || reaches_changed pre post name)
+    (of_test (is_in_both is_code_class pre post name))
+    (either (not (same_in pre post name)) (reaches_changed pre post name) (of_test (not (same_in pre post name)))
+    (reaches_changed_is pre post name))) where
       At : Type 0
-      At = (is_in_both is_code_class pre post name ≡ true) × ((not (same_in pre post name) ≡ true) ⊎ ReachesChanged pre post name)
+      At = (is_in_both is_code_class pre post name ≡ true)
+          × ((not (same_in pre post name) ≡ true) ⊎ ReachesChanged pre post name)
 
       there : At → Differs pre post name
       there (in_both, inl other) = DiffersItself name in_both other
@@ -246,13 +278,18 @@ differs_is pre post name =
 first_member_is : (pre post : List NormalSection) (name : List ℕ) →
     Decides (is_first_member pre post name) (IsFirstMember pre post name)
 first_member_is pre post name =
-    either (is_in_both is_code_class pre post name && (not (same_in pre post name) || reaches_changed pre post name)) (is_in is_code_class post name && not (is_there pre name)) (differs_is pre post name) (of_test (is_in is_code_class post name && not (is_there pre name)))
+    either (is_in_both is_code_class pre post name && (not (same_in pre post name) || reaches_changed pre post name))
+    (is_in is_code_class post name && not (is_there pre name)) (differs_is pre post name)
+    (of_test (is_in is_code_class post name && not (is_there pre name)))
 
 first_member_names : (pre post : List NormalSection) (name : List ℕ) → IsFirstMember pre post name →
     IsAmong (names_of post) name
-first_member_names pre post name (inl (DiffersItself n in_both other)) = in_names is_code_class post n (and_parts (is_in is_code_class pre n) (is_in is_code_class post n) in_both).1
-first_member_names pre post name (inl (DiffersThrough n in_both to)) = in_names is_code_class post n (and_parts (is_in is_code_class pre n) (is_in is_code_class post n) in_both).1
-first_member_names pre post name (inr alone) = in_names is_code_class post name (and_parts (is_in is_code_class post name) (not (is_there pre name)) alone).0
+first_member_names pre post name (inl (DiffersItself n in_both other)) =
+    in_names is_code_class post n (and_parts (is_in is_code_class pre n) (is_in is_code_class post n) in_both).1
+first_member_names pre post name (inl (DiffersThrough n in_both to)) =
+    in_names is_code_class post n (and_parts (is_in is_code_class pre n) (is_in is_code_class post n) in_both).1
+first_member_names pre post name (inr alone) = in_names is_code_class post name
+    (and_parts (is_in is_code_class post name) (not (is_there pre name)) alone).0
 
 points_on_is : (sections : List NormalSection) (a b : List ℕ) →
     Decides (points_on sections a b) (PointsInto sections a b)
@@ -261,7 +298,8 @@ points_on_is sections a b =
     (either (points_into sections a b) (list_any test (names_of sections)) (of_test (points_into sections a b))
     (some_of {P = At} test (names_of sections)
     (λ m. both (reaches sections a m && is_in is_read_only_class sections m) (points_into sections m b)
-    (both (reaches sections a m) (is_in is_read_only_class sections m) (reaches_is sections a m) (of_test (is_in is_read_only_class sections m)))
+    (both (reaches sections a m) (is_in is_read_only_class sections m) (reaches_is sections a m)
+    (of_test (is_in is_read_only_class sections m)))
     (of_test (points_into sections m b)))
     (λ m x. reaches_names sections a m x.0.0))) where
       test : List ℕ → Bool
@@ -279,15 +317,21 @@ points_on_is sections a b =
       back (PointsThrough x m y to is itself) = inr (m, ((to, is), itself))
 
 points_names : (sections : List NormalSection) (a b : List ℕ) → PointsInto sections a b → IsAmong (names_of sections) b
-points_names sections a b (PointsItself x y it) = in_names is_code_class sections y (and_parts (is_in is_code_class sections y) (some_reference (λ r. goes_to y r && is_interior r) (section_named sections x)) it).0
-points_names sections a b (PointsThrough x m y to is it) = in_names is_code_class sections y (and_parts (is_in is_code_class sections y) (some_reference (λ r. goes_to y r && is_interior r) (section_named sections m)) it).0
+points_names sections a b (PointsItself x y it) = in_names is_code_class sections y
+    (and_parts (is_in is_code_class sections y)
+    (some_reference (λ r. goes_to y r && is_interior r) (section_named sections x)) it).0
+points_names sections a b (PointsThrough x m y to is it) =
+    in_names is_code_class sections y
+    (and_parts (is_in is_code_class sections y)
+    (some_reference (λ r. goes_to y r && is_interior r) (section_named sections m)) it).0
 
 abbrev TiesIn : List NormalSection → List ℕ → List ℕ → Type 0
 TiesIn sections a b = (is_in is_code_class sections a ≡ true) × PointsInto sections a b
 
 ties_in_is : (sections : List NormalSection) (a b : List ℕ) → Decides (ties_in sections a b) (TiesIn sections a b)
 ties_in_is sections a b =
-    both (is_in is_code_class sections a) (points_on sections a b) (of_test (is_in is_code_class sections a)) (points_on_is sections a b)
+    both (is_in is_code_class sections a) (points_on sections a b) (of_test (is_in is_code_class sections a))
+    (points_on_is sections a b)
 
 abbrev TiedAt : List NormalSection → List NormalSection → List ℕ → List ℕ → Type 0
 TiedAt pre post a b = (TiesIn pre a b ⊎ TiesIn post a b) ⊎ (TiesIn pre b a ⊎ TiesIn post b a)
@@ -320,10 +364,19 @@ record HasEnds (pre post : List NormalSection) (a b : List ℕ) : Type 0 where
 
 tied_names : (pre post : List NormalSection) (a b : List ℕ) → Tied pre post a b → HasEnds pre post a b
 tied_names pre post a b (InPre x y is points) =
-    record { one = among_left (names_of pre) (names_of post) x (in_names is_code_class pre x is); other = among_left (names_of pre) (names_of post) y (points_names pre x y points) }
+    record {
+      one = among_left (names_of pre) (names_of post) x (in_names is_code_class pre x is);
+      other =
+          among_left (names_of pre) (names_of post) y (points_names pre x y points);
+    }
 tied_names pre post a b (InPost x y is points) =
-    record { one = among_right (names_of pre) (names_of post) x (in_names is_code_class post x is); other = among_right (names_of pre) (names_of post) y (points_names post x y points) }
-tied_names pre post a b (Back x y tied) = let ends = tied_names pre post x y tied in record { one = ends.other; other = ends.one }
+    record {
+      one = among_right (names_of pre) (names_of post) x (in_names is_code_class post x is);
+      other =
+          among_right (names_of pre) (names_of post) y (points_names post x y points);
+    }
+tied_names pre post a b (Back x y tied) = let ends = tied_names pre post x y tied in
+    record { one = ends.other; other = ends.one }
 
 -- a chain of ties from a member leads to members
 abbrev Carries : List NormalSection → List NormalSection → List ℕ → List ℕ → Type 0
@@ -345,7 +398,8 @@ MemberAt pre post name = IsFirstMember pre post name ⊎ ((from : List ℕ) × J
 member_there : (pre post : List NormalSection) (name : List ℕ) → MemberAt pre post name → Member pre post name
 member_there pre post name (inl first) = first_is_member pre post name first
 member_there pre post name (inr x) =
-    leads_sound (is_tied pre post) (Carries pre post) (λ a b is member. Joined a b member ((tied_is pre post a b).0 is)) (λ a m b to from member. from (to member)) (names_of pre ++ names_of post) x.0 name x.1.1
+    leads_sound (is_tied pre post) (Carries pre post) (λ a b is member. Joined a b member ((tied_is pre post a b).0 is))
+    (λ a m b to from member. from (to member)) (names_of pre ++ names_of post) x.0 name x.1.1
     (first_is_member pre post x.0 x.1.0)
 
 member_back : (pre post : List NormalSection) (name : List ℕ) → Member pre post name → MemberAt pre post name
@@ -353,10 +407,18 @@ member_back pre post name (Differing n it) = inl (inl it)
 member_back pre post name (OnlyInPost n it) = inl (inr it)
 member_back pre post name (Joined n other member tied) =
     let step : is_tied pre post n other ≡ true = (tied_is pre post n other).1 tied in
-    let one : chain pre post n other ≡ true = leads_step (is_tied pre post) (names_of pre ++ names_of post) n other step in
+    let one : chain pre post n other ≡ true = leads_step (is_tied pre post)
+    (names_of pre ++ names_of post) n other step in
     elim (member_back pre post n member) [
       | inl first ↦ inr (n, (first, one))
-      | inr x ↦ inr (x.0, (x.1.0, leads_through (is_tied pre post) (names_of pre ++ names_of post) x.0 n other (tied_names pre post n other tied).one x.1.1 one))
+      | inr x ↦ inr (
+        x.0,
+        (
+          x.1.0,
+          leads_through (is_tied pre post) (names_of pre ++ names_of post) x.0 n other
+              (tied_names pre post n other tied).one x.1.1 one,
+        ),
+      )
     ]
 
 member_is : (pre post : List NormalSection) (name : List ℕ) → Decides (is_member pre post name) (Member pre post name)
@@ -364,7 +426,8 @@ member_is pre post name =
     through (is_member pre post name) (member_there pre post name) (member_back pre post name)
     (either (is_first_member pre post name) (list_any test (names_of post)) (first_member_is pre post name)
     (some_of {P = JoinedFrom pre post name} test (names_of post)
-    (λ from. both (is_first_member pre post from) (chain pre post from name) (first_member_is pre post from) (of_test (chain pre post from name)))
+    (λ from. both (is_first_member pre post from) (chain pre post from name) (first_member_is pre post from)
+    (of_test (chain pre post from name)))
     (λ from x. first_member_names pre post from x.0))) where
       test : List ℕ → Bool
       test from = is_first_member pre post from && chain pre post from name
@@ -372,46 +435,57 @@ member_is pre post name =
 changed_is : (pre post : List NormalSection) (name : List ℕ) →
     Decides (is_changed pre post name) (IsChanged pre post name)
 changed_is pre post name =
-    both (is_member pre post name) (is_in_both is_code_class pre post name) (member_is pre post name) (of_test (is_in_both is_code_class pre post name))
+    both (is_member pre post name) (is_in_both is_code_class pre post name) (member_is pre post name)
+    (of_test (is_in_both is_code_class pre post name))
 
 added_is : (pre post : List NormalSection) (name : List ℕ) → Decides (is_added pre post name) (IsAdded pre post name)
 added_is pre post name =
-    both (is_member pre post name) (is_in is_code_class post name && not (is_there pre name)) (member_is pre post name) (of_test (is_in is_code_class post name && not (is_there pre name)))
+    both (is_member pre post name) (is_in is_code_class post name && not (is_there pre name)) (member_is pre post name)
+    (of_test (is_in is_code_class post name && not (is_there pre name)))
 
 dropped_is : (pre post : List NormalSection) (name : List ℕ) →
     Decides (is_dropped pre post name) (IsDropped pre post name)
 dropped_is pre post name =
-    both (is_member pre post name) (is_in is_code_class pre name && not (is_there post name)) (member_is pre post name) (of_test (is_in is_code_class pre name && not (is_there post name)))
+    both (is_member pre post name) (is_in is_code_class pre name && not (is_there post name)) (member_is pre post name)
+    (of_test (is_in is_code_class pre name && not (is_there post name)))
 
 -- ---- data
 
 new_names : (pre post : List NormalSection) (name : List ℕ) → is_new_data pre post name ≡ true →
     IsAmong (names_of post) name
-new_names pre post name is = in_names is_data_class post name (and_parts (is_in is_data_class post name) (not (is_there pre name)) is).0
+new_names pre post name is = in_names is_data_class post name
+    (and_parts (is_in is_data_class post name) (not (is_there pre name)) is).0
 
 old_names : (pre post : List NormalSection) (name : List ℕ) → is_in_both is_data_class pre post name ≡ true →
     IsAmong (names_of post) name
-old_names pre post name is = in_names is_data_class post name (and_parts (is_in is_data_class pre name) (is_in is_data_class post name) is).1
+old_names pre post name is = in_names is_data_class post name
+    (and_parts (is_in is_data_class pre name) (is_in is_data_class post name) is).1
 
 carried_is : (pre post : List NormalSection) (name : List ℕ) →
     Decides (is_carried pre post name) (IsCarried pre post name)
 carried_is pre post name =
-    through (is_carried pre post name) (λ (x : (from : List ℕ) × At from). record { from = x.0; brought = x.1.0; reaches = x.1.1 }) (λ it. (it.from, (it.brought, it.reaches)))
+    through (is_carried pre post name)
+    (λ (x : (from : List ℕ) × At from). record { from = x.0; brought = x.1.0; reaches = x.1.1 })
+    (λ it. (it.from, (it.brought, it.reaches)))
     (some_of {P = At} test (names_of post)
-    (λ from. both (is_member pre post from && is_in is_code_class post from || is_new_data pre post from) (reaches post from name)
+    (λ from. both (is_member pre post from && is_in is_code_class post from || is_new_data pre post from)
+    (reaches post from name)
     (either (is_member pre post from && is_in is_code_class post from) (is_new_data pre post from)
-    (both (is_member pre post from) (is_in is_code_class post from) (member_is pre post from) (of_test (is_in is_code_class post from)))
+    (both (is_member pre post from) (is_in is_code_class post from) (member_is pre post from)
+    (of_test (is_in is_code_class post from)))
     (of_test (is_new_data pre post from)))
     (reaches_is post from name))
     (λ from x. brought_names from x.0)) where
       Brought : List ℕ → Type 0
-      Brought from = (Member pre post from × (is_in is_code_class post from ≡ true)) ⊎ (is_new_data pre post from ≡ true)
+      Brought from = (Member pre post from × (is_in is_code_class post from ≡ true))
+          ⊎ (is_new_data pre post from ≡ true)
 
       At : List ℕ → Type 0
       At from = Brought from × Reaches post from name
 
       test : List ℕ → Bool
-      test from = (is_member pre post from && is_in is_code_class post from || is_new_data pre post from) && reaches post from name
+      test from = (is_member pre post from && is_in is_code_class post from || is_new_data pre post from)
+          && reaches post from name
 
       brought_names : (from : List ℕ) → Brought from → IsAmong (names_of post) from
       brought_names from (inl x) = in_names is_code_class post from x.1
@@ -421,14 +495,18 @@ differing_is : (pre post : List NormalSection) (name : List ℕ) →
     Decides (data_differs pre post name) (DataDiffers pre post name)
 differing_is pre post name =
     through (data_differs pre post name) there back
-    (either (other_class (section_named pre name) (section_named post name)) (is_in_both is_data_class pre post name && (not (same_in pre post name) || reaches_changed pre post name))
+    (either (other_class (section_named pre name) (section_named post name))
+    (is_in_both is_data_class pre post name && (not (same_in pre post name) || reaches_changed pre post name))
     (of_test (other_class (section_named pre name) (section_named post name)))
-    (both (is_in_both is_data_class pre post name) (not (same_in pre post name) || reaches_changed pre post name) (of_test (is_in_both is_data_class pre post name))
-    (either (not (same_in pre post name)) (reaches_changed pre post name) (of_test (not (same_in pre post name))) (reaches_changed_is pre post name)))) where
+    (both (is_in_both is_data_class pre post name) (not (same_in pre post name) || reaches_changed pre post name)
+    (of_test (is_in_both is_data_class pre post name))
+    (either (not (same_in pre post name)) (reaches_changed pre post name) (of_test (not (same_in pre post name)))
+    (reaches_changed_is pre post name)))) where
       At : Type 0
       At =
           (other_class (section_named pre name) (section_named post name) ≡ true)
-          ⊎ ((is_in_both is_data_class pre post name ≡ true) × ((not (same_in pre post name) ≡ true) ⊎ ReachesChanged pre post name))
+          ⊎ ((is_in_both is_data_class pre post name ≡ true)
+          × ((not (same_in pre post name) ≡ true) ⊎ ReachesChanged pre post name))
 
       there : At → DataDiffers pre post name
       there (inl other) = OtherClass name other
@@ -445,9 +523,12 @@ data_of_is : (post : List NormalSection) (test : List ℕ → Bool) →
     Decides (is_data_of post test name) (IsDataOf post test name)
 data_of_is post test among name =
     through (is_data_of post test name) there back
-    (either (test name) (list_any (λ from. test from && reaches post from name) (names_of post) && is_in is_read_only_class post name) (of_test (test name))
+    (either (test name) (list_any (λ from. test from && reaches post from name) (names_of post)
+    && is_in is_read_only_class post name) (of_test (test name))
     (both (list_any (λ from. test from && reaches post from name) (names_of post)) (is_in is_read_only_class post name)
-    (some_of {P = At} (λ from. test from && reaches post from name) (names_of post) (λ from. both (test from) (reaches post from name) (of_test (test from)) (reaches_is post from name)) (λ from x. among from x.0))
+    (some_of {P = At} (λ from. test from && reaches post from name) (names_of post)
+    (λ from. both (test from) (reaches post from name) (of_test (test from)) (reaches_is post from name))
+    (λ from x. among from x.0))
     (of_test (is_in is_read_only_class post name)))) where
       At : List ℕ → Type 0
       At from = (test from ≡ true) × Reaches post from name
@@ -465,26 +546,35 @@ data_of_is post test among name =
 broken_is : (pre post : List NormalSection) (x : List ℕ × Ref) → Decides (is_broken pre post x) (IsBroken pre post x)
 broken_is pre post x =
     through (is_broken pre post x) (there x.0 x.1) (back x)
-    (either (is_data_of post (is_in_both is_data_class pre post) x.0 && list_any old_test (names_of post)) (is_data_of post (is_new_data pre post) x.0 && list_any new_test (names_of post))
-    (both (is_data_of post (is_in_both is_data_class pre post) x.0) (list_any old_test (names_of post)) (data_of_is post (is_in_both is_data_class pre post) (old_names pre post) x.0)
+    (either (is_data_of post (is_in_both is_data_class pre post) x.0 && list_any old_test (names_of post))
+    (is_data_of post (is_new_data pre post) x.0 && list_any new_test (names_of post))
+    (both (is_data_of post (is_in_both is_data_class pre post) x.0) (list_any old_test (names_of post))
+    (data_of_is post (is_in_both is_data_class pre post) (old_names pre post) x.0)
     (some_of {P = OldAt x.1} old_test (names_of post)
-    (λ code. both (goes_to code x.1 && is_interior x.1) (is_changed pre post code) (of_test (goes_to code x.1 && is_interior x.1)) (changed_is pre post code))
-    (λ code y. in_names is_code_class post code (and_parts (is_in is_code_class pre code) (is_in is_code_class post code) y.1.1).1)))
-    (both (is_data_of post (is_new_data pre post) x.0) (list_any new_test (names_of post)) (data_of_is post (is_new_data pre post) (new_names pre post) x.0)
+    (λ code. both (goes_to code x.1 && is_interior x.1) (is_changed pre post code)
+    (of_test (goes_to code x.1 && is_interior x.1)) (changed_is pre post code))
+    (λ code y. in_names is_code_class post code
+    (and_parts (is_in is_code_class pre code) (is_in is_code_class post code) y.1.1).1)))
+    (both (is_data_of post (is_new_data pre post) x.0) (list_any new_test (names_of post))
+    (data_of_is post (is_new_data pre post) (new_names pre post) x.0)
     (some_of {P = NewAt x.1} new_test (names_of post)
-    (λ code. both (is_in is_code_class post code && goes_to code x.1 && is_interior x.1) (not (is_member pre post code)) (of_test (is_in is_code_class post code && goes_to code x.1 && is_interior x.1)) (isnt (is_member pre post code) (member_is pre post code)))
+    (λ code. both (is_in is_code_class post code && goes_to code x.1 && is_interior x.1) (not (is_member pre post code))
+    (of_test (is_in is_code_class post code && goes_to code x.1 && is_interior x.1))
+    (isnt (is_member pre post code) (member_is pre post code)))
     (λ code y. code_names code x.1 y.0)))) where
       old_test : List ℕ → Bool
       old_test code = (goes_to code x.1 && is_interior x.1) && is_changed pre post code
 
       new_test : List ℕ → Bool
-      new_test code = (is_in is_code_class post code && goes_to code x.1 && is_interior x.1) && not (is_member pre post code)
+      new_test code = (is_in is_code_class post code && goes_to code x.1 && is_interior x.1)
+          && not (is_member pre post code)
 
       OldAt : Ref → List ℕ → Type 0
       OldAt r code = ((goes_to code r && is_interior r) ≡ true) × IsChanged pre post code
 
       NewAt : Ref → List ℕ → Type 0
-      NewAt r code = ((is_in is_code_class post code && goes_to code r && is_interior r) ≡ true) × (Member pre post code → ⊥)
+      NewAt r code = ((is_in is_code_class post code && goes_to code r && is_interior r) ≡ true)
+          × (Member pre post code → ⊥)
 
       code_names : (code : List ℕ) (r : Ref) →
           (is_in is_code_class post code && goes_to code r && is_interior r) ≡ true → IsAmong (names_of post) code
@@ -517,7 +607,8 @@ first_found test P decides (y ∷ ys) x found =
           subst (IsFirst P (y ∷ ys)) (same_Some y x here) (Here y ys ((decides y).0 passes))
       | inr fails ↦
           let later : find test ys ≡ Some x = rw fails at found in
-          Later y ys x (λ p. let e : false ≡ true = sym fails ∙ (decides y).1 p in cc) (first_found test P decides ys x later)
+          Later y ys x (λ p. let e : false ≡ true = sym fails ∙ (decides y).1 p in cc)
+          (first_found test P decides ys x later)
     ]
 
 none_found : {X : Type 0} (test : X → Bool) (P : X → Type 0) → ((x : X) → Decides (test x) (P x)) → (xs : List X) →
@@ -528,7 +619,8 @@ none_found test P decides (y ∷ ys) none =
       | inl passes ↦ absurd (let here : Some y ≡ None = rw passes at none in cc)
       | inr fails ↦
           let later : find test ys ≡ None = rw fails at none in
-          All-cons (λ x. P x → ⊥) y ys (λ p. let e : false ≡ true = sym fails ∙ (decides y).1 p in cc) (none_found test P decides ys later)
+          All-cons (λ x. P x → ⊥) y ys (λ p. let e : false ≡ true = sym fails ∙ (decides y).1 p in cc)
+          (none_found test P decides ys later)
     ]
 
 picks : (test : List ℕ → Bool) (P : List ℕ → Type 0) → ((name : List ℕ) → Decides (test name) (P name)) →
@@ -537,7 +629,8 @@ picks test P decides [] = Ends
 picks test P decides (s ∷ rest) =
     elim (cases_Bool (test s.name)) [
       | inl passes ↦ rw passes (Takes s rest (picked test rest) ((decides s.name).0 passes) (picks test P decides rest))
-      | inr fails ↦ rw fails (Leaves s rest (picked test rest) (λ p. let e : false ≡ true = sym fails ∙ (decides s.name).1 p in cc) (picks test P decides rest))
+      | inr fails ↦ rw fails (Leaves s rest (picked test rest)
+          (λ p. let e : false ≡ true = sym fails ∙ (decides s.name).1 p in cc) (picks test P decides rest))
     ]
 
 lists_are : (pre post : List NormalSection) → IsExtract pre post (lists_of pre post)
@@ -546,14 +639,16 @@ lists_are pre post =
       changed = picks (is_changed pre post) (IsChanged pre post) (changed_is pre post) post;
       added = picks (is_added pre post) (IsAdded pre post) (added_is pre post) post;
       carried = picks (is_carried pre post) (IsCarried pre post) (carried_is pre post) post;
-      new_data = picks (is_new_data pre post) (λ name. is_new_data pre post name ≡ true) (λ name. of_test (is_new_data pre post name)) post;
+      new_data = picks (is_new_data pre post) (λ name. is_new_data pre post name ≡ true)
+          (λ name. of_test (is_new_data pre post name)) post;
       dropped = picks (is_dropped pre post) (IsDropped pre post) (dropped_is pre post) pre;
     }
 
 some_first_is : (pre post : List NormalSection) →
     Decides (list_any (is_first_member pre post) (names_of post)) ((name : List ℕ) × IsFirstMember pre post name)
 some_first_is pre post =
-    some_of {P = IsFirstMember pre post} (is_first_member pre post) (names_of post) (first_member_is pre post) (first_member_names pre post)
+    some_of {P = IsFirstMember pre post} (is_first_member pre post) (names_of post) (first_member_is pre post)
+    (first_member_names pre post)
 
 -- where there is no first member there is none
 first_of_member : (pre post : List NormalSection) (name : List ℕ) → Member pre post name →
@@ -566,13 +661,15 @@ answers_with : (pre post : List NormalSection) → NoneIs (λ s. DataDiffers pre
     (o : Option (List ℕ × Ref)) → find (is_broken pre post) (places post) ≡ o →
     Extracts pre post (extracted_with pre post o)
 answers_with pre post same (Some x) found =
-    Broken x.0 x.1 same (first_found (is_broken pre post) (IsBroken pre post) (broken_is pre post) (places post) x found)
+    Broken x.0 x.1 same (first_found (is_broken pre post) (IsBroken pre post) (broken_is pre post)
+    (places post) x found)
 answers_with pre post same None none =
     let whole = none_found (is_broken pre post) (IsBroken pre post) (broken_is pre post) (places post) none in
     elim (cases_Bool (list_any (is_first_member pre post) (names_of post))) [
       | inl some ↦
           let (name, first) = (some_first_is pre post).0 some in
-          rw some (Extracted name (lists_of pre post) same whole (first_is_member pre post name first) (lists_are pre post))
+          rw some (Extracted name (lists_of pre post) same whole (first_is_member pre post name first)
+          (lists_are pre post))
       | inr nobody ↦
           rw nobody (NoMember same whole (λ name member.
           let it = first_of_member pre post name member in
@@ -582,9 +679,11 @@ answers_with pre post same None none =
 answers_by : (pre post : List NormalSection) (o : Option NormalSection) →
     find (λ s. data_differs pre post s.name) post ≡ o → Extracts pre post (extracted_by pre post o)
 answers_by pre post (Some section) found =
-    OtherData section (first_found (λ s. data_differs pre post s.name) (λ s. DataDiffers pre post s.name) (λ s. differing_is pre post s.name) post section found)
+    OtherData section (first_found (λ s. data_differs pre post s.name) (λ s. DataDiffers pre post s.name)
+    (λ s. differing_is pre post s.name) post section found)
 answers_by pre post None none =
-    answers_with pre post (none_found (λ s. data_differs pre post s.name) (λ s. DataDiffers pre post s.name) (λ s. differing_is pre post s.name) post none) (find (is_broken pre post) (places post)) refl
+    answers_with pre post (none_found (λ s. data_differs pre post s.name) (λ s. DataDiffers pre post s.name)
+    (λ s. differing_is pre post s.name) post none) (find (is_broken pre post) (places post)) refl
 
 answers : (pre post : List NormalSection) → Extracts pre post (extracted pre post)
 unfolding extracted

@@ -1,5 +1,6 @@
 -- Firsts and picks of lists.
-use Rattle.std.proofs.Common.{◌≡◌, inl, inr, ℕ, zero, suc, ◌+◌, ◌<◌, Bool, true, false, List, [], ◌∷◌, ◌++◌, length, map, Some, None, refl, sym, ap, subst, ◌∙◌, arith}
+use Rattle.std.proofs.Common.{◌≡◌, inl, inr, ℕ, zero, suc, ◌+◌, ◌<◌, Bool, true, false, List, []}
+use Rattle.std.proofs.Common.{◌∷◌, ◌++◌, length, map, Some, None, refl, sym, ap, subst, ◌∙◌, arith}
 use Rattle.std.specs.List.{slice_get, position, position_from}
 use Rattle.std.proofs.lemmas.Bool.{cases_Bool}
 use Rattle.std.proofs.lemmas.Option.{same_Some}
@@ -84,7 +85,8 @@ none_of_marks P [] ms told i none = All-nil (λ s. P s.name → ⊥)
 none_of_marks P (x ∷ xs) [] told i none = absurd (let e : 0 ≡ length (x ∷ xs) = told.len in omega arith)
 none_of_marks P (x ∷ xs) (true ∷ ms) told i none = absurd cc
 none_of_marks P (x ∷ xs) (false ∷ ms) told i none =
-    All-cons (λ s. P s.name → ⊥) x xs (told.each 0 x refl) (none_of_marks P xs ms (marks_tail P x xs false ms told) (i + 1) none)
+    All-cons (λ s. P s.name → ⊥) x xs (told.each 0 x refl)
+    (none_of_marks P xs ms (marks_tail P x xs false ms told) (i + 1) none)
 
 pub first_marked_section : (P : List ℕ → Type 0) (xs : List NormalSection) (ms : List Bool) → TellWhich P xs ms →
     (k : ℕ) → position (λ m. m) ms ≡ Some k →
@@ -121,7 +123,8 @@ first_right : {X : Type 0} (P : X → Type 0) (xs ys : List X) (x : X) → NoneI
     IsFirst P (xs ++ ys) x
 first_right P [] ys x none first = first
 first_right P (y ∷ xs) ys x none first =
-    Later y (xs ++ ys) x (All-head (λ z. P z → ⊥) y xs none) (first_right P xs ys x (All-tail (λ z. P z → ⊥) y xs none) first)
+    Later y (xs ++ ys) x (All-head (λ z. P z → ⊥) y xs none)
+    (first_right P xs ys x (All-tail (λ z. P z → ⊥) y xs none) first)
 
 first_mapped : {X Y : Type 0} (P : Y → Type 0) (f : X → Y) (xs : List X) (x : X) → IsFirst (λ v. P (f v)) xs x →
     IsFirst P (map f xs) (f x)
@@ -148,7 +151,8 @@ first_placed P [] k s r at none first = absurd cc
 first_placed P (x ∷ rest) zero s r at none first =
     let same : x ≡ s = same_Some x s at in
     let Q : NormalSection → Type 0 = λ v. IsFirst P (references v ++ places rest) (s.name, r) in
-    subst Q (sym same) (first_left P (references s) (places rest) (s.name, r) (first_mapped P (λ r. (s.name, r)) s.refs r first))
+    subst Q (sym same) (first_left P (references s) (places rest) (s.name, r)
+    (first_mapped P (λ r. (s.name, r)) s.refs r first))
 first_placed P (x ∷ rest) (suc k) s r at none first =
     first_right P (references x) (places rest) (s.name, r)
     (All-map (λ y. P y → ⊥) (λ r. (x.name, r)) x.refs (none 0 x (omega arith) refl))

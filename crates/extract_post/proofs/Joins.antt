@@ -1,5 +1,6 @@
 -- The edges along which members are found in one object: what each says, and where each is.
-use Rattle.std.proofs.Common.{◌≡◌, ◌⊎◌, inl, inr, ℕ, Bool, true, false, ◌==◌, ◌||◌, ◌&&◌, List, [], ◌∷◌, Some, refl, sym, ◌∙◌}
+use Rattle.std.proofs.Common.{◌≡◌, ◌⊎◌, inl, inr, ℕ, Bool, true, false, ◌==◌}
+use Rattle.std.proofs.Common.{◌||◌, ◌&&◌, List, [], ◌∷◌, Some, refl, sym, ◌∙◌}
 use Rattle.std.specs.List.{list_any, flat_map, slice_get}
 use Rattle.std.proofs.lemmas.Bool.{cases_Bool, or_cases, and_from}
 use Rattle.reachability.specs.declared.edge.Edge.{Edge}
@@ -8,7 +9,8 @@ use Rattle.i386_reloc.specs.declared.types.Class.{Class}
 use Rattle.i386_reloc.specs.declared.types.Class.TheVariants.{Zero, Code, Writable, Strings, ReadOnly}
 use Rattle.i386_reloc.specs.declared.types.NormalSection.{NormalSection}
 use Rattle.i386_reloc.specs.Classes.{is_code_class}
-use Rattle.i386_reloc.specs.Reaches.{is_constant_class, is_read_only_class, is_in, goes_to, is_interior, refers_on, Reaches}
+use Rattle.i386_reloc.specs.Reaches.{is_constant_class, is_read_only_class, is_in}
+use Rattle.i386_reloc.specs.Reaches.{goes_to, is_interior, refers_on, Reaches}
 use Rattle.extract_post.specs.Members.{points_into, PointsInto}
 use Rattle.i386_reloc.specs.Reaches.Reaches.{Refers, Further}
 use Rattle.extract_post.specs.Members.PointsInto.{Itself, Through}
@@ -52,7 +54,8 @@ Fact pre post sections AsInto name = IntoMember pre post sections name
 
 -- the references of an object tie
 abbrev pub Ties : (pre post sections : List NormalSection) → Type 0
-Ties pre post sections = (a b : List ℕ) → is_in is_code_class sections a ≡ true → PointsInto sections a b → Tied pre post a b
+Ties pre post sections = (a b : List ℕ) → is_in is_code_class sections a ≡ true → PointsInto sections a b
+    → Tied pre post a b
 
 -- classes apart
 pub constant_not_code : (class : Class) → is_constant_class class ≡ true → is_code_class class ≡ false
@@ -75,14 +78,18 @@ two_edges a b c d = edge a b ∷ edge c d ∷ []
 
 pub data Joining (n : Numbers) (link : Link) : Type 0 where
   CodeToCode : is_code_class link.from_class ≡ true → is_code_class link.to_class ≡ true → link.interior ≡ true →
-      joins n link ≡ two_edges (member_node n link.from) (member_node n link.to) (member_node n link.to) (member_node n link.from) → Joining n link
+      joins n link ≡ two_edges (member_node n link.from) (member_node n link.to) (member_node n link.to)
+      (member_node n link.from) → Joining n link
   ReadOnlyToCode : is_read_only_class link.from_class ≡ true → is_code_class link.to_class ≡ true →
       link.interior ≡ true →
-      joins n link ≡ two_edges (from_node n link.from) (member_node n link.to) (member_node n link.to) (into_node n link.from) → Joining n link
+      joins n link ≡ two_edges (from_node n link.from) (member_node n link.to) (member_node n link.to)
+      (into_node n link.from) → Joining n link
   CodeToConstant : is_code_class link.from_class ≡ true → is_constant_class link.to_class ≡ true →
-      joins n link ≡ two_edges (member_node n link.from) (from_node n link.to) (into_node n link.to) (member_node n link.from) → Joining n link
+      joins n link ≡ two_edges (member_node n link.from) (from_node n link.to) (into_node n link.to)
+      (member_node n link.from) → Joining n link
   ConstantToConstant : is_constant_class link.from_class ≡ true → is_constant_class link.to_class ≡ true →
-      joins n link ≡ two_edges (from_node n link.from) (from_node n link.to) (into_node n link.to) (into_node n link.from) → Joining n link
+      joins n link ≡ two_edges (from_node n link.from) (from_node n link.to) (into_node n link.to)
+      (into_node n link.from) → Joining n link
   NoEdge : joins n link ≡ [] → Joining n link
 
 to_code : (n : Numbers) (link : Link) → is_code_class link.to_class ≡ true → link.interior ≡ true → Joining n link
@@ -101,7 +108,8 @@ to_constant n link not_code constant =
     elim (cases_Bool (is_code_class link.from_class)) [
       | inl from_code ↦ CodeToConstant from_code constant (rw (not_code, constant, from_code) refl)
       | inr other ↦ elim (cases_Bool (is_constant_class link.from_class)) [
-        | inl from_constant ↦ ConstantToConstant from_constant constant (rw (not_code, constant, other, from_constant) refl)
+        | inl from_constant ↦ ConstantToConstant from_constant constant
+            (rw (not_code, constant, other, from_constant) refl)
         | inr none ↦ NoEdge (rw (not_code, constant, other, none) refl)
       ]
     ]
@@ -153,14 +161,42 @@ hands_on : (pre post sections : List NormalSection) (n : Numbers) (link : Link) 
     (Fact pre post sections kind_from is.source.name → Fact pre post sections kind_to is.target.name) →
     Hands pre post sections n a b
 hands_on pre post sections n link a b kind_from kind_to is is_from is_to hands =
-    record { kind_from = kind_from; from = link.from; source = is.source; at_source = is.at_from; is_from = is_from; kind_to = kind_to; to = link.to; target = is.target; at_target = is.at_to; is_to = is_to; hands = hands }
+    record {
+      kind_from = kind_from;
+      from = link.from;
+      source = is.source;
+      at_source = is.at_from;
+      is_from =
+          is_from;
+      kind_to = kind_to;
+      to = link.to;
+      target = is.target;
+      at_target = is.at_to;
+      is_to = is_to;
+      hands =
+          hands;
+    }
 
 hands_back : (pre post sections : List NormalSection) (n : Numbers) (link : Link) (a b : ℕ) (kind_from kind_to : Kind) →
     (is : IsLink sections link) → node_of n kind_from link.to ≡ a → node_of n kind_to link.from ≡ b →
     (Fact pre post sections kind_from is.target.name → Fact pre post sections kind_to is.source.name) →
     Hands pre post sections n a b
 hands_back pre post sections n link a b kind_from kind_to is is_from is_to hands =
-    record { kind_from = kind_from; from = link.to; source = is.target; at_source = is.at_to; is_from = is_from; kind_to = kind_to; to = link.from; target = is.source; at_target = is.at_from; is_to = is_to; hands = hands }
+    record {
+      kind_from = kind_from;
+      from = link.to;
+      source = is.target;
+      at_source = is.at_to;
+      is_from =
+          is_from;
+      kind_to = kind_to;
+      to = link.from;
+      target = is.source;
+      at_target = is.at_from;
+      is_to = is_to;
+      hands =
+          hands;
+    }
 
 -- what a link says by names
 source_in : (sections : List NormalSection) → HasDistinctNames sections → (link : Link) →
@@ -173,50 +209,103 @@ points_from_link : (sections : List NormalSection) → HasDistinctNames sections
     (is : IsLink sections link) → is_code_class link.to_class ≡ true → link.interior ≡ true →
     points_into sections is.source.name is.target.name ≡ true
 points_from_link sections distinct link is code interior =
-    rw (named_at sections distinct link.to is.target is.at_to, named_at sections distinct link.from is.source is.at_from)
+    rw (
+      named_at sections distinct link.to is.target is.at_to,
+      named_at sections distinct link.from is.source
+          is.at_from,
+    )
     (and_from (is_code_class is.target.class) (list_any (λ r. goes_to is.target.name r && is_interior r) is.source.refs)
     (rw (← is.to_class) code)
-    (is.among (λ r. goes_to is.target.name r && is_interior r) (and_from (goes_to is.target.name is.reference) (is_interior is.reference) is.goes (sym is.interior ∙ interior))))
+    (is.among (λ r. goes_to is.target.name r && is_interior r)
+    (and_from (goes_to is.target.name is.reference) (is_interior is.reference) is.goes (sym is.interior ∙ interior))))
 
 into_reaches : (sections : List NormalSection) (source target between : List ℕ) →
     refers_on sections source target ≡ true → (target ≡ between) ⊎ Reaches sections target between →
     Reaches sections source between
 into_reaches sections source target between refers (inl same) = Refers source between (rw (← same) refers)
-into_reaches sections source target between refers (inr reaches) = reaches_before sections source target between refers reaches
+into_reaches sections source target between refers (inr reaches) =
+    reaches_before sections source target between refers reaches
 
 -- each edge of an object hands on what its node says
 link_hands : (pre post sections : List NormalSection) → HasDistinctNames sections → Ties pre post sections →
     (n : Numbers) (link : Link) → IsLink sections link → (a b : ℕ) → Joining n link →
     connects (joins n link) a b ≡ true → Hands pre post sections n a b
 link_hands pre post sections distinct ties n link is a b (CodeToCode from_code to_code interior edges) it =
-    let two : connects (two_edges (member_node n link.from) (member_node n link.to) (member_node n link.to) (member_node n link.from)) a b ≡ true = rw edges at it in
-    let tied = ties is.source.name is.target.name (source_in sections distinct link is is_code_class from_code) (Itself is.source.name is.target.name (points_from_link sections distinct link is to_code interior)) in
+    let two : connects (two_edges (member_node n link.from) (member_node n link.to) (member_node n link.to)
+    (member_node n link.from)) a b ≡ true = rw edges at it in
+    let tied = ties is.source.name is.target.name (source_in sections distinct link is is_code_class from_code)
+    (Itself is.source.name is.target.name (points_from_link sections distinct link is to_code interior)) in
     elim (two_ends _ _ _ _ a b two) [
-      | inl first ↦ hands_on pre post sections n link a b AsMember AsMember is first.0 first.1 (λ member. Joined is.source.name is.target.name member tied)
-      | inr second ↦ hands_back pre post sections n link a b AsMember AsMember is second.0 second.1 (λ member. Joined is.target.name is.source.name member (Back is.source.name is.target.name tied))
+      | inl first ↦ hands_on pre post sections n link a b AsMember AsMember is first.0 first.1
+          (λ member. Joined is.source.name is.target.name member tied)
+      | inr second ↦ hands_back pre post sections n link a b AsMember AsMember is second.0 second.1
+          (λ member. Joined is.target.name is.source.name member (Back is.source.name is.target.name tied))
     ]
 link_hands pre post sections distinct ties n link is a b (ReadOnlyToCode from_read_only to_code interior edges) it =
-    let two : connects (two_edges (from_node n link.from) (member_node n link.to) (member_node n link.to) (into_node n link.from)) a b ≡ true = rw edges at it in
+    let two : connects (two_edges (from_node n link.from) (member_node n link.to) (member_node n link.to)
+    (into_node n link.from)) a b ≡ true = rw edges at it in
     let read_only = source_in sections distinct link is is_read_only_class from_read_only in
     let points = points_from_link sections distinct link is to_code interior in
     elim (two_ends _ _ _ _ a b two) [
-      | inl first ↦ hands_on pre post sections n link a b AsFrom AsMember is first.0 first.1 (λ f. Joined f.member is.target.name f.is_member (ties f.member is.target.name f.is_code (Through f.member is.source.name is.target.name f.reaches read_only points)))
-      | inr second ↦ hands_back pre post sections n link a b AsMember AsInto is second.0 second.1 (λ member. record { member = is.target.name; is_member = member; between = is.source.name; way = inl refl; is_read_only = read_only; points = points })
+      | inl first ↦ hands_on pre post sections n link a b AsFrom AsMember is first.0 first.1
+          (λ f. Joined f.member is.target.name f.is_member
+          (ties f.member is.target.name f.is_code
+          (Through f.member is.source.name is.target.name f.reaches read_only points)))
+      | inr second ↦ hands_back pre post sections n link a b AsMember AsInto is second.0 second.1
+          (λ member. record {
+            member = is.target.name;
+            is_member = member;
+            between = is.source.name;
+            way =
+                inl refl;
+            is_read_only = read_only;
+            points = points;
+          })
     ]
 link_hands pre post sections distinct ties n link is a b (CodeToConstant from_code constant edges) it =
-    let two : connects (two_edges (member_node n link.from) (from_node n link.to) (into_node n link.to) (member_node n link.from)) a b ≡ true = rw edges at it in
+    let two : connects (two_edges (member_node n link.from) (from_node n link.to) (into_node n link.to)
+    (member_node n link.from)) a b ≡ true = rw edges at it in
     let code = source_in sections distinct link is is_code_class from_code in
     let refers = refers_from_link sections distinct link is constant in
     elim (two_ends _ _ _ _ a b two) [
-      | inl first ↦ hands_on pre post sections n link a b AsMember AsFrom is first.0 first.1 (λ member. record { member = is.source.name; is_member = member; is_code = code; reaches = Refers is.source.name is.target.name refers })
-      | inr second ↦ hands_back pre post sections n link a b AsInto AsMember is second.0 second.1 (λ f. Joined f.member is.source.name f.is_member (Back is.source.name f.member (ties is.source.name f.member code (Through is.source.name f.between f.member (into_reaches sections is.source.name is.target.name f.between refers f.way) f.is_read_only f.points))))
+      | inl first ↦ hands_on pre post sections n link a b AsMember AsFrom is first.0 first.1
+          (λ member. record {
+            member = is.source.name;
+            is_member = member;
+            is_code = code;
+            reaches =
+                Refers is.source.name is.target.name refers;
+          })
+      | inr second ↦ hands_back pre post sections n link a b AsInto AsMember is second.0 second.1
+          (λ f. Joined f.member is.source.name f.is_member
+          (Back is.source.name f.member (ties is.source.name f.member code
+          (Through is.source.name f.between f.member
+          (into_reaches sections is.source.name is.target.name f.between refers f.way) f.is_read_only f.points))))
     ]
 link_hands pre post sections distinct ties n link is a b (ConstantToConstant from_constant constant edges) it =
-    let two : connects (two_edges (from_node n link.from) (from_node n link.to) (into_node n link.to) (into_node n link.from)) a b ≡ true = rw edges at it in
+    let two : connects (two_edges (from_node n link.from) (from_node n link.to) (into_node n link.to)
+    (into_node n link.from)) a b ≡ true = rw edges at it in
     let refers = refers_from_link sections distinct link is constant in
     elim (two_ends _ _ _ _ a b two) [
-      | inl first ↦ hands_on pre post sections n link a b AsFrom AsFrom is first.0 first.1 (λ f. record { member = f.member; is_member = f.is_member; is_code = f.is_code; reaches = Further f.member is.source.name is.target.name f.reaches refers })
-      | inr second ↦ hands_back pre post sections n link a b AsInto AsInto is second.0 second.1 (λ f. record { member = f.member; is_member = f.is_member; between = f.between; way = inr (into_reaches sections is.source.name is.target.name f.between refers f.way); is_read_only = f.is_read_only; points = f.points })
+      | inl first ↦ hands_on pre post sections n link a b AsFrom AsFrom is first.0 first.1
+          (λ f. record {
+            member = f.member;
+            is_member = f.is_member;
+            is_code = f.is_code;
+            reaches =
+                Further f.member is.source.name is.target.name f.reaches refers;
+          })
+      | inr second ↦ hands_back pre post sections n link a b AsInto AsInto is second.0 second.1
+          (λ f. record {
+            member = f.member;
+            is_member = f.is_member;
+            between = f.between;
+            way =
+                inr (into_reaches sections is.source.name is.target.name f.between refers f.way);
+            is_read_only =
+                f.is_read_only;
+            points = f.points;
+          })
     ]
 link_hands pre post sections distinct ties n link is a b (NoEdge edges) it =
     absurd (let e : false ≡ true = rw edges at it in cc)

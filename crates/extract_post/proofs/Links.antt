@@ -1,5 +1,6 @@
 -- The links of a list of sections are its references from a section to a section.
-use Rattle.std.proofs.Common.{◌≡◌, ◌⊎◌, inl, inr, ℕ, zero, suc, ◌+◌, Bool, true, false, ◌==◌, ◌||◌, ◌&&◌, List, [], ◌∷◌, map, Option, Some, None, refl, sym, ap, ◌∙◌, arith}
+use Rattle.std.proofs.Common.{◌≡◌, ◌⊎◌, inl, inr, ℕ, zero, suc, ◌+◌, Bool, true, false, ◌==◌, ◌||◌}
+use Rattle.std.proofs.Common.{◌&&◌, List, [], ◌∷◌, map, Option, Some, None, refl, sym, ap, ◌∙◌, arith}
 use Rattle.std.specs.List.{IsDistinct, AllByRecursion, list_any, flat_map, slice_get}
 use Rattle.std.specs.Cmp.Lexicographic.{bytes_decides}
 use Rattle.std.proofs.lemmas.Bool.{or_cases, or_left, or_right}
@@ -32,7 +33,8 @@ item_found test [] some = absurd cc
 item_found test (x ∷ xs) some =
     elim (or_cases (test x) (list_any test xs) some) [
       | inl passes ↦ (x, λ other it. or_left (other x) (list_any other xs) it, passes)
-      | inr later ↦ let (y, among, passes) = item_found test xs later in (y, λ other it. or_right (other x) (list_any other xs) (among other it), passes)
+      | inr later ↦ let (y, among, passes) = item_found test xs later in
+          (y, λ other it. or_right (other x) (list_any other xs) (among other it), passes)
     ]
 
 pub option_cases : {X : Type 0} (o : Option X) → (o ≡ None) ⊎ ((x : X) × (o ≡ Some x))
@@ -80,8 +82,10 @@ target_of_place sections (Outside name) i at = absurd cc
 pub place_of_goes : (sections : List NormalSection) → HasDistinctNames sections →
     (target : Target) (i : ℕ) (t : NormalSection) → slice_get sections i ≡ Some t →
     goes_to_target t.name target ≡ true → place_of_target sections target ≡ Some i
-place_of_goes sections distinct (Section name) i t at goes = rw ((bytes_decides name t.name).0 goes) (placed sections distinct i t at)
-place_of_goes sections distinct (Text name offset text) i t at goes = rw ((bytes_decides name t.name).0 goes) (placed sections distinct i t at)
+place_of_goes sections distinct (Section name) i t at goes =
+    rw ((bytes_decides name t.name).0 goes) (placed sections distinct i t at)
+place_of_goes sections distinct (Text name offset text) i t at goes =
+    rw ((bytes_decides name t.name).0 goes) (placed sections distinct i t at)
 place_of_goes sections distinct (Outside name) i t at goes = absurd cc
 
 -- the link of a reference from a section to a section
@@ -105,14 +109,37 @@ pub record IsLink (sections : List NormalSection) (link : Link) : Type 0 where
 -- the link of one reference
 link_of_target : (p : Link → Bool) (sections : List NormalSection) (from : ℕ) (class : Class) (r : Ref) (o : Option ℕ) →
     list_any p (link_to sections from class r o) ≡ true →
-    (to : ℕ) × (target : NormalSection) × (o ≡ Some to) × (slice_get sections to ≡ Some target) × (p (record { from = from; from_class = class; to = to; to_class = target.class; interior = is_interior r }) ≡ true)
+    (to : ℕ) × (target : NormalSection) × (o ≡ Some to) × (slice_get sections to ≡ Some target)
+    × (p (record { from = from; from_class = class; to = to; to_class = target.class; interior = is_interior r })
+    ≡ true)
 link_of_target p sections from class r None some = absurd cc
 link_of_target p sections from class r (Some to) some =
     elim (option_cases (slice_get sections to)) [
       | inl none ↦ absurd (let e : false ≡ true = rw none at some in cc)
       | inr it ↦
-          let one : (p (record { from = from; from_class = class; to = to; to_class = it.0.class; interior = is_interior r }) || false) ≡ true = rw it.1 at some in
-          (to, it.0, refl, it.1, elim (or_cases (p (record { from = from; from_class = class; to = to; to_class = it.0.class; interior = is_interior r })) false one) [ inl passes ↦ passes | inr never ↦ absurd cc ])
+          let one : (p (record {
+            from = from;
+            from_class = class;
+            to = to;
+            to_class = it.0.class;
+            interior =
+                is_interior r;
+          }) || false) ≡ true = rw it.1 at some in (
+            to,
+            it.0,
+            refl,
+            it.1,
+            elim (or_cases
+                (p (record {
+                  from = from;
+                  from_class = class;
+                  to = to;
+                  to_class = it.0.class;
+                  interior =
+                      is_interior r;
+                }))
+                false one) [ inl passes ↦ passes | inr never ↦ absurd cc ],
+          )
     ]
 
 abbrev links_by : List NormalSection → ℕ → Class → Ref → List Link
@@ -123,8 +150,10 @@ link_of_section : (p : Link → Bool) (sections : List NormalSection) (from : �
     slice_get sections from ≡ Some source → list_any p (links_of sections from source) ≡ true →
     (link : Link) × IsLink sections link × (p link ≡ true)
 link_of_section p sections from source at some =
-    let (r, among, passes) = item_found (λ r. list_any p (links_by sections from source.class r)) source.refs (rw (any_in_flat_map p (links_by sections from source.class) source.refs) at some) in
-    let (to, target, there, at_to, it) = link_of_target p sections from source.class r (place_of_target sections r.target) passes in
+    let (r, among, passes) = item_found (λ r. list_any p (links_by sections from source.class r)) source.refs
+    (rw (any_in_flat_map p (links_by sections from source.class) source.refs) at some) in
+    let (to, target, there, at_to, it) = link_of_target p sections from source.class r
+    (place_of_target sections r.target) passes in
     let (t, at_t, goes) = target_of_place sections r.target to there in
     let e : t ≡ target = same_Some t target (sym at_t ∙ at_to) in (
       link_between from source to target r,
@@ -148,9 +177,12 @@ link_from : (p : Link → Bool) (sections : List NormalSection) (place : ℕ) (r
     list_any p (links_from sections place rest) ≡ true → (link : Link) × IsLink sections link × (p link ≡ true)
 link_from p sections place [] within some = absurd cc
 link_from p sections place (s ∷ rest) within some =
-    elim (or_cases (list_any p (links_of sections place s)) (list_any p (links_from sections (suc place) rest)) (sym (list_any-append p (links_of sections place s) (links_from sections (suc place) rest)) ∙ some)) [
-      | inl here ↦ link_of_section p sections place s (let e : place + 0 ≡ place = omega arith in rw e at (within 0 s refl)) here
-      | inr later ↦ link_from p sections (suc place) rest (λ i t at. let e : suc place + i ≡ place + suc i = omega arith in rw e (within (suc i) t at)) later
+    elim (or_cases (list_any p (links_of sections place s)) (list_any p (links_from sections (suc place) rest))
+    (sym (list_any-append p (links_of sections place s) (links_from sections (suc place) rest)) ∙ some)) [
+      | inl here ↦ link_of_section p sections place s (let e : place + 0 ≡ place = omega arith in
+          rw e at (within 0 s refl)) here
+      | inr later ↦ link_from p sections (suc place) rest
+          (λ i t at. let e : suc place + i ≡ place + suc i = omega arith in rw e (within (suc i) t at)) later
     ]
 
 pub link_found : (p : Link → Bool) (sections : List NormalSection) → list_any p (links_in sections) ≡ true →
@@ -159,7 +191,8 @@ link_found p sections some =
     link_from p sections 0 sections (λ i s at. let e : 0 + i ≡ i = omega arith in rw e at) some
 
 -- each reference from a section to a section is a link
-links_with : (p : Link → Bool) (sections : List NormalSection) (place : ℕ) (rest : List NormalSection) (i : ℕ) (s : NormalSection) →
+links_with : (p : Link → Bool) (sections : List NormalSection) (place : ℕ) (rest : List NormalSection) (i : ℕ)
+    (s : NormalSection) →
     slice_get rest i ≡ Some s → list_any p (links_of sections (place + i) s) ≡ true →
     list_any p (links_from sections place rest) ≡ true
 links_with p sections place [] i s at some = absurd cc
@@ -173,7 +206,8 @@ links_with p sections place (x ∷ rest) (suc i) s at some =
     let e : suc place + i ≡ place + suc i = omega arith in
     let there : list_any p (links_of sections (suc place + i) s) ≡ true = rw e some in
     list_any-append p (links_of sections place x) (links_from sections (suc place) rest)
-    ∙ or_right (list_any p (links_of sections place x)) (list_any p (links_from sections (suc place) rest)) (links_with p sections (suc place) rest i s at there)
+    ∙ or_right (list_any p (links_of sections place x)) (list_any p (links_from sections (suc place) rest))
+    (links_with p sections (suc place) rest i s at there)
 
 pub link_is_in : (sections : List NormalSection) → HasDistinctNames sections → (from : ℕ) (source : NormalSection) →
     slice_get sections from ≡ Some source → (to : ℕ) (target : NormalSection) → slice_get sections to ≡ Some target →
@@ -185,14 +219,16 @@ link_is_in sections distinct from source at_from to target at_to r among goes =
     links_with p sections 0 sections from source at_from
     (rw e
     (any_in_flat_map p (links_by sections from source.class) source.refs
-    ∙ among (λ r. list_any p (links_by sections from source.class r)) (rw (place_of_goes sections distinct r.target to target at_to goes) (rw at_to (or_left _ _ passes)))))
+    ∙ among (λ r. list_any p (links_by sections from source.class r))
+    (rw (place_of_goes sections distinct r.target to target at_to goes) (rw at_to (or_left _ _ passes)))))
 
 -- the edges of links
 pub link_of_edge : (f : Link → List Edge) (sections : List NormalSection) (a b : ℕ) →
     connects (flat_map f (links_in sections)) a b ≡ true →
     (link : Link) × IsLink sections link × (connects (f link) a b ≡ true)
 link_of_edge f sections a b some =
-    link_found (λ link. connects (f link) a b) sections (sym (any_in_flat_map (λ e. e.from == a && e.to == b) f (links_in sections)) ∙ some)
+    link_found (λ link. connects (f link) a b) sections
+    (sym (any_in_flat_map (λ e. e.from == a && e.to == b) f (links_in sections)) ∙ some)
 
 pub edge_of_link : (f : Link → List Edge) (sections : List NormalSection) (link : Link) →
     Among (links_in sections) link → (a b : ℕ) → connects (f link) a b ≡ true →

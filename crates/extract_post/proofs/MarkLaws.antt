@@ -1,5 +1,7 @@
 -- Laws of marks of sections.
-use Rattle.std.proofs.Common.{◌≡◌, ◌⊎◌, inl, inr, ℕ, zero, suc, ◌+◌, ◌<◌, Bool, true, false, ◌&&◌, ◌||◌, List, [], ◌∷◌, ◌++◌, length, get_or, drop, Some, refl, sym, ap, ◌∙◌, arith, add-one, drop-cons, append_assoc}
+use Rattle.std.proofs.Common.{◌≡◌, ◌⊎◌, inl, inr, ℕ, zero, suc, ◌+◌, ◌<◌, Bool, true, false}
+use Rattle.std.proofs.Common.{◌&&◌, ◌||◌, List, [], ◌∷◌, ◌++◌, length, get_or, drop, Some}
+use Rattle.std.proofs.Common.{refl, sym, ap, ◌∙◌, arith, add-one, drop-cons, append_assoc}
 use Rattle.std.specs.List.{slice_get}
 use Rattle.std.proofs.lemmas.List.{length-map}
 use Rattle.std.proofs.lemmas.Option.{same_Some}
@@ -45,14 +47,18 @@ marked_names_first : (s : NormalSection) (mark : Bool) (sections : List NormalSe
 marked_names_first s true sections marks = refl
 marked_names_first s false sections marks = refl
 
-pub marked_names_drop : (sections : List NormalSection) (marks : List Bool) (i : ℕ) (s : NormalSection) (mark : Bool) (names more : List (List ℕ)) →
+pub marked_names_drop : (sections : List NormalSection) (marks : List Bool) (i : ℕ) (s : NormalSection) (mark : Bool)
+    (names more : List (List ℕ)) →
     i < length sections → length marks ≡ length sections → s ≡ get_or sections i s → mark ≡ marked marks i →
     more ≡ names ++ marked_names (s ∷ []) (mark ∷ []) →
-    more ++ marked_names (drop (i + 1) sections) (drop (i + 1) marks) ≡ names ++ marked_names (drop i sections) (drop i marks)
+    more ++ marked_names (drop (i + 1) sections) (drop (i + 1) marks) ≡ names ++ marked_names (drop i sections)
+    (drop i marks)
 marked_names_drop sections marks i s mark names more within len at is step =
     let lt : i < length marks = omega arith in
     let a : drop i sections ≡ s ∷ drop (i + 1) sections = rw (add-one, drop-cons sections i s, ← at) in
     let b : drop i marks ≡ mark ∷ drop (i + 1) marks = rw (add-one, drop-cons marks i false, ← is) in
     ap (λ v. v ++ marked_names (drop (i + 1) sections) (drop (i + 1) marks)) step
-    ∙ (append_assoc names (marked_names (s ∷ []) (mark ∷ [])) (marked_names (drop (i + 1) sections) (drop (i + 1) marks))
-    ∙ ap (λ v. names ++ v) (sym (marked_names_first s mark (drop (i + 1) sections) (drop (i + 1) marks)) ∙ (λ j. marked_names (sym a j) (sym b j))))
+    ∙ (append_assoc names (marked_names (s ∷ []) (mark ∷ []))
+    (marked_names (drop (i + 1) sections) (drop (i + 1) marks))
+    ∙ ap (λ v. names ++ v) (sym (marked_names_first s mark (drop (i + 1) sections) (drop (i + 1) marks))
+    ∙ (λ j. marked_names (sym a j) (sym b j))))

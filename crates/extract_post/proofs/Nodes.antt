@@ -1,5 +1,6 @@
 -- The nodes of two objects are apart, and what graph search reaches among them holds.
-use Rattle.std.proofs.Common.{◌≡◌, ◌⊎◌, inl, inr, ℕ, suc, ◌+◌, ◌<◌, Bool, true, ◌==◌, ◌&&◌, List, [], ◌∷◌, ◌++◌, length, Some, refl, sym, ◌∙◌, arith}
+use Rattle.std.proofs.Common.{◌≡◌, ◌⊎◌, inl, inr, ℕ, suc, ◌+◌, ◌<◌, Bool, true, ◌==◌, ◌&&◌}
+use Rattle.std.proofs.Common.{List, [], ◌∷◌, ◌++◌, length, Some, refl, sym, ◌∙◌, arith}
 use Rattle.std.specs.List.{flat_map, slice_get}
 use Rattle.std.proofs.lemmas.Bool.{or_cases}
 use Rattle.std.proofs.lemmas.Option.{same_Some, slice_get_within}
@@ -13,7 +14,8 @@ use Rattle.extract_post.specs.Members.{Member}
 use Rattle.extract_post.specs.Members.Tied.{InPre, InPost}
 use Rattle.extract_post.specs.Members.Member.{Differing, OnlyInPost}
 use Rattle.extract_post.specs.inside.Closures.{HasDistinctNames}
-use Rattle.extract_post.specs.inside.Edges.{links_in, Numbers, member_node, joins, twins_from, pre_numbers, post_numbers, member_edges}
+use Rattle.extract_post.specs.inside.Edges.{links_in, Numbers, member_node, joins, twins_from}
+use Rattle.extract_post.specs.inside.Edges.{pre_numbers, post_numbers, member_edges}
 use Rattle.extract_post.specs.inside.Seeds.{IsSeed, AreSeeds}
 use Rattle.i386_reloc.specs.NamedPlaces.{section_at_place}
 use Rattle.extract_post.proofs.Links.{option_cases}
@@ -93,9 +95,12 @@ says_same pre post number x y says =
     let total = length pre + length post in
     let in_x = slice_get_within (sections_of pre post x.side) x.place x.section x.at in
     let in_y = slice_get_within (sections_of pre post y.side) y.place y.section y.at in
-    let same : numbered total x.kind (member_node (numbers_of pre post x.side) x.place) ≡ numbered total y.kind (member_node (numbers_of pre post y.side) y.place) =
-    sym (node_is_numbered pre post x.side x.kind x.place) ∙ x.is_number ∙ sym y.is_number ∙ node_is_numbered pre post y.side y.kind y.place in
-    let kinds = same_kind total (member_node (numbers_of pre post x.side) x.place) (member_node (numbers_of pre post y.side) y.place)
+    let same : numbered total x.kind (member_node (numbers_of pre post x.side) x.place) ≡ numbered total y.kind
+    (member_node (numbers_of pre post y.side) y.place) =
+    sym (node_is_numbered pre post x.side x.kind x.place) ∙ x.is_number ∙ sym y.is_number
+    ∙ node_is_numbered pre post y.side y.kind y.place in
+    let kinds = same_kind total (member_node (numbers_of pre post x.side) x.place)
+    (member_node (numbers_of pre post y.side) y.place)
     (within_total pre post x.side x.place in_x) (within_total pre post y.side y.place in_y) x.kind y.kind same in
     let sides = same_side pre post x.side y.side x.place y.place in_x in_y kinds.1 in
     let at : slice_get (sections_of pre post y.side) y.place ≡ Some x.section = rw (← sides.0, ← sides.1) x.at in
@@ -112,8 +117,24 @@ hands_of : (pre post : List NormalSection) (side : Side) (a b : ℕ) →
     Hands pre post (sections_of pre post side) (numbers_of pre post side) a b → HandsOn pre post a b
 hands_of pre post side a b h =
     record {
-      from = record { side = side; kind = h.kind_from; place = h.from; section = h.source; at = h.at_source; is_number = h.is_from };
-      to = record { side = side; kind = h.kind_to; place = h.to; section = h.target; at = h.at_target; is_number = h.is_to };
+      from = record {
+        side = side;
+        kind = h.kind_from;
+        place = h.from;
+        section = h.source;
+        at = h.at_source;
+        is_number =
+            h.is_from;
+      };
+      to = record {
+        side = side;
+        kind = h.kind_to;
+        place = h.to;
+        section = h.target;
+        at = h.at_target;
+        is_number =
+            h.is_to;
+      };
       hands = h.hands;
     }
 
@@ -124,11 +145,15 @@ pub record Twin (pre post : List NormalSection) (a b : ℕ) : Type 0 where
   pub at : slice_get pre place ≡ Some section
   pub other : ℕ
   pub at_other : place_named post section.name ≡ Some other
-  pub ends : ((member_node (pre_numbers pre post) place ≡ a) × (member_node (post_numbers pre post) other ≡ b)) ⊎ ((member_node (post_numbers pre post) other ≡ a) × (member_node (pre_numbers pre post) place ≡ b))
+  pub ends : ((member_node (pre_numbers pre post) place ≡ a) × (member_node (post_numbers pre post) other ≡ b))
+      ⊎ ((member_node (post_numbers pre post) other ≡ a) × (member_node (pre_numbers pre post) place ≡ b))
 
-twin_of_section : (pre post : List NormalSection) (place : ℕ) (section : NormalSection) (rest : List NormalSection) (a b : ℕ) →
+twin_of_section : (pre post : List NormalSection) (place : ℕ) (section : NormalSection) (rest : List NormalSection)
+    (a b : ℕ) →
     slice_get pre place ≡ Some section →
-    connects (twins_from (pre_numbers pre post) (post_numbers pre post) post place (section ∷ rest)) a b ≡ true → Twin pre post a b ⊎ (connects (twins_from (pre_numbers pre post) (post_numbers pre post) post (suc place) rest) a b ≡ true)
+    connects (twins_from (pre_numbers pre post) (post_numbers pre post) post place (section ∷ rest)) a b ≡ true
+    → Twin pre post a b ⊎ (connects (twins_from (pre_numbers pre post) (post_numbers pre post) post (suc place) rest) a
+    b ≡ true)
 twin_of_section pre post place section rest a b at it =
     elim (option_cases (place_named post section.name)) [
       | inl none ↦ inr (rw none at it)
@@ -137,8 +162,17 @@ twin_of_section pre post place section rest a b at it =
           let q = member_node (post_numbers pre post) other.0 in
           let more = twins_from (pre_numbers pre post) (post_numbers pre post) post (suc place) rest in
           let joined : connects (two_edges p q q p ++ more) a b ≡ true = rw other.1 at it in
-          elim (or_cases (connects (two_edges p q q p) a b) (connects more a b) (sym (list_any-append (λ e. e.from == a && e.to == b) (two_edges p q q p) more) ∙ joined)) [
-            | inl here ↦ inl (record { place = place; section = section; at = at; other = other.0; at_other = other.1; ends = two_ends p q q p a b here })
+          elim (or_cases (connects (two_edges p q q p) a b) (connects more a b)
+          (sym (list_any-append (λ e. e.from == a && e.to == b) (two_edges p q q p) more) ∙ joined)) [
+            | inl here ↦ inl (record {
+              place = place;
+              section = section;
+              at = at;
+              other = other.0;
+              at_other =
+                  other.1;
+              ends = two_ends p q q p a b here;
+            })
             | inr later ↦ inr later
           ]
     ]
@@ -152,7 +186,8 @@ twin_from pre post place (s ∷ rest) a b within it =
     let at : slice_get pre place ≡ Some s = rw e at (within 0 s refl) in
     elim (twin_of_section pre post place s rest a b at it) [
       | inl twin ↦ twin
-      | inr later ↦ twin_from pre post (suc place) rest a b (λ i t at. let e : suc place + i ≡ place + suc i = omega arith in rw e (within (suc i) t at)) later
+      | inr later ↦ twin_from pre post (suc place) rest a b
+          (λ i t at. let e : suc place + i ≡ place + suc i = omega arith in rw e (within (suc i) t at)) later
     ]
 
 pub twin_found : (pre post : List NormalSection) (a b : ℕ) →
@@ -164,13 +199,29 @@ twin_hands pre post a b twin =
     let (t, at, same) = section_at_place post twin.section.name twin.other twin.at_other in
     elim twin.ends [
       | inl ends ↦ record {
-        from = record { side = Pre; kind = AsMember; place = twin.place; section = twin.section; at = twin.at; is_number = ends.0 };
+        from = record {
+          side = Pre;
+          kind = AsMember;
+          place = twin.place;
+          section = twin.section;
+          at =
+              twin.at;
+          is_number = ends.0;
+        };
         to = record { side = Post; kind = AsMember; place = twin.other; section = t; at = at; is_number = ends.1 };
         hands = λ member. rw same member;
       }
       | inr ends ↦ record {
         from = record { side = Post; kind = AsMember; place = twin.other; section = t; at = at; is_number = ends.0 };
-        to = record { side = Pre; kind = AsMember; place = twin.place; section = twin.section; at = twin.at; is_number = ends.1 };
+        to = record {
+          side = Pre;
+          kind = AsMember;
+          place = twin.place;
+          section = twin.section;
+          at = twin.at;
+          is_number =
+              ends.1;
+        };
         hands = λ member. rw (← same) member;
       }
     ]
@@ -183,11 +234,13 @@ edge_cases : (first second third : List Edge) (a b : ℕ) → connects (all_edge
     (connects first a b ≡ true) ⊎ ((connects second a b ≡ true) ⊎ (connects third a b ≡ true))
 edge_cases first second third a b it =
     let test : Edge → Bool = λ e. e.from == a && e.to == b in
-    elim (or_cases (connects (first ++ second) a b) (connects third a b) (sym (list_any-append test (first ++ second) third) ∙ it)) [
-      | inl before ↦ elim (or_cases (connects first a b) (connects second a b) (sym (list_any-append test first second) ∙ before)) [
-        | inl here ↦ inl here
-        | inr here ↦ inr (inl here)
-      ]
+    elim (or_cases (connects (first ++ second) a b) (connects third a b)
+    (sym (list_any-append test (first ++ second) third) ∙ it)) [
+      | inl before ↦ elim (or_cases (connects first a b) (connects second a b)
+          (sym (list_any-append test first second) ∙ before)) [
+            | inl here ↦ inl here
+            | inr here ↦ inr (inl here)
+          ]
       | inr here ↦ inr (inr here)
     ]
 
@@ -195,10 +248,16 @@ pub edge_hands : (pre post : List NormalSection) → HasDistinctNames pre → Ha
     connects (member_edges pre post) a b ≡ true → HandsOn pre post a b
 unfolding member_edges
 edge_hands pre post distinct_pre distinct_post a b it =
-    elim (edge_cases (flat_map (joins (pre_numbers pre post)) (links_in pre)) (flat_map (joins (post_numbers pre post)) (links_in post)) (twins_from (pre_numbers pre post) (post_numbers pre post) post 0 pre) a b it) [
-      | inl in_pre ↦ hands_of pre post Pre a b (joins_hands pre post pre distinct_pre (λ x y code points. InPre x y code points) (pre_numbers pre post) a b in_pre)
+    elim (edge_cases (flat_map (joins (pre_numbers pre post)) (links_in pre))
+    (flat_map (joins (post_numbers pre post)) (links_in post))
+    (twins_from (pre_numbers pre post) (post_numbers pre post) post 0 pre) a b it) [
+      | inl in_pre ↦ hands_of pre post Pre a b
+          (joins_hands pre post pre distinct_pre (λ x y code points. InPre x y code points)
+          (pre_numbers pre post) a b in_pre)
       | inr more ↦ elim more [
-        | inl in_post ↦ hands_of pre post Post a b (joins_hands pre post post distinct_post (λ x y code points. InPost x y code points) (post_numbers pre post) a b in_post)
+        | inl in_post ↦ hands_of pre post Post a b
+            (joins_hands pre post post distinct_post (λ x y code points. InPost x y code points)
+            (post_numbers pre post) a b in_post)
         | inr twin ↦ twin_hands pre post a b (twin_found pre post a b twin)
       ]
     ]
@@ -219,7 +278,15 @@ pub reached_holds : (pre post : List NormalSection) → HasDistinctNames pre →
 reached_holds pre post distinct_pre distinct_post seeds are number (Seed node seeded) =
     let seed = are.sound node seeded in
     record {
-      node = record { side = Post; kind = AsMember; place = seed.place; section = seed.section; at = seed.at; is_number = sym seed.is_node };
+      node = record {
+        side = Post;
+        kind = AsMember;
+        place = seed.place;
+        section = seed.section;
+        at =
+            seed.at;
+        is_number = sym seed.is_node;
+      };
       says = seed_member pre post seed.section.name seed.is_seed;
     }
 reached_holds pre post distinct_pre distinct_post seeds are number (Next node next reached it) =

@@ -1,5 +1,6 @@
 -- The numbers of nodes for members fit, and edges stay among them.
-use Rattle.std.proofs.Common.{◌≡◌, inl, inr, ℕ, suc, ◌+◌, ◌*◌, ◌<◌, ◌≤◌, ◌^◌, Bool, true, false, not, ◌&&◌, nat_lt, List, [], ◌∷◌, ◌++◌, length, Option, Some, None, refl, sym, subst, ◌∙◌, arith, All}
+use Rattle.std.proofs.Common.{◌≡◌, inl, inr, ℕ, suc, ◌+◌, ◌*◌, ◌<◌, ◌≤◌, ◌^◌, Bool, true, false, not, ◌&&◌, nat_lt}
+use Rattle.std.proofs.Common.{List, [], ◌∷◌, ◌++◌, length, Option, Some, None, refl, sym, subst, ◌∙◌, arith, All}
 use Rattle.std.specs.List.{list_any, flat_map, slice_index_or}
 use Rattle.std.proofs.lemmas.Bool.{cases_Bool, lt-ltb, ltb-true, and_parts, not-false}
 use Rattle.std.proofs.lemmas.List.Elements.{All-nil, All-cons, All-weaker, All-append}
@@ -11,7 +12,8 @@ use Rattle.i386_reloc.specs.Classes.{is_code_class}
 use Rattle.i386_reloc.specs.Places.{place_named}
 use Rattle.i386_reloc.specs.Reaches.{is_constant_class, is_read_only_class}
 use Rattle.extract_post.specs.inside.Closures.{HasDistinctNames}
-use Rattle.extract_post.specs.inside.Edges.{Link, Numbers, links_in, pre_numbers, post_numbers, edge, joins, twins_from, member_node, from_node, into_node, member_edges}
+use Rattle.extract_post.specs.inside.Edges.{Link, Numbers, links_in, pre_numbers, post_numbers, edge, joins}
+use Rattle.extract_post.specs.inside.Edges.{twins_from, member_node, from_node, into_node, member_edges}
 use Rattle.extract_post.specs.inside.Seeds.{AreSeeds}
 use Rattle.extract_post.specs.inside.Marks.{TellMembers}
 use Rattle.extract_post.specs.inside.Fits.{IsNumbered}
@@ -32,8 +34,13 @@ is_misnumbered n link = not (nat_lt (into_node n link.from) (2 ^ 32) && nat_lt (
 is_numbered : (n : Numbers) (link : Link) → is_misnumbered n link ≡ false → IsNumbered n link
 unfolding is_misnumbered
 is_numbered n link fits =
-    let both = and_parts (nat_lt (into_node n link.from) (2 ^ 32)) (nat_lt (into_node n link.to) (2 ^ 32)) (not-false (nat_lt (into_node n link.from) (2 ^ 32) && nat_lt (into_node n link.to) (2 ^ 32)) fits) in
-    record { from = ltb-true (into_node n link.from) (2 ^ 32) both.0; to = ltb-true (into_node n link.to) (2 ^ 32) both.1 }
+    let both = and_parts (nat_lt (into_node n link.from) (2 ^ 32)) (nat_lt (into_node n link.to) (2 ^ 32))
+    (not-false (nat_lt (into_node n link.from) (2 ^ 32) && nat_lt (into_node n link.to) (2 ^ 32)) fits) in
+    record {
+      from = ltb-true (into_node n link.from) (2 ^ 32) both.0;
+      to =
+          ltb-true (into_node n link.to) (2 ^ 32) both.1;
+    }
 
 well_numbered : (n : Numbers) (link : Link) → into_node n link.from < 2 ^ 32 → into_node n link.to < 2 ^ 32 →
     is_misnumbered n link ≡ false
@@ -45,7 +52,8 @@ all_numbered : (n : Numbers) (sections : List NormalSection) →
 all_numbered n sections few =
     All-weaker (λ link. is_misnumbered n link ≡ false) (IsNumbered n) (is_numbered n) (links_in sections)
     (none_any (is_misnumbered n) (links_in sections)
-    (elim (cases_Bool (list_any (is_misnumbered n) (links_in sections))) as (λ _. list_any (is_misnumbered n) (links_in sections) ≡ false) [
+    (elim (cases_Bool (list_any (is_misnumbered n) (links_in sections))) as (λ _. list_any (is_misnumbered n)
+    (links_in sections) ≡ false) [
       | inl some ↦
           let (link, is, wrong) = link_found (is_misnumbered n) sections some in
           let places = link_places sections link is in
@@ -66,7 +74,8 @@ post_numbered pre post few = all_numbered (post_numbers pre post) post (omega ar
 -- edges stay among the nodes
 pair_within : (nodes a b c d : ℕ) → a < nodes → b < nodes → c < nodes → d < nodes →
     list_any (is_outside nodes) (edge a b ∷ edge c d ∷ []) ≡ false
-pair_within nodes a b c d at_a at_b at_c at_d = rw (lt-ltb a nodes at_a, lt-ltb b nodes at_b, lt-ltb c nodes at_c, lt-ltb d nodes at_d) refl
+pair_within nodes a b c d at_a at_b at_c at_d =
+    rw (lt-ltb a nodes at_a, lt-ltb b nodes at_b, lt-ltb c nodes at_c, lt-ltb d nodes at_d) refl
 
 joins_within : (nodes : ℕ) (n : Numbers) (link : Link) → into_node n link.from < nodes → into_node n link.to < nodes →
     list_any (is_outside nodes) (joins n link) ≡ false
@@ -78,9 +87,13 @@ joins_within nodes n link from to =
     elim (cases_Bool (is_code_class link.to_class)) [
       | inl code ↦ elim (cases_Bool link.interior) [
         | inl interior ↦ elim (cases_Bool (is_code_class link.from_class)) [
-          | inl by_code ↦ rw (code, interior, by_code) (pair_within nodes (member_node n link.from) (member_node n link.to) (member_node n link.to) (member_node n link.from) mf mt mt mf)
+          | inl by_code ↦ rw (code, interior, by_code)
+              (pair_within nodes (member_node n link.from) (member_node n link.to) (member_node n link.to)
+              (member_node n link.from) mf mt mt mf)
           | inr other ↦ elim (cases_Bool (is_read_only_class link.from_class)) [
-            | inl constant ↦ rw (code, interior, other, constant) (pair_within nodes (from_node n link.from) (member_node n link.to) (member_node n link.to) (into_node n link.from) ff mt mt from)
+            | inl constant ↦ rw (code, interior, other, constant)
+                (pair_within nodes (from_node n link.from) (member_node n link.to) (member_node n link.to)
+                (into_node n link.from) ff mt mt from)
             | inr none ↦ rw (code, interior, other, none) refl
           ]
         ]
@@ -88,9 +101,13 @@ joins_within nodes n link from to =
       ]
       | inr data_class ↦ elim (cases_Bool (is_constant_class link.to_class)) [
         | inl constant ↦ elim (cases_Bool (is_code_class link.from_class)) [
-          | inl by_code ↦ rw (data_class, constant, by_code) (pair_within nodes (member_node n link.from) (from_node n link.to) (into_node n link.to) (member_node n link.from) mf ft to mf)
+          | inl by_code ↦ rw (data_class, constant, by_code)
+              (pair_within nodes (member_node n link.from) (from_node n link.to) (into_node n link.to)
+              (member_node n link.from) mf ft to mf)
           | inr other ↦ elim (cases_Bool (is_constant_class link.from_class)) [
-            | inl by_constant ↦ rw (data_class, constant, other, by_constant) (pair_within nodes (from_node n link.from) (from_node n link.to) (into_node n link.to) (into_node n link.from) ff ft to from)
+            | inl by_constant ↦ rw (data_class, constant, other, by_constant)
+                (pair_within nodes (from_node n link.from) (from_node n link.to) (into_node n link.to)
+                (into_node n link.from) ff ft to from)
             | inr none ↦ rw (data_class, constant, other, none) refl
           ]
         ]
@@ -117,12 +134,16 @@ twin_within nodes p q post place section low high (Some other) there =
     let within : other < length post = place_within post section.name other there in
     let there_below : q.base + other < nodes = omega arith in
     rw there
-    (All-cons (IsWithin nodes) (edge (member_node p place) (member_node q other)) (edge (member_node q other) (member_node p place) ∷ [])
+    (All-cons (IsWithin nodes) (edge (member_node p place) (member_node q other))
+    (edge (member_node q other) (member_node p place) ∷ [])
     (record { from = low; to = there_below })
-    (All-cons (IsWithin nodes) (edge (member_node q other) (member_node p place)) [] (record { from = there_below; to = low }) (All-nil (IsWithin nodes))))
+    (All-cons (IsWithin nodes) (edge (member_node q other) (member_node p place)) []
+    (record { from = there_below; to = low }) (All-nil (IsWithin nodes))))
 
-pub twins_first : (p q : Numbers) (post : List NormalSection) (place : ℕ) (section : NormalSection) (rest : List NormalSection) →
-    twins_from p q post place (section ∷ rest) ≡ twins_from p q post place (section ∷ []) ++ twins_from p q post (suc place) rest
+pub twins_first : (p q : Numbers) (post : List NormalSection) (place : ℕ) (section : NormalSection)
+    (rest : List NormalSection) →
+    twins_from p q post place (section ∷ rest) ≡ twins_from p q post place (section ∷ []) ++ twins_from p q post
+    (suc place) rest
 twins_first p q post place section rest =
     elim (option_cases (place_named post section.name)) [
       | inl none ↦ rw none refl
@@ -146,7 +167,8 @@ members_within pre post =
     let nodes = 3 * (length pre + length post) in
     let p = pre_numbers pre post in
     let q = post_numbers pre post in
-    All-append (IsWithin nodes) (flat_map (joins p) (links_in pre) ++ flat_map (joins q) (links_in post)) (twins_from p q post 0 pre)
+    All-append (IsWithin nodes) (flat_map (joins p) (links_in pre) ++ flat_map (joins q) (links_in post))
+    (twins_from p q post 0 pre)
     (All-append (IsWithin nodes) (flat_map (joins p) (links_in pre)) (flat_map (joins q) (links_in post))
     (all_joins_within nodes p pre (omega arith))
     (all_joins_within nodes q post (omega arith)))
@@ -162,12 +184,16 @@ tell_members pre post distinct_pre distinct_post seeds are marks edges same node
     record {
       in_pre = λ i s at.
           let within : i < length pre = slice_get_within pre i s at in
-          let P : List Edge → Type 0 = λ e. Tells (slice_index_or marks (length post + i) false) (ReachedAlong e seeds (length post + i)) in
-          member_tells_pre pre post distinct_pre distinct_post seeds are (slice_index_or marks (length post + i) false) i s at (subst P same (told (length post + i) (omega arith)));
+          let P : List Edge → Type 0 = λ e. Tells (slice_index_or marks (length post + i) false)
+          (ReachedAlong e seeds (length post + i)) in
+          member_tells_pre pre post distinct_pre distinct_post seeds are
+          (slice_index_or marks (length post + i) false) i s at (subst P same (told (length post + i) (omega arith)));
       in_post = λ i s at.
           let within : i < length post = slice_get_within post i s at in
           let zero_first : i ≡ 0 + i = omega arith in
           let P : List Edge → Type 0 = λ e. Tells (slice_index_or marks i false) (ReachedAlong e seeds i) in
-          let Q : ℕ → Type 0 = λ k. Tells (slice_index_or marks i false) (ReachedAlong (member_edges pre post) seeds k) in
-          member_tells_post pre post distinct_pre distinct_post seeds are (slice_index_or marks i false) i s at (subst Q zero_first (subst P same (told i (omega arith))));
+          let Q : ℕ → Type 0 = λ k. Tells (slice_index_or marks i false)
+          (ReachedAlong (member_edges pre post) seeds k) in
+          member_tells_post pre post distinct_pre distinct_post seeds are (slice_index_or marks i false) i s at
+          (subst Q zero_first (subst P same (told i (omega arith))));
     }

@@ -15,10 +15,12 @@ use Rattle.extract_post.specs.Extract.Extracts.{OtherData, Broken, NoMember, Ext
 one_pick : (P : List ℕ → Type 0) (sections : List NormalSection) (one other : List (List ℕ)) → Picks P sections one →
     Picks P sections other → one ≡ other
 one_pick P [] _ _ Ends Ends = refl
-one_pick P (section ∷ sections) _ _ (Takes _ _ names _ rest) (Takes _ _ names' _ rest') = ap (λ xs. section.name ∷ xs) (one_pick P sections names names' rest rest')
+one_pick P (section ∷ sections) _ _ (Takes _ _ names _ rest) (Takes _ _ names' _ rest') =
+    ap (λ xs. section.name ∷ xs) (one_pick P sections names names' rest rest')
 one_pick P (section ∷ sections) _ _ (Takes _ _ names has rest) (Leaves _ _ names' has_not rest') = absurd (has_not has)
 one_pick P (section ∷ sections) _ _ (Leaves _ _ names has_not rest) (Takes _ _ names' has rest') = absurd (has_not has)
-one_pick P (section ∷ sections) _ _ (Leaves _ _ names _ rest) (Leaves _ _ names' _ rest') = one_pick P sections names names' rest rest'
+one_pick P (section ∷ sections) _ _ (Leaves _ _ names _ rest) (Leaves _ _ names' _ rest') =
+    one_pick P sections names names' rest rest'
 
 -- the first item is one, and then not none
 one_first : {X : Type 0} (P : X → Type 0) (xs : List X) (one other : X) → IsFirst P xs one → IsFirst P xs other →
@@ -32,11 +34,13 @@ one_first P (x ∷ xs) one other (Later _ _ _ _ first) (Later _ _ _ _ first') = 
 first_or_none : {X : Type 0} (P : X → Type 0) (xs : List X) (x : X) → IsFirst P xs x → NoneIs P xs → ⊥
 first_or_none P [] other first none = elim first [ ]
 first_or_none P (x ∷ xs) _ (Here _ _ has) none = All-head (λ y. P y → ⊥) x xs none has
-first_or_none P (x ∷ xs) other (Later _ _ _ _ first) none = first_or_none P xs other first (All-tail (λ y. P y → ⊥) x xs none)
+first_or_none P (x ∷ xs) other (Later _ _ _ _ first) none =
+    first_or_none P xs other first (All-tail (λ y. P y → ⊥) x xs none)
 
 same_lists : (one other : Extract) → one.changed ≡ other.changed → one.added ≡ other.added →
     one.carried ≡ other.carried → one.new_data ≡ other.new_data → one.dropped ≡ other.dropped → one ≡ other
-same_lists one other a b c d e = λ i. record { changed = a i; added = b i; carried = c i; new_data = d i; dropped = e i }
+same_lists one other a b c d e =
+    λ i. record { changed = a i; added = b i; carried = c i; new_data = d i; dropped = e i }
 
 one_list : (pre post : List NormalSection) (one other : Extract) → IsExtract pre post one → IsExtract pre post other →
     one ≡ other
@@ -50,19 +54,31 @@ one_list pre post one other is is' =
 
 pub one_result : (pre post : List NormalSection) (one other : Result Extract Refusal) → Extracts pre post one →
     Extracts pre post other → one ≡ other
-one_result pre post _ _ (OtherData section first) (OtherData section' first') = ap (λ s. Err (refusal.DataChanged s.name)) (one_first _ post section section' first first')
-one_result pre post _ _ (OtherData section first) (Broken name r none _) = absurd (first_or_none _ post section first none)
+one_result pre post _ _ (OtherData section first) (OtherData section' first') =
+    ap (λ s. Err (refusal.DataChanged s.name)) (one_first _ post section section' first first')
+one_result pre post _ _ (OtherData section first) (Broken name r none _) =
+    absurd (first_or_none _ post section first none)
 one_result pre post _ _ (OtherData section first) (NoMember none _ _) = absurd (first_or_none _ post section first none)
-one_result pre post _ _ (OtherData section first) (Extracted name extract none _ _ _) = absurd (first_or_none _ post section first none)
-one_result pre post _ _ (Broken name r none _) (OtherData section first) = absurd (first_or_none _ post section first none)
-one_result pre post _ _ (Broken name r _ first) (Broken name' r' _ first') = ap (λ (place : List ℕ × Ref). Err (refusal.Interior place.0 place.1.offset)) (one_first (IsBroken pre post) (places post) (name, r) (name', r') first first')
-one_result pre post _ _ (Broken name r _ first) (NoMember _ none _) = absurd (first_or_none (IsBroken pre post) (places post) (name, r) first none)
-one_result pre post _ _ (Broken name r _ first) (Extracted _ _ _ none _ _) = absurd (first_or_none (IsBroken pre post) (places post) (name, r) first none)
+one_result pre post _ _ (OtherData section first) (Extracted name extract none _ _ _) =
+    absurd (first_or_none _ post section first none)
+one_result pre post _ _ (Broken name r none _) (OtherData section first) =
+    absurd (first_or_none _ post section first none)
+one_result pre post _ _ (Broken name r _ first) (Broken name' r' _ first') =
+    ap (λ (place : List ℕ × Ref). Err (refusal.Interior place.0 place.1.offset))
+    (one_first (IsBroken pre post) (places post) (name, r) (name', r') first first')
+one_result pre post _ _ (Broken name r _ first) (NoMember _ none _) =
+    absurd (first_or_none (IsBroken pre post) (places post) (name, r) first none)
+one_result pre post _ _ (Broken name r _ first) (Extracted _ _ _ none _ _) =
+    absurd (first_or_none (IsBroken pre post) (places post) (name, r) first none)
 one_result pre post _ _ (NoMember none _ _) (OtherData section first) = absurd (first_or_none _ post section first none)
-one_result pre post _ _ (NoMember _ none _) (Broken name r _ first) = absurd (first_or_none (IsBroken pre post) (places post) (name, r) first none)
+one_result pre post _ _ (NoMember _ none _) (Broken name r _ first) =
+    absurd (first_or_none (IsBroken pre post) (places post) (name, r) first none)
 one_result pre post _ _ (NoMember _ _ _) (NoMember _ _ _) = refl
 one_result pre post _ _ (NoMember _ _ nobody) (Extracted name _ _ _ member _) = absurd (nobody name member)
-one_result pre post _ _ (Extracted _ _ none _ _ _) (OtherData section first) = absurd (first_or_none _ post section first none)
-one_result pre post _ _ (Extracted _ _ _ none _ _) (Broken name r _ first) = absurd (first_or_none (IsBroken pre post) (places post) (name, r) first none)
+one_result pre post _ _ (Extracted _ _ none _ _ _) (OtherData section first) =
+    absurd (first_or_none _ post section first none)
+one_result pre post _ _ (Extracted _ _ _ none _ _) (Broken name r _ first) =
+    absurd (first_or_none (IsBroken pre post) (places post) (name, r) first none)
 one_result pre post _ _ (Extracted name _ _ _ member _) (NoMember _ _ nobody) = absurd (nobody name member)
-one_result pre post _ _ (Extracted _ extract _ _ _ is) (Extracted _ extract' _ _ _ is') = ap (λ e. Ok e) (one_list pre post extract extract' is is')
+one_result pre post _ _ (Extracted _ extract _ _ _ is) (Extracted _ extract' _ _ _ is') =
+    ap (λ e. Ok e) (one_list pre post extract extract' is is')

@@ -1,5 +1,6 @@
 -- What the answers say.
-use Rattle.std.proofs.Common.{◌≡◌, inl, inr, ℕ, zero, suc, ◌+◌, ◌<◌, Bool, true, false, not, List, [], ◌∷◌, length, Some, None, Ok, Err, sym, subst, ◌∙◌, arith}
+use Rattle.std.proofs.Common.{◌≡◌, inl, inr, ℕ, zero, suc, ◌+◌, ◌<◌, Bool, true, false, not, List}
+use Rattle.std.proofs.Common.{[], ◌∷◌, length, Some, None, Ok, Err, sym, subst, ◌∙◌, arith}
 use Rattle.std.specs.List.{slice_get, position}
 use Rattle.std.proofs.lemmas.Bool.{and_parts}
 use Rattle.std.proofs.lemmas.List.Elements.{All-head, All-tail}
@@ -32,19 +33,23 @@ pub part_pre : (pre post : List NormalSection) (nodes part : List Bool) (from co
 part_pre pre post nodes part from count start all told are =
     λ i s at.
     let within : i < length pre = slice_get_within pre i s at in
-    rw (are.each i (omega arith)) (let P : ℕ → Type 0 = λ k. Tells (marked nodes (k + i)) (Member pre post s.name) in subst P (sym start) (told.in_pre i s at))
+    rw (are.each i (omega arith)) (let P : ℕ → Type 0 = λ k. Tells (marked nodes (k + i)) (Member pre post s.name) in
+    subst P (sym start) (told.in_pre i s at))
 
 -- members are there only where first ones are
 seed_in_post : (pre post : List NormalSection) (name : List ℕ) → IsSeed pre post name →
     is_in is_code_class post name ≡ true
-seed_in_post pre post name (inl (DiffersItself n both other)) = (and_parts (is_in is_code_class pre n) (is_in is_code_class post n) both).1
-seed_in_post pre post name (inl (DiffersThrough n both reaches)) = (and_parts (is_in is_code_class pre n) (is_in is_code_class post n) both).1
+seed_in_post pre post name (inl (DiffersItself n both other)) =
+    (and_parts (is_in is_code_class pre n) (is_in is_code_class post n) both).1
+seed_in_post pre post name (inl (DiffersThrough n both reaches)) =
+    (and_parts (is_in is_code_class pre n) (is_in is_code_class post n) both).1
 seed_in_post pre post name (inr alone) = (and_parts (is_in is_code_class post name) (not (is_there pre name)) alone).0
 
 none_at : (P : NormalSection → Type 0) (xs : List NormalSection) → NoneIs P xs → (i : ℕ) (s : NormalSection) →
     slice_get xs i ≡ Some s → P s → ⊥
 none_at P [] none i s at = absurd cc
-none_at P (x ∷ xs) none zero s at = let same : x ≡ s = same_Some x s at in subst (λ (v : NormalSection). P v → ⊥) same (All-head (λ z. P z → ⊥) x xs none)
+none_at P (x ∷ xs) none zero s at = let same : x ≡ s = same_Some x s at in
+    subst (λ (v : NormalSection). P v → ⊥) same (All-head (λ z. P z → ⊥) x xs none)
 none_at P (x ∷ xs) none (suc i) s at = none_at P xs (All-tail (λ z. P z → ⊥) x xs none) i s at
 
 no_seed : (pre post : List NormalSection) → NoneIs (λ s. IsSeed pre post s.name) post → (name : List ℕ) →
@@ -76,7 +81,8 @@ pub extracted : (pre post : List NormalSection) (first : List Bool) (k : ℕ) (e
     NoneIs (IsBroken pre post) (places post) → IsExtract pre post extract → Extracts pre post (Ok extract)
 extracted pre post first k extract told at same whole is =
     let (s, at_s, it) = first_marked_section (IsSeed pre post) post first told k at in
-    Extracted s.name extract same whole (seed_member pre post s.name (first_is (λ s. IsSeed pre post s.name) post s it)) is
+    Extracted s.name extract same whole (seed_member pre post s.name (first_is (λ s. IsSeed pre post s.name) post s it))
+    is
 
 pub without_members : (pre post : List NormalSection) (first : List Bool) → TellWhich (IsSeed pre post) post first →
     position (λ m. m) first ≡ None → HasNoOther pre post → NoneIs (IsBroken pre post) (places post) →
@@ -86,10 +92,12 @@ without_members pre post first told none same whole =
 
 pub broken : (pre post : List NormalSection) (place k : ℕ) (why : Refusal) → FirstBroken pre post place k →
     HasNoOther pre post →
-    ((section : NormalSection) (r : Ref) → slice_get post place ≡ Some section → slice_get section.refs k ≡ Some r → why ≡ refusal.Interior section.name r.offset) →
+    ((section : NormalSection) (r : Ref) → slice_get post place ≡ Some section → slice_get section.refs k ≡ Some r
+    → why ≡ refusal.Interior section.name r.offset) →
     Extracts pre post (Err why)
 broken pre post place k why found same is =
-    let e : why ≡ refusal.Interior found.section.name found.reference.offset = is found.section found.reference found.at found.at_reference in
+    let e : why ≡ refusal.Interior found.section.name found.reference.offset =
+    is found.section found.reference found.at found.at_reference in
     let P : Refusal → Type 0 = λ w. Extracts pre post (Err w) in
     subst P (sym e) (Broken found.section.name found.reference same found.first)
 

@@ -1,5 +1,6 @@
 -- What a graph search along an object's edges tells.
-use Rattle.std.proofs.Common.{◌≡◌, inl, inr, ℕ, ◌<◌, Bool, true, false, not, ◌&&◌, nat_lt, List, [], ◌∷◌, length, refl, sym, subst, ◌∙◌, arith, All}
+use Rattle.std.proofs.Common.{◌≡◌, inl, inr, ℕ, ◌<◌, Bool, true, false, not, ◌&&◌, nat_lt}
+use Rattle.std.proofs.Common.{List, [], ◌∷◌, length, refl, sym, subst, ◌∙◌, arith, All}
 use Rattle.std.specs.List.{slice_index_or, flat_map, list_any}
 use Rattle.std.proofs.lemmas.Option.{slice_get_within}
 use Rattle.std.proofs.lemmas.Bool.{cases_Bool, lt-ltb, ltb-true, and_parts, or_parts, not-false}
@@ -26,13 +27,15 @@ none_any p (x ∷ xs) none =
 
 is_within : (nodes : ℕ) (e : Edge) → is_outside nodes e ≡ false → IsWithin nodes e
 is_within nodes e inside =
-    let both = and_parts (nat_lt e.from nodes) (nat_lt e.to nodes) (not-false (nat_lt e.from nodes && nat_lt e.to nodes) inside) in
+    let both = and_parts (nat_lt e.from nodes) (nat_lt e.to nodes)
+    (not-false (nat_lt e.from nodes && nat_lt e.to nodes) inside) in
     record { from = ltb-true e.from nodes both.0; to = ltb-true e.to nodes both.1 }
 
 pub none_outside : (nodes : ℕ) (edges : List Edge) → list_any (is_outside nodes) edges ≡ false →
     All (IsWithin nodes) edges
 none_outside nodes edges none =
-    All-weaker (λ e. is_outside nodes e ≡ false) (IsWithin nodes) (is_within nodes) edges (none_any (is_outside nodes) edges none)
+    All-weaker (λ e. is_outside nodes e ≡ false) (IsWithin nodes) (is_within nodes) edges
+    (none_any (is_outside nodes) edges none)
 
 pub edges_within : (f : Link → List Edge) (nodes : ℕ) (sections : List NormalSection) →
     ((link : Link) → IsLink sections link → list_any (is_outside nodes) (f link) ≡ false) →
@@ -40,8 +43,10 @@ pub edges_within : (f : Link → List Edge) (nodes : ℕ) (sections : List Norma
 edges_within f nodes sections within =
     none_outside nodes (flat_map f (links_in sections))
     (any_in_flat_map (is_outside nodes) f (links_in sections)
-    ∙ (elim (cases_Bool (list_any (λ link. list_any (is_outside nodes) (f link)) (links_in sections))) as (λ _. list_any (λ link. list_any (is_outside nodes) (f link)) (links_in sections) ≡ false) [
-      | inl some ↦ let (link, is, outside) = link_found (λ link. list_any (is_outside nodes) (f link)) sections some in absurd (let e : false ≡ true = sym (within link is) ∙ outside in cc)
+    ∙ (elim (cases_Bool (list_any (λ link. list_any (is_outside nodes) (f link)) (links_in sections))) as (λ _. list_any
+    (λ link. list_any (is_outside nodes) (f link)) (links_in sections) ≡ false) [
+      | inl some ↦ let (link, is, outside) = link_found (λ link. list_any (is_outside nodes) (f link)) sections some in
+          absurd (let e : false ≡ true = sym (within link is) ∙ outside in cc)
       | inr none ↦ none
     ]))
 
@@ -85,7 +90,8 @@ tell_reaching sections distinct seeds marks edges same nodes count len told =
       each = λ i s at.
           let within : i < length sections = slice_get_within sections i s at in
           let P : List Edge → Type 0 = λ e. Tells (slice_index_or marks i false) (ReachedAlong e seeds i) in
-          backward_tells sections distinct seeds (slice_index_or marks i false) i s at (subst P same (told i (omega arith)));
+          backward_tells sections distinct seeds (slice_index_or marks i false) i s at
+          (subst P same (told i (omega arith)));
     }
 
 pub tell_reached : (sections : List NormalSection) → HasDistinctNames sections →
@@ -99,5 +105,6 @@ tell_reached sections distinct seeds marks edges same nodes count len told =
       each = λ i s at.
           let within : i < length sections = slice_get_within sections i s at in
           let P : List Edge → Type 0 = λ e. Tells (slice_index_or marks i false) (ReachedAlong e seeds i) in
-          forward_tells sections distinct seeds (slice_index_or marks i false) i s at (subst P same (told i (omega arith)));
+          forward_tells sections distinct seeds (slice_index_or marks i false) i s at
+          (subst P same (told i (omega arith)));
     }

@@ -10,7 +10,8 @@ use Rattle.i386_reloc.specs.Normal.{section_named}
 use Rattle.section_equal.specs.Same.{same_class, same_in}
 use Rattle.extract_post.specs.declared.types.Extract.{Extract}
 use Rattle.i386_reloc.specs.Reaches.{is_read_only_class, is_data_class, is_in, goes_to, is_interior, Reaches}
-use Rattle.extract_post.specs.Members.{is_in_both, is_new_data, ReachesChanged, Member, IsChanged, IsAdded, IsDropped, IsCarried}
+use Rattle.extract_post.specs.Members.{is_in_both, is_new_data, ReachesChanged, Member}
+use Rattle.extract_post.specs.Members.{IsChanged, IsAdded, IsDropped, IsCarried}
 
 -- the names of the sections whose name has a property, in order
 pub data Picks (P : List ℕ → Type 0) : List NormalSection → List (List ℕ) → Type 0 where
@@ -33,8 +34,8 @@ abbrev pub other_class : Option NormalSection → Option NormalSection → Bool
 other_class (Some old) (Some new) = not (same_class old.class new.class)
 other_class _ _ = false
 
--- A section of both objects has other data in them: another class; or it is a data section that isn't the same, or that in
--- one of them reaches a read-only section that isn't.
+-- A section of both objects has other data in them: another class; or it is a data section that isn't the same, or that
+-- in one of them reaches a read-only section that isn't.
 pub data DataDiffers (pre post : List NormalSection) : List ℕ → Type 0 where
   OtherClass : (name : List ℕ) → IsTrue (other_class (section_named pre name) (section_named post name)) →
       DataDiffers pre post name
@@ -49,9 +50,9 @@ pub data IsDataOf (post : List NormalSection) (test : List ℕ → Bool) : List 
   Reached : (from name : List ℕ) → IsTrue (test from) → Reaches post from name →
       IsTrue (is_in is_read_only_class post name) → IsDataOf post test name
 
--- A reference of post to the interior of a code section can't be kept: it stands in data of both objects, or in read-only
--- data that these reach, and goes to a changed section; or it stands in new data, or in read-only data that these reach,
--- and goes to a section that is neither changed nor added.
+-- A reference of post to the interior of a code section can't be kept: it stands in data of both objects, or in
+-- read-only data that these reach, and goes to a changed section; or it stands in new data, or in read-only data that
+-- these reach, and goes to a section that is neither changed nor added.
 pub data IsBroken (pre post : List NormalSection) : List ℕ × Ref → Type 0 where
   OldData : (name : List ℕ) (r : Ref) (code : List ℕ) → IsDataOf post (is_in_both is_data_class pre post) name →
       IsTrue (goes_to code r && is_interior r) → IsChanged pre post code → IsBroken pre post (name, r)

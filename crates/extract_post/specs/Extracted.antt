@@ -1,5 +1,6 @@
 -- The extract of two objects as a function of their sections: the one answer of `Extracts`, computed.
-use Rattle.std.specs.Prelude.{ℕ, Bool, not, ◌&&◌, ◌||◌, if◌then◌else◌, List, [], ◌∷◌, ◌++◌, map, filter, find, Option, Some, None, Result, Ok, Err}
+use Rattle.std.specs.Prelude.{ℕ, Bool, not, ◌&&◌, ◌||◌, if◌then◌else◌, List, [], ◌∷◌, ◌++◌}
+use Rattle.std.specs.Prelude.{map, filter, find, Option, Some, None, Result, Ok, Err}
 use Rattle.std.specs.List.{list_any}
 use Rattle.ks_base.specs.declared.refusals.Refusal.{Refusal}
 use Rattle.ks_base.specs.declared.refusals.Refusal.TheVariants as refusal
@@ -42,7 +43,8 @@ is_first_member pre post name =
 abbrev pub points_on : List NormalSection → List ℕ → List ℕ → Bool
 points_on sections name code =
     points_into sections name code
-    || list_any (λ between. (reaches sections name between && is_in is_read_only_class sections between) && points_into sections between code) (names_of sections)
+    || list_any (λ between. (reaches sections name between && is_in is_read_only_class sections between)
+    && points_into sections between code) (names_of sections)
 
 abbrev pub ties_in : List NormalSection → List ℕ → List ℕ → Bool
 ties_in sections a b = is_in is_code_class sections a && points_on sections a b
@@ -54,7 +56,8 @@ is_tied pre post a b = (ties_in pre a b || ties_in post a b) || (ties_in pre b a
 abbrev pub is_member : List NormalSection → List NormalSection → List ℕ → Bool
 is_member pre post name =
     is_first_member pre post name
-    || list_any (λ from. is_first_member pre post from && leads (is_tied pre post) (names_of pre ++ names_of post) from name) (names_of post)
+    || list_any (λ from. is_first_member pre post from && leads (is_tied pre post)
+    (names_of pre ++ names_of post) from name) (names_of post)
 
 abbrev pub is_changed : List NormalSection → List NormalSection → List ℕ → Bool
 is_changed pre post name = is_member pre post name && is_in_both is_code_class pre post name
@@ -67,7 +70,8 @@ is_dropped pre post name = is_member pre post name && (is_in is_code_class pre n
 
 abbrev pub is_carried : List NormalSection → List NormalSection → List ℕ → Bool
 is_carried pre post name =
-    list_any (λ from. (is_member pre post from && is_in is_code_class post from || is_new_data pre post from) && reaches post from name) (names_of post)
+    list_any (λ from. (is_member pre post from && is_in is_code_class post from || is_new_data pre post from)
+    && reaches post from name) (names_of post)
 
 -- data that are others, and references of data that can't be kept
 abbrev pub data_differs : List NormalSection → List NormalSection → List ℕ → Bool
@@ -85,7 +89,8 @@ is_broken pre post x =
     is_data_of post (is_in_both is_data_class pre post) x.0
     && list_any (λ code. (goes_to code x.1 && is_interior x.1) && is_changed pre post code) (names_of post)
     || is_data_of post (is_new_data pre post) x.0
-    && list_any (λ code. (is_in is_code_class post code && goes_to code x.1 && is_interior x.1) && not (is_member pre post code)) (names_of post)
+    && list_any (λ code. (is_in is_code_class post code && goes_to code x.1 && is_interior x.1)
+    && not (is_member pre post code)) (names_of post)
 
 -- the lists
 abbrev pub picked : (List ℕ → Bool) → List NormalSection → List (List ℕ)

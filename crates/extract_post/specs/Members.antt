@@ -5,7 +5,8 @@ use Rattle.i386_reloc.specs.declared.types.NormalSection.{NormalSection}
 use Rattle.i386_reloc.specs.Classes.{is_code_class}
 use Rattle.i386_reloc.specs.Normal.{section_named}
 use Rattle.section_equal.specs.Same.{same_in}
-use Rattle.i386_reloc.specs.Reaches.{is_read_only_class, is_data_class, is_in, some_reference, goes_to, is_interior, Reaches}
+use Rattle.i386_reloc.specs.Reaches.{is_read_only_class, is_data_class, is_in}
+use Rattle.i386_reloc.specs.Reaches.{some_reference, goes_to, is_interior, Reaches}
 
 -- whether an object has a section of this name
 abbrev pub is_there : List NormalSection → List ℕ → Bool
@@ -26,7 +27,8 @@ pub data ReachesChanged (pre post : List NormalSection) (name : List ℕ) : Type
 abbrev pub is_in_both : (Class → Bool) → List NormalSection → List NormalSection → List ℕ → Bool
 is_in_both wanted pre post name = is_in wanted pre name && is_in wanted post name
 
--- A code section of both objects differs where it isn't the same, or in one of them reaches a read-only section that isn't.
+-- A code section of both objects differs where it isn't the same, or in one of them reaches a read-only section that
+-- isn't.
 pub data Differs (pre post : List NormalSection) : List ℕ → Type 0 where
   Itself : (name : List ℕ) → IsTrue (is_in_both is_code_class pre post name) → IsTrue (not (same_in pre post name)) →
       Differs pre post name
@@ -36,7 +38,8 @@ pub data Differs (pre post : List NormalSection) : List ℕ → Type 0 where
 -- whether the section of a name has a reference to the interior of a code section of another name
 abbrev pub points_into : List NormalSection → List ℕ → List ℕ → Bool
 points_into sections name code =
-    is_in is_code_class sections code && some_reference (λ r. goes_to code r && is_interior r) (section_named sections name)
+    is_in is_code_class sections code && some_reference (λ r. goes_to code r && is_interior r)
+    (section_named sections name)
 
 -- A section has a reference to the interior of a code section, itself or in a read-only section that it reaches.
 pub data PointsInto (sections : List NormalSection) : List ℕ → List ℕ → Type 0 where
@@ -45,8 +48,8 @@ pub data PointsInto (sections : List NormalSection) : List ℕ → List ℕ → 
       IsTrue (is_in is_read_only_class sections between) → IsTrue (points_into sections between code) →
       PointsInto sections name code
 
--- Two code sections are tied where, in either object, one of them has a reference to the interior of the other, itself or
--- in a read-only section that it reaches.
+-- Two code sections are tied where, in either object, one of them has a reference to the interior of the other, itself
+-- or in a read-only section that it reaches.
 pub data Tied (pre post : List NormalSection) : List ℕ → List ℕ → Type 0 where
   InPre : (a b : List ℕ) → IsTrue (is_in is_code_class pre a) → PointsInto pre a b → Tied pre post a b
   InPost : (a b : List ℕ) → IsTrue (is_in is_code_class post a) → PointsInto post a b → Tied pre post a b

@@ -6,8 +6,8 @@ ghost use Rattle.extract_post.specs.declared.types.Extract.{Extract};
 ghost use Rattle.extract_post.specs.Extract.{Extracts};
 ghost use Rattle.extract_post.specs.Extracted.{extracted};
 
-/// Two objects have one extract or one refusal, and no second answer: what [`extract`](crate::extract) promises to be an
-/// answer is the answer.
+/// Two objects have one extract or one refusal, and no second answer: what [`extract`](crate::extract) promises to be
+/// an answer is the answer.
 pub fn objects_have_one_extract()
     ensures { (pre post : List NormalSection) (one other : Result Extract Refusal) →
         Extracts pre post one → Extracts pre post other → one ≡ other }

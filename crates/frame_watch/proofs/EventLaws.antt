@@ -1,5 +1,6 @@
 -- What an event comes to: by the rules of start, return and arrival, and then by the slot rule.
-use Rattle.std.proofs.Common.{◌≡◌, ℕ, Bool, true, false, cond, ◌&&◌, List, [], get_or, refl, sym, ap, arith, Option, Some, None}
+use Rattle.std.proofs.Common.{◌≡◌, ℕ, Bool, true, false, cond, ◌&&◌, List, []}
+use Rattle.std.proofs.Common.{get_or, refl, sym, ap, arith, Option, Some, None}
 use Rattle.std.specs.List.{last_or}
 use Rattle.std.proofs.lemmas.List.Sums.{AllPass-from_list_all, list_all-from_AllPass}
 use Rattle.ks_base.specs.declared.places.Range.{Range}
@@ -16,8 +17,10 @@ use Rattle.frame_watch.specs.declared.types.Rule.{Rule}
 use Rattle.frame_watch.specs.declared.types.Rule.TheVariants as rules
 use Rattle.frame_watch.specs.declared.types.Verdict.{Verdict}
 use Rattle.frame_watch.specs.declared.types.Verdict.TheVariants.{Disciplined, Broken}
-use Rattle.frame_watch.specs.Frames.{Watched, Watching, frames_at, with_frames, with_started, opened, closed, keeps_slots}
-use Rattle.frame_watch.specs.Discipline.{Sight, counted, broken, pops, breaking, least, slot_broken, slots_tested, after_start, after_outcome, unless_broken, spawn_noted, step_noted}
+use Rattle.frame_watch.specs.Frames.{Watched, Watching, frames_at, with_frames}
+use Rattle.frame_watch.specs.Frames.{with_started, opened, closed, keeps_slots}
+use Rattle.frame_watch.specs.Discipline.{Sight, counted, broken, pops, breaking, least, slot_broken, slots_tested}
+use Rattle.frame_watch.specs.Discipline.{after_start, after_outcome, unless_broken, spawn_noted, step_noted}
 use Rattle.frame_watch.specs.inside.Kept.{AreInPlace, StopsAt, is_in_place}
 use Rattle.frame_watch.specs.inside.Events.{broken_unless, ruled, step_ruled, start_ruled, advanced, begun}
 use Rattle.frame_watch.proofs.LeastLaws.{all_pass}

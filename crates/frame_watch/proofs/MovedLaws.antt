@@ -1,6 +1,8 @@
 -- What is known of the threads after one has moved or was started: only this thread and what was written can have
 -- broken the slot rule.
-use Rattle.std.proofs.Common.{◌≡◌, ◌≢◌, ℕ, suc, ◌+◌, ◌-◌, ◌<◌, ◌≤◌, Bool, true, false, not, cond, ◌&&◌, ◌==◌, is_some, nat_lt, List, [], ◌∷◌, ◌++◌, length, get_or, map, take, min, max, refl, sym, ap, subst, ◌∙◌, arith, length-append, Option, Some, None}
+use Rattle.std.proofs.Common.{◌≡◌, ◌≢◌, ℕ, suc, ◌+◌, ◌-◌, ◌<◌, ◌≤◌, Bool, true, false, not, cond, ◌&&◌}
+use Rattle.std.proofs.Common.{◌==◌, is_some, nat_lt, List, [], ◌∷◌, ◌++◌, length, get_or, map, take, min}
+use Rattle.std.proofs.Common.{max, refl, sym, ap, subst, ◌∙◌, arith, length-append, Option, Some, None}
 use Rattle.std.specs.List.{All, filter}
 use Rattle.std.proofs.lemmas.Bool.Decides.{nat_tests}
 use Rattle.std.proofs.lemmas.List.{get_or_default, get_or-take, get_or_append_left, length-take}
@@ -20,12 +22,14 @@ use Rattle.ia32_step.specs.declared.types.Outcome.{Outcome}
 use Rattle.ia32_step.specs.declared.types.Outcome.TheVariants.{Moved}
 use Rattle.ia32_step.specs.Frames.{is_slot, holds_dword}
 use Rattle.ia32_step.specs.Threads.{esp_of}
-use Rattle.frame_watch.specs.Frames.{Watched, is_of, stack_of, if_of, started, watched_at, with_started, without_thread, frames_at, frames_in, closed, frame}
+use Rattle.frame_watch.specs.Frames.{Watched, is_of, stack_of, if_of, started, watched_at, with_started}
+use Rattle.frame_watch.specs.Frames.{without_thread, frames_at, frames_in, closed, frame}
 use Rattle.image_memory.specs.Contents.{Contents}
 use Rattle.frame_watch.specs.declared.types.Rule.TheVariants as rules
 use Rattle.frame_watch.specs.Discipline.{sight_of}
 use Rattle.frame_watch.specs.Conditions.{HaveWindows, HoldBut, IsStart, IsStep, touches}
-use Rattle.frame_watch.specs.inside.Kept.{AreApart, AreInPlace, IsTouched, is_in_place, is_based, number_unless, first_store}
+use Rattle.frame_watch.specs.inside.Kept.{AreApart, AreInPlace, IsTouched, is_in_place}
+use Rattle.frame_watch.specs.inside.Kept.{is_based, number_unless, first_store}
 use Rattle.frame_watch.specs.inside.Events.{GoesOn, broken_unless, moved, flow_frames, step_rule}
 use Rattle.frame_watch.proofs.FrameLaws.{slot_at}
 use Rattle.frame_watch.proofs.ListLaws.{found_at, has_number, same_number, none_displaced}

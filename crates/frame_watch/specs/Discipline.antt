@@ -1,6 +1,7 @@
 -- The discipline: four rules that each event has to keep, in their order start, return, arrival and slot. An event is
 -- seen with what a thread meets at each address after it, and with the memory then.
-use Rattle.std.specs.Prelude.{ℕ, ◌+◌, ◌-◌, ◌^◌, min, Bool, false, not, ◌&&◌, ◌==◌, if◌then◌else◌, List, [], map, Option, Some, None}
+use Rattle.std.specs.Prelude.{ℕ, ◌+◌, ◌-◌, ◌^◌, min, Bool, false, not, ◌&&◌, ◌==◌}
+use Rattle.std.specs.Prelude.{if◌then◌else◌, List, [], map, Option, Some, None}
 use Rattle.std.specs.List.{filter, fold, last_or}
 use Rattle.image_memory.specs.declared.types.Piece.{Piece}
 use Rattle.image_memory.specs.Contents.{Contents}
@@ -15,7 +16,8 @@ use Rattle.frame_watch.specs.declared.types.Rule.{Rule}
 use Rattle.frame_watch.specs.declared.types.Rule.TheVariants as rules
 use Rattle.frame_watch.specs.declared.types.Verdict.{Verdict}
 use Rattle.frame_watch.specs.declared.types.Verdict.TheVariants.{Disciplined, Broken}
-use Rattle.frame_watch.specs.Frames.{Watched, Watching, with_started, frames_at, with_frames, without_thread, opened, closed}
+use Rattle.frame_watch.specs.Frames.{Watched, Watching, with_started, frames_at}
+use Rattle.frame_watch.specs.Frames.{with_frames, without_thread, opened, closed}
 use Rattle.frame_watch.specs.Frames.{keeps_slots}
 
 -- what is met at each address, and the memory

@@ -1,5 +1,6 @@
 //! The running threads that are watched.
-ghost use Rattle.std.specs.Prelude.{◌≡◌, ◌≤◌, ◌<◌, [], length, List, Option, true, IfOk, IfErr, OnOk, OnErr, None, Some, if◌then◌else◌};
+ghost use Rattle.std.specs.Prelude.{◌≡◌, ◌≤◌, ◌<◌, [], length, List, Option, true, IfOk};
+ghost use Rattle.std.specs.Prelude.{IfErr, OnOk, OnErr, None, Some, if◌then◌else◌};
 ghost use Rattle.std.specs.Option.{option_copied};
 ghost use Rattle.std.specs.List.{AllWithin, last_or};
 ghost use Rattle.ia32_step.specs.Threads as threads;

@@ -1,5 +1,6 @@
 -- The places of names in a list of sections.
-use Rattle.std.proofs.Common.{◌≡◌, ℕ, suc, ◌+◌, Bool, true, false, cond, List, [], ◌∷◌, ◌++◌, length, Option, Some, None, is_some, option_map, sym, ◌∙◌, ap, refl, arith, length-append}
+use Rattle.std.proofs.Common.{◌≡◌, ℕ, suc, ◌+◌, Bool, true, false, cond, List, [], ◌∷◌, ◌++◌, length, Option}
+use Rattle.std.proofs.Common.{Some, None, is_some, option_map, sym, ◌∙◌, ap, refl, arith, length-append}
 use Rattle.std.specs.Ordering.{nat_cmp, is_eq}
 use Rattle.std.specs.Cmp.Lexicographic.{slice_cmp, bytes_decides, texts_ties}
 use denote.Ref.{Bor}
@@ -16,18 +17,26 @@ use Rattle.i386_reloc.specs.inside.NamePlaces.{named, HasPlaces}
 use Rattle.i386_reloc.specs.inside.Targets.{targets_of, targets_in}
 use Rattle.i386_reloc.specs.Refused.{refused_where}
 
-suc_of_first : (place : Option ℕ) (b : Bool) (n : ℕ) → option_map suc (first_of place (cond b (Some n) None)) ≡ first_of (option_map suc place) (cond b (Some (suc n)) None)
+suc_of_first : (place : Option ℕ) (b : Bool) (n : ℕ)
+    → option_map suc (first_of place (cond b (Some n) None)) ≡ first_of (option_map suc place)
+    (cond b (Some (suc n)) None)
 suc_of_first None true n = refl
 suc_of_first None false n = refl
 suc_of_first (Some place) b n = refl
 
 -- one more section
-pub place_named_push : (sections : List NormalSection) (section : NormalSection) (name : List ℕ) → place_named (sections ++ section ∷ []) name ≡ first_of (place_named sections name) (cond (same_bytes section.name name) (Some (length sections)) None)
+pub place_named_push : (sections : List NormalSection) (section : NormalSection) (name : List ℕ)
+    → place_named (sections ++ section ∷ []) name ≡ first_of (place_named sections name)
+    (cond (same_bytes section.name name) (Some (length sections)) None)
 place_named_push [] section name = refl
 place_named_push (s ∷ sections) section name =
-    elim (same_bytes s.name name) as (λ b. cond b (Some 0) (option_map suc (place_named (sections ++ section ∷ []) name)) ≡ first_of (cond b (Some 0) (option_map suc (place_named sections name))) (cond (same_bytes section.name name) (Some (suc (length sections))) None)) [
+    elim (same_bytes s.name name) as (λ b. cond b (Some 0)
+    (option_map suc (place_named (sections ++ section ∷ []) name)) ≡ first_of
+    (cond b (Some 0) (option_map suc (place_named sections name)))
+    (cond (same_bytes section.name name) (Some (suc (length sections))) None)) [
       | true ↦ refl
-      | false ↦ ap (option_map suc) (place_named_push sections section name) ∙ suc_of_first (place_named sections name) (same_bytes section.name name) (length sections)
+      | false ↦ ap (option_map suc) (place_named_push sections section name)
+          ∙ suc_of_first (place_named sections name) (same_bytes section.name name) (length sections)
     ]
 
 -- a map from names to places, with one more name
@@ -43,11 +52,15 @@ pub not_refused : (broken : Bool) (why : Refusal) → refused_where broken why �
 not_refused true why none = absurd cc
 not_refused false why none = refl
 
-one_more_place : (sections : List NormalSection) (section : NormalSection) (q : List ℕ) (b : Bool) → (b ≡ true → place_named sections q ≡ None) → cond b (Some (length sections)) (place_named sections q) ≡ first_of (place_named sections q) (cond b (Some (length sections)) None)
+one_more_place : (sections : List NormalSection) (section : NormalSection) (q : List ℕ) (b : Bool)
+    → (b ≡ true → place_named sections q ≡ None) → cond b (Some (length sections)) (place_named sections q) ≡ first_of
+    (place_named sections q) (cond b (Some (length sections)) None)
 one_more_place sections section q true none = rw (none refl) refl
 one_more_place sections section q false none = sym (first_of_none (place_named sections q))
 
-pub has_places_push : (sections : List NormalSection) (section : NormalSection) (before after : BTreeMap (Bor (List ℕ)) ℕ) → HasPlaces sections before → named before section.name ≡ None → btree_map_len after ≡ btree_map_len before + 1 →
+pub has_places_push : (sections : List NormalSection) (section : NormalSection)
+    (before after : BTreeMap (Bor (List ℕ)) ℕ) → HasPlaces sections before → named before section.name ≡ None
+    → btree_map_len after ≡ btree_map_len before + 1 →
     ((q : List ℕ) → named after q ≡ cond (same_bytes section.name q) (Some (btree_map_len before)) (named before q)) →
     HasPlaces (sections ++ section ∷ []) after
 has_places_push sections section before after has none len each =
@@ -57,7 +70,8 @@ has_places_push sections section before after has none len each =
           each q
           ∙ rw (has.len, has.each q)
           (one_more_place sections section q (same_bytes section.name q)
-          (λ same. let e : q ≡ section.name = sym ((bytes_decides section.name q).0 same) in rw e (sym (has.each section.name) ∙ none)))
+          (λ same. let e : q ≡ section.name = sym ((bytes_decides section.name q).0 same) in
+          rw e (sym (has.each section.name) ∙ none)))
           ∙ sym (place_named_push sections section q);
     }
 
@@ -74,15 +88,20 @@ abbrev pub place_in_row : Option (List (Option ℕ)) → ℕ → Option ℕ
 place_in_row None k = None
 place_in_row (Some row) k = joined (slice_get row k)
 
-of_reference : (sections : List NormalSection) (r : Option Ref) → joined (option_map (λ r. place_of_target sections r.target) r) ≡ place_of_reference sections r
+of_reference : (sections : List NormalSection) (r : Option Ref)
+    → joined (option_map (λ r. place_of_target sections r.target) r) ≡ place_of_reference sections r
 of_reference sections None = refl
 of_reference sections (Some r) = refl
 
-of_section : (sections : List NormalSection) (section : Option NormalSection) (k : ℕ) → place_in_row (option_map (targets_of sections) section) k ≡ place_of_reference sections (reference_in section k)
+of_section : (sections : List NormalSection) (section : Option NormalSection) (k : ℕ)
+    → place_in_row (option_map (targets_of sections) section) k ≡ place_of_reference sections (reference_in section k)
 of_section sections None k = refl
 of_section sections (Some section) k =
-    ap joined (slice_get-map (λ (r : Ref). place_of_target sections r.target) section.refs k) ∙ of_reference sections (slice_get section.refs k)
+    ap joined (slice_get-map (λ (r : Ref). place_of_target sections r.target) section.refs k)
+    ∙ of_reference sections (slice_get section.refs k)
 
-pub target_at : (sections : List NormalSection) (i k : ℕ) → place_in_row (slice_get (targets_in sections) i) k ≡ place_of_reference sections (reference_at sections i k)
+pub target_at : (sections : List NormalSection) (i k : ℕ)
+    → place_in_row (slice_get (targets_in sections) i) k ≡ place_of_reference sections (reference_at sections i k)
 target_at sections i k =
-    ap (λ row. place_in_row row k) (slice_get-map (targets_of sections) sections i) ∙ of_section sections (slice_get sections i) k
+    ap (λ row. place_in_row row k) (slice_get-map (targets_of sections) sections i)
+    ∙ of_section sections (slice_get sections i) k

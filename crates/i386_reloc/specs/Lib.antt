@@ -1,6 +1,6 @@
 -- Public clauses cite Classes, References (relocations, fields, targets, symbols), Normal (the sections as they are
--- compared), Refused (when there are none), Places and Texts (where names, targets and texts stand) and Value; PlaceLaws
--- has a law of them. What stands in inside is the code's own.
+-- compared), Refused (when there are none), Places and Texts (where names, targets and texts stand) and Value;
+-- PlaceLaws has a law of them. What stands in inside is the code's own.
 pub mod Classes
 pub mod Normal
 pub mod Places

@@ -18,18 +18,21 @@ place_later : (o : Option ℕ) (i : ℕ) → option_map suc o ≡ Some i → (j 
 place_later None i at = absurd cc
 place_later (Some j) i at = (j, refl, sym (same_Some (suc j) i at))
 
-pub section_at_place : (sections : List NormalSection) (name : List ℕ) (i : ℕ) → place_named sections name ≡ Some i → (s : NormalSection) × (slice_get sections i ≡ Some s) × (s.name ≡ name)
+pub section_at_place : (sections : List NormalSection) (name : List ℕ) (i : ℕ) → place_named sections name ≡ Some i
+    → (s : NormalSection) × (slice_get sections i ≡ Some s) × (s.name ≡ name)
 section_at_place [] name i at = absurd cc
 section_at_place (x ∷ xs) name i at =
     elim (cases_Bool (same_bytes x.name name)) [
-      | inl same ↦ let first : Some 0 ≡ Some i = rw same at at in let e : 0 ≡ i = same_Some 0 i first in rw (← e) (x, refl, (bytes_decides x.name name).0 same)
+      | inl same ↦ let first : Some 0 ≡ Some i = rw same at at in let e : 0 ≡ i = same_Some 0 i first in
+          rw (← e) (x, refl, (bytes_decides x.name name).0 same)
       | inr apart ↦
           let later : option_map suc (place_named xs name) ≡ Some i = rw apart at at in
           let (j, at_j, e) = place_later (place_named xs name) i later in rw e (section_at_place xs name j at_j)
     ]
 
 -- and where a name is found
-pub section_found : (sections : List NormalSection) (name : List ℕ) (s : NormalSection) → section_named sections name ≡ Some s → (i : ℕ) × (slice_get sections i ≡ Some s) × (s.name ≡ name)
+pub section_found : (sections : List NormalSection) (name : List ℕ) (s : NormalSection)
+    → section_named sections name ≡ Some s → (i : ℕ) × (slice_get sections i ≡ Some s) × (s.name ≡ name)
 section_found sections name s found =
     elim (option_cases (place_named sections name)) [
       | inl none ↦ absurd (let e : None ≡ Some s = sym (section_named_at sections name ∙ rw none refl) ∙ found in cc)

@@ -1,11 +1,13 @@
 -- The loaded sections of an object as they are compared: their names, classes, functions, bytes with zeros in the
 -- fields that relocations change, and references (System V gABI, chapter 4, "Sections" and "Symbol Table").
-use Rattle.std.specs.Prelude.{◌≡◌, ℕ, zero, suc, ◌%◌, Bool, false, ◌&&◌, ◌||◌, ◌==◌, nat_eq, nat_lt, if◌then◌else◌, List, [], ◌∷◌, ◌++◌, find, Option, Some, None, is_none, IsSome, option_map}
+use Rattle.std.specs.Prelude.{◌≡◌, ℕ, zero, suc, ◌%◌, Bool, false, ◌&&◌, ◌||◌, ◌==◌, nat_eq, nat_lt, if◌then◌else◌}
+use Rattle.std.specs.Prelude.{List, [], ◌∷◌, ◌++◌, find, Option, Some, None, is_none, IsSome, option_map}
 use Rattle.std.specs.Cmp.Lexicographic.{pointwise}
 use Rattle.std.specs.List.Sorted.{IsNonDecreasingBy}
 use Rattle.elf32_object.specs.declared.elf.TheConstants.{STT_FUNC}
 use Rattle.elf32_object.specs.Below.{any_below, least_below}
-use Rattle.elf32_object.specs.Fields.{section_count, section_header, is_loaded, section_name, symbol_count, symbol_entry, symbol_name}
+use Rattle.elf32_object.specs.Fields.{section_count, section_header, is_loaded, section_name}
+use Rattle.elf32_object.specs.Fields.{symbol_count, symbol_entry, symbol_name}
 use Rattle.i386_reloc.specs.declared.types.Class.TheVariants.{Code}
 use Rattle.i386_reloc.specs.declared.types.NormalSection.{NormalSection}
 use Rattle.i386_reloc.specs.Classes.{class_of, is_code}

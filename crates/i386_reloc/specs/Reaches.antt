@@ -57,7 +57,8 @@ refers_on sections name other =
 -- A section reaches each section of read-only data or texts to which it refers, and each to which a reached one refers.
 pub data Reaches (sections : List NormalSection) : List ℕ → List ℕ → Type 0 where
   Refers : (name other : List ℕ) → IsTrue (refers_on sections name other) → Reaches sections name other
-  Further : (name between other : List ℕ) → Reaches sections name between → IsTrue (refers_on sections between other) → Reaches sections name other
+  Further : (name between other : List ℕ) → Reaches sections name between → IsTrue (refers_on sections between other)
+      → Reaches sections name other
 
 -- A reference to a code section goes to its entry where it is absolute and has the addend 0, or relative and has -4,
 -- which is counted from the field's end. Every other one goes to its interior.

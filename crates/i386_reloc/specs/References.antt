@@ -1,13 +1,17 @@
 -- What a loaded section refers to: its relocations, each a field of four bytes, and their targets (System V gABI,
 -- chapter 4, "Relocation"; Intel386 supplement, "Relocation Types").
-use Rattle.std.specs.Prelude.{◌≡◌, ◌<◌, ℕ, suc, ◌+◌, ◌^◌, ◌%◌, ◌/◌, Bool, true, ◌&&◌, ◌||◌, ◌==◌, nat_lt, nat_le, if◌then◌else◌, List, [], ◌∷◌, ◌++◌, map, filter}
+use Rattle.std.specs.Prelude.{◌≡◌, ◌<◌, ℕ, suc, ◌+◌, ◌^◌, ◌%◌, ◌/◌, Bool, true, ◌&&◌, ◌||◌, ◌==◌}
+use Rattle.std.specs.Prelude.{nat_lt, nat_le, if◌then◌else◌, List, [], ◌∷◌, ◌++◌, map, filter}
 use Rattle.std.specs.List.{list_any}
 use Rattle.std.specs.List.Sorted.{IsNonDecreasingBy, IsPermutation}
-use Rattle.elf32_object.specs.declared.elf.TheConstants.{SHN_UNDEF, SHN_COMMON, STB_GLOBAL, STB_WEAK, STT_OBJECT, STT_SECTION, R_386_32}
+use Rattle.elf32_object.specs.declared.elf.TheConstants.{SHN_UNDEF, SHN_COMMON, STB_GLOBAL, STB_WEAK}
+use Rattle.elf32_object.specs.declared.elf.TheConstants.{STT_OBJECT, STT_SECTION, R_386_32}
 use Rattle.elf32_object.specs.declared.types.Reloc.{Reloc}
 use Rattle.elf32_object.specs.declared.types.SymbolEntry.{SymbolEntry}
 use Rattle.elf32_object.specs.Below.{each_below, all_below}
-use Rattle.elf32_object.specs.Fields.{section_count, section_header, section_name, section_bytes, symbol_count, symbol_entry, symbol_name, text_at, word_at, is_loaded, relocation, entry_count, changes}
+use Rattle.elf32_object.specs.Fields.{section_count, section_header, section_name, section_bytes}
+use Rattle.elf32_object.specs.Fields.{symbol_count, symbol_entry, symbol_name, text_at, word_at}
+use Rattle.elf32_object.specs.Fields.{is_loaded, relocation, entry_count, changes}
 use Rattle.elf32_object.specs.Rules.{has_field}
 use Rattle.i386_reloc.specs.declared.types.Form.{Form}
 use Rattle.i386_reloc.specs.declared.types.Form.TheVariants.{Absolute, Relative}
@@ -20,7 +24,8 @@ use Rattle.i386_reloc.specs.Classes.{is_strings}
 -- the relocations of loaded section i, in the order of their sections and, in each of these, of their entries
 unfoldable pub relocations_of : List ℕ → ℕ → List Reloc
 relocations_of bytes i =
-    all_below (λ j. if changes bytes i j then each_below (relocation bytes j) (entry_count bytes j) else []) (section_count bytes)
+    all_below (λ j. if changes bytes i j then each_below (relocation bytes j) (entry_count bytes j) else [])
+    (section_count bytes)
 
 -- those that change the field at an offset
 abbrev pub changes_at : ℕ → Reloc → Bool
@@ -84,7 +89,8 @@ reference_to r target addend = record { offset = r.offset; form = form_of r; tar
 abbrev pub reference_by : List ℕ → Reloc → SymbolEntry → ℕ → Ref
 reference_by bytes r symbol a =
     if is_outside symbol then reference_to r (Outside (symbol_name bytes r.symbol)) a
-    else (if is_strings bytes symbol.section && is_section_symbol symbol then reference_to r (text_target bytes symbol.section a) 0
+    else (if is_strings bytes symbol.section && is_section_symbol symbol then reference_to r
+    (text_target bytes symbol.section a) 0
     else (if is_strings bytes symbol.section then reference_to r (text_target bytes symbol.section symbol.value) a
     else reference_to r (Section (section_name bytes symbol.section)) ((a + symbol.value) % 2 ^ 32)))
 
@@ -114,11 +120,17 @@ is_global info = info / 16 == STB_GLOBAL || info / 16 == STB_WEAK
 -- the symbols of variables of section i, in order; symbol 0 is none
 abbrev pub object_symbol : List ℕ → ℕ → ObjectSymbol
 object_symbol bytes k =
-    record { name = symbol_name bytes k; value = (symbol_entry bytes k).value; global = is_global (symbol_entry bytes k).info }
+    record {
+      name = symbol_name bytes k;
+      value = (symbol_entry bytes k).value;
+      global =
+          is_global (symbol_entry bytes k).info;
+    }
 
 abbrev pub is_object_of : List ℕ → ℕ → ℕ → Bool
 is_object_of bytes i k =
     nat_lt 0 k && (symbol_entry bytes k).info % 16 == STT_OBJECT && (symbol_entry bytes k).section == i
 
 unfoldable pub objects_of : List ℕ → ℕ → List ObjectSymbol
-objects_of bytes i = all_below (λ k. if is_object_of bytes i k then object_symbol bytes k ∷ [] else []) (symbol_count bytes)
+objects_of bytes i = all_below (λ k. if is_object_of bytes i k then object_symbol bytes k ∷ [] else [])
+    (symbol_count bytes)

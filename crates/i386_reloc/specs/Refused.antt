@@ -1,5 +1,6 @@
 -- Why an object is refused before its sections are compared.
-use Rattle.std.specs.Prelude.{ℕ, Bool, not, ◌&&◌, ◌||◌, ◌==◌, nat_lt, if◌then◌else◌, List, [], ◌∷◌, length, Option, Some, None}
+use Rattle.std.specs.Prelude.{ℕ, Bool, not, ◌&&◌, ◌||◌, ◌==◌, nat_lt, if◌then◌else◌}
+use Rattle.std.specs.Prelude.{List, [], ◌∷◌, length, Option, Some, None}
 use Rattle.ks_base.specs.declared.refusals.Refusal.{Refusal}
 use Rattle.ks_base.specs.declared.refusals.Refusal.TheVariants as refusal
 use Rattle.ks_base.specs.declared.refusals.Large.{Large}
@@ -54,9 +55,11 @@ unfoldable pub target_fault : List ℕ → ℕ → Reloc → Option Refusal
 target_fault bytes i r =
     first_broken (
     (nat_lt 0 r.symbol orElse bad_target_at bytes i r)
-    ∷ (not (is_outside (symbol_of bytes r)) || nat_lt 0 (length (symbol_name bytes r.symbol)) orElse bad_target_at bytes i r)
+    ∷ (not (is_outside (symbol_of bytes r)) || nat_lt 0
+    (length (symbol_name bytes r.symbol)) orElse bad_target_at bytes i r)
     ∷ (not ((symbol_of bytes r).section == SHN_ABS) orElse bad_target_at bytes i r)
-    ∷ (is_outside (symbol_of bytes r) || is_loaded bytes (symbol_of bytes r).section orElse bad_target_at bytes i r) ∷ [])
+    ∷ (is_outside (symbol_of bytes r) || is_loaded bytes (symbol_of bytes r).section orElse bad_target_at bytes i r)
+    ∷ [])
 
 -- It names a text that no zero ends in its section, as one that begins at the section's end or behind.
 abbrev pub names_end : List ℕ → ℕ → Reloc → Bool

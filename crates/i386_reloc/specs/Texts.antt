@@ -14,7 +14,8 @@ pub record StandsAt (section : NormalSection) (offset : ℕ) (text : List ℕ) :
 abbrev pub StandsIn : List NormalSection → Target → Type 0
 StandsIn sections (Section name) = Unit {0}
 StandsIn sections (Outside name) = Unit {0}
-StandsIn sections (Text name offset text) = IsSomeAnd (section_named sections name) (λ section. StandsAt section offset text)
+StandsIn sections (Text name offset text) = IsSomeAnd (section_named sections name)
+    (λ section. StandsAt section offset text)
 
 -- of all references
 abbrev pub HasTexts : List NormalSection → Type 0

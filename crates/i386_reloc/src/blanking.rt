@@ -1,5 +1,6 @@
 //! Bytes with zeros in the fields that relocations change.
-ghost use Rattle.std.specs.Prelude.{◌≡◌, ◌≤◌, ◌<◌, ◌+◌, ◌&&◌, nat_le, nat_lt, ℕ, length, slice_index_or, if◌then◌else◌, IfOk, All};
+ghost use Rattle.std.specs.Prelude.{◌≡◌, ◌≤◌, ◌<◌, ◌+◌, ◌&&◌, nat_le, nat_lt, ℕ};
+ghost use Rattle.std.specs.Prelude.{length, slice_index_or, if◌then◌else◌, IfOk, All};
 ghost use Rattle.i386_reloc.specs.References.{blanked_from};
 
 use elf32_object::types::Reloc;

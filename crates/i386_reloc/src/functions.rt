@@ -44,7 +44,8 @@ impl Functions {
 /// The function symbols of each section, by its index, from one pass over the symbols.
 #[tactic(auto, using(crate::proofs::FunctionSymbols::are_no_functions))]
 pub(crate) fn gather(alloc: Global, source: &Source<'_, '_>) -> Result<Vec<Functions>, AllocError>
-    ensures { IfOk result (λ table. AreFunctions source.now.object.now (symbol_count source.now.object.now) table.items) }
+    ensures { IfOk result (λ table.
+        AreFunctions source.now.object.now (symbol_count source.now.object.now) table.items) }
 {
     let mut table = vec![in alloc; Functions::NONE; source.object.section_count() as usize]?;
     for k in 0..source.object.symbol_count() {

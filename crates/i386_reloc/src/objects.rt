@@ -1,5 +1,6 @@
 //! The object symbols of each section.
-ghost use Rattle.std.specs.Prelude.{◌≡◌, ◌<◌, ℕ, ◌+◌, ◌%◌, ◌&&◌, ◌==◌, ◌++◌, ◌∷◌, [], if◌then◌else◌, IfOk, OnOk, length, slice_index_or, List};
+ghost use Rattle.std.specs.Prelude.{◌≡◌, ◌<◌, ℕ, ◌+◌, ◌%◌, ◌&&◌, ◌==◌, ◌++◌, ◌∷◌, []};
+ghost use Rattle.std.specs.Prelude.{if◌then◌else◌, IfOk, OnOk, length, slice_index_or, List};
 ghost use Rattle.elf32_object.specs.Fields.{section_count, symbol_count};
 ghost use Rattle.i386_reloc.specs.inside.Objects.{AreLeft, AreObjects, object_with};
 ghost use Rattle.i386_reloc.specs.References.{is_global, objects_of};

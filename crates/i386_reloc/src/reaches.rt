@@ -47,8 +47,8 @@ impl<'a> Ref<'a> {
         }
     }
 
-    /// Whether the reference, if it is one to a function, doesn't go to the function's entry. Code calls the entry by the addend -4,
-    /// since a relative value is counted from the field's start.
+    /// Whether the reference, if it is one to a function, doesn't go to the function's entry. Code calls the entry by
+    /// the addend -4, since a relative value is counted from the field's start.
     pub fn is_interior(&self) -> bool
         ensures { result ≡ is_interior self.now }
     {

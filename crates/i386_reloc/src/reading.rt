@@ -1,11 +1,13 @@
 //! Reads the loaded sections of an object.
-ghost use Rattle.std.specs.Prelude.{◌≡◌, ◌≢◌, ◌<◌, ◌≤◌, ◌+◌, ◌++◌, ◌∷◌, [], ℕ, if◌then◌else◌, option_map, Some, None, IsSome, IfOk, IfErr, OnOk, All, map, length, true};
+ghost use Rattle.std.specs.Prelude.{◌≡◌, ◌≢◌, ◌<◌, ◌≤◌, ◌+◌, ◌++◌, ◌∷◌, [], ℕ, if◌then◌else◌, option_map};
+ghost use Rattle.std.specs.Prelude.{Some, None, IsSome, IfOk, IfErr, OnOk, All, map, length, true};
 ghost use Rattle.std.specs.List.{IsDistinct};
 ghost use Rattle.std.specs.Option.{ForSome};
 ghost use Rattle.elf32_object.specs.Fields.{section_count, symbol_count, symbol_name, is_loaded};
 ghost use Rattle.elf32_object.specs.Rule.{Finds};
 ghost use Rattle.i386_reloc.specs.Classes.{is_code_class};
-ghost use Rattle.i386_reloc.specs.Normal.{function_symbol, is_global_at, loaded_sections, name_of, normal_section, same_bytes, section_named, IsFunction};
+ghost use Rattle.i386_reloc.specs.Normal.{function_symbol, is_global_at, loaded_sections, name_of};
+ghost use Rattle.i386_reloc.specs.Normal.{normal_section, same_bytes, section_named, IsFunction};
 ghost use Rattle.i386_reloc.specs.References.{objects_of, relocations_of, fields_of, AreByOffset, HasOrder};
 ghost use Rattle.i386_reloc.specs.Refused.{normal_fault, relocation_fault, relocation_fault_at};
 ghost use Rattle.i386_reloc.specs.inside.Fields.{IsField};

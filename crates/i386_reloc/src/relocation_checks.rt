@@ -1,11 +1,13 @@
 //! Why a relocation of a loaded section is refused.
-ghost use Rattle.std.specs.Prelude.{◌≡◌, ◌≤◌, ◌<◌, ◌+◌, ◌==◌, ◌||◌, ◌&&◌, if◌then◌else◌, not, nat_lt, true, length, OnOk, All};
+ghost use Rattle.std.specs.Prelude.{◌≡◌, ◌≤◌, ◌<◌, ◌+◌, ◌==◌, ◌||◌, ◌&&◌, if◌then◌else◌};
+ghost use Rattle.std.specs.Prelude.{not, nat_lt, true, length, OnOk, All};
 ghost use Rattle.elf32_object.specs.Fields.{section_bytes, symbol_count, symbol_entry, is_loaded, ends_in};
 ghost use Rattle.elf32_object.specs.Rule.{Finds};
 ghost use Rattle.elf32_object.specs.Rules.{has_field};
 ghost use Rattle.i386_reloc.specs.Classes.{is_code_class, is_strings, is_strings_class};
 ghost use Rattle.i386_reloc.specs.References.{is_absolute, symbol_of, text_offset};
-ghost use Rattle.i386_reloc.specs.Refused.{first_among, names_strings, kind_fault, target_fault, text_fault, relocation_fault_of};
+ghost use Rattle.i386_reloc.specs.Refused.{first_among, names_strings, kind_fault};
+ghost use Rattle.i386_reloc.specs.Refused.{target_fault, text_fault, relocation_fault_of};
 ghost use Rattle.i386_reloc.specs.inside.Fields.{IsPlaced, has_target};
 ghost use Rattle.i386_reloc.specs.inside.Loaded.{IsLoadedSection};
 
@@ -76,8 +78,8 @@ fn check_kind(
     Ok(())
 }
 
-/// Whether a relocation's type is read, and stands where it may: in a section of this class, with or without a symbol in a
-/// section of texts.
+/// Whether a relocation's type is read, and stands where it may: in a section of this class, with or without a symbol
+/// in a section of texts.
 fn is_known(class: Class, r: Reloc, names_strings: bool) -> bool
     ensures { result ≡ (has_field r && not (is_strings_class class) && (is_absolute r || is_code_class class)
         && (is_absolute r || not names_strings)) }
@@ -123,7 +125,8 @@ fn has_target(source: &Source<'_, '_>, r: Reloc) -> bool
 }
 
 fn leads(source: &Source<'_, '_>, symbol: &Named<'_>) -> bool
-    ensures { result ≡ (if symbol.now.section == SHN_UNDEF || symbol.now.section == SHN_COMMON then nat_lt 0 (length symbol.now.name)
+    ensures { result ≡ (if symbol.now.section == SHN_UNDEF
+        || symbol.now.section == SHN_COMMON then nat_lt 0 (length symbol.now.name)
         else not (symbol.now.section == SHN_ABS) && is_loaded source.now.object.now symbol.now.section) }
 {
     if symbol.is_outside() {

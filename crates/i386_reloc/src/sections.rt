@@ -77,8 +77,8 @@ impl<'a> Normal<'a> {
         self.sections.len()
     }
 
-    /// All sections in order. No two have one name, each code section is a function, the references of a section stand by
-    /// offset, and a reference to a text has that text's bytes from its section.
+    /// All sections in order. No two have one name, each code section is a function, the references of a section stand
+    /// by offset, and a reference to a text has that text's bytes from its section.
     pub fn as_slice(&self) -> &[NormalSection<'a>]
         ensures sections { result.now ≡ self.now }
         ensures named { All (λ section. section_named self.now section.name ≡ Some section) self.now }
@@ -91,8 +91,8 @@ impl<'a> Normal<'a> {
         self.sections.as_slice()
     }
 
-    /// Where the section of a name stands among the sections, counted from 0; `None` exactly where there is none. It takes
-    /// the logarithm of the number of sections.
+    /// Where the section of a name stands among the sections, counted from 0; `None` exactly where there is none. It
+    /// takes the logarithm of the number of sections.
     pub fn place(&self, name: &[u8]) -> Option<usize>
         ensures { result ≡ place_named self.now name.now }
     {

@@ -1,7 +1,8 @@
 //! An object with what references need of its sections and symbols.
 ghost use Rattle.std.specs.Prelude.{◌≡◌, ◌<◌, IfOk, if◌then◌else◌, [], length, is_some, true, ◌+◌, ◌^◌};
 ghost use Rattle.std.specs.Option.{option_copied};
-ghost use Rattle.elf32_object.specs.Fields.{section_count, section_name, section_bytes, is_loaded, symbol_count, symbol_entry, symbol_name};
+ghost use Rattle.elf32_object.specs.Fields.{section_count, section_name, section_bytes};
+ghost use Rattle.elf32_object.specs.Fields.{is_loaded, symbol_count, symbol_entry, symbol_name};
 ghost use Rattle.i386_reloc.specs.Classes.{is_strings, is_strings_class};
 ghost use Rattle.i386_reloc.specs.inside.Known.{known_at, known_section, named_at};
 ghost use Rattle.i386_reloc.specs.inside.Loaded.{IsLoadedSection};
@@ -72,7 +73,8 @@ impl<'o, 'a> Source<'o, 'a> {
         requires { is_loaded self.now.object.now j ≡ true }
         ensures name { result.now.name ≡ section_name self.now.object.now j }
         ensures class { is_strings_class result.now.class ≡ is_strings self.now.object.now j }
-        ensures texts { is_strings self.now.object.now j ≡ true → result.now.texts ≡ section_bytes self.now.object.now j }
+        ensures texts { is_strings self.now.object.now j ≡ true
+            → result.now.texts ≡ section_bytes self.now.object.now j }
         ensures place { result.now.place ≡ length (loaded_below self.now.object.now j) }
     {
         match self.known(j) {

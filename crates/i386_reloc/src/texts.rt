@@ -1,5 +1,6 @@
 //! The texts of a section.
-ghost use Rattle.std.specs.Prelude.{◌≡◌, ◌<◌, ◌≤◌, ◌^◌, ◌-◌, nat_lt, length, take, drop, true, false, IfOk, MatchOption};
+ghost use Rattle.std.specs.Prelude.{◌≡◌, ◌<◌, ◌≤◌, ◌^◌, ◌-◌, nat_lt, length};
+ghost use Rattle.std.specs.Prelude.{take, drop, true, false, IfOk, MatchOption};
 ghost use Rattle.std.specs.List.Sorted.{IsNonDecreasingBy, IsPartitionPoint};
 ghost use Rattle.elf32_object.specs.Fields.{ends_in};
 ghost use Rattle.i386_reloc.specs.References.{text_through};

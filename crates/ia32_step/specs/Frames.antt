@@ -1,5 +1,6 @@
 -- What calls and returns leave, and the rule that frames keep.
-use Rattle.std.specs.Prelude.{◌≡◌, ℕ, ◌+◌, ◌%◌, Bool, not, ◌&&◌, ◌==◌, nat_le, List, is_some, Option, Result, Ok, Err, None}
+use Rattle.std.specs.Prelude.{◌≡◌, ℕ, ◌+◌, ◌%◌, Bool, not, ◌&&◌, ◌==◌, nat_le}
+use Rattle.std.specs.Prelude.{List, is_some, Option, Result, Ok, Err, None}
 use Rattle.ks_base.specs.declared.places.Range.{Range}
 use Rattle.ks_base.specs.declared.refusals.Fault.{Fault}
 use Rattle.image_memory.specs.declared.types.Piece.{Piece}

@@ -158,12 +158,13 @@ pub fn step_thread<S: Space>(space: &mut S, thread: &mut Thread) -> Outcome
     step_traced(space, thread).outcome
 }
 
-/// Carries out the next instruction of a running thread, as [`step_thread`] does, and answers what it wrote and how many
-/// bytes it fetched beside what it came to.
+/// Carries out the next instruction of a running thread, as [`step_thread`] does, and answers what it wrote and how
+/// many bytes it fetched beside what it came to.
 #[tactic(auto, unfolding(crate::specs::Step::stepped, crate::specs::Step::stored, crate::specs::Step::next_change, crate::specs::Step::fetched_count))]
 pub fn step_traced<S: Space>(space: &mut S, thread: &mut Thread) -> Traced
     requires running { thread.old.state ≡ Running }
-    ensures left { left_by (S.contents space.new) thread.new result.outcome ≡ stepped (S.contents space.old) thread.old }
+    ensures left { left_by (S.contents space.new) thread.new result.outcome ≡ stepped
+        (S.contents space.old) thread.old }
     ensures store { result.store ≡ stored (S.contents space.old) thread.old }
     ensures fetched { result.fetched ≡ fetched_count (S.contents space.old) thread.old }
     ensures room { S.room space.new ≡ S.room space.old }

@@ -74,7 +74,8 @@ pub struct Traced {
     pub outcome: Outcome,
     /// All that it wrote to memory; nothing where the thread ended or stopped.
     pub store: Option<Store>,
-    /// How many bytes were fetched at the thread's pc, at most 15; none where it ended, or where nothing can be fetched.
+    /// How many bytes were fetched at the thread's pc, at most 15; none where it ended, or where nothing can be
+    /// fetched.
     pub fetched: u32,
 }
 

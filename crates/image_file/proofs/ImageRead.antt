@@ -1,5 +1,6 @@
 -- The spelling of an image is read as that image.
-use Rattle.std.proofs.Common.{◌≡◌, ℕ, ◌+◌, ◌≤◌, true, leb, List, [], ◌∷◌, ◌++◌, length, Ok, refl, subst, append_assoc, arith, IsTrue}
+use Rattle.std.proofs.Common.{◌≡◌, ℕ, ◌+◌, ◌≤◌, true, leb, List, [], ◌∷◌, ◌++◌}
+use Rattle.std.proofs.Common.{length, Ok, refl, subst, append_assoc, arith, IsTrue}
 use Rattle.std.specs.List.{flat_map}
 use Rattle.std.proofs.lemmas.Bool.{and_parts, le-leb}
 use Rattle.std.proofs.lemmas.Bool.Decides.{nat_tests}
@@ -10,10 +11,13 @@ use Rattle.image_memory.specs.Contents.{piece_range}
 use Rattle.symbol_table.specs.declared.symbols.Symbol.{Symbol}
 use Rattle.image_file.specs.declared.front.Header.{Header}
 use Rattle.image_file.specs.Fields.{items_at}
-use Rattle.image_file.specs.Rules.{own_range, end_of, total_of, magic_rules, count_rules, arena_low_rules, arena_high_rules}
+use Rattle.image_file.specs.Rules.{own_range, end_of, total_of, magic_rules}
+use Rattle.image_file.specs.Rules.{count_rules, arena_low_rules, arena_high_rules}
 use Rattle.image_file.specs.Keeps.{all_hold, keeps_region, keeps_symbol, keeps_stack, Keeps}
-use Rattle.image_file.specs.Reading.{Contents, header_at, region_at, region_width, symbol_at, symbol_width, stack_at, stack_width, image_of}
-use Rattle.image_file.specs.Spelling.{number, region_spelling, symbol_spelling, stack_spelling, header_spelling, spelling}
+use Rattle.image_file.specs.Reading.{Contents, header_at, region_at, region_width, symbol_at}
+use Rattle.image_file.specs.Reading.{symbol_width, stack_at, stack_width, image_of}
+use Rattle.image_file.specs.Spelling.{number, region_spelling, symbol_spelling}
+use Rattle.image_file.specs.Spelling.{stack_spelling, header_spelling, spelling}
 use Rattle.image_file.proofs.Ends.{ends_below, total_below, All_here}
 use Rattle.image_file.proofs.Stands.{Stands, behind, field_read, items_read}
 use Rattle.image_file.proofs.PartsRead.{region_read, symbol_read, stack_read}
@@ -25,7 +29,13 @@ arena_rises : (low high : ℕ) → all_hold (arena_high_rules low high) ≡ true
 arena_rises low high h = grind (arith, nat_tests)
 
 abbrev header_of : Contents → Header
-header_of image = record { regions = length image.pieces; symbols = length image.symbols; stacks = length image.stacks; arena = image.arena }
+header_of image = record {
+  regions = length image.pieces;
+  symbols = length image.symbols;
+  stacks =
+      length image.stacks;
+  arena = image.arena;
+}
 
 header_read : (bytes : List ℕ) (image : Contents) (rest : List ℕ) → Keeps image →
     Stands bytes 0 (header_spelling image ++ rest) → header_at bytes ≡ Ok (header_of image)
@@ -51,9 +61,12 @@ header_read bytes image rest keeps s =
     let s20 = behind bytes 16 (number a.low) t20 20 refl s16 in
     rw (
       field_read bytes 0 magic_rules 0x314D_494B t4 (omega arith) refl s0,
-      field_read bytes 4 (count_rules 1024) (length image.pieces) t8 (omega arith) (count_holds 1024 (length image.pieces) few_regions) s4,
-      field_read bytes 8 (count_rules 65536) (length image.symbols) t12 (omega arith) (count_holds 65536 (length image.symbols) few_symbols) s8,
-      field_read bytes 12 (count_rules 64) (length image.stacks) t16 (omega arith) (count_holds 64 (length image.stacks) few_stacks) s12,
+      field_read bytes 4 (count_rules 1024) (length image.pieces) t8 (omega arith)
+          (count_holds 1024 (length image.pieces) few_regions) s4,
+      field_read bytes 8 (count_rules 65536) (length image.symbols) t12 (omega arith)
+          (count_holds 65536 (length image.symbols) few_symbols) s8,
+      field_read bytes 12 (count_rules 64) (length image.stacks) t16 (omega arith)
+          (count_holds 64 (length image.stacks) few_stacks) s12,
       field_read bytes 16 arena_low_rules a.low t20 (omega arith) p.0 s16,
       field_read bytes 20 (arena_high_rules a.low) a.high rest fits p.1 s20,
     ) refl
@@ -79,7 +92,8 @@ regions_read : (bytes : List ℕ) (image : Contents) (end : ℕ) (rest : List �
     → Stands bytes 24 (flat_map region_spelling image.pieces ++ rest)
     → items_at (length image.pieces) (region_at bytes image.arena) region_width [] 24 ≡ Ok (image.pieces, end)
 regions_read bytes image end rest keeps last s =
-    items_read bytes (region_at bytes image.arena) region_width region_spelling image.pieces region_wide each [] image.pieces 24 end rest refl last s
+    items_read bytes (region_at bytes image.arena) region_width region_spelling image.pieces region_wide each []
+    image.pieces 24 end rest refl last s
   where
     each : (before : List Piece) (x : Piece) (after : List Piece) (offset : ℕ) (rest : List ℕ) →
         image.pieces ≡ before ++ x ∷ after
@@ -90,28 +104,33 @@ regions_read bytes image end rest keeps last s =
         let below = ends_below piece_range 0 before x after up in
         let total = total_below piece_range before x after in
         region_read bytes image.arena (end_of piece_range 0 before) (total_of piece_range before) offset x rest
-        (All_here (λ (y : Piece). IsTrue (keeps_region image.arena y)) image.pieces before x after parts keeps.regions_kept) below (omega arith) s
+        (All_here (λ (y : Piece). IsTrue (keeps_region image.arena y)) image.pieces before x after parts
+        keeps.regions_kept) below (omega arith) s
 
 symbols_read : (bytes : List ℕ) (image : Contents) (offset end : ℕ) (rest : List ℕ) → Keeps image →
     offset + length (flat_map symbol_spelling image.symbols) ≡ end
     → Stands bytes offset (flat_map symbol_spelling image.symbols ++ rest)
     → items_at (length image.symbols) (symbol_at bytes image.pieces) symbol_width [] offset ≡ Ok (image.symbols, end)
 symbols_read bytes image offset end rest keeps last s =
-    items_read bytes (symbol_at bytes image.pieces) symbol_width symbol_spelling image.symbols symbol_wide each [] image.symbols offset end rest refl last s
+    items_read bytes (symbol_at bytes image.pieces) symbol_width symbol_spelling image.symbols symbol_wide each []
+    image.symbols offset end rest refl last s
   where
     each : (before : List Symbol) (x : Symbol) (after : List Symbol) (offset : ℕ) (rest : List ℕ) →
         image.symbols ≡ before ++ x ∷ after
         → Stands bytes offset (symbol_spelling x ++ rest) → symbol_at bytes image.pieces before offset ≡ Ok x
     each before x after offset rest parts s =
         symbol_read bytes image.pieces offset x rest keeps.regions_placed.end_below
-        (All_here (λ (y : Symbol). IsTrue (keeps_symbol image.pieces y)) image.symbols before x after parts keeps.symbols_kept) s
+        (All_here (λ (y : Symbol). IsTrue (keeps_symbol image.pieces y)) image.symbols before x after parts
+        keeps.symbols_kept) s
 
 stacks_read : (bytes : List ℕ) (image : Contents) (offset end : ℕ) (rest : List ℕ) → Keeps image →
     offset + length (flat_map stack_spelling image.stacks) ≡ end
     → Stands bytes offset (flat_map stack_spelling image.stacks ++ rest)
-    → items_at (length image.stacks) (stack_at bytes image.arena image.pieces) stack_width [] offset ≡ Ok (image.stacks, end)
+    → items_at (length image.stacks) (stack_at bytes image.arena image.pieces) stack_width [] offset ≡ Ok
+    (image.stacks, end)
 stacks_read bytes image offset end rest keeps last s =
-    items_read bytes (stack_at bytes image.arena image.pieces) stack_width stack_spelling image.stacks stack_wide each [] image.stacks offset end rest refl last s
+    items_read bytes (stack_at bytes image.arena image.pieces) stack_width stack_spelling image.stacks stack_wide each
+    [] image.stacks offset end rest refl last s
   where
     each : (before : List Range) (x : Range) (after : List Range) (offset : ℕ) (rest : List ℕ) →
         image.stacks ≡ before ++ x ∷ after
@@ -122,7 +141,8 @@ stacks_read bytes image offset end rest keeps last s =
         let below = ends_below own_range 0 before x after up in
         let total = total_below own_range before x after in
         stack_read bytes image.arena image.pieces (end_of own_range 0 before) (total_of own_range before) offset x rest
-        (All_here (λ (y : Range). IsTrue (keeps_stack image.arena image.pieces y)) image.stacks before x after parts keeps.stacks_kept) below (omega arith) s
+        (All_here (λ (y : Range). IsTrue (keeps_stack image.arena image.pieces y)) image.stacks before x after parts
+        keeps.stacks_kept) below (omega arith) s
 
 -- a file stands whole at its own beginning
 begins : (bytes : List ℕ) → Stands bytes 0 bytes
@@ -137,8 +157,10 @@ image_read image keeps =
     let s = flat_map symbol_spelling image.symbols in
     let t = flat_map stack_spelling image.stacks in
     let regrouped : bytes ≡ h ++ (r ++ (s ++ (t ++ []))) = simp (append_assoc, append-nil) in
-    let from0 : Stands bytes 0 (h ++ (r ++ (s ++ (t ++ [])))) = subst (λ (w : List ℕ). Stands bytes 0 w) regrouped (begins bytes) in
-    let from1 : Stands bytes 24 (r ++ (s ++ (t ++ []))) = behind bytes 0 h (r ++ (s ++ (t ++ []))) 24 (omega (arith, header_wide image)) from0 in
+    let from0 : Stands bytes 0 (h ++ (r ++ (s ++ (t ++ [])))) =
+    subst (λ (w : List ℕ). Stands bytes 0 w) regrouped (begins bytes) in
+    let from1 : Stands bytes 24 (r ++ (s ++ (t ++ []))) =
+    behind bytes 0 h (r ++ (s ++ (t ++ []))) 24 (omega (arith, header_wide image)) from0 in
     let e1 = 24 + length r in
     let from2 : Stands bytes e1 (s ++ (t ++ [])) = behind bytes 24 r (s ++ (t ++ [])) e1 refl from1 in
     let e2 = e1 + length s in

@@ -1,5 +1,6 @@
 -- Each part of an image is read where its spelling stands.
-use Rattle.std.proofs.Common.{◌≡◌, ℕ, ◌+◌, ◌-◌, ◌^◌, ◌<◌, ◌≤◌, Bool, true, false, cond, leb, eqb, List, [], ◌∷◌, ◌++◌, length, ◌⊎◌, inl, inr, None, Ok, refl, arith, ◌&&◌}
+use Rattle.std.proofs.Common.{◌≡◌, ℕ, ◌+◌, ◌-◌, ◌^◌, ◌<◌, ◌≤◌, Bool, true, false, cond, leb, eqb, List}
+use Rattle.std.proofs.Common.{[], ◌∷◌, ◌++◌, length, ◌⊎◌, inl, inr, None, Ok, refl, arith, ◌&&◌}
 use Rattle.std.specs.Option.{option_map}
 use Rattle.std.specs.List.{All}
 use Rattle.std.proofs.lemmas.Bool.{and_parts, cases_Bool}
@@ -13,7 +14,9 @@ use Rattle.image_memory.specs.Contents.{holding, piece_range}
 use Rattle.image_memory.specs.Ranges.{lies_in}
 use Rattle.image_memory.specs.Access.{kind_of}
 use Rattle.symbol_table.specs.declared.symbols.Symbol.{Symbol}
-use Rattle.image_file.specs.Rules.{region_kind_rules, region_kind, base_rules, length_rules, fits_region, no_rules, symbol_kind_rules, binding_rules, name_length_rules, name_rules, stack_low_rules, stack_high_rules}
+use Rattle.image_file.specs.Rules.{region_kind_rules, region_kind, base_rules, length_rules}
+use Rattle.image_file.specs.Rules.{fits_region, no_rules, symbol_kind_rules, binding_rules}
+use Rattle.image_file.specs.Rules.{name_length_rules, name_rules, stack_low_rules, stack_high_rules}
 use Rattle.image_file.specs.Keeps.{all_hold, keeps_region, symbol_kind, keeps_symbol, keeps_stack}
 use Rattle.image_file.specs.Reading.{region_after, symbol_among, stack_after}
 use Rattle.image_file.specs.Spelling.{number, kind_number, region_spelling, symbol_spelling, stack_spelling}
@@ -52,13 +55,17 @@ region_read bytes arena floor total offset piece rest kept above small s =
     let fits = length_holds arena floor total piece.base n p.1 small above in
     let end = fits.1 in
     let s0 : Stands bytes offset (number k ++ (number piece.base ++ (number n ++ (piece.bytes ++ rest)))) = s in
-    let s4 = behind bytes offset (number k) (number piece.base ++ (number n ++ (piece.bytes ++ rest))) (offset + 4) refl s0 in
-    let s8 = behind bytes (offset + 4) (number piece.base) (number n ++ (piece.bytes ++ rest)) (offset + 8) (omega arith) s4 in
+    let s4 = behind bytes offset (number k) (number piece.base ++ (number n ++ (piece.bytes ++ rest)))
+    (offset + 4) refl s0 in
+    let s8 = behind bytes (offset + 4) (number piece.base) (number n ++ (piece.bytes ++ rest)) (offset + 8)
+    (omega arith) s4 in
     let s12 = behind bytes (offset + 8) (number n) (piece.bytes ++ rest) (offset + 12) (omega arith) s8 in
     rw (
-      field_read bytes offset region_kind_rules k (number piece.base ++ (number n ++ (piece.bytes ++ rest))) (kind_small piece.kind) (kind_holds piece.kind) s0,
+      field_read bytes offset region_kind_rules k (number piece.base ++ (number n ++ (piece.bytes ++ rest)))
+          (kind_small piece.kind) (kind_holds piece.kind) s0,
       field_read bytes (offset + 4) base_rules piece.base (number n ++ (piece.bytes ++ rest)) (omega arith) p.0 s4,
-      field_read bytes (offset + 8) (length_rules arena floor total piece.base) n (piece.bytes ++ rest) (omega arith) fits.0 s8,
+      field_read bytes (offset + 8) (length_rules arena floor total piece.base) n (piece.bytes ++ rest)
+          (omega arith) fits.0 s8,
       content_read bytes (offset + 12) piece.bytes rest n refl s12,
       kind_again piece.kind,
     ) refl
@@ -72,10 +79,11 @@ held_low (piece ∷ pieces) a below =
     let end = All-head (λ (x : Piece). (piece_range x).high ≤ 0xFFFF_0000) piece pieces below in
     elim (cases_Bool (lies_in a (piece_range piece))) [
       | inl here ↦ inr (let low : a < (piece_range piece).high = grind (arith, nat_tests) in omega arith)
-      | inr not_here ↦ elim (held_low pieces a (All-tail (λ (x : Piece). (piece_range x).high ≤ 0xFFFF_0000) piece pieces below)) [
-        | inl none ↦ inl (rw not_here none)
-        | inr low ↦ inr low
-      ]
+      | inr not_here ↦ elim (held_low pieces a
+          (All-tail (λ (x : Piece). (piece_range x).high ≤ 0xFFFF_0000) piece pieces below)) [
+            | inl none ↦ inl (rw not_here none)
+            | inr low ↦ inr low
+          ]
     ]
 
 pub fits_low : (pieces : List Piece) (a kind : ℕ) → All (λ piece. (piece_range piece).high ≤ 0xFFFF_0000) pieces
@@ -124,20 +132,28 @@ symbol_read bytes pieces offset symbol rest below kept s =
     let n = length symbol.name in
     let k : ℕ = symbol_kind symbol in
     let g : ℕ = cond symbol.global 1 0 in
-    let p = and_parts (all_hold (symbol_kind_rules pieces symbol.address k) && all_hold (name_length_rules n)) (all_hold (name_rules symbol.name)) kept in
+    let p = and_parts (all_hold (symbol_kind_rules pieces symbol.address k) && all_hold (name_length_rules n))
+    (all_hold (name_rules symbol.name)) kept in
     let q = and_parts (all_hold (symbol_kind_rules pieces symbol.address k)) (all_hold (name_length_rules n)) p.0 in
-    let fits : fits_region k (option_map kind_of (holding pieces symbol.address)) ≡ true = lies_well pieces symbol.address k q.0 in
+    let fits : fits_region k (option_map kind_of (holding pieces symbol.address)) ≡ true =
+    lies_well pieces symbol.address k q.0 in
     let low = fits_low pieces symbol.address k below fits in
     let short = name_small n q.1 in
-    let s0 : Stands bytes offset (number symbol.address ++ (number k ++ (number g ++ (number n ++ (symbol.name ++ rest))))) = s in
-    let s4 = behind bytes offset (number symbol.address) (number k ++ (number g ++ (number n ++ (symbol.name ++ rest)))) (offset + 4) refl s0 in
-    let s8 = behind bytes (offset + 4) (number k) (number g ++ (number n ++ (symbol.name ++ rest))) (offset + 8) (omega arith) s4 in
+    let s0 : Stands bytes offset (number symbol.address
+    ++ (number k ++ (number g ++ (number n ++ (symbol.name ++ rest))))) = s in
+    let s4 = behind bytes offset (number symbol.address) (number k ++ (number g ++ (number n ++ (symbol.name ++ rest))))
+    (offset + 4) refl s0 in
+    let s8 = behind bytes (offset + 4) (number k) (number g ++ (number n ++ (symbol.name ++ rest))) (offset + 8)
+    (omega arith) s4 in
     let s12 = behind bytes (offset + 8) (number g) (number n ++ (symbol.name ++ rest)) (offset + 12) (omega arith) s8 in
     let s16 = behind bytes (offset + 12) (number n) (symbol.name ++ rest) (offset + 16) (omega arith) s12 in
     rw (
-      field_read bytes offset no_rules symbol.address (number k ++ (number g ++ (number n ++ (symbol.name ++ rest)))) (omega arith) refl s0,
-      field_read bytes (offset + 4) (symbol_kind_rules pieces symbol.address) k (number g ++ (number n ++ (symbol.name ++ rest))) (function_small symbol.function) q.0 s4,
-      field_read bytes (offset + 8) binding_rules g (number n ++ (symbol.name ++ rest)) (global_small symbol.global) (global_holds symbol.global) s8,
+      field_read bytes offset no_rules symbol.address (number k ++ (number g ++ (number n ++ (symbol.name ++ rest))))
+          (omega arith) refl s0,
+      field_read bytes (offset + 4) (symbol_kind_rules pieces symbol.address) k
+          (number g ++ (number n ++ (symbol.name ++ rest))) (function_small symbol.function) q.0 s4,
+      field_read bytes (offset + 8) binding_rules g (number n ++ (symbol.name ++ rest)) (global_small symbol.global)
+          (global_holds symbol.global) s8,
       field_read bytes (offset + 12) name_length_rules n (symbol.name ++ rest) (omega arith) q.1 s12,
       content_read bytes (offset + 16) symbol.name rest n refl s16,
       all_read (offset + 16) (name_rules symbol.name) symbol.name p.1,
@@ -153,12 +169,14 @@ stack_holds : (arena : Range) (pieces : List Piece) (floor total low high : ℕ)
     → (all_hold (stack_high_rules arena pieces floor total low high) ≡ true) × (low ≤ high) × (high ≤ 0xFFFF_0000)
 stack_holds arena pieces floor total low high h small above = grind (arith, nat_tests)
 
-pub stack_read : (bytes : List ℕ) (arena : Range) (pieces : List Piece) (floor total offset : ℕ) (stack : Range) (rest : List ℕ)
+pub stack_read : (bytes : List ℕ) (arena : Range) (pieces : List Piece) (floor total offset : ℕ) (stack : Range)
+    (rest : List ℕ)
     → keeps_stack arena pieces stack ≡ true → floor ≤ stack.low → total + (stack.high - stack.low) ≤ 16777216
     → Stands bytes offset (stack_spelling stack ++ rest) → stack_after bytes arena pieces floor total offset ≡ Ok stack
 unfolding stack_after stack_spelling
 stack_read bytes arena pieces floor total offset stack rest kept above small s =
-    let p = and_parts (all_hold (stack_low_rules stack.low)) (all_hold (stack_high_rules arena pieces 0 0 stack.low stack.high)) kept in
+    let p = and_parts (all_hold (stack_low_rules stack.low))
+    (all_hold (stack_high_rules arena pieces 0 0 stack.low stack.high)) kept in
     let fits = stack_holds arena pieces floor total stack.low stack.high p.1 small above in
     let end = fits.1 in
     let up = fits.2 in
@@ -166,5 +184,6 @@ stack_read bytes arena pieces floor total offset stack rest kept above small s =
     let s4 = behind bytes offset (number stack.low) (number stack.high ++ rest) (offset + 4) refl s0 in
     rw (
       field_read bytes offset stack_low_rules stack.low (number stack.high ++ rest) (omega arith) p.0 s0,
-      field_read bytes (offset + 4) (stack_high_rules arena pieces floor total stack.low) stack.high rest (omega arith) fits.0 s4,
+      field_read bytes (offset + 4) (stack_high_rules arena pieces floor total stack.low) stack.high rest
+          (omega arith) fits.0 s4,
     ) refl

@@ -1,5 +1,6 @@
 -- What is read where a spelling stands.
-use Rattle.std.proofs.Common.{◌≡◌, ℕ, ◌+◌, ◌^◌, ◌<◌, true, false, ltb, List, [], ◌∷◌, ◌++◌, length, drop, Result, Ok, refl, sym, ap, ◌∙◌, append_assoc, length-append, arith}
+use Rattle.std.proofs.Common.{◌≡◌, ℕ, ◌+◌, ◌^◌, ◌<◌, true, false, ltb, List, [], ◌∷◌, ◌++◌, length, drop}
+use Rattle.std.proofs.Common.{Result, Ok, refl, sym, ap, ◌∙◌, append_assoc, length-append, arith}
 use Rattle.std.specs.List.{flat_map}
 use Rattle.std.proofs.lemmas.Bool.{le-ltb, and_parts}
 use Rattle.std.proofs.lemmas.List.{take_at, drop_at, drop-drop, append-nil}
@@ -18,7 +19,8 @@ pub record Stands (bytes : List ℕ) (offset : ℕ) (rest : List ℕ) : Type 0 w
 pub behind : (bytes : List ℕ) (offset : ℕ) (x rest : List ℕ) (there : ℕ) → offset + length x ≡ there →
     Stands bytes offset (x ++ rest) → Stands bytes there rest
 behind bytes offset x rest there h s = record {
-  is = rw (← h) (sym (drop-drop (length x) offset bytes) ∙ ap (λ (w : List ℕ). drop (length x) w) s.is ∙ drop_at x rest (length x) refl);
+  is = rw (← h) (sym (drop-drop (length x) offset bytes) ∙ ap (λ (w : List ℕ). drop (length x) w) s.is
+      ∙ drop_at x rest (length x) refl);
   place = let p = s.place in omega (arith, length-append x rest);
 }
 
@@ -27,13 +29,15 @@ pub content_read : (bytes : List ℕ) (offset : ℕ) (x rest : List ℕ) (n : �
 unfolding content_at
 content_read bytes offset x rest n long s =
     let p = s.place in
-    let within : ltb (length bytes) (offset + n) ≡ false = le-ltb (length bytes) (offset + n) (omega (arith, length-append x rest)) in
+    let within : ltb (length bytes) (offset + n) ≡ false =
+    le-ltb (length bytes) (offset + n) (omega (arith, length-append x rest)) in
     rw (within, s.is, take_at x rest n long) refl
 
 pub number_read : (bytes : List ℕ) (offset : ℕ) (n : ℕ) (rest : List ℕ) → n < 2 ^ 32 →
     Stands bytes offset (number n ++ rest) → number_at bytes offset ≡ Ok n
 unfolding number_at
-number_read bytes offset n rest lt s = rw (content_read bytes offset (number n) rest 4 refl s, from_le_bytes-to_le_bytes_4 n lt) refl
+number_read bytes offset n rest lt s =
+    rw (content_read bytes offset (number n) rest 4 refl s, from_le_bytes-to_le_bytes_4 n lt) refl
 
 pub all_read : {A : Type 0} (offset : ℕ) (rules : List Rule) (x : A) → all_hold rules ≡ true →
     checked offset rules x ≡ Ok x
@@ -48,10 +52,13 @@ pub field_read : (bytes : List ℕ) (offset : ℕ) (rules : ℕ → List Rule) (
 field_read bytes offset rules n rest lt h s = rw (number_read bytes offset n rest lt s) (all_read offset (rules n) n h)
 
 -- where the spellings of several items stand one after another, those items are read
-pub items_read : {X : Type 0} (bytes : List ℕ) (item : List X → ℕ → Result X Refusal) (width : X → ℕ) (spell : X → List ℕ) (all : List X)
+pub items_read : {X : Type 0} (bytes : List ℕ) (item : List X → ℕ → Result X Refusal) (width : X → ℕ)
+    (spell : X → List ℕ) (all : List X)
     → ((x : X) → length (spell x) ≡ width x)
-    → ((before : List X) (x : X) (after : List X) (offset : ℕ) (rest : List ℕ) → all ≡ before ++ x ∷ after → Stands bytes offset (spell x ++ rest) → item before offset ≡ Ok x)
-    → (before xs : List X) (offset end : ℕ) (rest : List ℕ) → all ≡ before ++ xs → offset + length (flat_map spell xs) ≡ end → Stands bytes offset (flat_map spell xs ++ rest)
+    → ((before : List X) (x : X) (after : List X) (offset : ℕ) (rest : List ℕ) → all ≡ before ++ x ∷ after
+    → Stands bytes offset (spell x ++ rest) → item before offset ≡ Ok x)
+    → (before xs : List X) (offset end : ℕ) (rest : List ℕ) → all ≡ before ++ xs
+    → offset + length (flat_map spell xs) ≡ end → Stands bytes offset (flat_map spell xs ++ rest)
     → items_at (length xs) item width before offset ≡ Ok (all, end)
 unfolding items_at
 items_read bytes item width spell all wide reads before [] offset end rest parts last s =
@@ -67,5 +74,6 @@ items_read {X} bytes item width spell all wide reads before (x ∷ xs) offset en
     = ap length (flat_map-cons spell x xs) ∙ length-append (spell x) (flat_map spell xs) in
     let w = wide x in
     let further = items_read bytes item width spell all wide reads (before ++ x ∷ []) xs (offset + width x) end rest
-    (parts ∙ sym (append_assoc before (x ∷ []) xs)) (omega arith) (behind bytes offset (spell x) (flat_map spell xs ++ rest) (offset + width x) (omega arith) here) in
+    (parts ∙ sym (append_assoc before (x ∷ []) xs)) (omega arith)
+    (behind bytes offset (spell x) (flat_map spell xs ++ rest) (offset + width x) (omega arith) here) in
     rw read further

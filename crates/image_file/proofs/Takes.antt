@@ -1,9 +1,12 @@
 -- What is read was spelled by the bytes that were read.
-use Rattle.std.proofs.Common.{◌≡◌, ℕ, zero, suc, ◌+◌, ◌<◌, ◌≤◌, Bool, true, false, cond, ltb, List, [], ◌∷◌, ◌++◌, length, get_or, take, drop, Result, Ok, Err, refl, sym, ap, subst, ◌∙◌, append_assoc, length-append, arith, inl, inr, ◌&&◌}
+use Rattle.std.proofs.Common.{◌≡◌, ℕ, zero, suc, ◌+◌, ◌<◌, ◌≤◌, Bool, true, false, cond, ltb, List}
+use Rattle.std.proofs.Common.{[], ◌∷◌, ◌++◌, length, get_or, take, drop, Result, Ok, Err, refl, sym}
+use Rattle.std.proofs.Common.{ap, subst, ◌∙◌, append_assoc, length-append, arith, inl, inr, ◌&&◌}
 use Rattle.std.specs.List.{flat_map}
 use Rattle.std.specs.Int.{w32, from_le_bytes}
 use Rattle.std.proofs.lemmas.Bool.{cases_lt, ltb-false}
-use Rattle.std.proofs.lemmas.List.{drop-drop, length-drop, length-take, take-append-drop, append-nil, get_or-drop, get_or-take, get_or_past}
+use Rattle.std.proofs.lemmas.List.{drop-drop, length-drop, length-take, take-append-drop}
+use Rattle.std.proofs.lemmas.List.{append-nil, get_or-drop, get_or-take, get_or_past}
 use Rattle.std.proofs.lemmas.List.Concat.{flat_map-cons}
 use Rattle.std.proofs.lemmas.Nat.{le_bytes_4}
 use Rattle.ks_base.specs.declared.refusals.ImageFault.TheVariants.{Short}
@@ -69,7 +72,8 @@ content_cut : (bytes : List ℕ) (offset n : ℕ) (x : List ℕ) → content_at 
     (offset + n ≤ length bytes) × (take n (drop offset bytes) ≡ x)
 unfolding content_at
 content_cut bytes offset n x e =
-    let g = guard_ok (ltb (length bytes) (offset + n)) (BadImage (length bytes) Short) (take n (drop offset bytes)) x e in
+    let g = guard_ok (ltb (length bytes) (offset + n)) (BadImage (length bytes) Short)
+    (take n (drop offset bytes)) x e in
     (ltb-false _ _ g.0, g.1)
 
 pub content_long : (bytes : List ℕ) (offset n : ℕ) (x : List ℕ) → content_at bytes offset n ≡ Ok x → length x ≡ n
@@ -97,7 +101,8 @@ number_taken bytes offset n to there fits e =
     let b = bind_ok (content_at bytes offset 4) (λ four. Ok (from_le_bytes w32 four)) n e in
     let cut = content_cut bytes offset 4 b.0 b.1 in
     let is : from_le_bytes w32 b.0 ≡ n = ok_is (from_le_bytes w32 b.0) n b.2 in
-    let small : IsBytes b.0 = subst IsBytes cut.1 (IsBytes-take 4 (drop offset bytes) (IsBytes-drop offset bytes fits)) in
+    let small : IsBytes b.0 = subst IsBytes cut.1
+    (IsBytes-take 4 (drop offset bytes) (IsBytes-drop offset bytes fits)) in
     let same : number n ≡ b.0 = le_bytes_4 b.0 n (content_long bytes offset 4 b.0 b.1) small (sym is) in
     subst (λ (w : List ℕ). Takes bytes offset w to) (sym same) (content_taken bytes offset 4 b.0 to there b.1)
 
@@ -105,7 +110,8 @@ pub all_kept : {A : Type 0} (offset : ℕ) (rules : List Rule) (x y : A) → che
     (all_hold rules ≡ true) × (x ≡ y)
 all_kept offset [] x y e = (refl, ok_is x y e)
 all_kept {A} offset (rule ∷ rules) x y e =
-    elim rule.holds as (λ b. cond b (checked offset rules x) (Err (BadImage offset rule.fault)) ≡ Ok y → (b && all_hold rules ≡ true) × (x ≡ y)) [
+    elim rule.holds as (λ b. cond b (checked offset rules x) (Err (BadImage offset rule.fault)) ≡ Ok y
+    → (b && all_hold rules ≡ true) × (x ≡ y)) [
       | true ↦ λ more. all_kept offset rules x y more
       | false ↦ λ wrong. absurd cc
     ] e
@@ -116,23 +122,29 @@ pub field_taken : (bytes : List ℕ) (offset : ℕ) (rules : ℕ → List Rule) 
 field_taken bytes offset rules n to there fits e =
     let b = bind_ok (number_at bytes offset) (λ m. checked offset (rules m) m) n e in
     let k = all_kept offset (rules b.0) b.0 n b.2 in
-    subst (λ (m : ℕ). Takes bytes offset (number m) to × (all_hold (rules m) ≡ true)) k.1 (number_taken bytes offset b.0 to there fits b.1, k.0)
+    subst (λ (m : ℕ). Takes bytes offset (number m) to × (all_hold (rules m) ≡ true)) k.1
+    (number_taken bytes offset b.0 to there fits b.1, k.0)
 
 -- the items that were read one after another, behind those that were read before
-pub record AreTaken {X : Type 0} (bytes : List ℕ) (spell : X → List ℕ) (n : ℕ) (before : List X) (offset : ℕ) (read : List X × ℕ) : Type 0 where
+pub record AreTaken {X : Type 0} (bytes : List ℕ) (spell : X → List ℕ) (n : ℕ) (before : List X) (offset : ℕ)
+    (read : List X × ℕ) : Type 0 where
   pub items : List X
   pub parts : read.0 ≡ before ++ items
   pub count : length items ≡ n
   pub takes : Takes bytes offset (flat_map spell items) read.1
 
-pub items_taken : {X : Type 0} (bytes : List ℕ) (item : List X → ℕ → Result X Refusal) (width : X → ℕ) (spell : X → List ℕ)
-    → ((before : List X) (offset : ℕ) (x : X) → item before offset ≡ Ok x → Takes bytes offset (spell x) (offset + width x))
-    → (n : ℕ) (before : List X) (offset : ℕ) (read : List X × ℕ) → offset ≤ length bytes → items_at n item width before offset ≡ Ok read
+pub items_taken : {X : Type 0} (bytes : List ℕ) (item : List X → ℕ → Result X Refusal) (width : X → ℕ)
+    (spell : X → List ℕ)
+    → ((before : List X) (offset : ℕ) (x : X) → item before offset ≡ Ok x
+    → Takes bytes offset (spell x) (offset + width x))
+    → (n : ℕ) (before : List X) (offset : ℕ) (read : List X × ℕ) → offset ≤ length bytes
+    → items_at n item width before offset ≡ Ok read
     → AreTaken bytes spell n before offset read
 unfolding items_at
 items_taken bytes item width spell each zero before offset read within e =
     let same = ok_is (before, offset) read e in
-    subst (AreTaken bytes spell 0 before offset) same (record { items = []; parts = sym (append-nil before); count = refl; takes = Takes-none bytes offset within })
+    subst (AreTaken bytes spell 0 before offset) same
+    (record { items = []; parts = sym (append-nil before); count = refl; takes = Takes-none bytes offset within })
 items_taken {X} bytes item width spell each (suc n) before offset read within e =
     let b = bind_ok (item before offset) (λ x. items_at n item width (before ++ x ∷ []) (offset + width x)) read e in
     let x = b.0 in
@@ -142,5 +154,6 @@ items_taken {X} bytes item width spell each (suc n) before offset read within e 
       items = x ∷ more.items;
       parts = more.parts ∙ append_assoc before (x ∷ []) more.items;
       count = ap suc more.count;
-      takes = rw flat_map-cons (Takes-then bytes offset (spell x) (offset + width x) (flat_map spell more.items) read.1 first more.takes);
+      takes = rw flat_map-cons (Takes-then bytes offset (spell x) (offset + width x)
+          (flat_map spell more.items) read.1 first more.takes);
     }

@@ -7,7 +7,8 @@ use Rattle.image_memory.specs.Contents.{ArePlaced, piece_range}
 use Rattle.image_memory.specs.Ranges.{Ascends}
 use Rattle.symbol_table.specs.declared.symbols.Symbol.{Symbol}
 use Rattle.image_file.specs.Fields.{Rule}
-use Rattle.image_file.specs.Rules.{own_range, total_of, arena_low_rules, arena_high_rules, base_rules, length_rules, symbol_kind_rules, name_length_rules, name_rules, stack_low_rules, stack_high_rules}
+use Rattle.image_file.specs.Rules.{own_range, total_of, arena_low_rules, arena_high_rules, base_rules, length_rules}
+use Rattle.image_file.specs.Rules.{symbol_kind_rules, name_length_rules, name_rules, stack_low_rules, stack_high_rules}
 use Rattle.image_file.specs.Reading.{Contents}
 
 -- whether each rule of a list holds

@@ -9,7 +9,10 @@ use Rattle.image_memory.specs.Contents.{piece_range}
 use Rattle.symbol_table.specs.declared.symbols.Symbol.{Symbol}
 use Rattle.image_file.specs.declared.front.Header.{Header}
 use Rattle.image_file.specs.Fields.{◌>>=◌, ◌orElse◌, content_at, checked, field, items_at}
-use Rattle.image_file.specs.Rules.{own_range, end_of, total_of, magic_rules, count_rules, arena_low_rules, arena_high_rules, region_kind_rules, region_kind, base_rules, length_rules, no_rules, symbol_kind_rules, binding_rules, name_length_rules, name_rules, stack_low_rules, stack_high_rules}
+use Rattle.image_file.specs.Rules.{own_range, end_of, total_of, magic_rules, count_rules, arena_low_rules}
+use Rattle.image_file.specs.Rules.{arena_high_rules, region_kind_rules, region_kind, base_rules}
+use Rattle.image_file.specs.Rules.{length_rules, no_rules, symbol_kind_rules, binding_rules}
+use Rattle.image_file.specs.Rules.{name_length_rules, name_rules, stack_low_rules, stack_high_rules}
 
 -- what an image says
 pub record Contents : Type 0 where
@@ -39,7 +42,8 @@ region_after bytes arena floor total offset = do
   Ok (record { kind = region_kind kind; base = base; bytes = content })
 
 abbrev pub region_at : List ℕ → Range → List Piece → ℕ → Result Piece Refusal
-region_at bytes arena before offset = region_after bytes arena (end_of piece_range 0 before) (total_of piece_range before) offset
+region_at bytes arena before offset = region_after bytes arena (end_of piece_range 0 before)
+    (total_of piece_range before) offset
 
 abbrev pub region_width : Piece → ℕ
 region_width piece = 12 + length piece.bytes
@@ -74,7 +78,8 @@ stack_after bytes arena pieces floor total offset = do
   Ok (record { low = low; high = high })
 
 abbrev pub stack_at : List ℕ → Range → List Piece → List Range → ℕ → Result Range Refusal
-stack_at bytes arena pieces before offset = stack_after bytes arena pieces (end_of own_range 0 before) (total_of own_range before) offset
+stack_at bytes arena pieces before offset = stack_after bytes arena pieces (end_of own_range 0 before)
+    (total_of own_range before) offset
 
 abbrev pub stack_width : Range → ℕ
 stack_width stack = 8

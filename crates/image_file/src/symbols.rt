@@ -6,7 +6,8 @@ ghost use Rattle.image_memory.specs.Contents.{ArePlaced, holding};
 ghost use Rattle.image_memory.specs.Access.{kind_of};
 ghost use Rattle.ks_base.specs.Gives.{Gives};
 ghost use Rattle.image_file.specs.Fields.{field, items_at};
-ghost use Rattle.image_file.specs.Rules.{fits_region, symbol_kind_rules, binding_rules, name_length_rules, name_rules, is_zero};
+ghost use Rattle.image_file.specs.Rules.{fits_region, symbol_kind_rules, binding_rules};
+ghost use Rattle.image_file.specs.Rules.{name_length_rules, name_rules, is_zero};
 ghost use Rattle.image_file.specs.Keeps.{all_hold, keeps_symbol};
 ghost use Rattle.image_file.specs.Reading.{name_at, symbol_among, symbol_at, symbol_width};
 

@@ -2,7 +2,8 @@
 ghost use Rattle.std.specs.Prelude.{◌≡◌, ◌<◌, ◌≤◌, ◌^◌, ◌++◌, length, Ok, OnOk, IfOk, if◌then◌else◌};
 ghost use Rattle.std.specs.List.{All, flat_map};
 ghost use Rattle.image_file.specs.Keeps.{symbol_kind};
-ghost use Rattle.image_file.specs.Spelling.{number, kind_number, region_spelling, symbol_spelling, stack_spelling, header_spelling, spelling};
+ghost use Rattle.image_file.specs.Spelling.{number, kind_number, region_spelling, symbol_spelling};
+ghost use Rattle.image_file.specs.Spelling.{stack_spelling, header_spelling, spelling};
 ghost use Rattle.image_file.specs.Reading.{image_of};
 ghost use Rattle.image_file.specs.Seen.{contents_of};
 

@@ -1,13 +1,17 @@
 -- What the first bad byte, the bytes of a read and the bytes after a write are, one address at a time.
-use Rattle.std.proofs.Common.{◌≡◌, ℕ, zero, suc, ◌+◌, ◌-◌, ◌≤◌, ◌<◌, List, [], ◌∷◌, length, get_or, min, max, ◌++◌, ◌∙◌, refl, sym, ap, arith, ◌⊎◌, inl, inr, Option, Some, None, Vec, take, drop}
+use Rattle.std.proofs.Common.{◌≡◌, ℕ, zero, suc, ◌+◌, ◌-◌, ◌≤◌, ◌<◌, List, [], ◌∷◌, length, get_or, min, max, ◌++◌}
+use Rattle.std.proofs.Common.{◌∙◌, refl, sym, ap, arith, ◌⊎◌, inl, inr, Option, Some, None, Vec, take, drop}
 use Rattle.std.specs.Option.{option_or}
 use Rattle.std.specs.Vec.{with_items}
 use Rattle.std.specs.List.{All}
-use Rattle.std.proofs.lemmas.List.{same_lists, ext_get_or, get_or-drop, get_or-take, get_or_append_left, get_or-append_right, length-take-le, length-take, length-drop, length-append, length-map, get_or-map, with_items_is}
+use Rattle.std.proofs.lemmas.List.{same_lists, ext_get_or, get_or-drop, get_or-take, get_or_append_left}
+use Rattle.std.proofs.lemmas.List.{get_or-append_right, length-take-le, length-take, length-drop}
+use Rattle.std.proofs.lemmas.List.{length-append, length-map, get_or-map, with_items_is}
 use Rattle.std.proofs.lemmas.Bool.Decides.{nat_tests}
 use Rattle.image_memory.specs.Ranges.{Ascends}
 use Rattle.image_memory.specs.Contents.{piece_range, holding}
-use Rattle.image_memory.specs.Access.{first_fault, bytes_at, byte_at, overlaid, overlaid_piece, written, new_byte, access_fault}
+use Rattle.image_memory.specs.Access.{first_fault, bytes_at, byte_at, overlaid}
+use Rattle.image_memory.specs.Access.{overlaid_piece, written, new_byte, access_fault}
 use Rattle.image_memory.specs.declared.types.Access.{Access}
 use Rattle.image_memory.specs.declared.types.Access.TheVariants.{Read, Write}
 use Rattle.ks_base.specs.declared.refusals.Fault.TheVariants.{Unmapped}
@@ -65,7 +69,8 @@ unfolding bytes_at
 length-bytes_at pieces a zero = refl
 length-bytes_at pieces a (suc n) = ap suc (length-bytes_at pieces (a + 1) n)
 
-pub get_or-bytes_at : (pieces : List Piece) (a n k : ℕ) → k < n → get_or (bytes_at pieces a n) k 0 ≡ byte_at pieces (a + k)
+pub get_or-bytes_at : (pieces : List Piece) (a n k : ℕ) → k < n
+    → get_or (bytes_at pieces a n) k 0 ≡ byte_at pieces (a + k)
 unfolding bytes_at
 get_or-bytes_at pieces a zero k l = absurd (omega arith)
 get_or-bytes_at pieces a (suc n) zero l = ap (byte_at pieces) (omega arith)
@@ -73,7 +78,8 @@ get_or-bytes_at pieces a (suc n) (suc k) l =
     let e : (a + 1) + k ≡ a + suc k = omega arith in
     rw e at (get_or-bytes_at pieces (a + 1) n k (omega arith))
 
-pub length-overlaid : (start : ℕ) (bytes : List ℕ) (a : ℕ) (xs : List ℕ) → length (overlaid start bytes a xs) ≡ length xs
+pub length-overlaid : (start : ℕ) (bytes : List ℕ) (a : ℕ) (xs : List ℕ)
+    → length (overlaid start bytes a xs) ≡ length xs
 unfolding overlaid
 length-overlaid start bytes a [] = refl
 length-overlaid start bytes a (x ∷ xs) = ap suc (length-overlaid start bytes (a + 1) xs)
@@ -88,10 +94,12 @@ get_or-overlaid start bytes a (x ∷ xs) (suc k) l =
     rw e at (get_or-overlaid start bytes (a + 1) xs k (omega arith))
 
 -- a byte that is one of those written, and one that isn't
-pub new_inside : (start : ℕ) (bytes : List ℕ) (a b : ℕ) → start ≤ a → a < start + length bytes → new_byte start bytes a b ≡ get_or bytes (a - start) 0
+pub new_inside : (start : ℕ) (bytes : List ℕ) (a b : ℕ) → start ≤ a → a < start + length bytes
+    → new_byte start bytes a b ≡ get_or bytes (a - start) 0
 new_inside start bytes a b l m = grind (arith, nat_tests)
 
-pub new_outside : (start : ℕ) (bytes : List ℕ) (a b : ℕ) → (a < start) ⊎ (start + length bytes ≤ a) → new_byte start bytes a b ≡ b
+pub new_outside : (start : ℕ) (bytes : List ℕ) (a b : ℕ) → (a < start) ⊎ (start + length bytes ≤ a)
+    → new_byte start bytes a b ≡ b
 new_outside start bytes a b h = grind (arith, nat_tests)
 
 pub overlaid_outside : (start : ℕ) (bytes : List ℕ) (a : ℕ) (xs : List ℕ)
@@ -102,13 +110,16 @@ overlaid_outside start bytes a xs h =
     let e = new_outside start bytes (a + k) (get_or xs k 0) (h k m) in
     rw e at (get_or-overlaid start bytes a xs k m))
 
-pub overlaid_apart : (start : ℕ) (bytes : List ℕ) (a : ℕ) (xs : List ℕ) → (a + length xs ≤ start) ⊎ (start + length bytes ≤ a)
+pub overlaid_apart : (start : ℕ) (bytes : List ℕ) (a : ℕ) (xs : List ℕ) → (a + length xs ≤ start)
+    ⊎ (start + length bytes ≤ a)
     → overlaid start bytes a xs ≡ xs
 overlaid_apart start bytes a xs h = overlaid_outside start bytes a xs (λ k m. grind arith)
 
-pub piece_apart : (start : ℕ) (bytes : List ℕ) (p : Piece) → ((piece_range p).high ≤ start) ⊎ (start + length bytes ≤ p.base)
+pub piece_apart : (start : ℕ) (bytes : List ℕ) (p : Piece) → ((piece_range p).high ≤ start)
+    ⊎ (start + length bytes ≤ p.base)
     → overlaid_piece start bytes p ≡ p
-piece_apart start bytes p h = ap (λ (xs : List ℕ). record p { bytes = xs }) (overlaid_apart start bytes p.base p.bytes h)
+piece_apart start bytes p h = ap (λ (xs : List ℕ). record p { bytes = xs })
+    (overlaid_apart start bytes p.base p.bytes h)
 
 pub Ascends-written : (start : ℕ) (bytes : List ℕ) (floor : ℕ) (ps : List Piece) → Ascends piece_range floor ps
     → Ascends piece_range floor (written start bytes ps)
@@ -117,7 +128,8 @@ Ascends-written start bytes floor (p ∷ ps) h =
     rw (length-overlaid start bytes p.base p.bytes) (h.0, h.1, Ascends-written start bytes (piece_range p).high ps h.2)
 
 -- the byte at an address of a piece, by the bytes from an earlier address of it on
-pub byte_along : (floor : ℕ) (ps : List Piece) (at b : ℕ) (p : Piece) → Ascends piece_range floor ps → holding ps at ≡ Some p
+pub byte_along : (floor : ℕ) (ps : List Piece) (at b : ℕ) (p : Piece) → Ascends piece_range floor ps
+    → holding ps at ≡ Some p
     → p.base ≤ at → at ≤ b → b < (piece_range p).high → byte_at ps b ≡ get_or (drop (at - p.base) p.bytes) (b - at) 0
 byte_along floor ps at b p up h low l m =
     let here = found_along piece_range floor ps at b p up h l m in
@@ -139,7 +151,8 @@ access_none Read = refl
 access_none Write = refl
 
 -- a list with a part replaced: what stands before the part, in it and after it
-pub copied_below : (xs ys zs : List ℕ) (a k : ℕ) → a ≤ length xs → k < a → get_or (take a xs ++ (ys ++ zs)) k 0 ≡ get_or xs k 0
+pub copied_below : (xs ys zs : List ℕ) (a k : ℕ) → a ≤ length xs → k < a
+    → get_or (take a xs ++ (ys ++ zs)) k 0 ≡ get_or xs k 0
 copied_below xs ys zs a k h l =
     let m : k < length (take a xs) = rw (length-take-le a xs h) l in
     get_or_append_left (take a xs) (ys ++ zs) 0 k m ∙ get_or-take a xs k 0 l
@@ -195,7 +208,8 @@ module _ (at start low high : ℕ) (target from : List ℕ) (low_is : low ≡ ma
               ∙ (ap (λ i. get_or from i 0) e
               ∙ sym (new_inside start from (at + k) (get_or target k 0) (omega arith) (omega arith))))
           | inr past ↦
-              let e : low - at + (high - at - (low - at) + (k - (low - at) - length part)) ≡ k = omega (arith, length-part) in
+              let e : low - at + (high - at - (low - at) + (k - (low - at) - length part)) ≡ k =
+              omega (arith, length-part) in
               copied_past target part _ (low - at) k (omega arith) (omega (arith, length-part))
               ∙ (get_or-drop (high - at - (low - at)) (drop (low - at) target) _ 0
               ∙ (get_or-drop (low - at) target _ 0
@@ -225,7 +239,8 @@ written_is ps qs start bytes i same done rest later =
           ∙ sym (get_or-map (overlaid_piece start bytes) ps k d d m))
     ])
 
-pub ends-written : (start : ℕ) (bytes : List ℕ) (limit : ℕ) (ps : List Piece) → All (λ p. (piece_range p).high ≤ limit) ps
+pub ends-written : (start : ℕ) (bytes : List ℕ) (limit : ℕ) (ps : List Piece)
+    → All (λ p. (piece_range p).high ≤ limit) ps
     → All (λ p. (piece_range p).high ≤ limit) (written start bytes ps)
 ends-written start bytes limit ps h k d l =
     let m : k < length ps = rw (length-map ps (overlaid_piece start bytes)) at l in
@@ -237,7 +252,8 @@ pub length_copied : (xs ys : List ℕ) (a n : ℕ) → a ≤ length xs → n ≡
 length_copied xs ys a n h e l = simp (length-append, length-take, length-drop) (omega (arith, l))
 
 -- the pieces that a vector keeps after they were written through a slice of it
-pub kept_as : {Z : Type 0} (v : Vec Piece Z) (new seen : List Piece) (start : ℕ) (bytes : List ℕ) → length new ≡ length seen
+pub kept_as : {Z : Type 0} (v : Vec Piece Z) (new seen : List Piece) (start : ℕ) (bytes : List ℕ)
+    → length new ≡ length seen
     → new ≡ written start bytes seen → seen ≡ v.items → (with_items v new).items ≡ written start bytes v.items
 kept_as v new seen start bytes same wrote is =
     with_items_is v new (same ∙ (ap length is ∙ sym v.ok.0)) ∙ (wrote ∙ ap (written start bytes) is)

@@ -1,5 +1,7 @@
 -- What holds of things in order after one was put among them or taken out.
-use Rattle.std.proofs.Common.{◌≡◌, ◌≢◌, ℕ, zero, suc, ◌+◌, ◌-◌, ◌≤◌, ◌<◌, Bool, true, false, not, cond, ◌||◌, nat_lt, List, [], ◌∷◌, length, get_or, drop, refl, sym, ◌∙◌, ap, arith, ◌⊎◌, inl, inr, Option, Some}
+use Rattle.std.proofs.Common.{◌≡◌, ◌≢◌, ℕ, zero, suc, ◌+◌, ◌-◌, ◌≤◌, ◌<◌, Bool, true, false}
+use Rattle.std.proofs.Common.{not, cond, ◌||◌, nat_lt, List, [], ◌∷◌, length, get_or, drop}
+use Rattle.std.proofs.Common.{refl, sym, ◌∙◌, ap, arith, ◌⊎◌, inl, inr, Option, Some}
 use Rattle.std.specs.List.{filter, insert, remove, list_any, position, position_or_len, All, Contains}
 use Rattle.std.proofs.lemmas.List.Sums.{prefix_len_passes}
 use Rattle.std.proofs.lemmas.Bool.Decides.{nat_tests}
@@ -55,9 +57,15 @@ module _ {X : Type 0} (range : X → Range) where
       let here = or_left (meets (range x) (range y)) (list_any (λ z. meets (range x) (range z)) ys) apart in
       let rest = or_right (meets (range x) (range y)) (list_any (λ z. meets (range x) (range z)) ys) apart in
       elim (nat_lt (range x).low (range y).low)
-      as (λ b. nat_lt (range x).low (range y).low ≡ b → Ascends range floor (cond b (x ∷ y ∷ ys) (y ∷ put_in range x ys))) [
+      as (λ b. nat_lt (range x).low (range y).low ≡ b → Ascends range floor
+      (cond b (x ∷ y ∷ ys) (y ∷ put_in range x ys))) [
         | true ↦ λ e. (low, full, (goes_before (range x) (range y) e up.1 here, up.1, up.2))
-        | false ↦ λ e. (up.0, up.1, Ascends-put (range y).high x ys (goes_behind (range x) (range y) e full here) full rest up.2)
+        | false ↦ λ e. (
+          up.0,
+          up.1,
+          Ascends-put (range y).high x ys
+              (goes_behind (range x) (range y) e full here) full rest up.2,
+        )
       ] refl
 
   ascends_lower : (floor low : ℕ) (xs : List X) → low ≤ floor → Ascends range floor xs → Ascends range low xs
@@ -74,14 +82,17 @@ module _ {X : Type 0} (range : X → Range) where
   Ascends-remove floor (x ∷ xs) (suc i) up = (up.0, up.1, Ascends-remove (range x).high xs i up.2)
 
   -- of things that ascend only one begins at an address
-  begin_apart : (floor : ℕ) (xs : List X) (i j : ℕ) (d : X) → Ascends range floor xs → i < length xs → j < length xs → i ≢ j
+  begin_apart : (floor : ℕ) (xs : List X) (i j : ℕ) (d : X) → Ascends range floor xs → i < length xs → j < length xs
+      → i ≢ j
       → (range (get_or xs i d)).low ≢ (range (get_or xs j d)).low
   begin_apart floor xs i j d up l m apart =
       λ same.
       let a = each_above range floor xs i d up l in
       let b = each_above range floor xs j d up m in
-      let before : i < j → (range (get_or xs i d)).high ≤ (range (get_or xs j d)).low = λ h. one_after range floor xs i j d up h m in
-      let behind : j < i → (range (get_or xs j d)).high ≤ (range (get_or xs i d)).low = λ h. one_after range floor xs j i d up h l in
+      let before : i < j → (range (get_or xs i d)).high ≤ (range (get_or xs j d)).low =
+      λ h. one_after range floor xs i j d up h m in
+      let behind : j < i → (range (get_or xs j d)).high ≤ (range (get_or xs i d)).low =
+      λ h. one_after range floor xs j i d up h l in
       grind arith
 
   -- the last of those that begin at or below an address is the one that begins there
@@ -112,10 +123,13 @@ module _ {X : Type 0} (range : X → Range) where
           → xs ≡ filter (λ x. not (test x)) xs
       all_kept test [] miss = refl
       all_kept test (x ∷ xs) miss =
-          rw (miss 0 x (omega arith)) (ap (λ (ys : List X). x ∷ ys) (all_kept test xs (λ k d l. miss (suc k) d (omega arith))))
+          rw (miss 0 x (omega arith)) (ap (λ (ys : List X). x ∷ ys)
+          (all_kept test xs (λ k d l. miss (suc k) d (omega arith))))
 
-      remove_is_filter : (test : X → Bool) (xs : List X) (j : ℕ) → j < length xs → ((d : X) → test (get_or xs j d) ≡ true)
-          → ((k : ℕ) (d : X) → k < length xs → k ≢ j → test (get_or xs k d) ≡ false) → remove xs j ≡ filter (λ x. not (test x)) xs
+      remove_is_filter : (test : X → Bool) (xs : List X) (j : ℕ) → j < length xs
+          → ((d : X) → test (get_or xs j d) ≡ true)
+          → ((k : ℕ) (d : X) → k < length xs → k ≢ j → test (get_or xs k d) ≡ false)
+          → remove xs j ≡ filter (λ x. not (test x)) xs
       remove_is_filter test [] j l hit miss = absurd (omega arith)
       remove_is_filter test (x ∷ xs) zero l hit miss =
           rw (hit x) (all_kept test xs (λ k d m. miss (suc k) d (omega arith) (omega arith)))
@@ -132,7 +146,8 @@ module _ {X : Type 0} (range : X → Range) where
       let e : n - 1 ≡ j = omega arith in
       rw e (removed_at test floor xs a j up l at hit miss)
 
-pub All-without_first : (P : Range → Type 0) (range : Range) (ranges : List Range) → All P ranges → All P (without_first range ranges)
+pub All-without_first : (P : Range → Type 0) (range : Range) (ranges : List Range) → All P ranges
+    → All P (without_first range ranges)
 All-without_first P range [] all = all
 All-without_first P range (other ∷ others) all =
     let rest = All-without_first P range others (All-tail P other others all) in

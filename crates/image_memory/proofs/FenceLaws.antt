@@ -1,5 +1,6 @@
 -- What the retired range that holds an address tells of it.
-use Rattle.std.proofs.Common.{◌≡◌, ◌≢◌, ℕ, zero, suc, ◌≤◌, ◌<◌, Bool, true, false, cond, ◌&&◌, ◌||◌, ◌==◌, List, [], ◌∷◌, length, get_or, refl, arith, ◌⊎◌, inl, inr, Some, None, min, take, nat_lt}
+use Rattle.std.proofs.Common.{◌≡◌, ◌≢◌, ℕ, zero, suc, ◌≤◌, ◌<◌, Bool, true, false, cond, ◌&&◌, ◌||◌, ◌==◌, List}
+use Rattle.std.proofs.Common.{[], ◌∷◌, length, get_or, refl, arith, ◌⊎◌, inl, inr, Some, None, min, take, nat_lt}
 use Rattle.std.specs.List.{find, list_any, slice_get}
 use Rattle.std.proofs.lemmas.Bool.Decides.{nat_tests}
 use Rattle.std.proofs.lemmas.List.{take-take, take_all, length-take}
@@ -10,13 +11,18 @@ use Rattle.image_memory.specs.declared.types.Fence.{Fence}
 use Rattle.image_memory.proofs.RangeLaws.{inside, within, each_above}
 
 not_low : (jump : Bool) (low pc : ℕ) → low ≢ pc → (jump && (low == pc)) ≡ false
-not_low jump low pc h = elim jump as (λ b. (b && (low == pc)) ≡ false) [ true ↦ grind (arith, nat_tests) | false ↦ refl ]
+not_low jump low pc h = elim jump as (λ b. (b && (low == pc)) ≡ false) [
+  | true ↦ grind (arith, nat_tests)
+  | false ↦
+      refl
+]
 
 or_false : (b : Bool) → (b || false) ≡ b
 or_false true = refl
 or_false false = refl
 
-spliced_late : (floor : ℕ) (fences : List Fence) (pc : ℕ) → Ascends fence_range floor fences → pc < floor → spliced_at fences pc ≡ false
+spliced_late : (floor : ℕ) (fences : List Fence) (pc : ℕ) → Ascends fence_range floor fences → pc < floor
+    → spliced_at fences pc ≡ false
 spliced_late floor fences pc up h =
     list_any_none (λ fence. fence.jump && (fence.range.low == pc)) fences (λ k d l.
     let low = each_above fence_range floor fences k d up l in

@@ -1,5 +1,6 @@
 -- What follows for things whose ranges ascend, and for the first thing of a list that passes a test.
-use Rattle.std.proofs.Common.{◌≡◌, ℕ, zero, suc, ◌+◌, ◌-◌, ◌≤◌, ◌<◌, Bool, true, false, cond, List, [], ◌∷◌, length, get_or, refl, arith, ◌⊎◌, inl, inr, Some, None}
+use Rattle.std.proofs.Common.{◌≡◌, ℕ, zero, suc, ◌+◌, ◌-◌, ◌≤◌, ◌<◌, Bool, true, false, cond, List}
+use Rattle.std.proofs.Common.{[], ◌∷◌, length, get_or, refl, arith, ◌⊎◌, inl, inr, Some, None}
 use Rattle.std.specs.List.{find}
 use Rattle.std.specs.List.Sorted.{IsNonDecreasingBy}
 use Rattle.std.proofs.lemmas.Bool.Decides.{nat_tests}
@@ -31,10 +32,17 @@ found {X} p (x ∷ xs) y h =
     elim (p x) as (λ b. cond b (Some x) (find p xs) ≡ Some y → p x ≡ b → IsFound p (x ∷ xs) y) [
       | true ↦ λ same e. record { index = 0; in_list = omega arith; at = λ d. grind arith; passes = grind arith }
       | false ↦ λ later e. let f = found p xs y later in
-          record { index = suc f.index; in_list = let g = f.in_list in omega arith; at = λ d. f.at d; passes = f.passes }
+          record {
+            index = suc f.index;
+            in_list = let g = f.in_list in omega arith;
+            at = λ d. f.at d;
+            passes =
+                f.passes;
+          }
     ] h refl
 
-pub nowhere : {X : Type 0} (p : X → Bool) (xs : List X) → ((k : ℕ) (d : X) → k < length xs → p (get_or xs k d) ≡ false) → find p xs ≡ None
+pub nowhere : {X : Type 0} (p : X → Bool) (xs : List X) → ((k : ℕ) (d : X) → k < length xs → p (get_or xs k d) ≡ false)
+    → find p xs ≡ None
 nowhere p [] h = refl
 nowhere p (x ∷ xs) h =
     let first : p x ≡ false = h 0 x (omega arith) in

@@ -1,5 +1,6 @@
 -- What is met and what is fetched at an address.
-use Rattle.std.specs.Prelude.{◌≡◌, ℕ, ◌-◌, ◌≤◌, Bool, true, false, ◌⊎◌, List, [], ◌++◌, length, take, drop, map, replicate, nat_lt, unwrap_or, if◌then◌else◌}
+use Rattle.std.specs.Prelude.{◌≡◌, ℕ, ◌-◌, ◌≤◌, Bool, true, false, ◌⊎◌, List, [], ◌++◌, length}
+use Rattle.std.specs.Prelude.{take, drop, map, replicate, nat_lt, unwrap_or, if◌then◌else◌}
 use Rattle.std.specs.Prelude.{Option, Some, None, Result, Ok, Err}
 use Rattle.std.specs.List.{find, list_any}
 use Rattle.ks_base.specs.declared.places.Range.{Range}
@@ -55,8 +56,8 @@ seen_in is_home retired pc (Some code) =
     if is_home pc then AtHome
     else (if list_any (lies_in pc) retired then Stray else Bytes (window_of retired pc code))
 
--- The first that fits: no code piece holds pc; pc is the home of a replaced function; pc lies in a retired range, of which
--- there are these, ascending; the code from pc on.
+-- The first that fits: no code piece holds pc; pc is the home of a replaced function; pc lies in a retired range, of
+-- which there are these, ascending; the code from pc on.
 unfoldable pub view : (ℕ → Bool) → List Range → List Piece → ℕ → View
 view is_home retired pieces pc = seen_in is_home retired pc (code_from pieces pc)
 
@@ -93,11 +94,12 @@ window_for (Bytes bytes) jump = Ok (shown bytes)
 unfoldable pub window_at : Contents → ℕ → Result Window Fault
 window_at contents pc = window_for (view_at contents pc) (jump_at contents.pieces pc)
 
--- What a window tells of the view that it was fetched at: it is the code that is met, or at a spliced home the bytes of the
--- jump; where nothing is fetched, the fault names what is met.
+-- What a window tells of the view that it was fetched at: it is the code that is met, or at a spliced home the bytes of
+-- the jump; where nothing is fetched, the fault names what is met.
 abbrev pub Tells : View → List ℕ → Result Window Fault → Type 0
 Tells view jump (Ok window) = (view ≡ Bytes (fetched window)) ⊎ ((view ≡ AtHome) × (fetched window ≡ jump))
-Tells view jump (Err fault) = ((view ≡ Unmapped) × (fault ≡ faults.Unmapped)) ⊎ ((view ≡ Stray) × (fault ≡ faults.Stray))
+Tells view jump (Err fault) = ((view ≡ Unmapped) × (fault ≡ faults.Unmapped))
+    ⊎ ((view ≡ Stray) × (fault ≡ faults.Stray))
 
 -- what is fetched at pc tells of the view there
 abbrev pub TellsView : Contents → ℕ → Result Window Fault → Type 0

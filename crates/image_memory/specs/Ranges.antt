@@ -1,5 +1,6 @@
 -- Ranges of addresses, and lists of things that each have one.
-use Rattle.std.specs.Prelude.{◌≡◌, ℕ, ◌≤◌, ◌<◌, Bool, false, ◌&&◌, ◌==◌, if◌then◌else◌, List, [], ◌∷◌, nat_le, nat_lt, min, max}
+use Rattle.std.specs.Prelude.{◌≡◌, ℕ, ◌≤◌, ◌<◌, Bool, false, ◌&&◌, ◌==◌, if◌then◌else◌}
+use Rattle.std.specs.Prelude.{List, [], ◌∷◌, nat_le, nat_lt, min, max}
 use Rattle.std.specs.List.{list_any}
 use mathlib.Core.HLevel.{Unit-prop}
 use native.Mathlib.Bridge.{le_prop}
@@ -29,7 +30,8 @@ put_in range x (y ∷ ys) = if nat_lt (range x).low (range y).low then x ∷ y �
 -- the things' ranges begin at floor or above, ascend and don't meet, and none is empty
 abbrev pub Ascends : {X : Type 0} → (X → Range) → ℕ → List X → Type 0
 Ascends range floor [] = Unit {0}
-Ascends range floor (x ∷ xs) = (floor ≤ (range x).low) × ((range x).low < (range x).high) × Ascends range (range x).high xs
+Ascends range floor (x ∷ xs) = (floor ≤ (range x).low) × ((range x).low < (range x).high)
+    × Ascends range (range x).high xs
 
 pub Ascends-prop : {X : Type 0} (range : X → Range) (floor : ℕ) (xs : List X) → IsProp (Ascends range floor xs)
 Ascends-prop range floor [] = Unit-prop

@@ -1,11 +1,14 @@
 //! A memory that keeps its pieces in one sorted list.
-ghost use Rattle.std.specs.Prelude.{◌≡◌, ◌≤◌, ◌<◌, ◌+◌, ◌^◌, ℕ, List, [], IfOk, IfSome, IsTrue, vec_len, vec_capacity, length, take, map, min, nat_lt, slice_get};
+ghost use Rattle.std.specs.Prelude.{◌≡◌, ◌≤◌, ◌<◌, ◌+◌, ◌^◌, ℕ, List, [], IfOk, IfSome, IsTrue};
+ghost use Rattle.std.specs.Prelude.{vec_len, vec_capacity, length, take, map, min, nat_lt, slice_get};
 ghost use Rattle.std.specs.Option.{option_copied, option_map};
 ghost use Rattle.std.specs.List.{AllWithin, All, Any, Contains, find, insert, remove};
 ghost use Rattle.ks_base.specs.declared.places.Range.{Range};
 ghost use Rattle.image_memory.specs.Ranges.{Ascends, Ascends-prop, lies_in};
-ghost use Rattle.image_memory.specs.Contents.{Contents, Room, IsValid, ArePlaced, piece_range, fence_range, holding, look_at};
-ghost use Rattle.image_memory.specs.Access.{access_fault, kind_of, first_fault, read_fault, bytes_at, written, after_write};
+ghost use Rattle.image_memory.specs.Contents.{Contents, Room, IsValid, ArePlaced};
+ghost use Rattle.image_memory.specs.Contents.{piece_range, fence_range, holding, look_at};
+ghost use Rattle.image_memory.specs.Access.{access_fault, kind_of, first_fault};
+ghost use Rattle.image_memory.specs.Access.{read_fault, bytes_at, written, after_write};
 ghost use Rattle.image_memory.specs.Fetch.{code_from, window_of};
 ghost use Rattle.image_memory.specs.declared.types.Fence.{Fence};
 ghost use Rattle.image_memory.specs.Changes.{IsPlaceable, with_fence, without_fence, without_piece};

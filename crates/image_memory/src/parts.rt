@@ -1,5 +1,6 @@
 //! What pieces, retired ranges and windows answer by themselves.
-ghost use Rattle.std.specs.Prelude.{◌≡◌, ◌+◌, ◌-◌, ◌<◌, ◌≤◌, ◌^◌, ◌&&◌, ◌==◌, length, drop, take, IsTrue, if◌then◌else◌};
+ghost use Rattle.std.specs.Prelude.{◌≡◌, ◌+◌, ◌-◌, ◌<◌, ◌≤◌, ◌^◌, ◌&&◌, ◌==◌};
+ghost use Rattle.std.specs.Prelude.{length, drop, take, IsTrue, if◌then◌else◌};
 ghost use Rattle.std.specs.Option.{option_copied};
 ghost use Rattle.image_memory.specs.Ranges.{lies_in};
 ghost use Rattle.image_memory.specs.Contents.{piece_range};

@@ -4,7 +4,8 @@ ghost use Rattle.image_memory.specs.Ranges.{MeetsNone};
 ghost use Rattle.image_memory.specs.Contents.{Contents, Room, IsValid, piece_range, fence_range, look_at, spliced_at};
 ghost use Rattle.image_memory.specs.Access.{first_fault, read_fault, write_fault, bytes_at, after_write};
 ghost use Rattle.image_memory.specs.Fetch.{window_at, HasCode, TellsView};
-ghost use Rattle.image_memory.specs.Changes.{ArePlaceable, FitsSpare, HasPiece, IsRetired, without_first, after_add, after_drop, after_fence, after_unfence};
+ghost use Rattle.image_memory.specs.Changes.{ArePlaceable, FitsSpare, HasPiece, IsRetired, without_first};
+ghost use Rattle.image_memory.specs.Changes.{after_add, after_drop, after_fence, after_unfence};
 
 use crate::types::{Kind, Piece, Pieces, Window};
 use ks_base::{Fault, Range};

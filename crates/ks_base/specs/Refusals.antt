@@ -4,17 +4,27 @@ use Rattle.std.specs.List.{slice_index_or}
 use Rattle.ks_base.specs.Text.{hex_text, offset_text, number_text, shown_name}
 use Rattle.ks_base.specs.declared.places.Spot.{Spot}
 use Rattle.ks_base.specs.declared.refusals.Large.{Large}
-use Rattle.ks_base.specs.declared.refusals.Large.TheVariants.{Bytes, Sections, Symbols, Relocations as LargeRelocations, Name as LargeName, Content as LargeContent}
+use Rattle.ks_base.specs.declared.refusals.Large.TheVariants.{Bytes, Sections, Symbols, Relocations as LargeRelocations}
+use Rattle.ks_base.specs.declared.refusals.Large.TheVariants.{Name as LargeName, Content as LargeContent}
 use Rattle.ks_base.specs.declared.refusals.DifferenceKind.{DifferenceKind}
-use Rattle.ks_base.specs.declared.refusals.DifferenceKind.TheVariants.{End, Undecoded, Opcode, Operand, Target, Value, Content}
+use Rattle.ks_base.specs.declared.refusals.DifferenceKind.TheVariants.{End, Undecoded, Opcode, Operand}
+use Rattle.ks_base.specs.declared.refusals.DifferenceKind.TheVariants.{Target, Value, Content}
 use Rattle.ks_base.specs.declared.refusals.Difference.{Difference}
 use Rattle.ks_base.specs.declared.refusals.Place.{Place}
 use Rattle.ks_base.specs.declared.refusals.Place.TheVariants.{Pc, Register, Stack}
 use Rattle.ks_base.specs.declared.refusals.ImageFault.{ImageFault}
-use Rattle.ks_base.specs.declared.refusals.ImageFault.TheVariants.{Short, Magic, Limit, Kind, Range, Order, Name, Trailing}
+use Rattle.ks_base.specs.declared.refusals.ImageFault.TheVariants.{Short, Magic, Limit, Kind}
+use Rattle.ks_base.specs.declared.refusals.ImageFault.TheVariants.{Range, Order, Name, Trailing}
 use Rattle.ks_base.specs.declared.refusals.ConflictName.{ConflictName}
 use Rattle.ks_base.specs.declared.refusals.Refusal.{Refusal}
-use Rattle.ks_base.specs.declared.refusals.Refusal.TheVariants.{NotElf, NotRel386, BadHeader, BadSection, BadSymbol, BadReloc, UnknownReloc, NotOneFunction, DoubleName, TooLarge, DataChanged, NoChange, Interior, NoCandidate, Mismatch, Ambiguous, Conflict, Unresolved, TwoNames, PreUndecoded, TooSmall, Overlap, NoRoom, TooMany, Busy, StackOut, NothingApplied, BadImage, BadLine, NoThread, NoSymbol, NoStack, BadString, BadTarget, TooManyThreads, NameTaken, Memory}
+use Rattle.ks_base.specs.declared.refusals.Refusal.TheVariants.{NotElf, NotRel386, BadHeader, BadSection, BadSymbol}
+use Rattle.ks_base.specs.declared.refusals.Refusal.TheVariants.{BadReloc, UnknownReloc, NotOneFunction, DoubleName}
+use Rattle.ks_base.specs.declared.refusals.Refusal.TheVariants.{TooLarge, DataChanged, NoChange, Interior, NoCandidate}
+use Rattle.ks_base.specs.declared.refusals.Refusal.TheVariants.{Mismatch, Ambiguous, Conflict, Unresolved, TwoNames}
+use Rattle.ks_base.specs.declared.refusals.Refusal.TheVariants.{PreUndecoded, TooSmall, Overlap, NoRoom, TooMany}
+use Rattle.ks_base.specs.declared.refusals.Refusal.TheVariants.{Busy, StackOut, NothingApplied, BadImage, BadLine}
+use Rattle.ks_base.specs.declared.refusals.Refusal.TheVariants.{NoThread, NoSymbol, NoStack, BadString, BadTarget}
+use Rattle.ks_base.specs.declared.refusals.Refusal.TheVariants.{TooManyThreads, NameTaken, Memory}
 
 -- the word for a limit of an object
 abbrev pub large_word : Large → List ℕ
@@ -55,11 +65,14 @@ register_names = codes "eax" ∷ codes "ecx" ∷ codes "edx" ∷ codes "ebx"
 abbrev pub register_name : ℕ → List ℕ
 register_name number = slice_index_or register_names number []
 
--- the texts that have a form of their own: where a thread has which address of a range, a difference, and two values of one unknown
+-- the texts that have a form of their own: where a thread has which address of a range, a difference, and two values of
+-- one unknown
 abbrev pub busy_text : ℕ → Place → ℕ → List ℕ
 busy_text thread Pc value = codes "busy thread " ++ number_text thread ++ codes " pc " ++ hex_text value
-busy_text thread (Register number) value = codes "busy thread " ++ number_text thread ++ codes " register " ++ register_name number ++ codes " " ++ hex_text value
-busy_text thread (Stack slot) value = codes "busy thread " ++ number_text thread ++ codes " stack " ++ hex_text slot ++ codes " " ++ hex_text value
+busy_text thread (Register number) value = codes "busy thread " ++ number_text thread ++ codes " register "
+    ++ register_name number ++ codes " " ++ hex_text value
+busy_text thread (Stack slot) value = codes "busy thread " ++ number_text thread ++ codes " stack " ++ hex_text slot
+    ++ codes " " ++ hex_text value
 
 abbrev pub mismatch_text : List ℕ → Difference → List ℕ
 mismatch_text section difference =
@@ -75,7 +88,8 @@ abbrev pub conflict_name_text : ConflictName → List ℕ
 conflict_name_text unknown = name_and_offset unknown.name unknown.offset
 
 abbrev pub value_at_text : ℕ → Spot → List ℕ
-value_at_text value at = codes " " ++ hex_text value ++ codes " at " ++ shown_name at.section ++ codes "+" ++ offset_text at.offset
+value_at_text value at = codes " " ++ hex_text value ++ codes " at " ++ shown_name at.section ++ codes "+"
+    ++ offset_text at.offset
 
 abbrev pub conflict_text : ConflictName → ℕ → ℕ → Spot → Spot → List ℕ
 conflict_text unknown a b at_a at_b = conflict_name_text unknown ++ value_at_text a at_a ++ value_at_text b at_b
@@ -128,7 +142,8 @@ refusal_text (BadHeader offset) = codes "bad header " ++ number_text offset
 refusal_text (BadSection index) = codes "bad section " ++ number_text index
 refusal_text (BadSymbol index) = codes "bad symbol " ++ number_text index
 refusal_text (BadReloc from index) = codes "bad relocation " ++ number_text from ++ codes " " ++ number_text index
-refusal_text (UnknownReloc section index kind) = codes "unknown relocation " ++ shown_name section ++ codes " " ++ number_text index ++ codes " " ++ number_text kind
+refusal_text (UnknownReloc section index kind) = codes "unknown relocation " ++ shown_name section ++ codes " "
+    ++ number_text index ++ codes " " ++ number_text kind
 refusal_text (NotOneFunction section) = codes "not one function " ++ shown_name section
 refusal_text (DoubleName section) = codes "double name " ++ shown_name section
 refusal_text (TooLarge what) = codes "too large " ++ large_word what
@@ -137,11 +152,14 @@ refusal_text NoChange = codes "no change"
 refusal_text (Interior section offset) = codes "interior " ++ shown_name section ++ codes " " ++ offset_text offset
 refusal_text (NoCandidate name) = codes "no candidate " ++ shown_name name
 refusal_text (Mismatch section difference) = mismatch_text section difference
-refusal_text (Ambiguous section a b) = codes "ambiguous " ++ shown_name section ++ codes " " ++ hex_text a ++ codes " " ++ hex_text b
+refusal_text (Ambiguous section a b) = codes "ambiguous " ++ shown_name section ++ codes " " ++ hex_text a ++ codes " "
+    ++ hex_text b
 refusal_text (Conflict unknown a b at_a at_b) = conflict_text unknown a b at_a at_b
 refusal_text (Unresolved name) = codes "unresolved " ++ shown_name name
-refusal_text (TwoNames name a b) = codes "two names " ++ shown_name name ++ codes " " ++ hex_text a ++ codes " " ++ hex_text b
-refusal_text (PreUndecoded section offset) = codes "pre undecoded " ++ shown_name section ++ codes " " ++ offset_text offset
+refusal_text (TwoNames name a b) = codes "two names " ++ shown_name name ++ codes " " ++ hex_text a ++ codes " "
+    ++ hex_text b
+refusal_text (PreUndecoded section offset) = codes "pre undecoded " ++ shown_name section ++ codes " "
+    ++ offset_text offset
 refusal_text (TooSmall section room) = codes "too small " ++ shown_name section ++ codes " room " ++ number_text room
 refusal_text (Overlap a b) = codes "overlap " ++ hex_text a ++ codes " " ++ hex_text b
 refusal_text (NoRoom bytes) = codes "no room " ++ number_text bytes

@@ -1,6 +1,8 @@
 //! How a refusal is written.
 ghost use Rattle.std.specs.Prelude.{◌≡◌, ◌++◌, OnOk};
-ghost use Rattle.ks_base.specs.Refusals.{large_word, difference_word, image_word, register_name, mismatch_text, value_at_text, conflict_name_text, conflict_text, busy_text, refusal_number, refusal_text, refusal_line};
+ghost use Rattle.ks_base.specs.Refusals.{large_word, difference_word, image_word, register_name};
+ghost use Rattle.ks_base.specs.Refusals.{mismatch_text, value_at_text, conflict_name_text, conflict_text};
+ghost use Rattle.ks_base.specs.Refusals.{busy_text, refusal_number, refusal_text, refusal_line};
 
 use crate::parts::Part::{Address, Named, Number, Offset, Words};
 use crate::parts::put_parts;

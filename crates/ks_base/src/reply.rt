@@ -1,7 +1,8 @@
 //! The bytes of one reply, and how numbers and names are written in it.
 ghost use Rattle.std.specs.Prelude.{◌≡◌, ◌++◌, ◌≤◌, ◌<◌, ◌%◌, [], map, OnOk, OnErr, IfOk, IsTrue, ◌↔◌};
 ghost use Rattle.std.specs.Int.Digits.{digits_of};
-ghost use Rattle.ks_base.specs.Text.{hex_digit, hex_text, byte_text, digits_text, offset_text, number_text, stands_for_itself, shown_byte, shown_name};
+ghost use Rattle.ks_base.specs.Text.{hex_digit, hex_text, byte_text, digits_text, offset_text};
+ghost use Rattle.ks_base.specs.Text.{number_text, stands_for_itself, shown_byte, shown_name};
 ghost use Rattle.ks_base.specs.Refusals.{refusal_line};
 
 use crate::places::Name;

@@ -1,5 +1,6 @@
 -- The first range in which a section fits, by its index.
-use Rattle.std.proofs.Common.{◌≡◌, ℕ, suc, zero, ◌+◌, ◌<◌, ◌≤◌, true, false, List, [], ◌∷◌, ◌++◌, length, get_or, take, drop, Some, None, refl, sym, ap, ◌∙◌, arith}
+use Rattle.std.proofs.Common.{◌≡◌, ℕ, suc, zero, ◌+◌, ◌<◌, ◌≤◌, true, false, List, [], ◌∷◌, ◌++◌}
+use Rattle.std.proofs.Common.{length, get_or, take, drop, Some, None, refl, sym, ap, ◌∙◌, arith}
 use Rattle.std.specs.List.{position}
 use Rattle.std.proofs.lemmas.List.{length-take-le}
 use Rattle.std.proofs.lemmas.List.Quantifiers.{position-Some}
@@ -17,8 +18,10 @@ use Rattle.std.specs.Prelude.{nat_lt}
 use Rattle.std.proofs.Common.{inl, inr}
 use Rattle.link_post.specs.inside.Rooms.{fits, left_of, first_start, after_first}
 
-pub fits_first : (s : SectionSize) (xs : List Range) (i : ℕ) (d : Range) → i < length xs → fits s (get_or xs i d) ≡ true → ((k : ℕ) → k < i → fits s (get_or xs k d) ≡ false)
-    → (first_start s xs ≡ Some (start_in s (get_or xs i d))) × (after_first s xs ≡ take i xs ++ left_of s (get_or xs i d) ++ drop (suc i) xs)
+pub fits_first : (s : SectionSize) (xs : List Range) (i : ℕ) (d : Range) → i < length xs → fits s (get_or xs i d) ≡ true
+    → ((k : ℕ) → k < i → fits s (get_or xs k d) ≡ false)
+    → (first_start s xs ≡ Some (start_in s (get_or xs i d)))
+    × (after_first s xs ≡ take i xs ++ left_of s (get_or xs i d) ++ drop (suc i) xs)
 fits_first s [] i d within here before = absurd (omega arith)
 fits_first s (x ∷ xs) zero d within here before = (rw here refl, rw here refl)
 fits_first s (x ∷ xs) (suc i) d within here before =
@@ -26,7 +29,8 @@ fits_first s (x ∷ xs) (suc i) d within here before =
     let (start, after) = fits_first s xs i d (omega arith) here (λ k less. before (suc k) (omega arith)) in
     (rw first start, rw first (ap (λ ys. x ∷ ys) after))
 
-pub fits_nowhere : (s : SectionSize) (xs : List Range) (d : Range) → ((k : ℕ) → k < length xs → fits s (get_or xs k d) ≡ false)
+pub fits_nowhere : (s : SectionSize) (xs : List Range) (d : Range)
+    → ((k : ℕ) → k < length xs → fits s (get_or xs k d) ≡ false)
     → (first_start s xs ≡ None) × (after_first s xs ≡ xs)
 fits_nowhere s [] d none = (refl, refl)
 fits_nowhere s (x ∷ xs) d none =
@@ -34,7 +38,8 @@ fits_nowhere s (x ∷ xs) d none =
     let (start, after) = fits_nowhere s xs d (λ k less. none (suc k) (omega arith)) in
     (rw first start, rw first (ap (λ ys. x ∷ ys) after))
 
-none_fits : (s : SectionSize) (xs : List Range) (d : Range) → position (fits s) xs ≡ None → (k : ℕ) → k < length xs → fits s (get_or xs k d) ≡ false
+none_fits : (s : SectionSize) (xs : List Range) (d : Range) → position (fits s) xs ≡ None → (k : ℕ) → k < length xs
+    → fits s (get_or xs k d) ≡ false
 none_fits s xs d none k within =
     let late : length xs ≤ position_or_len (fits s) xs = grind (arith, common_steps) in
     fails_before_first (fits s) xs k d (omega arith)
@@ -50,15 +55,18 @@ nowhere_left s xs none =
     sym (fits_nowhere s xs d (none_fits s xs d none)).1
 
 -- what stands at the place
-pub fits_there : (s : SectionSize) (xs : List Range) (i : ℕ) (r : Range) → position (fits s) xs ≡ Some i → r ≡ get_or xs i r → fits s r ≡ true
+pub fits_there : (s : SectionSize) (xs : List Range) (i : ℕ) (r : Range) → position (fits s) xs ≡ Some i
+    → r ≡ get_or xs i r → fits s r ≡ true
 fits_there s xs i r at is = let (within, here, before) = position-Some (fits s) xs i r at in ap (fits s) is ∙ here
 
-pub start_there : (s : SectionSize) (xs : List Range) (i : ℕ) (r : Range) → position (fits s) xs ≡ Some i → r ≡ get_or xs i r → first_start s xs ≡ Some (start_in s r)
+pub start_there : (s : SectionSize) (xs : List Range) (i : ℕ) (r : Range) → position (fits s) xs ≡ Some i
+    → r ≡ get_or xs i r → first_start s xs ≡ Some (start_in s r)
 start_there s xs i r at is =
     let (within, here, before) = position-Some (fits s) xs i r at in
     (fits_first s xs i r within here before).0 ∙ ap (λ r. Some (start_in s r)) (sym is)
 
-pub left_there : (s : SectionSize) (xs : List Range) (i : ℕ) (r : Range) → position (fits s) xs ≡ Some i → r ≡ get_or xs i r → after_first s xs ≡ take i xs ++ left_of s r ++ drop (suc i) xs
+pub left_there : (s : SectionSize) (xs : List Range) (i : ℕ) (r : Range) → position (fits s) xs ≡ Some i
+    → r ≡ get_or xs i r → after_first s xs ≡ take i xs ++ left_of s r ++ drop (suc i) xs
 left_there s xs i r at is =
     let (within, here, before) = position-Some (fits s) xs i r at in
     (fits_first s xs i r within here before).1 ∙ ap (λ r. take i xs ++ left_of s r ++ drop (suc i) xs) (sym is)
@@ -76,21 +84,25 @@ put xs i more = take i xs ++ more ++ drop i xs
 pub put_seam : {X : Type 0} (ps qs more : List X) (i : ℕ) → length ps ≡ i → put (ps ++ qs) i more ≡ ps ++ (more ++ qs)
 put_seam ps qs more i e = rw (take_seam ps qs i e, drop_seam ps qs i e) (append_assoc ps more qs)
 
-pub replaced : (xs ys zs ws low high : List Range) (i : ℕ) → i < length xs → ys ≡ remove xs i → zs ≡ put ys i high → ws ≡ put zs i low
+pub replaced : (xs ys zs ws low high : List Range) (i : ℕ) → i < length xs → ys ≡ remove xs i → zs ≡ put ys i high
+    → ws ≡ put zs i low
     → ws ≡ take i xs ++ (low ++ high) ++ drop (suc i) xs
 replaced xs ys zs ws low high i within is_y is_z is_w =
     let ps : List Range = take i xs in
     let qs : List Range = drop (suc i) xs in
     let n : length (take i xs) ≡ i = length-take-le i xs (omega arith) in
-    let z : zs ≡ take i xs ++ (high ++ drop (suc i) xs) = is_z ∙ ap (λ l. put l i high) is_y ∙ put_seam (take i xs) (drop (suc i) xs) high i n in
-    let w : ws ≡ take i xs ++ (low ++ (high ++ drop (suc i) xs)) = is_w ∙ ap (λ l. put l i low) z ∙ put_seam (take i xs) (high ++ drop (suc i) xs) low i n in
+    let z : zs ≡ take i xs ++ (high ++ drop (suc i) xs) =
+    is_z ∙ ap (λ l. put l i high) is_y ∙ put_seam (take i xs) (drop (suc i) xs) high i n in
+    let w : ws ≡ take i xs ++ (low ++ (high ++ drop (suc i) xs)) =
+    is_w ∙ ap (λ l. put l i low) z ∙ put_seam (take i xs) (high ++ drop (suc i) xs) low i n in
     w ∙ simp append_assoc
 
 -- what is left of a range of which bytes were taken, and of ranges of which none were
 pub left_where_taken : (s : SectionSize) (r : Range) (base : ℕ) → base ≡ start_in s r → 0 < s.size
     → left_of s r ≡ unless_empty (from_to r.low base) ++ unless_empty (from_to (base + s.size) r.high)
 left_where_taken s r base is more =
-    rw (lt-ltb 0 s.size more) (ap (λ b. unless_empty (from_to r.low b) ++ unless_empty (from_to (b + s.size) r.high)) (sym is))
+    rw (lt-ltb 0 s.size more) (ap (λ b. unless_empty (from_to r.low b) ++ unless_empty (from_to (b + s.size) r.high))
+    (sym is))
 
 pub left_where_empty : (s : SectionSize) (xs : List Range) → s.size ≤ 0 → after_first s xs ≡ xs
 left_where_empty s [] none = refl

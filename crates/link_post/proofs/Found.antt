@@ -19,7 +19,8 @@ equal_is_same (Outside a) (Code b) = refl
 equal_is_same (Outside a) (Data b) = refl
 equal_is_same (Outside a) (Outside b) = refl
 
-pub looked_up : (which : Unknown) (values : List (Unknown × Solved)) → lookup ((impl.eq-value).it which) values ≡ solved_as values which
+pub looked_up : (which : Unknown) (values : List (Unknown × Solved))
+    → lookup ((impl.eq-value).it which) values ≡ solved_as values which
 looked_up which [] = refl
 looked_up which (pair ∷ values) =
     ap (λ b. cond b (Some pair.1) (lookup ((impl.eq-value).it which) values)) (equal_is_same which pair.0)

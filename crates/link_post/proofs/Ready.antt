@@ -41,20 +41,26 @@ both : (a b : Bool) → (a && b) ≡ true → a ≡ true
 both true b is = refl
 both false b is = is
 
-data_address : (pre post : List NormalSection) (placement : List Placed) (values : ValueList) (r : Ref) (name : List ℕ) → is_kept_data pre post name ≡ true
+data_address : (pre post : List NormalSection) (placement : List Placed) (values : ValueList) (r : Ref) (name : List ℕ)
+    → is_kept_data pre post name ≡ true
     → is_some (solved_as values (unknown.Data name)) ≡ true → IsSome (section_address post placement values r name)
 unfolding section_address
 data_address pre post placement values r name kept told =
-    let is_data : is_in is_data_class post name ≡ true = both (is_in is_data_class post name) (is_some (section_named pre name)) kept in
+    let is_data : is_in is_data_class post name ≡ true =
+    both (is_in is_data_class post name) (is_some (section_named pre name)) kept in
     let not_code : is_in is_code_class post name ≡ false = no_code (section_named post name) is_data in
-    rw (not_code, is_data) (has_either (value_in values (unknown.Data name)) (base_in placement name) (has_value (solved_as values (unknown.Data name)) told))
+    rw (not_code, is_data) (has_either (value_in values (unknown.Data name)) (base_in placement name)
+    (has_value (solved_as values (unknown.Data name)) told))
 
-pub has_address : (pre post : List NormalSection) (placement : List Placed) (values : ValueList) (r : Ref) (target : Target) → IsSome (needed_by pre post target) → Tell values (needed_by pre post target)
+pub has_address : (pre post : List NormalSection) (placement : List Placed) (values : ValueList) (r : Ref)
+    (target : Target) → IsSome (needed_by pre post target) → Tell values (needed_by pre post target)
     → IsSome (target_address post placement values r target)
-has_address pre post placement values r (Outside name) needed told = has_value (solved_as values (unknown.Outside name)) told
+has_address pre post placement values r (Outside name) needed told =
+    has_value (solved_as values (unknown.Outside name)) told
 has_address pre post placement values r (Section name) needed told =
     elim (cases_Bool (is_kept_data pre post name)) [
       | inl kept ↦ data_address pre post placement values r name kept (rw kept at told)
       | inr other ↦ absurd (let e : false ≡ true = rw other at needed in cc)
     ]
-has_address pre post placement values r (Text section offset text) needed told = absurd (let e : false ≡ true = needed in cc)
+has_address pre post placement values r (Text section offset text) needed told =
+    absurd (let e : false ≡ true = needed in cc)

@@ -1,6 +1,7 @@
 -- The bytes of a new section at its place: its own, with the value of its reference in each field (Intel386
 -- supplement, "Relocation").
-use Rattle.std.specs.Prelude.{ℕ, suc, ◌+◌, ◌%◌, ◌^◌, ◌≤◌, nat_le, if◌then◌else◌, List, [], ◌∷◌, ◌++◌, replicate, length, take, drop, map, Option, Some, None, option_map, unwrap_or}
+use Rattle.std.specs.Prelude.{ℕ, suc, ◌+◌, ◌%◌, ◌^◌, ◌≤◌, nat_le, if◌then◌else◌, List, [], ◌∷◌, ◌++◌}
+use Rattle.std.specs.Prelude.{replicate, length, take, drop, map, Option, Some, None, option_map, unwrap_or}
 use Rattle.std.specs.Option.{option_or}
 use Rattle.std.specs.List.{fold}
 use Rattle.std.specs.Int.{w32, to_le_bytes}

@@ -4,7 +4,8 @@ ghost use Rattle.std.specs.List.{fold};
 ghost use Rattle.i386_reloc.specs.Classes.{is_code_class};
 ghost use Rattle.i386_reloc.specs.Reaches.{is_data_class, is_in};
 ghost use Rattle.link_post.specs.Places.{base_in as base_in_list};
-ghost use Rattle.link_post.specs.Linked.{AreInOrder, function_address, section_address, target_address, address_of, with_word, filled, linked};
+ghost use Rattle.link_post.specs.Linked.{AreInOrder, function_address, section_address};
+ghost use Rattle.link_post.specs.Linked.{target_address, address_of, with_word, filled, linked};
 
 use crate::lookups::{base_in, value_in};
 use crate::types::{Placed, Placement};

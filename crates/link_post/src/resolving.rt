@@ -4,7 +4,8 @@ ghost use Rattle.std.specs.Option.{option_copied};
 ghost use Rattle.ks_base.specs.Gives.{Gives};
 ghost use Rattle.i386_reloc.specs.Normal.{section_named};
 ghost use Rattle.symbol_table.specs.Symbols.{data_addresses};
-ghost use Rattle.link_post.specs.Values.{solved_as, needed_by, one_of, less, first_object, listed_as, with_value, with_needed, is_kept_data, resolved_by, references_of, resolved};
+ghost use Rattle.link_post.specs.Values.{solved_as, needed_by, one_of, less, first_object, listed_as, with_value};
+ghost use Rattle.link_post.specs.Values.{with_needed, is_kept_data, resolved_by, references_of, resolved};
 
 use crate::linking::is_data;
 use crate::lookups::solved_as;

@@ -19,6 +19,10 @@ mark_told true P tells p = refl
 mark_told false P tells p = absurd (tells p)
 
 -- with more seeds and more edges as much is reached
-pub reached_with_more : (graph more : List (List ℕ)) (seeds others : List Bool) → ((node : ℕ) → get_or seeds node false ≡ true → get_or others node false ≡ true) → ((from to : ℕ) → has_edge graph from to ≡ true → has_edge more from to ≡ true) → {node : ℕ} → Reached graph seeds node → Reached more others node
+pub reached_with_more : (graph more : List (List ℕ)) (seeds others : List Bool)
+    → ((node : ℕ) → get_or seeds node false ≡ true → get_or others node false ≡ true)
+    → ((from to : ℕ) → has_edge graph from to ≡ true → has_edge more from to ≡ true) → {node : ℕ}
+    → Reached graph seeds node → Reached more others node
 reached_with_more graph more seeds others started edges (Seed node seed) = Seed node (started node seed)
-reached_with_more graph more seeds others started edges (Next node next r edge) = Next node next (reached_with_more graph more seeds others started edges r) (edges node next edge)
+reached_with_more graph more seeds others started edges (Next node next r edge) =
+    Next node next (reached_with_more graph more seeds others started edges r) (edges node next edge)

@@ -32,7 +32,8 @@ connects edges from to = list_any (λ e. e.from == from && e.to == to) edges
 -- a node is reached from the seeds along some edges
 pub data ReachedAlong (edges : List Edge) (seeds : List Bool) : ℕ → Type 0 where
   Seed : (node : ℕ) → slice_index_or seeds node false ≡ true → ReachedAlong edges seeds node
-  Next : (node next : ℕ) → ReachedAlong edges seeds node → IsTrue (connects edges node next) → ReachedAlong edges seeds next
+  Next : (node next : ℕ) → ReachedAlong edges seeds node → IsTrue (connects edges node next)
+      → ReachedAlong edges seeds next
 
 -- an edge's ends are nodes
 pub record IsWithin (nodes : ℕ) (e : Edge) : Type 0 where

@@ -45,7 +45,8 @@ impl Graph {
         requires from { from < length self.old }
         requires to { to < length self.old }
         ensures nodes { length self.new ≡ length self.old }
-        ensures edges { OnOk result ((a b : ℕ) → has_edge self.new a b ≡ (has_edge self.old a b || ((a == from) && (b == to)))) }
+        ensures edges { OnOk result ((a b : ℕ) → has_edge self.new a b
+            ≡ (has_edge self.old a b || ((a == from) && (b == to)))) }
         ensures err { OnErr result (self.new ≡ self.old) }
     {
         let successors = &mut self.successors[from];
@@ -57,7 +58,8 @@ impl Graph {
     pub(crate) fn reached(&self, alloc: Global, seeds: &[bool]) -> Result<Vec<bool>, AllocError>
         requires { length seeds.now ≡ length self.now }
         ensures nodes { IfOk result (λ marks. length marks.items ≡ length self.now) }
-        ensures reached { IfOk result (λ marks. (node : ℕ) → Tells (slice_index_or marks.items node false) (Reached self.now seeds.now node)) }
+        ensures reached { IfOk result (λ marks. (node : ℕ) → Tells (slice_index_or marks.items node false)
+            (Reached self.now seeds.now node)) }
     {
         reached_of(alloc, self.successors.as_slice(), seeds)
     }

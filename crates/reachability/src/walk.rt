@@ -128,7 +128,8 @@ pub(crate) fn reached_of(
     requires seeds { length seeds.now ≡ length graph.now }
     requires successors { HasItsSuccessors graph.now }
     ensures nodes { IfOk result (λ marks. length marks.items ≡ length graph.now) }
-    ensures reached { IfOk result (λ marks. (node : ℕ) → Tells (slice_index_or marks.items node false) (Reached graph.now seeds.now node)) }
+    ensures reached { IfOk result (λ marks. (node : ℕ) → Tells (slice_index_or marks.items node false)
+        (Reached graph.now seeds.now node)) }
 {
     let mut walk = Reaching::new(alloc, graph.len())?;
     walk.mark_seeds(seeds)?;

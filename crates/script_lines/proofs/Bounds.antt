@@ -1,6 +1,8 @@
 -- Each command of a script keeps the bounds of its line's form.
-use Rattle.std.proofs.Common.{◌≡◌, refl, ℕ, ◌+◌, ◌*◌, ◌^◌, ◌≤◌, Bool, true, false, ◌&&◌, List, [], ◌∷◌, length, Option, Some, None, cond, arith}
-use Rattle.std.specs.Prelude.{nat_le, nat_lt, codes, bytes_eq, IfSome, All, flat_map, option_map, option_to_list, unwrap_or, Ok, Err}
+use Rattle.std.proofs.Common.{◌≡◌, refl, ℕ, ◌+◌, ◌*◌, ◌^◌, ◌≤◌, Bool, true, false, ◌&&◌}
+use Rattle.std.proofs.Common.{List, [], ◌∷◌, length, Option, Some, None, cond, arith}
+use Rattle.std.specs.Prelude.{nat_le, nat_lt, codes, bytes_eq, IfSome, All, flat_map}
+use Rattle.std.specs.Prelude.{option_map, option_to_list, unwrap_or, Ok, Err}
 use Rattle.std.proofs.lemmas.Bool.{and_parts, leb-true}
 use Rattle.std.proofs.lemmas.Bool.Decides.{nat_tests}
 use Rattle.std.proofs.lemmas.List.Elements.{All-nil, All-cons, All-append, All-same}
@@ -9,18 +11,22 @@ use Rattle.script_lines.specs.declared.types.Command.{Command}
 use Rattle.script_lines.specs.declared.types.Command.TheVariants.{Threads, Peek, Undo, ListUpdates, Watch}
 use Rattle.script_lines.specs.Lines.{words_of, is_plain, lines_of, IsPrintable}
 use Rattle.script_lines.specs.Numbers.{when, number_of}
-use Rattle.script_lines.specs.Forms.{◌>>=◌, number_within, only, two, first_three, alone, spawn_of, step_of, round_robin_of, peek_of, are_tries_words, tries_of, tries_or_one, apply_of, command_of, is_comment, asked_by, asked_in}
+use Rattle.script_lines.specs.Forms.{◌>>=◌, number_within, only, two, first_three, alone, spawn_of}
+use Rattle.script_lines.specs.Forms.{step_of, round_robin_of, peek_of, are_tries_words, tries_of}
+use Rattle.script_lines.specs.Forms.{tries_or_one, apply_of, command_of, is_comment, asked_by, asked_in}
 use Rattle.script_lines.specs.Script.{commands_of, lines_before_bad, script_of}
 use Rattle.script_lines.specs.Allowed.{IsAllowed}
 use Rattle.script_lines.proofs.Words.{Each, words_printable}
 
 -- what is made of a value of which Q holds
-made : {A B : Type 0} (Q : A → Type 0) (P : B → Type 0) (found : Option A) (make : A → Option B) → IfSome found Q → ((x : A) → Q x → IfSome (make x) P) → IfSome (found >>= make) P
+made : {A B : Type 0} (Q : A → Type 0) (P : B → Type 0) (found : Option A) (make : A → Option B) → IfSome found Q
+    → ((x : A) → Q x → IfSome (make x) P) → IfSome (found >>= make) P
 made Q P (Some x) make q p = p x q
 made Q P None make q p = tt
 
 -- what is made of any value
-made_of_any : {A B : Type 0} (P : B → Type 0) (found : Option A) (make : A → Option B) → ((x : A) → IfSome (make x) P) → IfSome (found >>= make) P
+made_of_any : {A B : Type 0} (P : B → Type 0) (found : Option A) (make : A → Option B) → ((x : A) → IfSome (make x) P)
+    → IfSome (found >>= make) P
 made_of_any P (Some x) make p = p x
 made_of_any P None make p = tt
 
@@ -30,7 +36,8 @@ tested P true x p = p refl
 tested P false x p = tt
 
 -- one of two
-chosen : {A : Type 0} (P : A → Type 0) (test : Bool) (x y : Option A) → IfSome x P → IfSome y P → IfSome (cond test x y) P
+chosen : {A : Type 0} (P : A → Type 0) (test : Bool) (x y : Option A) → IfSome x P → IfSome y P
+    → IfSome (cond test x y) P
 chosen P true x y p q = p
 chosen P false x y p q = q
 
@@ -41,7 +48,8 @@ within low high word =
     made_of_any P (number_of word) _ (λ n. tested P (nat_le low n && nat_le n high) n (λ e. grind (arith, nat_tests)))
 
 -- both of two words are printable
-two_printable : (words : List (List ℕ)) → Each IsPrintable words → IfSome (two words) (λ given. IsPrintable given.0 × IsPrintable given.1)
+two_printable : (words : List (List ℕ)) → Each IsPrintable words
+    → IfSome (two words) (λ given. IsPrintable given.0 × IsPrintable given.1)
 two_printable [] each = tt
 two_printable (first ∷ []) each = tt
 two_printable (first ∷ second ∷ []) each = (each.0, each.1.0)
@@ -49,7 +57,8 @@ two_printable (first ∷ second ∷ third ∷ rest) each = tt
 
 spawn_allowed : (words : List (List ℕ)) → Each IsPrintable words → IfSome (spawn_of words) IsAllowed
 spawn_allowed words each =
-    made _ IsAllowed (two words) _ (two_printable words each) (λ given printable. made_of_any IsAllowed (number_of given.1) _ (λ argument. printable.0))
+    made _ IsAllowed (two words) _ (two_printable words each)
+    (λ given printable. made_of_any IsAllowed (number_of given.1) _ (λ argument. printable.0))
 
 step_allowed : (words : List (List ℕ)) → IfSome (step_of words) IsAllowed
 step_allowed words =
@@ -61,7 +70,8 @@ round_robin_allowed : (words : List (List ℕ)) → IfSome (round_robin_of words
 round_robin_allowed words =
     made_of_any IsAllowed (two words) _
     (λ given. made _ IsAllowed (number_within 1 4294967295 given.0) _ (within 1 4294967295 given.0)
-    (λ quantum some. made _ IsAllowed (number_within 0 16777216 given.1) _ (within 0 16777216 given.1) (λ steps h. (some.0, h.1))))
+    (λ quantum some. made _ IsAllowed (number_within 0 16777216 given.1) _ (within 0 16777216 given.1)
+    (λ steps h. (some.0, h.1))))
 
 alone_allowed : (command : Command) (words : List (List ℕ)) → IsAllowed command → IfSome (alone command words) IsAllowed
 alone_allowed command [] allowed = allowed
@@ -72,7 +82,8 @@ peek_allowed words =
     made_of_any IsAllowed (two words) _
     (λ given. made_of_any IsAllowed (number_of given.0) _
     (λ address. made _ IsAllowed (number_within 1 4096 given.1) _ (within 1 4096 given.1)
-    (λ count h. tested IsAllowed (nat_le (address + count) (2 ^ 32)) (Peek address count) (λ e. (h.0, h.1, grind (arith, nat_tests))))))
+    (λ count h. tested IsAllowed (nat_le (address + count) (2 ^ 32)) (Peek address count)
+    (λ e. (h.0, h.1, grind (arith, nat_tests))))))
 
 -- each of the first three words is printable
 three_printable : (words : List (List ℕ)) → Each IsPrintable words
@@ -105,7 +116,8 @@ apply_allowed words each =
     (λ given printable. made AreBounded IsAllowed (tries_or_one given.3) _ (tries_or_one_bounded given.3)
     (λ tries bounded. (printable.0, printable.1, printable.2, bounded.0, bounded.1, bounded.2)))
 
-command_allowed : (word : List ℕ) (words : List (List ℕ)) → Each IsPrintable words → IfSome (command_of word words) IsAllowed
+command_allowed : (word : List ℕ) (words : List (List ℕ)) → Each IsPrintable words
+    → IfSome (command_of word words) IsAllowed
 command_allowed word words each =
     chosen IsAllowed (bytes_eq word (codes "spawn")) _ _ (spawn_allowed words each)
     (chosen IsAllowed (bytes_eq word (codes "step")) _ _ (step_allowed words)
@@ -127,11 +139,16 @@ wrapped None p = tt
 
 asked_allowed : (words : List (List ℕ)) → Each IsPrintable words → IfSome (asked_by words) Keeps
 asked_allowed [] each = tt
-asked_allowed (word ∷ words) each = chosen Keeps (is_comment word) _ _ tt (wrapped (command_of word words) (command_allowed word words each.1))
+asked_allowed (word ∷ words) each = chosen Keeps (is_comment word) _ _ tt
+    (wrapped (command_of word words) (command_allowed word words each.1))
 
 line_allowed : (line : List ℕ) → IfSome (asked_in line) Keeps
 line_allowed line =
-    elim (is_plain line) as (λ b. is_plain line ≡ b → IfSome (cond b (asked_by (words_of line)) None) Keeps) [ true ↦ λ plain. asked_allowed (words_of line) (words_printable line plain) | false ↦ λ _. tt ] refl
+    elim (is_plain line) as (λ b. is_plain line ≡ b → IfSome (cond b (asked_by (words_of line)) None) Keeps) [
+      | true ↦
+          λ plain. asked_allowed (words_of line) (words_printable line plain)
+      | false ↦ λ _. tt
+    ] refl
 
 listed : (found : Option (Option Command)) → IfSome found Keeps → All IsAllowed (option_to_list (unwrap_or found None))
 listed (Some (Some command)) p = All-cons IsAllowed command [] p (All-nil IsAllowed)
@@ -149,6 +166,8 @@ pub all_allowed : (bytes : List ℕ) (script : List Command) → script_of bytes
 unfolding script_of
 all_allowed bytes script e = by (nat_lt (lines_before_bad (lines_of bytes)) (length (lines_of bytes))) e
   where
-    by : (b : Bool) → cond b (Err (BadLine (lines_before_bad (lines_of bytes) + 1))) (Ok (flat_map commands_of (lines_of bytes))) ≡ Ok script → All IsAllowed script
+    by : (b : Bool) → cond b (Err (BadLine (lines_before_bad (lines_of bytes) + 1)))
+        (Ok (flat_map commands_of (lines_of bytes))) ≡ Ok script → All IsAllowed script
     by true e = absurd cc
-    by false e = let same : script ≡ flat_map commands_of (lines_of bytes) = cc in All-same IsAllowed script _ same (of_lines (lines_of bytes))
+    by false e = let same : script ≡ flat_map commands_of (lines_of bytes) = cc in
+        All-same IsAllowed script _ same (of_lines (lines_of bytes))

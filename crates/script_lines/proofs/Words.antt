@@ -1,5 +1,6 @@
 -- Each word of a line that is plain is printable, and each printable word is ASCII.
-use Rattle.std.proofs.Common.{◌≡◌, refl, sym, ℕ, suc, ◌≤◌, ◌<◌, Bool, true, false, not, ◌&&◌, cond, List, [], ◌∷◌, length, arith}
+use Rattle.std.proofs.Common.{◌≡◌, refl, sym, ℕ, suc, ◌≤◌, ◌<◌, Bool, true, false}
+use Rattle.std.proofs.Common.{not, ◌&&◌, cond, List, [], ◌∷◌, length, arith}
 use Rattle.std.specs.Prelude.{filter, nat_le}
 use Rattle.std.specs.List.{slice_split, onto_first, list_all}
 use Rattle.std.proofs.lemmas.Bool.{and_parts, and_from, false≢true, leb-true}
@@ -27,34 +28,42 @@ longer n (part ∷ parts) each = ((omega (arith, each.0.0), each.0.1), longer n 
 word_byte : (byte : ℕ) → is_printable byte ≡ true → is_space byte ≡ false → is_word_byte byte ≡ true
 word_byte byte printable other = grind (arith, nat_tests)
 
-onto_part : (n byte : ℕ) (parts : List (List ℕ)) → is_word_byte byte ≡ true → Each (IsPart n) parts → Each (IsPart (suc n)) (onto_first byte parts)
+onto_part : (n byte : ℕ) (parts : List (List ℕ)) → is_word_byte byte ≡ true → Each (IsPart n) parts
+    → Each (IsPart (suc n)) (onto_first byte parts)
 onto_part n byte [] printable each = ((omega arith, and_from _ _ printable refl), tt)
-onto_part n byte (part ∷ parts) printable each = ((omega (arith, each.0.0), and_from _ _ printable each.0.1), longer n parts each.1)
+onto_part n byte (part ∷ parts) printable each =
+    ((omega (arith, each.0.0), and_from _ _ printable each.0.1), longer n parts each.1)
 
-parts_printable : (line : List ℕ) → list_all is_printable line ≡ true → Each (IsPart (length line)) (slice_split is_space line)
+parts_printable : (line : List ℕ) → list_all is_printable line ≡ true
+    → Each (IsPart (length line)) (slice_split is_space line)
 parts_printable [] printable = ((omega arith, refl), tt)
 parts_printable (byte ∷ line) printable =
     let rest = parts_printable line (and_parts (is_printable byte) _ printable).1 in
-    elim (is_space byte) as (λ b. is_space byte ≡ b → Each (IsPart (suc (length line))) (cond b ([] ∷ slice_split is_space line) (onto_first byte (slice_split is_space line)))) [
+    elim (is_space byte) as (λ b. is_space byte ≡ b → Each (IsPart (suc (length line)))
+    (cond b ([] ∷ slice_split is_space line) (onto_first byte (slice_split is_space line)))) [
       | true ↦ λ _. ((omega arith, refl), longer (length line) (slice_split is_space line) rest)
-      | false ↦ λ other. onto_part (length line) byte (slice_split is_space line) (word_byte byte (and_parts (is_printable byte) _ printable).0 other) rest
+      | false ↦ λ other. onto_part (length line) byte (slice_split is_space line)
+          (word_byte byte (and_parts (is_printable byte) _ printable).0 other) rest
     ] refl
 
 printable_part : (n : ℕ) (part : List ℕ) → n ≤ 4096 → is_empty part ≡ false → IsPart n part → IsPrintable part
 printable_part n [] few some is = absurd (false≢true (sym some))
 printable_part n (byte ∷ part) few some is = record { some = omega arith; short = omega (arith, is.0); bytes = is.1 }
 
-kept_printable : (n : ℕ) (parts : List (List ℕ)) → n ≤ 4096 → Each (IsPart n) parts → Each IsPrintable (filter (λ part. not (is_empty part)) parts)
+kept_printable : (n : ℕ) (parts : List (List ℕ)) → n ≤ 4096 → Each (IsPart n) parts
+    → Each IsPrintable (filter (λ part. not (is_empty part)) parts)
 kept_printable n [] few each = tt
 kept_printable n (part ∷ parts) few each =
-    elim (is_empty part) as (λ b. is_empty part ≡ b → Each IsPrintable (cond (not b) (part ∷ filter (λ q. not (is_empty q)) parts) (filter (λ q. not (is_empty q)) parts))) [
+    elim (is_empty part) as (λ b. is_empty part ≡ b → Each IsPrintable
+    (cond (not b) (part ∷ filter (λ q. not (is_empty q)) parts) (filter (λ q. not (is_empty q)) parts))) [
       | true ↦ λ _. kept_printable n parts few each.1
       | false ↦ λ some. (printable_part n part few some each.0, kept_printable n parts few each.1)
     ] refl
 
 pub words_printable : (line : List ℕ) → is_plain line ≡ true → Each IsPrintable (words_of line)
 words_printable line plain =
-    kept_printable (length line) (slice_split is_space line) (leb-true (length line) 4096 (and_parts (nat_le (length line) 4096) _ plain).0)
+    kept_printable (length line) (slice_split is_space line)
+    (leb-true (length line) 4096 (and_parts (nat_le (length line) 4096) _ plain).0)
     (parts_printable line (and_parts (nat_le (length line) 4096) _ plain).1)
 
 byte_below : (byte : ℕ) → is_word_byte byte ≡ true → byte < 128

@@ -1,7 +1,8 @@
 -- The bounds of a command's words and numbers.
 use Rattle.std.specs.Prelude.{◌≤◌, ◌+◌, ◌*◌, ◌^◌}
 use Rattle.script_lines.specs.declared.types.Command.{Command}
-use Rattle.script_lines.specs.declared.types.Command.TheVariants.{Spawn, Step, RoundRobin, Threads, Peek, Apply, Undo, ListUpdates, Watch}
+use Rattle.script_lines.specs.declared.types.Command.TheVariants.{Spawn, Step, RoundRobin, Threads, Peek}
+use Rattle.script_lines.specs.declared.types.Command.TheVariants.{Apply, Undo, ListUpdates, Watch}
 use Rattle.script_lines.specs.Lines.{IsPrintable}
 
 -- the bounds that the grammar of scripts keeps, beside those of a number of 32 bits

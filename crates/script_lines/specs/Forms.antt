@@ -1,8 +1,10 @@
 -- The forms of a line, each with what it asks for. None is an answer for words that have no form.
-use Rattle.std.specs.Prelude.{ℕ, ◌+◌, ◌*◌, ◌^◌, ◌==◌, nat_le, Bool, false, ◌&&◌, List, [], ◌∷◌, codes, bytes_eq, if◌then◌else◌}
+use Rattle.std.specs.Prelude.{ℕ, ◌+◌, ◌*◌, ◌^◌, ◌==◌, nat_le, Bool, false, ◌&&◌}
+use Rattle.std.specs.Prelude.{List, [], ◌∷◌, codes, bytes_eq, if◌then◌else◌}
 use Rattle.std.specs.Prelude.{Option, Some, None, option_map}
 use Rattle.script_lines.specs.declared.types.Command.{Command}
-use Rattle.script_lines.specs.declared.types.Command.TheVariants.{Spawn, Step, RoundRobin, Threads, Peek, Apply, Undo, ListUpdates, Watch}
+use Rattle.script_lines.specs.declared.types.Command.TheVariants.{Spawn, Step, RoundRobin, Threads, Peek}
+use Rattle.script_lines.specs.declared.types.Command.TheVariants.{Apply, Undo, ListUpdates, Watch}
 use Rattle.script_lines.specs.Lines.{is_plain, words_of}
 use Rattle.script_lines.specs.Numbers.{when, number_of}
 

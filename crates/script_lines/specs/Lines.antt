@@ -1,5 +1,6 @@
 -- The lines of a script, and the words of a line.
-use Rattle.std.specs.Prelude.{◌≡◌, ℕ, ◌≤◌, ◌==◌, nat_le, Bool, true, not, ◌&&◌, List, [], ◌∷◌, length, filter, if◌then◌else◌}
+use Rattle.std.specs.Prelude.{◌≡◌, ℕ, ◌≤◌, ◌==◌, nat_le, Bool, true, not, ◌&&◌}
+use Rattle.std.specs.Prelude.{List, [], ◌∷◌, length, filter, if◌then◌else◌}
 use Rattle.std.specs.List.{slice_split, list_all}
 
 abbrev pub is_empty : List ℕ → Bool

@@ -1,7 +1,8 @@
 //! The forms of a line.
 ghost use Rattle.std.specs.Prelude.{◌≡◌, IfOk, option_map, bytes_eq};
 ghost use Rattle.script_lines.specs.Lines.{words_of};
-ghost use Rattle.script_lines.specs.Forms.{only, two, first_three, alone, spawn_of, step_of, round_robin_of, peek_of, tries_of, tries_or_one, apply_of, command_of, is_comment, asked_in};
+ghost use Rattle.script_lines.specs.Forms.{only, two, first_three, alone, spawn_of, step_of, round_robin_of, peek_of};
+ghost use Rattle.script_lines.specs.Forms.{tries_of, tries_or_one, apply_of, command_of, is_comment, asked_in};
 
 use crate::lines::{first_word, is_plain};
 use crate::numbers::{number_of, number_within};

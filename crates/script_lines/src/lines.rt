@@ -22,7 +22,8 @@ pub(crate) fn first_line(bytes: &[u8]) -> (&[u8], &[u8])
 // The first word, and what stands behind it. `None` where there is no word.
 #[tactic(auto, using(crate::proofs::Cuts::word_starts))]
 pub(crate) fn first_word(line: &[u8]) -> Option<(&[u8], &[u8])>
-    ensures { MatchOption result (words_of line.now ≡ []) (λ found. words_of line.now ≡ found.0.now ∷ words_of found.1.now) }
+    ensures { MatchOption result (words_of line.now ≡ [])
+        (λ found. words_of line.now ≡ found.0.now ∷ words_of found.1.now) }
 {
     let start = find_word(line)?;
     Some(word_at_front(&line[start..]))

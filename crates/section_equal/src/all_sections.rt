@@ -17,9 +17,9 @@ pub struct SameSections {
     pub post: Vec<bool>,
 }
 
-/// Whether both objects have a section of this name, and it is the same: class, size, bytes outside the fields, and references are
-/// equal. Of sections of texts nothing but the class is compared, since their texts are compared at the references. It takes no
-/// memory; to compare many sections, see [`same_sections`].
+/// Whether both objects have a section of this name, and it is the same: class, size, bytes outside the fields, and
+/// references are equal. Of sections of texts nothing but the class is compared, since their texts are compared at the
+/// references. It takes no memory; to compare many sections, see [`same_sections`].
 pub fn same_section<'a>(pre: &Normal<'a>, post: &Normal<'a>, name: &[u8]) -> bool
     ensures { result ≡ same_in pre.now post.now name.now }
 {
@@ -79,7 +79,8 @@ fn marks_of_names(
     other: &Normal<'_>,
     marks: &[bool],
 ) -> Result<Vec<bool>, AllocError>
-    ensures { IfOk result (λ found. found.items ≡ map (λ section. mark_at marks.now (place_named other.now section.name)) sections.now) }
+    ensures { IfOk result (λ found. found.items ≡ map
+        (λ section. mark_at marks.now (place_named other.now section.name)) sections.now) }
 {
     sections
         .iter()

@@ -14,8 +14,8 @@ use std::alloc::Global;
 use std::collections::BTreeMap;
 use std::marker::Model;
 
-/// Compares the sections of two objects. Texts are compared from their ends. Where it is kept for each pair of ends how many bytes
-/// before them are equal, these are compared once for all references to texts that end there.
+/// Compares the sections of two objects. Texts are compared from their ends. Where it is kept for each pair of ends how
+/// many bytes before them are equal, these are compared once for all references to texts that end there.
 #[derive(Drop)]
 pub(crate) struct Comparison<'n, 'a> {
     pre: &'n Normal<'a>,
@@ -62,9 +62,11 @@ fn end_of_text(offset: u32, text: &[u8]) -> usize
     offset as usize + text.len()
 }
 
-// Keeps how many bytes before the ends are equal. Where there is no memory for it nothing is kept, and no more than time is lost.
+// Keeps how many bytes before the ends are equal. Where there is no memory for it nothing is kept, and no more than
+// time is lost.
 fn keep(known: &mut BTreeMap<Ends, usize>, ends: Ends, count: usize)
-    ensures { (pre post : List NormalSection) → AreKnown pre post known.old → IsKnown pre post ends count → AreKnown pre post known.new }
+    ensures { (pre post : List NormalSection) → AreKnown pre post known.old → IsKnown pre post ends count
+        → AreKnown pre post known.new }
 {
     let _kept = known.insert(ends, count);
 }

@@ -3,8 +3,8 @@ ghost use Rattle.std.specs.Prelude.{◌≡◌, ℕ, ◌<◌, ◌≤◌, ◌+◌,
 ghost use Rattle.std.specs.List.{slice_index};
 ghost use Rattle.section_equal.specs.inside.Texts.{Agree, AgreeFor};
 
-/// Where a text ends in each of two objects: the place of the section that holds it, and how many of that section's bytes
-/// are before the end.
+/// Where a text ends in each of two objects: the place of the section that holds it, and how many of that section's
+/// bytes are before the end.
 #[derive(Clone, Copy, PartialEq, Eq, PartialOrd, Ord)]
 pub(crate) struct Ends {
     pub(crate) old_place: usize,

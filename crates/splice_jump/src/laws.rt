@@ -93,8 +93,8 @@ pub fn jumps_are_taken_back()
 {}
 
 /// Bytes that lie in one piece of code are code, each of them, end at 0xFFFF0000 or below, and stay so whatever is
-/// written: after a jump was written at a home, old bytes can be put back. They stay so when a piece is added that meets
-/// none.
+/// written: after a jump was written at a home, old bytes can be put back. They stay so when a piece is added that
+/// meets none.
 pub fn code_stays_code()
     ensures held { (contents : Contents) (start count address : ℕ) → IsValid contents →
         HasCode contents.pieces start count → start ≤ address → address < start + count →

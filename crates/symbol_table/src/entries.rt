@@ -4,7 +4,8 @@ ghost use Rattle.std.specs.List.{slice_get};
 ghost use Rattle.std.specs.List.Sorted.{IsPermutation, IsSortedBy};
 ghost use Rattle.std.specs.Ordering.{is_lt};
 ghost use Rattle.symbol_table.specs.inside.Blocks.{InBlocks};
-ghost use Rattle.symbol_table.specs.inside.Entries.{is_in, entry_at, entries_from, name_of, order_at, address_order, address_less, entry_less, HasAll};
+ghost use Rattle.symbol_table.specs.inside.Entries.{is_in, entry_at, entries_from, name_of, order_at};
+ghost use Rattle.symbol_table.specs.inside.Entries.{address_order, address_less, entry_less, HasAll};
 
 use crate::blocks::block_begin;
 use crate::symbols::Symbol;

@@ -104,7 +104,8 @@ pub(crate) fn addresses_of(
 // Whether an entry of a name stands at an address, of entries in order of the names.
 fn stands_in_block(symbols: &[Symbol], entries: &[Entry], name: &Name, address: u32) -> bool
     requires { IsSortedBy (name_less symbols.now) entries.now }
-    ensures { result ≡ nat_lt 0 (length (filter (stands_at address) (filter (is_named_at symbols.now name.now) entries.now))) }
+    ensures { result ≡ nat_lt 0 (length
+        (filter (stands_at address) (filter (is_named_at symbols.now name.now) entries.now))) }
 {
     let named = entries_named(symbols, entries, name.as_slice());
     !entries_at(named, address).is_empty()

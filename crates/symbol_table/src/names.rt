@@ -26,7 +26,8 @@ fn is_not_after(symbols: &[Symbol], entry: &Entry, name: &[u8]) -> bool
 fn begin_of(symbols: &[Symbol], entries: &[Entry], name: &[u8]) -> usize
     requires { IsSortedBy (name_less symbols.now) entries.now }
     ensures bound { result ≤ length entries.now }
-    ensures point { IsPartitionPoint (λ entry. is_before symbols.now name.now entry ≡ true) (λ entry. is_before symbols.now name.now entry ≡ false) entries.now result }
+    ensures point { IsPartitionPoint (λ entry. is_before symbols.now name.now entry ≡ true)
+        (λ entry. is_before symbols.now name.now entry ≡ false) entries.now result }
 {
     entries.partition_point(|entry| is_before(symbols, entry, name))
 }
@@ -35,7 +36,8 @@ fn begin_of(symbols: &[Symbol], entries: &[Entry], name: &[u8]) -> usize
 fn end_of(symbols: &[Symbol], entries: &[Entry], name: &[u8]) -> usize
     requires { IsSortedBy (name_less symbols.now) entries.now }
     ensures bound { result ≤ length entries.now }
-    ensures point { IsPartitionPoint (λ entry. is_not_after symbols.now name.now entry ≡ true) (λ entry. is_not_after symbols.now name.now entry ≡ false) entries.now result }
+    ensures point { IsPartitionPoint (λ entry. is_not_after symbols.now name.now entry ≡ true)
+        (λ entry. is_not_after symbols.now name.now entry ≡ false) entries.now result }
 {
     entries.partition_point(|entry| is_not_after(symbols, entry, name))
 }

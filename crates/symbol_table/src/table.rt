@@ -3,7 +3,8 @@ ghost use Rattle.std.specs.Prelude.{◌≡◌, ◌==◌, ◌+◌, ◌-◌, ◌<�
 ghost use Rattle.std.specs.Option.{option_copied, option_map};
 ghost use Rattle.std.specs.List.{slice_get, list_any};
 ghost use Rattle.ks_base.specs.Gives.{Gives};
-ghost use Rattle.symbol_table.specs.Symbols.{function_addresses, global_addresses, data_addresses, name_below, only_address, function_named, next_address};
+ghost use Rattle.symbol_table.specs.Symbols.{function_addresses, global_addresses, data_addresses};
+ghost use Rattle.symbol_table.specs.Symbols.{name_below, only_address, function_named, next_address};
 
 use crate::addresses::Addresses;
 use crate::entries::{Entry, Index, entries_of, list_entries, note_last};

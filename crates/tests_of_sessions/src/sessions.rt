@@ -48,8 +48,13 @@ fn replies_to_a_script(rt: HostRuntime) -> Result<(), Fail> {
     let alloc = rt.alloc();
     let mut session = session_of(alloc).ok_or("no session")?;
     let script = "spawn main 7\nstep 0 2\nrr 1 100\nthreads\npeek 0x00100000 6\nwatch\n";
-    let replies =
-        "spawned 0 0x00100010 main+0x0\nstepped 0 2 running 0x00100005 f+0x5\nrr 3\nthread 0 exited 0x00000001\nthreads 1\n0x00100000: b8 01 00 00 00 c3\nwatch disciplined\n";
+    let replies = "spawned 0 0x00100010 main+0x0\n\
+            stepped 0 2 running 0x00100005 f+0x5\n\
+            rr 3\n\
+            thread 0 exited 0x00000001\n\
+            threads 1\n\
+            0x00100000: b8 01 00 00 00 c3\n\
+            watch disciplined\n";
     let end = ends(alloc, &mut session, script, replies).ok_or("no script")?;
     assert!(rt; end == (SessionEnd::Done, true));
     let system = session.system();
@@ -78,7 +83,13 @@ fn broken_rule_is_shown(rt: HostRuntime) -> Result<(), Fail> {
         alloc,
         &mut session,
         "spawn f 0\nstep 0 1\nwatch\nstep 0 1\nwatch\nspawn main 0\nwatch\n",
-        "spawned 0 0x00100000 f+0x0\nstepped 0 1 running 0x00100001 f+0x1\nwatch disciplined\nstepped 0 1 running 0x00000000\nwatch broken event 3 thread 0 return\nrefused 32 no stack\nwatch broken event 3 thread 0 return\n",
+        "spawned 0 0x00100000 f+0x0\n\
+            stepped 0 1 running 0x00100001 f+0x1\n\
+            watch disciplined\n\
+            stepped 0 1 running 0x00000000\n\
+            watch broken event 3 thread 0 return\n\
+            refused 32 no stack\n\
+            watch broken event 3 thread 0 return\n",
     )
     .ok_or("no script")?;
     assert!(rt; end == (SessionEnd::SomeRefused, true));

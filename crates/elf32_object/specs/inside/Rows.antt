@@ -16,7 +16,8 @@ spot_of i k = record { from = i; index = k }
 
 -- the entries of the sections below i that change this section, in order
 abbrev pub spots_below : List ℕ → ℕ → ℕ → List Spot
-spots_below bytes section i = all_below (λ j. if changes bytes section j then each_below (spot_of j) (entry_count bytes j) else []) i
+spots_below bytes section i = all_below
+    (λ j. if changes bytes section j then each_below (spot_of j) (entry_count bytes j) else []) i
 
 -- each section's row has the entries of the sections below i that change it
 pub record AreRows (bytes : List ℕ) (i : ℕ) (rows : List (List Spot)) : Type 0 where

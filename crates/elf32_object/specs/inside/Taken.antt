@@ -9,7 +9,8 @@ use Rattle.elf32_object.specs.Rules.{has_field}
 -- whether entry k of section i changes the field at this offset of this section
 abbrev pub is_field : List ℕ → ℕ → ℕ → ℕ → ℕ → Bool
 is_field bytes section offset i k =
-    (section_header bytes i).info == section && has_field (relocation bytes i k) && (relocation bytes i k).offset == offset
+    (section_header bytes i).info == section && has_field (relocation bytes i k)
+    && (relocation bytes i k).offset == offset
 
 -- whether an entry before entry k of section i does
 unfoldable pub is_taken : List ℕ → ℕ → ℕ → ℕ → ℕ → Bool
@@ -23,7 +24,8 @@ field_key section offset = section * 4294967296 + offset
 
 -- the set has the fields that the entries before entry k of section i change
 pub record AreTaken (bytes : List ℕ) (i k : ℕ) (fields : BTreeSet ℕ) : Type 0 where
-  pub same : (section offset : ℕ) → offset < 4294967296 → contains nat_cmp fields (field_key section offset) ≡ is_taken bytes section offset i k
+  pub same : (section offset : ℕ) → offset < 4294967296
+      → contains nat_cmp fields (field_key section offset) ≡ is_taken bytes section offset i k
 
 -- the four bytes at an offset share none with a field of the set
 abbrev pub IsFree : BTreeSet ℕ → ℕ → ℕ → Type 0

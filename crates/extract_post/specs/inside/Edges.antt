@@ -20,7 +20,14 @@ link_to sections from from_class r None = []
 link_to sections from from_class r (Some to) = link_at (slice_get sections to) where
   link_at : Option NormalSection → List Link
   link_at None = []
-  link_at (Some target) = record { from = from; from_class = from_class; to = to; to_class = target.class; interior = is_interior r } ∷ []
+  link_at (Some target) = record {
+    from = from;
+    from_class = from_class;
+    to = to;
+    to_class = target.class;
+    interior =
+        is_interior r;
+  } ∷ []
 
 -- the links of a section's references, and of all sections from a place on
 abbrev pub links_of : List NormalSection → ℕ → NormalSection → List Link
@@ -60,26 +67,32 @@ joins n link =
       joins_interior : List Edge
       joins_interior =
           if is_code_class link.from_class
-          then edge (member_node n link.from) (member_node n link.to) ∷ edge (member_node n link.to) (member_node n link.from) ∷ []
+          then edge (member_node n link.from) (member_node n link.to) ∷ edge (member_node n link.to)
+          (member_node n link.from) ∷ []
           else (if is_read_only_class link.from_class
-          then edge (from_node n link.from) (member_node n link.to) ∷ edge (member_node n link.to) (into_node n link.from) ∷ []
+          then edge (from_node n link.from) (member_node n link.to) ∷ edge (member_node n link.to)
+          (into_node n link.from) ∷ []
           else [])
 
       joins_constant : List Edge
       joins_constant =
           if is_code_class link.from_class
-          then edge (member_node n link.from) (from_node n link.to) ∷ edge (into_node n link.to) (member_node n link.from) ∷ []
+          then edge (member_node n link.from) (from_node n link.to) ∷ edge (into_node n link.to)
+          (member_node n link.from) ∷ []
           else (if is_constant_class link.from_class
-          then edge (from_node n link.from) (from_node n link.to) ∷ edge (into_node n link.to) (into_node n link.from) ∷ []
+          then edge (from_node n link.from) (from_node n link.to) ∷ edge (into_node n link.to)
+          (into_node n link.from) ∷ []
           else [])
 
 -- a section of both objects is a member in both: edges between its nodes, both ways, from a place of the first on
 abbrev pub twins_from : (pre post : Numbers) → List NormalSection → ℕ → List NormalSection → List Edge
 twins_from p q post place [] = []
-twins_from p q post place (section ∷ rest) = twin (place_named post section.name) ++ twins_from p q post (suc place) rest where
-  twin : Option ℕ → List Edge
-  twin None = []
-  twin (Some other) = edge (member_node p place) (member_node q other) ∷ edge (member_node q other) (member_node p place) ∷ []
+twins_from p q post place (section ∷ rest) = twin (place_named post section.name) ++ twins_from p q post
+    (suc place) rest where
+      twin : Option ℕ → List Edge
+      twin None = []
+      twin (Some other) = edge (member_node p place) (member_node q other) ∷ edge (member_node q other)
+          (member_node p place) ∷ []
 
 -- post's sections come first
 abbrev pub pre_numbers : List NormalSection → List NormalSection → Numbers

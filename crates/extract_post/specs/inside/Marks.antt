@@ -1,5 +1,6 @@
 -- Marks of sections: a list of marks has a place for each section.
-use Rattle.std.specs.Prelude.{◌≡◌, ◌⊎◌, ◌<◌, ℕ, ◌+◌, Bool, true, false, not, ◌&&◌, ◌||◌, List, [], ◌∷◌, length, map, Option, Some, None, position}
+use Rattle.std.specs.Prelude.{◌≡◌, ◌⊎◌, ◌<◌, ℕ, ◌+◌, Bool, true, false, not, ◌&&◌, ◌||◌}
+use Rattle.std.specs.Prelude.{List, [], ◌∷◌, length, map, Option, Some, None, position}
 use Rattle.std.specs.List.{slice_get, slice_index_or}
 use Rattle.reachability.specs.Reached.{Tells}
 use Rattle.i386_reloc.specs.declared.types.Ref.{Ref}
@@ -18,7 +19,8 @@ marked marks place = slice_index_or marks place false
 -- marks that tell of each section whether its name has a property; and that are as many
 abbrev pub TellEach : (List ℕ → Type 0) → List NormalSection → List Bool → Type 0
 TellEach P sections marks =
-    (place : ℕ) (section : NormalSection) → slice_get sections place ≡ Some section → Tells (marked marks place) (P section.name)
+    (place : ℕ) (section : NormalSection) → slice_get sections place ≡ Some section
+    → Tells (marked marks place) (P section.name)
 
 pub record TellWhich (P : List ℕ → Type 0) (sections : List NormalSection) (marks : List Bool) : Type 0 where
   pub len : length marks ≡ length sections
@@ -100,7 +102,8 @@ breaks post old new changed stays r = is_interior r && breaks_at old new changed
 pub record TellDataOf (post : List NormalSection) (starts marks : List Bool) : Type 0 where
   pub len : length marks ≡ length post
   pub each : (place : ℕ) (section : NormalSection) → slice_get post place ≡ Some section →
-      Tells (marked marks place) (((marked starts place ≡ true) ⊎ SeedReaches post starts section.name) × ((is_in is_read_only_class post section.name ≡ true) ⊎ (marked starts place ≡ true)))
+      Tells (marked marks place) (((marked starts place ≡ true) ⊎ SeedReaches post starts section.name)
+      × ((is_in is_read_only_class post section.name ≡ true) ⊎ (marked starts place ≡ true)))
 
 -- the first reference that breaks, of the section at a place
 abbrev pub breaks_in : List NormalSection → (old new changed stays : List Bool) → ℕ → NormalSection → Option ℕ
@@ -110,15 +113,18 @@ breaks_in post old new changed stays place section =
 -- no section before a place has one
 abbrev pub NoBreakBelow : List NormalSection → (old new changed stays : List Bool) → ℕ → Type 0
 NoBreakBelow post old new changed stays n =
-    (place : ℕ) (section : NormalSection) → place < n → slice_get post place ≡ Some section → breaks_in post old new changed stays place section ≡ None
+    (place : ℕ) (section : NormalSection) → place < n → slice_get post place ≡ Some section
+    → breaks_in post old new changed stays place section ≡ None
 
 -- the places of the first section that has one, and of its first one
 abbrev pub FirstBreak : List NormalSection → (old new changed stays : List Bool) → Option (ℕ × ℕ) → Type 0
 FirstBreak post old new changed stays None = NoBreakBelow post old new changed stays (length post)
-FirstBreak post old new changed stays (Some found) = NoBreakBelow post old new changed stays found.0 × FoundIn (slice_get post found.0) where
-  FoundIn : Option NormalSection → Type 0
-  FoundIn None = ⊥
-  FoundIn (Some section) = (breaks_in post old new changed stays found.0 section ≡ Some found.1) × (found.1 < length section.refs)
+FirstBreak post old new changed stays (Some found) =
+    NoBreakBelow post old new changed stays found.0 × FoundIn (slice_get post found.0) where
+      FoundIn : Option NormalSection → Type 0
+      FoundIn None = ⊥
+      FoundIn (Some section) = (breaks_in post old new changed stays found.0 section ≡ Some found.1)
+          × (found.1 < length section.refs)
 
 -- a code section of post that is no member
 abbrev pub Stays : List NormalSection → List NormalSection → List ℕ → Type 0

@@ -12,7 +12,8 @@ use Rattle.ia32_step.specs.declared.types.Outcome.TheVariants.{Moved, Exited, St
 use Rattle.ia32_step.specs.Threads.{esp_of}
 use Rattle.frame_watch.specs.declared.types.Rule.{Rule}
 use Rattle.frame_watch.specs.declared.types.Rule.TheVariants as rules
-use Rattle.frame_watch.specs.Frames.{Watched, Watching, with_started, frames_at, with_frames, without_thread, opened, closed}
+use Rattle.frame_watch.specs.Frames.{Watched, Watching, with_started, frames_at}
+use Rattle.frame_watch.specs.Frames.{with_frames, without_thread, opened, closed}
 use Rattle.frame_watch.specs.Discipline.{Sight, counted, broken, lesser, pops, unless_broken}
 
 abbrev pub broken_unless : Bool → Rule → Option Rule

@@ -1,5 +1,6 @@
 -- What holds of the threads that are kept, and what is tested of one.
-use Rattle.std.specs.Prelude.{◌≡◌, ℕ, ◌+◌, ◌<◌, ◌≤◌, Bool, true, false, not, ◌||◌, ◌==◌, if◌then◌else◌, List, [], ◌∷◌, length, get_or}
+use Rattle.std.specs.Prelude.{◌≡◌, ℕ, ◌+◌, ◌<◌, ◌≤◌, Bool, true, false, not, ◌||◌}
+use Rattle.std.specs.Prelude.{◌==◌, if◌then◌else◌, List, [], ◌∷◌, length, get_or}
 use Rattle.std.specs.Prelude.{Option, Some, None}
 use Rattle.std.specs.List.{All, list_any, list_all, find, slice_get}
 use Rattle.ks_base.specs.declared.places.Range.{Range}

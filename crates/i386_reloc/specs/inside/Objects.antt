@@ -16,9 +16,11 @@ objects_below bytes i k = all_below (λ n. if is_object_of bytes i n then object
 -- a table of each section's object symbols among the symbols below k
 pub record AreObjects (bytes : List ℕ) (k : ℕ) (table : List (List ObjectSymbol)) : Type 0 where
   pub len : length table ≡ section_count bytes
-  pub each : (i : ℕ) (d : List ObjectSymbol) → i < section_count bytes → slice_index_or table i d ≡ objects_below bytes i k
+  pub each : (i : ℕ) (d : List ObjectSymbol) → i < section_count bytes
+      → slice_index_or table i d ≡ objects_below bytes i k
 
 -- such a table of all symbols, from which those of the sections below i are taken
 pub record AreLeft (bytes : List ℕ) (i : ℕ) (table : List (List ObjectSymbol)) : Type 0 where
   pub len : length table ≡ section_count bytes
-  pub each : (j : ℕ) (d : List ObjectSymbol) → i ≤ j → j < section_count bytes → slice_index_or table j d ≡ objects_of bytes j
+  pub each : (j : ℕ) (d : List ObjectSymbol) → i ≤ j → j < section_count bytes
+      → slice_index_or table j d ≡ objects_of bytes j

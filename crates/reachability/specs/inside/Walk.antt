@@ -13,7 +13,11 @@ unmarked nodes = record { marks = replicate nodes false; queue = [] }
 -- a walk with one more node marked
 abbrev pub marked : Walk → ℕ → Walk
 marked walk node =
-    if slice_index_or walk.marks node false then walk else record { marks = slice_set walk.marks node true; queue = walk.queue ++ node ∷ [] }
+    if slice_index_or walk.marks node false then walk else record {
+      marks = slice_set walk.marks node true;
+      queue =
+          walk.queue ++ node ∷ [];
+    }
 
 -- a walk with a node marked, where that is wanted
 abbrev pub marked_if : Bool → Walk → ℕ → Walk

@@ -1,5 +1,6 @@
 -- What is known of the bytes before the ends of texts.
-use Rattle.std.specs.Prelude.{◌≡◌, ◌≢◌, ℕ, suc, ◌+◌, ◌<◌, ◌≤◌, Bool, false, ◌&&◌, ◌||◌, ◌==◌, List, [], length, All, Option, Some, None, IsSomeAnd}
+use Rattle.std.specs.Prelude.{◌≡◌, ◌≢◌, ℕ, suc, ◌+◌, ◌<◌, ◌≤◌, Bool, false, ◌&&◌, ◌||◌}
+use Rattle.std.specs.Prelude.{◌==◌, List, [], length, All, Option, Some, None, IsSomeAnd}
 use Rattle.std.specs.List.{slice_get, slice_index, slice_index_or}
 use Rattle.std.specs.BTreeMap.{BTreeMap}
 use Rattle.i386_reloc.specs.declared.types.NormalSection.{NormalSection}
@@ -16,13 +17,15 @@ use Rattle.section_equal.specs.declared.texts.Ends.{Ends}
 pub record Agree (old new : List ℕ) (old_end new_end count : ℕ) : Type 0 where
   pub in_old : count ≤ old_end
   pub in_new : count ≤ new_end
-  pub each : (i j : ℕ) → i < old_end → old_end ≤ i + count → i + new_end ≡ j + old_end → slice_index old i ≡ slice_index new j
+  pub each : (i j : ℕ) → i < old_end → old_end ≤ i + count → i + new_end ≡ j + old_end
+      → slice_index old i ≡ slice_index new j
 
 -- the greatest such number up to a bound
 pub record AgreeFor (old new : List ℕ) (old_end new_end bound count : ℕ) : Type 0 where
   pub agree : Agree old new old_end new_end count
   pub within : count ≤ bound
-  pub differs : (i j : ℕ) → count < bound → i + suc count ≡ old_end → j + suc count ≡ new_end → slice_index old i ≢ slice_index new j
+  pub differs : (i j : ℕ) → count < bound → i + suc count ≡ old_end → j + suc count ≡ new_end
+      → slice_index old i ≢ slice_index new j
 
 -- the bytes of the section at a place
 abbrev pub bytes_of : Option NormalSection → List ℕ
@@ -80,7 +83,8 @@ same_field a b = a.offset == b.offset && same_form a.form b.form && a.addend == 
 -- and two sections without their references
 abbrev pub same_content : NormalSection → NormalSection → Bool
 same_content old new =
-    same_class old.class new.class && (is_strings_class old.class || old.size == new.size && same_bytes old.bytes new.bytes)
+    same_class old.class new.class && (is_strings_class old.class || old.size == new.size
+    && same_bytes old.bytes new.bytes)
 
 -- the mark at a place, false where there is none
 abbrev pub mark_at : List Bool → Option ℕ → Bool

@@ -1,5 +1,7 @@
--- The indices that the table keeps beside its symbols: entries that lead to symbols, each index in blocks that are in order.
-use Rattle.std.specs.Prelude.{ℕ, ◌+◌, ◌≤◌, Bool, true, not, ◌&&◌, ◌||◌, ◌==◌, nat_lt, List, [], ◌∷◌, ◌++◌, Option, Some, None, if◌then◌else◌, vec_len, vec_capacity}
+-- The indices that the table keeps beside its symbols: entries that lead to symbols, each index in blocks that are in
+-- order.
+use Rattle.std.specs.Prelude.{ℕ, ◌+◌, ◌≤◌, Bool, true, not, ◌&&◌, ◌||◌, ◌==◌, nat_lt, List, [], ◌∷◌}
+use Rattle.std.specs.Prelude.{◌++◌, Option, Some, None, if◌then◌else◌, vec_len, vec_capacity}
 use Rattle.std.specs.Global.{Vec}
 use Rattle.std.specs.List.{slice_get}
 use Rattle.std.specs.List.Sorted.{IsPermutation}
@@ -21,7 +23,8 @@ is_in Names symbol = true
 
 -- the entry of a symbol at a place, where an index has the symbol
 abbrev pub entry_at : Index → Symbol → ℕ → List Entry
-entry_at index symbol place = if is_in index symbol then (record { address = symbol.address; place = place }) ∷ [] else []
+entry_at index symbol place = if is_in index symbol then (record { address = symbol.address; place = place })
+    ∷ [] else []
 
 -- the entries of symbols that begin at a place, in the symbols' order
 abbrev pub entries_from : Index → ℕ → List Symbol → List Entry
@@ -46,11 +49,13 @@ abbrev pub address_order : Entry → Entry → Ordering
 address_order entry other = ordering_then (nat_cmp entry.address other.address) (nat_cmp other.place entry.place)
 
 abbrev pub address_less : Entry → Entry → Bool
-address_less entry other = nat_lt entry.address other.address || (entry.address == other.address && nat_lt other.place entry.place)
+address_less entry other = nat_lt entry.address other.address
+    || (entry.address == other.address && nat_lt other.place entry.place)
 
 -- the order by name, and of entries of one name by address
 abbrev pub name_less : List Symbol → Entry → Entry → Bool
-name_less symbols entry other = is_lt (ordering_then (order_at symbols (name_of (slice_get symbols other.place)) entry) (address_order entry other))
+name_less symbols entry other =
+    is_lt (ordering_then (order_at symbols (name_of (slice_get symbols other.place)) entry) (address_order entry other))
 
 -- the order of an index
 abbrev pub entry_less : Index → List Symbol → Entry → Entry → Bool

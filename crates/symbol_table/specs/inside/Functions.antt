@@ -15,11 +15,13 @@ greater_entry (Some entry) (Some other) = if address_less other entry then Some 
 abbrev pub entry_below : ℕ → List Entry → Option Entry
 entry_below address [] = None
 entry_below address (entry ∷ rest) =
-    if nat_le entry.address address then greater_entry (Some entry) (entry_below address rest) else entry_below address rest
+    if nat_le entry.address address then greater_entry (Some entry)
+    (entry_below address rest) else entry_below address rest
 
 -- an entry is that of a symbol
 abbrev pub Marks : List Symbol → Option Entry → Option Symbol → Type 0
 Marks symbols None None = Unit {0}
 Marks symbols None (Some symbol) = ⊥
 Marks symbols (Some entry) None = ⊥
-Marks symbols (Some entry) (Some symbol) = (slice_get symbols entry.place ≡ Some symbol) × (entry.address ≡ symbol.address)
+Marks symbols (Some entry) (Some symbol) = (slice_get symbols entry.place ≡ Some symbol)
+    × (entry.address ≡ symbol.address)

@@ -12,7 +12,8 @@ pub record IsIndex (index : Index) (symbols : Vec Symbol) (entries : Vec Entry) 
   pub has : HasAll index symbols.items entries.items
   pub room : HasRoom symbols entries spare
 
-pub record IsIndexed (symbols : Vec Symbol) (functions data_entries globals names : Vec Entry) (spare : ℕ) : Type 0 where
+pub record IsIndexed (symbols : Vec Symbol) (functions data_entries globals names : Vec Entry)
+    (spare : ℕ) : Type 0 where
   pub room : vec_len symbols + spare ≤ vec_capacity symbols
   pub by_functions : IsIndex Functions symbols functions spare
   pub by_data : IsIndex Data symbols data_entries spare

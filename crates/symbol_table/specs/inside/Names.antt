@@ -29,7 +29,8 @@ kind_address kind (Some symbol) = if is_of_kind kind symbol then Some symbol.add
 
 -- the addresses of the symbols of a kind and a name that entries lead to, in the entries' order
 abbrev pub found_at : List Symbol → Kind → List ℕ → List Entry → List ℕ
-found_at symbols kind name entries = filter_map (λ entry. kind_address kind (slice_get symbols entry.place)) (filter (is_named_at symbols name) entries)
+found_at symbols kind name entries = filter_map (λ entry. kind_address kind (slice_get symbols entry.place))
+    (filter (is_named_at symbols name) entries)
 
 -- whether an entry's symbol has a name, and the entry an address
 abbrev pub is_entry_of : List Symbol → List ℕ → ℕ → Entry → Bool

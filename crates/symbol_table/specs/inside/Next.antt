@@ -10,7 +10,8 @@ any_address entries test = list_any (λ entry. test entry.address) entries
 -- of numbers, told by whether some number passes a test, the least above a number
 abbrev pub IsNext : ℕ → ((ℕ → Bool) → Bool) → Option ℕ → Type 0
 IsNext low any None = any (nat_lt low) ≡ false
-IsNext low any (Some n) = (nat_lt low n ≡ true) × (any (λ m. n == m) ≡ true) × (any (λ m. nat_lt low m && nat_lt m n) ≡ false)
+IsNext low any (Some n) = (nat_lt low n ≡ true) × (any (λ m. n == m) ≡ true)
+    × (any (λ m. nat_lt low m && nat_lt m n) ≡ false)
 
 -- the lesser of two numbers that may be missing
 abbrev pub lesser : Option ℕ → Option ℕ → Option ℕ

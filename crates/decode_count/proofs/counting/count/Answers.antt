@@ -4,7 +4,8 @@ use Rattle.decode_count.proofs.counting.count.Goals as goal
 
 pub loop-rest-preserved-in-Some : goal.loop-rest-preserved-in-Some
 loop-rest-preserved-in-Some c =
-    instruction_met _ _ _ _ _ c.loop-rest.invariant c.in-Some.ensures.exact c.in-Some.ensures.some_bytes c.in-Some.ensures.within
+    instruction_met _ _ _ _ _ c.loop-rest.invariant c.in-Some.ensures.exact c.in-Some.ensures.some_bytes
+    c.in-Some.ensures.within
 
 pub loop-rest-preserved : goal.loop-rest-preserved
 loop-rest-preserved c = byte_passed _ _ _ _ c.loop-rest.invariant c.in-None.ensures.exact (search rules)

@@ -4,4 +4,5 @@ use Rattle.decode_count.proofs.counting.count_times.Given as goal
 
 abbrev pub invariant-loop : goal.invariant-loop
 invariant-loop l =
-    MeetsIn l.fn.bytes l.counter l.total.instructions l.total.undecoded × (l.total.instructions + l.total.undecoded ≤ 4294967295 * l.counter)
+    MeetsIn l.fn.bytes l.counter l.total.instructions l.total.undecoded
+    × (l.total.instructions + l.total.undecoded ≤ 4294967295 * l.counter)

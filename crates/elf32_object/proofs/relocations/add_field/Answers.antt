@@ -15,8 +15,10 @@ pub returns : goal.returns
 returns c =
     let bytes = c.args.layout.now.bytes.now in
     let offset = ap (λ r. r.offset) c.entry-reloc.ensures in
-    let key : c.field_key.result ≡ field_key (section_header bytes c.args.i).info (relocation bytes c.args.i c.args.k).offset =
-    c.field_key.ensures ∙ ap (λ h. field_key h.info c.entry-reloc.result.offset) c.header.ensures ∙ ap (field_key (section_header bytes c.args.i).info) offset in
+    let key : c.field_key.result ≡ field_key (section_header bytes c.args.i).info
+    (relocation bytes c.args.i c.args.k).offset =
+    c.field_key.ensures ∙ ap (λ h. field_key h.info c.entry-reloc.result.offset) c.header.ensures
+    ∙ ap (field_key (section_header bytes c.args.i).info) offset in
     more_taken bytes c.args.i c.args.k c.args.fields.now c.insert.new.self
     (sym (ap has_field c.entry-reloc.ensures) ∙ sym c.has_field.ensures ∙ c.if-not-has_field.false)
     (omega arith)

@@ -21,10 +21,13 @@ unfolding relocations_fault
 returns-in_err-check_relocation-clause-finds c =
     let p = err_from_is_err_and c.from_residual.result c.from_residual.ensures.1 in
     let bytes = c.args.layout.now.bytes.now in
-    rw (p.1, p.2) (λ other. first_at (relocation_fault bytes c.args.i) (entry_count bytes c.args.i) c.loop-k.k _ c.loop-k.invariant.0 (c.in_err-check_relocation.ensures.finds other) (omega arith))
+    rw (p.1, p.2) (λ other. first_at (relocation_fault bytes c.args.i)
+    (entry_count bytes c.args.i) c.loop-k.k _ c.loop-k.invariant.0 (c.in_err-check_relocation.ensures.finds other)
+    (omega arith))
 
 pub returns-clause-taken : goal.returns-clause-taken
 returns-clause-taken c =
     let bytes = c.args.layout.now.bytes.now in
     let whole : c.loop-k.k ≡ entry_count bytes c.args.i = omega arith in
-    next_taken bytes c.args.i c.loop-k.fields (subst (λ (k : ℕ). AreTaken bytes c.args.i k c.loop-k.fields) whole c.loop-k.invariant.1)
+    next_taken bytes c.args.i c.loop-k.fields
+    (subst (λ (k : ℕ). AreTaken bytes c.args.i k c.loop-k.fields) whole c.loop-k.invariant.1)

@@ -13,4 +13,5 @@ pub returns-in_err-check_entries : goal.returns-in_err-check_entries
 returns-in_err-check_entries c =
     let p = err_from_is_err_and c.from_residual.result c.from_residual.ensures.1 in
     let bytes = c.args.layout.now.bytes.now in
-    rw (p.1, p.2) (λ other. first_at (relocations_fault bytes) (section_count bytes) c.loop-i.i _ c.loop-i.invariant.0 (c.in_err-check_entries.ensures.finds other) (omega arith))
+    rw (p.1, p.2) (λ other. first_at (relocations_fault bytes) (section_count bytes) c.loop-i.i _ c.loop-i.invariant.0
+    (c.in_err-check_entries.ensures.finds other) (omega arith))

@@ -9,7 +9,8 @@ returns c =
     elim (cases_Bool c.is_free.result) [
       | inl free ↦
           free ∙ sym (ap not (free_is_apart bytes c.args.section c.args.offset c.args.i c.args.k
-          (λ at l g. sym (c.requires.taken.same c.args.section at (omega (arith, c.requires.small))) ∙ c.is_free.ensures.free free at l g)))
+          (λ at l g. sym (c.requires.taken.same c.args.section at (omega (arith, c.requires.small)))
+          ∙ c.is_free.ensures.free free at l g)))
       | inr taken ↦
           let met = c.is_free.ensures.taken taken in
           taken ∙ sym (ap not (taken_is_met bytes c.args.section c.args.offset met.0 c.args.i c.args.k met.1 met.2

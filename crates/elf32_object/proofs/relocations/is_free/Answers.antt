@@ -10,7 +10,8 @@ pub returns-in-Some-clause-taken : goal.returns-in-Some-clause-taken
 returns-in-Some-clause-taken c = λ e.
     let in_range = c.range.ensures.in_range tt in
     let key = c.in-Some.next.now in
-    let found : (field_key c.args.section (c.args.offset - 3) ≤ key) × (contains nat_cmp c.args.fields.now key ≡ true) = grind (arith, common_steps, in_range.1) in
+    let found : (field_key c.args.section (c.args.offset - 3) ≤ key) × (contains nat_cmp c.args.fields.now key ≡ true) =
+    grind (arith, common_steps, in_range.1) in
     let below : key < field_key c.args.section c.args.offset + 4 = grind (arith, nat_tests) in
     let at : ℕ = key - c.args.section * 4294967296 in
     let same : key ≡ field_key c.args.section at = omega (arith, found.0) in

@@ -14,4 +14,5 @@ pub returns-in_err-totals : goal.returns-in_err-totals
 returns-in_err-totals c =
     let p = err_from_is_err_and c.from_residual.result c.from_residual.ensures.1 in
     let bytes = c.args.layout.now.bytes.now in
-    rw (p.1, p.2) (λ other. first_at (section_fault bytes) (section_count bytes) c.loop-i.i _ c.loop-i.invariant.0 (c.in_err-totals.ensures.finds other) (omega arith))
+    rw (p.1, p.2) (λ other. first_at (section_fault bytes) (section_count bytes) c.loop-i.i _ c.loop-i.invariant.0
+    (c.in_err-totals.ensures.finds other) (omega arith))

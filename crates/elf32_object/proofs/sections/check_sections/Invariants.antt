@@ -6,4 +6,5 @@ use Rattle.elf32_object.proofs.sections.check_sections.Given as goal
 
 abbrev pub invariant-loop-i : goal.invariant-loop-i
 invariant-loop-i l =
-    (first_below (section_fault l.layout.bytes.now) l.i ≡ None) × AreTotals l.layout.bytes.now l.i l.totals.relocations l.totals.content
+    (first_below (section_fault l.layout.bytes.now) l.i ≡ None)
+    × AreTotals l.layout.bytes.now l.i l.totals.relocations l.totals.content

@@ -14,4 +14,5 @@ returns-in_err-check_symbol c =
     let p = err_from_is_err_and c.from_residual.result c.from_residual.ensures.1 in
     let bytes = c.args.layout.now.bytes.now in
     let same : symbol_count c.args.symbols.now.bytes.now ≡ symbol_count bytes = ap symbol_count c.requires in
-    rw (p.1, p.2) (λ other. first_at (symbol_fault bytes) (symbol_count bytes) c.loop-k.k _ c.loop-k.invariant (c.in_err-check_symbol.ensures other) (omega (arith, c.args.symbols.now.count_is)))
+    rw (p.1, p.2) (λ other. first_at (symbol_fault bytes) (symbol_count bytes) c.loop-k.k _ c.loop-k.invariant
+    (c.in_err-check_symbol.ensures other) (omega (arith, c.args.symbols.now.count_is)))

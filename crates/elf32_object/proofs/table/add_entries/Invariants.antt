@@ -5,4 +5,6 @@ use Rattle.elf32_object.proofs.table.add_entries.Given as goal
 
 abbrev pub invariant-loop-index : goal.invariant-loop-index
 invariant-loop-index l =
-    (rows_of l.rows.items ≡ slice_set (rows_of l.fn.rows.items) l.section (get_or (rows_of l.fn.rows.items) l.section [] ++ each_below (spot_of l.from) l.index)) × (vec_len l.rows ≡ vec_len l.fn.rows)
+    (rows_of l.rows.items ≡ slice_set (rows_of l.fn.rows.items) l.section
+    (get_or (rows_of l.fn.rows.items) l.section [] ++ each_below (spot_of l.from) l.index))
+    × (vec_len l.rows ≡ vec_len l.fn.rows)

@@ -12,13 +12,23 @@ use Rattle.elf32_object.proofs.table.add_section.Goals as goal
 
 pub returns-then-not-patches_loaded : goal.returns-then-not-patches_loaded
 returns-then-not-patches_loaded c =
-    same_rows c.args.layout.now.bytes.now c.args.i (rows_of c.args.rows.now.items) (sym c.patches_loaded.ensures ∙ c.if-not-patches_loaded.true) c.requires.rows
+    same_rows c.args.layout.now.bytes.now c.args.i (rows_of c.args.rows.now.items)
+    (sym c.patches_loaded.ensures ∙ c.if-not-patches_loaded.true) c.requires.rows
 
 pub add_entries-requires : goal.add_entries-requires
 add_entries-requires c =
     let bytes = c.args.layout.now.bytes.now in
-    let within = loaded_within bytes (section_header bytes c.args.i).info (patches bytes c.args.i (sym c.patches_loaded.ensures ∙ c.if-not-patches_loaded.false)).3 in
-    omega (arith, within, ap (λ h. h.info) c.header.ensures, c.requires.rows.counted, c.args.rows.now.ok.0, length-map c.args.rows.now.items vec_items)
+    let within = loaded_within bytes (section_header bytes c.args.i).info
+    (patches bytes c.args.i (sym c.patches_loaded.ensures ∙ c.if-not-patches_loaded.false)).3 in
+    omega (
+      arith,
+      within,
+      ap (λ h. h.info) c.header.ensures,
+      c.requires.rows.counted,
+      c.args.rows.now.ok.0,
+      length-map
+          c.args.rows.now.items vec_items,
+    )
 
 pub returns : goal.returns
 returns c =
@@ -28,9 +38,11 @@ returns c =
     let more = rows_of c.add_entries.new.rows.items in
     let target = ap (λ h. h.info) c.header.ensures in
     on_ok_weaker c.add_entries.result
-    (λ added. more_rows bytes c.args.i rows more patched (loaded_within bytes (section_header bytes c.args.i).info (patches bytes c.args.i patched).3)
+    (λ added. more_rows bytes c.args.i rows more patched
+    (loaded_within bytes (section_header bytes c.args.i).info (patches bytes c.args.i patched).3)
     (added
     ∙ ap (λ s. slice_set rows s (get_or rows s [] ++ each_below (spot_of c.args.i) c.entry_count.result)) target
-    ∙ ap (λ n. slice_set rows (section_header bytes c.args.i).info (get_or rows (section_header bytes c.args.i).info [] ++ each_below (spot_of c.args.i) n)) c.entry_count.ensures)
+    ∙ ap (λ n. slice_set rows (section_header bytes c.args.i).info
+    (get_or rows (section_header bytes c.args.i).info [] ++ each_below (spot_of c.args.i) n)) c.entry_count.ensures)
     c.requires.rows)
     c.add_entries.ensures

@@ -13,14 +13,20 @@ overflow_cast-result c =
       row.ok.0,
       few_entries bytes (section_count bytes) c.requires.sections,
       below_all bytes c.args.section (section_count bytes),
-      length-row bytes c.args.rows.now c.args.section (section_count bytes) row c.requires.rows c.requires.within c.index-rows-section.is,
+      length-row bytes c.args.rows.now c.args.section (section_count bytes) row c.requires.rows c.requires.within
+          c.index-rows-section.is,
     )
 
 pub returns-clause-count : goal.returns-clause-count
 returns-clause-count c =
     let bytes = c.args.layout.now.bytes.now in
     let row = c.index-rows-section.result in
-    omega (arith, row.ok.0, length-row bytes c.args.rows.now c.args.section (section_count bytes) row c.requires.rows c.requires.within c.index-rows-section.is)
+    omega (
+      arith,
+      row.ok.0,
+      length-row bytes c.args.rows.now c.args.section
+          (section_count bytes) row c.requires.rows c.requires.within c.index-rows-section.is,
+    )
 
 pub returns-clause-few : goal.returns-clause-few
 returns-clause-few c =
@@ -31,5 +37,6 @@ returns-clause-few c =
       row.ok.0,
       few_entries bytes (section_count bytes) c.requires.sections,
       below_all bytes c.args.section (section_count bytes),
-      length-row bytes c.args.rows.now c.args.section (section_count bytes) row c.requires.rows c.requires.within c.index-rows-section.is,
+      length-row bytes c.args.rows.now c.args.section (section_count bytes) row c.requires.rows c.requires.within
+          c.index-rows-section.is,
     )

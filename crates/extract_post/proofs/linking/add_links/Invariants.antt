@@ -6,4 +6,5 @@ use Rattle.extract_post.proofs.linking.add_links.Given as goal
 
 abbrev pub invariant-loop-k : goal.invariant-loop-k
 invariant-loop-k l =
-    l.links.items ≡ l.initial.links.items ++ flat_map (λ r. link_to l.normal l.from l.class r (place_of_target l.normal r.target)) (take l.k l.refs)
+    l.links.items ≡ l.initial.links.items ++ flat_map
+    (λ r. link_to l.normal l.from l.class r (place_of_target l.normal r.target)) (take l.k l.refs)

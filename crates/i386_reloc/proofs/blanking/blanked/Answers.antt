@@ -10,4 +10,5 @@ pub loop-r-preserved : goal.loop-r-preserved
 loop-r-preserved c =
     let same : length c.blank.new.bytes ≡ c.loop-r.copy.len = omega arith in
     rw (with_items_is c.loop-r.copy c.blank.new.bytes same)
-    (blanked_more c.args.fields.now c.loop-r.r-index _ _ c.args.bytes.now c.as_mut_slice.result.now c.blank.new.bytes (omega arith) refl (c.as_mut_slice.ensures.value ∙ c.loop-r.invariant) c.blank.auto.bytes c.blank.ensures)
+    (blanked_more c.args.fields.now c.loop-r.r-index _ _ c.args.bytes.now c.as_mut_slice.result.now c.blank.new.bytes
+    (omega arith) refl (c.as_mut_slice.ensures.value ∙ c.loop-r.invariant) c.blank.auto.bytes c.blank.ensures)

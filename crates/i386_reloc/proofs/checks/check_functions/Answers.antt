@@ -10,4 +10,5 @@ unfolding function_fault
 returns-in_err-check_function c =
     let p = err_from_is_err_and c.from_residual.result c.from_residual.ensures.1 in
     rw (p.1, p.2)
-    (finds_first (function_fault_at c.args.object.now) c.loop-i.i (section_count c.args.object.now) _ c.loop-i.invariant (omega arith) c.in_err-check_function.ensures)
+    (finds_first (function_fault_at c.args.object.now) c.loop-i.i (section_count c.args.object.now) _ c.loop-i.invariant
+    (omega arith) c.in_err-check_function.ensures)

@@ -5,7 +5,8 @@ use Rattle.i386_reloc.proofs.FunctionSymbols.{are_no_functions}
 use Rattle.i386_reloc.proofs.functions.gather.Goals as goal
 
 pub loop-k-init : goal.loop-k-init
-loop-k-init c = rw (c.in_ok-table.ensures.items_if_clones_equal (λ y same. same)) (are_no_functions c.args.source.now.object.now _ c.section_count.ensures.count)
+loop-k-init c = rw (c.in_ok-table.ensures.items_if_clones_equal (λ y same. same))
+    (are_no_functions c.args.source.now.object.now _ c.section_count.ensures.count)
 
 pub gather_symbol-requires-clause-before : goal.gather_symbol-requires-clause-before
 gather_symbol-requires-clause-before c = rw c.as_mut_slice.ensures.value c.loop-k.invariant

@@ -10,4 +10,5 @@ unfolding name_fault
 returns-in_err-place_section-clause-finds c =
     let p = err_from_is_err_and c.from_residual.result c.from_residual.ensures.1 in
     rw (p.1, p.2)
-    (finds_first (name_fault_at c.args.object.now) c.loop-i.i (section_count c.args.object.now) _ c.loop-i.invariant.0 (omega arith) c.in_err-place_section.ensures.finds)
+    (finds_first (name_fault_at c.args.object.now) c.loop-i.i (section_count c.args.object.now) _ c.loop-i.invariant.0
+    (omega arith) c.in_err-place_section.ensures.finds)

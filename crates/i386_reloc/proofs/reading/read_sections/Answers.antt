@@ -25,6 +25,8 @@ pub returns-in_err-add_section-clause-finds : goal.returns-in_err-add_section-cl
 unfolding relocation_fault
 returns-in_err-add_section-clause-finds c =
     let bytes = c.args.source.now.object.now in
-    let p = err_from_is_err_and c.from_residual-in_err-add_section.result c.from_residual-in_err-add_section.ensures.1 in
+    let p = err_from_is_err_and c.from_residual-in_err-add_section.result
+    c.from_residual-in_err-add_section.ensures.1 in
     rw (p.1, p.2)
-    (finds_first (relocation_fault_at bytes) c.loop-i.i (section_count bytes) _ c.loop-i.invariant.none (omega arith) c.in_err-add_section.ensures.finds)
+    (finds_first (relocation_fault_at bytes) c.loop-i.i (section_count bytes) _ c.loop-i.invariant.none
+    (omega arith) c.in_err-add_section.ensures.finds)

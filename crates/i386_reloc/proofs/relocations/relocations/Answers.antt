@@ -11,12 +11,20 @@ loop-k-preserved c =
     let bytes = c.args.object.now in
     let r = c.reloc.result in
     record {
-      items = c.in_ok-push.ensures.items ∙ take_relocation bytes c.args.i c.loop-k.k r c.loop-k.list.items c.loop-k.invariant.items (omega arith) c.reloc.ensures.relocation;
+      items = c.in_ok-push.ensures.items ∙ take_relocation bytes c.args.i c.loop-k.k r c.loop-k.list.items
+          c.loop-k.invariant.items (omega arith) c.reloc.ensures.relocation;
       placed = All-same (λ x. IsPlaced bytes c.args.i x) _ _ c.in_ok-push.ensures.items
-          (All-push (λ x. IsPlaced bytes c.args.i x) c.loop-k.list.items r c.loop-k.invariant.placed (record { symbol = c.reloc.ensures.symbol; begins = c.reloc.ensures.begins; within = c.reloc.ensures.field }));
+          (All-push (λ x. IsPlaced bytes c.args.i x) c.loop-k.list.items r c.loop-k.invariant.placed
+          (record {
+            symbol = c.reloc.ensures.symbol;
+            begins = c.reloc.ensures.begins;
+            within =
+                c.reloc.ensures.field;
+          }));
     }
 
 pub returns-clause-items : goal.returns-clause-items
 returns-clause-items c =
     c.loop-k.invariant.items
-    ∙ take_all c.loop-k.k (relocations_of c.args.object.now c.args.i) (omega (arith, length-relocations c.args.object.now c.args.i))
+    ∙ take_all c.loop-k.k (relocations_of c.args.object.now c.args.i)
+    (omega (arith, length-relocations c.args.object.now c.args.i))

@@ -10,7 +10,8 @@ use Rattle.image_file.proofs.regions.regions_of.Given as goal
 
 abbrev pub invariant-loop : goal.invariant-loop
 invariant-loop l = record {
-  reads : items_at (l.count - l.counter) (region_at l.bytes l.arena) region_width l.pieces l.offset ≡ items_at l.count (region_at l.bytes l.arena) region_width [] 24;
+  reads : items_at (l.count - l.counter) (region_at l.bytes l.arena) region_width l.pieces l.offset ≡ items_at l.count
+      (region_at l.bytes l.arena) region_width [] 24;
   floor_is : l.floor ≡ end_of piece_range 0 l.pieces;
   total_is : l.total ≡ total_of piece_range l.pieces;
   small : l.total ≤ 16777216;

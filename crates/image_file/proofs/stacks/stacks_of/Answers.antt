@@ -17,7 +17,8 @@ returns-in_err-stack-clause-exact c =
     let p = err_from_is_err_and c.from_residual.result c.from_residual.ensures.1 in
     let inv = c.loop.invariant in
     let item = stack_at c.args.bytes.now c.args.arena c.args.pieces.now in
-    rw (p.1, p.2) (ends item stack_width c.args.count c.loop.counter c.loop.stacks c.loop.offset c.in_err-stack.field-0.0
+    rw (p.1, p.2) (ends item stack_width c.args.count c.loop.counter c.loop.stacks c.loop.offset
+    c.in_err-stack.field-0.0
     (items_at c.args.count item stack_width [] c.args.first) c.loop-test.true
     (λ other. rw (← inv.floor_is, ← inv.total_is) (c.in_err-stack.ensures.exact other)) inv.reads)
 
@@ -27,7 +28,8 @@ loop-preserved c =
     let inv = c.loop.invariant in
     let item = stack_at c.args.bytes.now c.args.arena c.args.pieces.now in
     let e : c.push.new.self ≡ c.loop.stacks ++ stack ∷ [] = c.in_ok-push.ensures.ok in
-    let read : item c.loop.stacks c.loop.offset ≡ Ok stack = rw (← inv.floor_is, ← inv.total_is) c.in_ok-stack.ensures.exact in
+    let read : item c.loop.stacks c.loop.offset ≡ Ok stack =
+    rw (← inv.floor_is, ← inv.total_is) c.in_ok-stack.ensures.exact in
     let full : stack.low + 32 ≤ stack.high = c.in_ok-stack.ensures.some in
     let sum = total_of-push own_range c.loop.stacks stack in
     rw e (record {
@@ -38,11 +40,14 @@ loop-preserved c =
       small = c.in_ok-stack.ensures.sum;
       place = omega arith;
       count_is = omega (arith, length-append c.loop.stacks (stack ∷ []));
-      kept = All-push (λ (x : Range). IsTrue (keeps_stack c.args.arena c.args.pieces.now x)) c.loop.stacks stack inv.kept c.in_ok-stack.ensures.kept;
-      ascend = Ascends-push own_range 0 c.loop.stacks stack inv.ascend (rw (← inv.floor_is) c.in_ok-stack.ensures.above) (omega arith);
+      kept = All-push (λ (x : Range). IsTrue (keeps_stack c.args.arena c.args.pieces.now x)) c.loop.stacks stack
+          inv.kept c.in_ok-stack.ensures.kept;
+      ascend = Ascends-push own_range 0 c.loop.stacks stack inv.ascend (rw (← inv.floor_is) c.in_ok-stack.ensures.above)
+          (omega arith);
     })
 
 pub returns-clause-exact : goal.returns-clause-exact
 returns-clause-exact c =
     let item = stack_at c.args.bytes.now c.args.arena c.args.pieces.now in
-    is_done item stack_width c.args.count c.loop.counter c.loop.stacks c.loop.offset (items_at c.args.count item stack_width [] c.args.first) c.loop-test.false c.loop.invariant.reads
+    is_done item stack_width c.args.count c.loop.counter c.loop.stacks c.loop.offset
+    (items_at c.args.count item stack_width [] c.args.first) c.loop-test.false c.loop.invariant.reads

@@ -9,7 +9,8 @@ use Rattle.image_file.proofs.stacks.stacks_of.Given as goal
 
 abbrev pub invariant-loop : goal.invariant-loop
 invariant-loop l = record {
-  reads : items_at (l.count - l.counter) (stack_at l.bytes l.arena l.pieces) stack_width l.stacks l.offset ≡ items_at l.count (stack_at l.bytes l.arena l.pieces) stack_width [] l.first;
+  reads : items_at (l.count - l.counter) (stack_at l.bytes l.arena l.pieces) stack_width l.stacks l.offset
+      ≡ items_at l.count (stack_at l.bytes l.arena l.pieces) stack_width [] l.first;
   floor_is : l.floor ≡ end_of own_range 0 l.stacks;
   total_is : l.total ≡ total_of own_range l.stacks;
   small : l.total ≤ 16777216;

@@ -7,7 +7,8 @@ use Rattle.image_file.proofs.symbols.symbols_of.Given as goal
 
 abbrev pub invariant-loop : goal.invariant-loop
 invariant-loop l = record {
-  reads : items_at (l.count - l.counter) (symbol_at l.bytes l.pieces) symbol_width l.symbols.items l.offset ≡ items_at l.count (symbol_at l.bytes l.pieces) symbol_width [] l.first;
+  reads : items_at (l.count - l.counter) (symbol_at l.bytes l.pieces) symbol_width l.symbols.items l.offset
+      ≡ items_at l.count (symbol_at l.bytes l.pieces) symbol_width [] l.first;
   place : l.offset ≤ l.first + 4112 * l.counter;
   count_is : length l.symbols.items ≡ l.counter;
   kept : All (λ symbol. IsTrue (keeps_symbol l.pieces symbol)) l.symbols.items;

@@ -8,5 +8,16 @@ pub returns : goal.returns
 unfolding symbol_spelling
 returns c =
     let symbol = c.args.symbol.now in
-    let whole = regroup_five c.args.out.now.items (number symbol.address) (number (symbol_kind symbol)) (number (if symbol.global then 1 else 0)) (number (length symbol.name)) symbol.name in
-    cc (c.in_ok-extend_from_slice.ensures.items, c.in_ok-put_number-4.ensures, c.in_ok-put_number-3.ensures, c.in_ok-put_number-2.ensures, c.in_ok-put_number.ensures, c.symbol_kind.ensures, c.binding_number.ensures, c.len.ensures, c.as_slice.ensures)
+    let whole = regroup_five c.args.out.now.items (number symbol.address) (number (symbol_kind symbol))
+    (number (if symbol.global then 1 else 0)) (number (length symbol.name)) symbol.name in
+    cc (
+      c.in_ok-extend_from_slice.ensures.items,
+      c.in_ok-put_number-4.ensures,
+      c.in_ok-put_number-3.ensures,
+      c.in_ok-put_number-2.ensures,
+      c.in_ok-put_number.ensures,
+      c.symbol_kind.ensures,
+      c.binding_number.ensures,
+      c.len.ensures,
+      c.as_slice.ensures,
+    )

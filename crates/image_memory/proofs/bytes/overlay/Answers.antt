@@ -10,4 +10,5 @@ returns-then-low-high c =
 
 pub returns-else-low-high : goal.returns-else-low-high
 returns-else-low-high c =
-    sym (overlaid_outside c.args.start c.args.from.now c.args.at c.args.target.now (λ k l. grind (arith, c.max-low.ensures, c.min-high.ensures, c.if-low-high.false)))
+    sym (overlaid_outside c.args.start c.args.from.now c.args.at c.args.target.now
+    (λ k l. grind (arith, c.max-low.ensures, c.min-high.ensures, c.if-low-high.false)))

@@ -33,5 +33,6 @@ returns-else-from-end c =
 pub returns-after-loop-i : goal.returns-after-loop-i
 returns-after-loop-i c =
     let loop = c.loop-i.invariant in
-    written_is c.args.pieces.now c.loop-i.pieces c.args.start c.args.from.now c.loop-i.i loop.same_length loop.done loop.rest
+    written_is c.args.pieces.now c.loop-i.pieces c.args.start c.args.from.now c.loop-i.i loop.same_length loop.done
+    loop.rest
     (λ k d l m. absurd (omega (arith, loop.same_length)))

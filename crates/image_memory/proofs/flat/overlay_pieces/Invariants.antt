@@ -7,7 +7,8 @@ abbrev pub invariant-loop-i : goal.invariant-loop-i
 invariant-loop-i l = record {
   bound : l.i ≤ length l.pieces;
   same_length : length l.pieces ≡ length l.initial.pieces;
-  done : (k : ℕ) (d : Piece) → k < l.i → get_or l.pieces k d ≡ overlaid_piece l.start l.from (get_or l.initial.pieces k d);
+  done : (k : ℕ) (d : Piece) → k < l.i → get_or l.pieces k d ≡ overlaid_piece l.start l.from
+      (get_or l.initial.pieces k d);
   rest : (k : ℕ) (d : Piece) → l.i ≤ k → get_or l.pieces k d ≡ get_or l.initial.pieces k d;
 }
 

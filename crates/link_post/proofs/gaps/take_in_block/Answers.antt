@@ -14,5 +14,7 @@ returns-clause-start c =
 pub returns-clause-left : goal.returns-clause-left
 returns-clause-left c =
     let s = c.args.section.now in
-    block_left s c.args.blocks.now.items c.remove.new.self.items c.args.i c.remove.result c.take_room.new.free.items (ranges_of c.put_ranges.new.blocks.items) c.requires
-    c.remove.ensures.value c.remove.ensures.items (c.in_ok-base.ensures.left ∙ ap (after_first s) c.into_ranges-ranges.ensures) c.in_ok-put_ranges.ensures
+    block_left s c.args.blocks.now.items c.remove.new.self.items c.args.i c.remove.result c.take_room.new.free.items
+    (ranges_of c.put_ranges.new.blocks.items) c.requires
+    c.remove.ensures.value c.remove.ensures.items (c.in_ok-base.ensures.left
+    ∙ ap (after_first s) c.into_ranges-ranges.ensures) c.in_ok-put_ranges.ensures

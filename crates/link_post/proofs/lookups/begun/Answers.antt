@@ -6,4 +6,5 @@ use Rattle.link_post.proofs.lookups.begun.Goals as goal
 
 pub returns-clause-point : goal.returns-clause-point
 returns-clause-point c =
-    IsPartitionPoint-from_clause (is_before c.args.post.now c.args.place) _ _ c.partition_point.ensures.partitioned (parted c.args.post.now c.args.placement.now c.args.place c.requires) (λ a r q k. search rules)
+    IsPartitionPoint-from_clause (is_before c.args.post.now c.args.place) _ _ c.partition_point.ensures.partitioned
+    (parted c.args.post.now c.args.placement.now c.args.place c.requires) (λ a r q k. search rules)

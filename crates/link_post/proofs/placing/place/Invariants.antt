@@ -8,5 +8,6 @@ use Rattle.link_post.proofs.placing.place.Given as goal
 abbrev pub invariant-loop-section : goal.invariant-loop-section
 invariant-loop-section l = record {
   ascend : Ascends own 0 (ranges_of l.free.items);
-  so_far : placed l.sizes l.fn.gaps ≡ preceded l.placement (placed (drop l.section-index l.sizes) (ranges_of l.free.items));
+  so_far : placed l.sizes l.fn.gaps ≡ preceded l.placement
+      (placed (drop l.section-index l.sizes) (ranges_of l.free.items));
 }

@@ -10,4 +10,5 @@ pub returns : goal.returns
 returns c =
     let before = c.args.values.now in
     c.in_ok-insert.ensures.entries
-    ∙ insert_entry-new ((impl.eq-value).it) before c.args.which (Address c.args.address) (looked_up c.args.which before.entries ∙ c.requires)
+    ∙ insert_entry-new ((impl.eq-value).it) before c.args.which (Address c.args.address)
+    (looked_up c.args.which before.entries ∙ c.requires)

@@ -5,4 +5,5 @@ use Rattle.reachability.proofs.along.graph_of.Given as goal
 -- the edges so far
 abbrev pub invariant-loop-edge : goal.invariant-loop-edge
 invariant-loop-edge l =
-    (length l.graph ≡ l.nodes) × ((from to : ℕ) → has_edge l.graph from to ≡ connects (take l.edge-index l.edges) from to)
+    (length l.graph ≡ l.nodes) × ((from to : ℕ) → has_edge l.graph from to ≡ connects
+    (take l.edge-index l.edges) from to)

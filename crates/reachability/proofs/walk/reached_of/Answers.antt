@@ -10,4 +10,5 @@ loop-turn-preserved c =
     let turn = c.loop-turn.turn in
     let less : turn < length c.loop-turn.walk.queue = omega arith in
     let P : Walk → Type 0 = IsWalk graph seeds (turn + 1) in
-    subst P (sym c.in_ok-visit.ensures) (walk_goes_on graph seeds turn c.loop-turn.walk c.requires.successors less c.loop-turn.invariant)
+    subst P (sym c.in_ok-visit.ensures)
+    (walk_goes_on graph seeds turn c.loop-turn.walk c.requires.successors less c.loop-turn.invariant)

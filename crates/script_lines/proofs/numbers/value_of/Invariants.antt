@@ -8,6 +8,7 @@ use Rattle.script_lines.proofs.numbers.value_of.Given as goal
 abbrev pub invariant-loop-byte : goal.invariant-loop-byte
 invariant-loop-byte l = record {
   value : digits_value_after l.base l.value (drop l.byte-index l.digits) ≡ digits_value l.base l.digits;
-  digits : list_all (λ digit. is_digit digit l.base) (drop l.byte-index l.digits) ≡ list_all (λ digit. is_digit digit l.base) l.digits;
+  digits : list_all (λ digit. is_digit digit l.base) (drop l.byte-index l.digits) ≡ list_all
+      (λ digit. is_digit digit l.base) l.digits;
   small : l.value < 2 ^ (4 * l.byte-index);
 }

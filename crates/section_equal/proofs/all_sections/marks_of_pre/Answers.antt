@@ -10,7 +10,8 @@ use Rattle.section_equal.proofs.all_sections.marks_of_pre.Goals as goal
 pub returns : goal.returns
 returns c =
     IfOk-weaker c.marks_of_names.result
-    (λ found. found.items ≡ map (λ section. mark_at c.args.marks.now (place_named c.args.post.now section.name)) c.as_slice.result.now)
+    (λ found. found.items ≡ map (λ section. mark_at c.args.marks.now (place_named c.args.post.now section.name))
+    c.as_slice.result.now)
     (λ found. found.items ≡ same_names c.args.pre.now c.args.post.now c.args.pre.now)
     (λ found is.
     is

@@ -5,4 +5,5 @@ use Rattle.section_equal.proofs.comparing.keep.Goals as goal
 pub returns : goal.returns
 returns c =
     λ pre post all here.
-    after_insert pre post c.args.ends c.args.count c.args.known.now c.insert-kept.new.self c.insert-kept.result c.insert-kept.ensures.entries c.insert-kept.ensures.err all here
+    after_insert pre post c.args.ends c.args.count c.args.known.now c.insert-kept.new.self c.insert-kept.result
+    c.insert-kept.ensures.entries c.insert-kept.ensures.err all here

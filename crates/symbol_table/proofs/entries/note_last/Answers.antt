@@ -19,7 +19,9 @@ sort_last_block-requires-clause-blocks c =
     let new : vec_len pushed ≡ length pushed.items = search rules in
     let parts = last_parts symbols place last refl c.requires.some c.index-symbols-place.is in
     let P : List Entry → Type 0 = λ es. InBlocks less (take (length es - 1) es) in
-    subst P (sym c.as_mut_slice.ensures.value) (pushed_blocks less c.args.index last place entries pushed.items c.push_symbol.ensures.items (omega (arith, old, new)) (blocks_still c.args.index symbols last place entries parts c.requires.before))
+    subst P (sym c.as_mut_slice.ensures.value)
+    (pushed_blocks less c.args.index last place entries pushed.items c.push_symbol.ensures.items
+    (omega (arith, old, new)) (blocks_still c.args.index symbols last place entries parts c.requires.before))
 
 pub returns-then-count-len-clause-all : goal.returns-then-count-len-clause-all
 returns-then-count-len-clause-all c =
@@ -30,9 +32,14 @@ returns-then-count-len-clause-all c =
     let held = c.as_mut_slice.result.now in
     let sorted = c.sort_last_block.new.entries in
     let at : place ≡ length (take place symbols) = sym (length-take-le place symbols (omega arith)) in
-    let len : length sorted ≡ pushed.len = omega (arith, length_permutation held sorted c.sort_last_block.ensures.same, c.as_mut_slice.ensures.len) in
+    let len : length sorted ≡ pushed.len =
+    omega (arith, length_permutation held sorted c.sort_last_block.ensures.same, c.as_mut_slice.ensures.len) in
     let P : List Entry → Type 0 = λ es. HasAll c.args.index symbols es in
-    subst P (sym (with_items_is pushed sorted len)) (noted c.args.index symbols last place c.args.entries.now.items held sorted (last_parts symbols place last refl c.requires.some c.index-symbols-place.is) at c.requires.before (c.as_mut_slice.ensures.value ∙ c.push_symbol.ensures.items) c.sort_last_block.ensures.same c.sort_last_block.ensures.blocks)
+    subst P (sym (with_items_is pushed sorted len))
+    (noted c.args.index symbols last place c.args.entries.now.items held sorted
+    (last_parts symbols place last refl c.requires.some c.index-symbols-place.is) at c.requires.before
+    (c.as_mut_slice.ensures.value ∙ c.push_symbol.ensures.items) c.sort_last_block.ensures.same
+    c.sort_last_block.ensures.blocks)
 
 pub returns-else-count-len-clause-all : goal.returns-else-count-len-clause-all
 returns-else-count-len-clause-all c =
@@ -45,4 +52,8 @@ returns-else-count-len-clause-all c =
     let new : vec_len pushed ≡ length pushed.items = search rules in
     let at : place ≡ length (take place symbols) = sym (length-take-le place symbols (omega arith)) in
     let parts = last_parts symbols place last refl c.requires.some c.index-symbols-place.is in
-    noted c.args.index symbols last place entries pushed.items pushed.items parts at c.requires.before c.push_symbol.ensures.items (IsPermutation-refl pushed.items) (unpushed_blocks (entry_less c.args.index symbols) c.args.index last place entries pushed.items c.push_symbol.ensures.items (omega (arith, old, new)) (blocks_still c.args.index symbols last place entries parts c.requires.before))
+    noted c.args.index symbols last place entries pushed.items pushed.items parts at c.requires.before
+    c.push_symbol.ensures.items (IsPermutation-refl pushed.items)
+    (unpushed_blocks (entry_less c.args.index symbols) c.args.index last place entries pushed.items
+    c.push_symbol.ensures.items (omega (arith, old, new))
+    (blocks_still c.args.index symbols last place entries parts c.requires.before))

@@ -9,4 +9,5 @@ pub returns-clause-ascend : goal.returns-clause-ascend
 returns-clause-ascend c =
     let index = c.args.index in
     let symbols = c.args.symbols.now in
-    c.sort_unstable_by.ensures.sorted (entry_less index symbols) (entry_laws index symbols) (always_returns_same _ (λ a r. is_lt r ≡ entry_less index symbols a.0.now a.1.0.now) _ (λ a r q k. search rules))
+    c.sort_unstable_by.ensures.sorted (entry_less index symbols) (entry_laws index symbols)
+    (always_returns_same _ (λ a r. is_lt r ≡ entry_less index symbols a.0.now a.1.0.now) _ (λ a r q k. search rules))

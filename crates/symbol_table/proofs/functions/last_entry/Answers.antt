@@ -11,10 +11,15 @@ use Rattle.symbol_table.proofs.functions.last_entry.Goals as goal
 pub loop-end-init : goal.loop-end-init
 loop-end-init c =
     let entries = c.args.entries.now in
-    record { within = omega arith; so_far = sym (ap (entry_below c.args.address) (drop_all (length entries) entries (omega arith))) }
+    record {
+      within = omega arith;
+      so_far =
+          sym (ap (entry_below c.args.address) (drop_all (length entries) entries (omega arith)));
+    }
 
 pub last_in_block-requires : goal.last_in_block-requires
-last_in_block-requires c = block_sorted_at address_less c.args.entries.now _ c.loop-end.end c.block_begin-begin.ensures.value c.requires c.loop-end.invariant.within
+last_in_block-requires c = block_sorted_at address_less c.args.entries.now _ c.loop-end.end
+    c.block_begin-begin.ensures.value c.requires c.loop-end.invariant.within
 
 pub loop-end-preserved : goal.loop-end-preserved
 loop-end-preserved c =
@@ -25,8 +30,10 @@ loop-end-preserved c =
       within = omega (arith, within, below);
       so_far =
           c.greater_entry-last.ensures ∙ ap (greater_entry block) c.loop-end.invariant.so_far
-          ∙ ap (λ o. greater_entry o (entry_below c.args.address (drop c.loop-end.end c.args.entries.now))) c.last_in_block.ensures
-          ∙ last_more c.args.address c.args.entries.now c.block_begin-begin.result c.loop-end.end (omega (arith, below));
+          ∙ ap (λ o. greater_entry o (entry_below c.args.address (drop c.loop-end.end c.args.entries.now)))
+          c.last_in_block.ensures
+          ∙ last_more c.args.address c.args.entries.now c.block_begin-begin.result c.loop-end.end
+          (omega (arith, below));
     }
 
 pub returns-clause-found : goal.returns-clause-found

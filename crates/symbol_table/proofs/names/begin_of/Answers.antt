@@ -6,4 +6,6 @@ use Rattle.symbol_table.proofs.names.begin_of.Goals as goal
 
 pub returns-clause-point : goal.returns-clause-point
 returns-clause-point c =
-    IsPartitionPoint-from_clause (is_before c.args.symbols.now c.args.name.now) _ _ c.partition_point.ensures.partitioned (parted_before c.args.symbols.now c.args.entries.now c.args.name.now c.requires) (λ a r q k. search rules)
+    IsPartitionPoint-from_clause (is_before c.args.symbols.now c.args.name.now) _ _
+    c.partition_point.ensures.partitioned
+    (parted_before c.args.symbols.now c.args.entries.now c.args.name.now c.requires) (λ a r q k. search rules)

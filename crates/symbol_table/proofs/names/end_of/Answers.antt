@@ -6,4 +6,6 @@ use Rattle.symbol_table.proofs.names.end_of.Goals as goal
 
 pub returns-clause-point : goal.returns-clause-point
 returns-clause-point c =
-    IsPartitionPoint-from_clause (is_not_after c.args.symbols.now c.args.name.now) _ _ c.partition_point.ensures.partitioned (parted_up_to c.args.symbols.now c.args.entries.now c.args.name.now c.requires) (λ a r q k. search rules)
+    IsPartitionPoint-from_clause (is_not_after c.args.symbols.now c.args.name.now) _ _
+    c.partition_point.ensures.partitioned
+    (parted_up_to c.args.symbols.now c.args.entries.now c.args.name.now c.requires) (λ a r q k. search rules)

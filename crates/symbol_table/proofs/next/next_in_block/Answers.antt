@@ -11,12 +11,19 @@ returns-then-after-entries c =
     let after = c.partition_point-after.result in
     let d : Entry = record { address = 0; place = 0 } in
     let rise = entries_rise entries c.requires in
-    let point = IsPartitionPoint-from_clause (λ (entry : Entry). leb entry.address c.args.address) _ _ c.partition_point-after.ensures.partitioned (IsPartitionedBy-leb (λ (entry : Entry). entry.address) entries c.args.address rise) (λ a r q k. search rules) in
-    next_some c.args.address entries after d rise c.if-after-entries.true (λ k l. point.0 k d (omega arith) l) (point.1 after d (omega arith) c.if-after-entries.true)
+    let point = IsPartitionPoint-from_clause (λ (entry : Entry). leb entry.address c.args.address) _ _
+    c.partition_point-after.ensures.partitioned
+    (IsPartitionedBy-leb (λ (entry : Entry). entry.address) entries c.args.address rise)
+    (λ a r q k. search rules) in
+    next_some c.args.address entries after d rise c.if-after-entries.true (λ k l. point.0 k d (omega arith) l)
+    (point.1 after d (omega arith) c.if-after-entries.true)
 
 pub returns-else-after-entries : goal.returns-else-after-entries
 returns-else-after-entries c =
     let entries = c.args.entries.now in
     let d : Entry = record { address = 0; place = 0 } in
-    let point = IsPartitionPoint-from_clause (λ (entry : Entry). leb entry.address c.args.address) _ _ c.partition_point-after.ensures.partitioned (IsPartitionedBy-leb (λ (entry : Entry). entry.address) entries c.args.address (entries_rise entries c.requires)) (λ a r q k. search rules) in
+    let point = IsPartitionPoint-from_clause (λ (entry : Entry). leb entry.address c.args.address) _ _
+    c.partition_point-after.ensures.partitioned
+    (IsPartitionedBy-leb (λ (entry : Entry). entry.address) entries c.args.address
+    (entries_rise entries c.requires)) (λ a r q k. search rules) in
     next_none c.args.address entries d (λ k less. point.0 k d (omega arith) (omega arith))

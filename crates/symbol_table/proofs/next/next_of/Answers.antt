@@ -14,7 +14,8 @@ loop-end-init c =
     record { within = omega arith; so_far = subst P (sym (drop_all (length entries) entries (omega arith))) refl }
 
 pub next_in_block-requires : goal.next_in_block-requires
-next_in_block-requires c = block_sorted_at address_less c.args.entries.now _ c.loop-end.end c.block_begin-begin.ensures.value c.requires c.loop-end.invariant.within
+next_in_block-requires c = block_sorted_at address_less c.args.entries.now _ c.loop-end.end
+    c.block_begin-begin.ensures.value c.requires c.loop-end.invariant.within
 
 pub loop-end-preserved : goal.loop-end-preserved
 loop-end-preserved c =
@@ -24,7 +25,9 @@ loop-end-preserved c =
     let P : Option ℕ → Type 0 = IsNext c.args.address (any_address (drop c.block_begin-begin.result entries)) in
     record {
       within = omega (arith, within, below);
-      so_far = subst P (sym c.lesser-next.ensures) (next_more c.args.address entries c.block_begin-begin.result c.loop-end.end _ _ (omega (arith, below)) c.next_in_block.ensures c.loop-end.invariant.so_far);
+      so_far = subst P (sym c.lesser-next.ensures)
+          (next_more c.args.address entries c.block_begin-begin.result c.loop-end.end _ _
+          (omega (arith, below)) c.next_in_block.ensures c.loop-end.invariant.so_far);
     }
 
 pub returns : goal.returns

@@ -6,7 +6,8 @@ use Rattle.elf32_object.proofs.object.Object.reloc_count.Goals as goal
 
 pub count_of-requires-clause-within : goal.count_of-requires-clause-within
 count_of-requires-clause-within c =
-    loaded_within c.self.inside.layout.bytes.now c.args.section (ap (λ b. is_loaded b c.args.section) c.self.view_is ∙ c.requires)
+    loaded_within c.self.inside.layout.bytes.now c.args.section
+    (ap (λ b. is_loaded b c.args.section) c.self.view_is ∙ c.requires)
 
 pub count_of-requires-clause-sections : goal.count_of-requires-clause-sections
 count_of-requires-clause-sections c =

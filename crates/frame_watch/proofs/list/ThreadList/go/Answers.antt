@@ -10,7 +10,8 @@ use Rattle.frame_watch.specs.Frames.{Watched, stack_of, frames_at, is_of}
 use Rattle.frame_watch.specs.inside.Kept.{AreApart, IsPlace, IsTouched, is_in_place, number_unless}
 use Rattle.frame_watch.specs.inside.Events.{moved}
 use Rattle.frame_watch.proofs.MovedLaws.{based_after, touched_left, touched_less, touched_still}
-use Rattle.frame_watch.proofs.ListLaws.{moved_none, moved_at, dropped_at, dropped_is, kept_ascending, kept_apart, same_number, has_number, found_set}
+use Rattle.frame_watch.proofs.ListLaws.{moved_none, moved_at, dropped_at, dropped_is, kept_ascending}
+use Rattle.frame_watch.proofs.ListLaws.{kept_apart, same_number, has_number, found_set}
 use Rattle.frame_watch.proofs.list.ThreadList.go.Given.{Over}
 use Rattle.frame_watch.proofs.list.ThreadList.go.Goals as goal
 

@@ -24,7 +24,8 @@ invariant_of-self-in-Call g c =
     let capacity = c.self.invariant.0 in
     let new = frame c.esp_of-self-inside.result c.dword_at.result in
     let same : x.esp ≡ c.args.self.now.esp = ap (λ (w : Watched). w.esp) c.self.view_is in
-    let place : is_in_place (let w : Watched = record { thread = x.thread; stack = x.stack; esp = x.esp; frames = x.frames.items } in w) ≡ true
+    let place : is_in_place (let w : Watched =
+    record { thread = x.thread; stack = x.stack; esp = x.esp; frames = x.frames.items } in w) ≡ true
     = ap is_in_place c.self.view_is ∙ c.requires.in_place in
     let lower = c.requires.lower c.in-Call.is in
     let esp = c.esp_of-self-inside.ensures in

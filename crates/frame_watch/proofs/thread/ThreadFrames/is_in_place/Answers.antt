@@ -8,7 +8,13 @@ use Rattle.frame_watch.proofs.FrameLaws.{in_place_by, in_place_none}
 use Rattle.frame_watch.proofs.thread.ThreadFrames.is_in_place.Goals as goal
 
 abbrev shown : goal.After-is_slot → Watched
-shown c = record { thread = c.self.inside.thread; stack = c.self.inside.stack; esp = c.self.inside.esp; frames = c.self.inside.frames.items }
+shown c = record {
+  thread = c.self.inside.thread;
+  stack = c.self.inside.stack;
+  esp = c.self.inside.esp;
+  frames =
+      c.self.inside.frames.items;
+}
 
 pub returns-in-Some : goal.returns-in-Some
 returns-in-Some c =

@@ -1,5 +1,6 @@
 -- The frame behind those with higher slots is the only one that can have the slot.
-use Rattle.std.proofs.Common.{◌≡◌, ◌≢◌, ◌<◌, ◌≤◌, ℕ, arith, Bool, not, ◌==◌, List, length, ap, ◌∙◌, sym, subst, Some, None, true, get_or}
+use Rattle.std.proofs.Common.{◌≡◌, ◌≢◌, ◌<◌, ◌≤◌, ℕ, arith, Bool, not, ◌==◌, List}
+use Rattle.std.proofs.Common.{length, ap, ◌∙◌, sym, subst, Some, None, true, get_or}
 use Rattle.std.specs.List.{slice_get}
 use Rattle.std.proofs.lemmas.Bool.Decides.{nat_tests}
 use Rattle.std.proofs.lemmas.Option.{slice_get_within, get_or_from_slice_get}

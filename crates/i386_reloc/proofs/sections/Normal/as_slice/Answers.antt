@@ -4,4 +4,5 @@ use Rattle.i386_reloc.specs.Normal.{HasFieldsInOrder}
 use Rattle.i386_reloc.proofs.sections.Normal.as_slice.Goals as goal
 
 pub returns-clause-by_offset : goal.returns-clause-by_offset
-returns-clause-by_offset c = subst (λ (sections : List NormalSection). All HasFieldsInOrder sections) c.self.view_is c.self.invariant.3
+returns-clause-by_offset c = subst (λ (sections : List NormalSection). All HasFieldsInOrder sections) c.self.view_is
+    c.self.invariant.3

@@ -11,7 +11,8 @@ returns-then-place-len c =
     let bytes = c.self.inside.bytes.now in
     let z = c.index.result.now in
     let offset = c.args.offset in
-    let found = text_found bytes c.deref.result.now offset c.first_from-place.result z (c.deref.ensures.value ∙ c.self.invariant) c.first_from-place.ensures (omega arith)
+    let found = text_found bytes c.deref.result.now offset c.first_from-place.result z
+    (c.deref.ensures.value ∙ c.self.invariant) c.first_from-place.ensures (omega arith)
     (c.index.ensures ∙ ap (λ zs. get_or zs c.first_from-place.result z) (sym c.deref.ensures.value)) in
     let size : z + 1 - offset ≡ z - offset + 1 = omega (arith, found.0) in
     rw (sym c.self.view_is)
@@ -20,4 +21,5 @@ returns-then-place-len c =
 pub returns-else-place-len : goal.returns-else-place-len
 returns-else-place-len c =
     rw (sym c.self.view_is)
-    (text_missing c.self.inside.bytes.now c.deref.result.now c.args.offset c.first_from-place.result (c.deref.ensures.value ∙ c.self.invariant) c.first_from-place.ensures (omega arith))
+    (text_missing c.self.inside.bytes.now c.deref.result.now c.args.offset c.first_from-place.result
+    (c.deref.ensures.value ∙ c.self.invariant) c.first_from-place.ensures (omega arith))

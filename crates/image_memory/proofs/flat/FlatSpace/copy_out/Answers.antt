@@ -1,17 +1,20 @@
 -- Each byte that is copied is the one of the piece that holds its address.
-use Rattle.std.proofs.Common.{◌≡◌, ℕ, ◌+◌, ◌-◌, ◌<◌, ◌≤◌, inl, inr, arith, sym, ap, refl, ◌∙◌, List, min, length, get_or, take, drop, Some, None}
+use Rattle.std.proofs.Common.{◌≡◌, ℕ, ◌+◌, ◌-◌, ◌<◌, ◌≤◌, inl, inr, arith, sym, ap, refl}
+use Rattle.std.proofs.Common.{◌∙◌, List, min, length, get_or, take, drop, Some, None}
 use Rattle.std.proofs.lemmas.List.{ext_get_or, length-take, length-drop, get_or_append_left, get_or-take}
 use Rattle.image_memory.specs.Contents.{piece_range, holding}
 use Rattle.image_memory.specs.Access.{read_fault}
 use Rattle.image_memory.specs.Ranges.{lies_in}
 use Rattle.image_memory.proofs.RangeLaws.{inside, found}
-use Rattle.image_memory.proofs.AccessLaws.{good_at, byte_along, length-bytes_at, get_or-bytes_at, earlier_or_later, copied_below, copied_from, length_copied}
+use Rattle.image_memory.proofs.AccessLaws.{good_at, byte_along, length-bytes_at, get_or-bytes_at}
+use Rattle.image_memory.proofs.AccessLaws.{earlier_or_later, copied_below, copied_from, length_copied}
 use Rattle.image_memory.proofs.flat.FlatSpace.copy_out.Goals as goal
 
 pub unreachable-requires : goal.unreachable-requires
 unreachable-requires c =
     let items = c.args.self.now.pieces.items in
-    let gone : holding items (c.args.address + c.loop-done.done) ≡ None = sym (rw c.in_default.is at c.piece_at.ensures.piece) in
+    let gone : holding items (c.args.address + c.loop-done.done) ≡ None =
+    sym (rw c.in_default.is at c.piece_at.ensures.piece) in
     let good = good_at (read_fault items) c.args.address (length c.args.into.now) c.loop-done.done c.requires.readable
     (omega (arith, c.loop-done.invariant.same_length)) in
     let bad = rw gone at good in

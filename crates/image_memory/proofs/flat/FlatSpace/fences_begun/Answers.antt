@@ -19,7 +19,8 @@ returns c =
     let found = IsPartitionPoint-from_clause (λ fence. leb fence.range.low c.args.address) c.as_slice.result.now
     c.partition_point.result c.partition_point.ensures.partitioned parted (λ a r f' k. search rules) in
     let at = rw e at found in
-    let above : AllWithin (λ fence. c.args.address < fence.range.low) space.fences.items c.partition_point.result (length space.fences.items)
+    let above : AllWithin (λ fence. c.args.address < fence.range.low) space.fences.items c.partition_point.result
+    (length space.fences.items)
     = λ k d l m. leb-false _ _ (at.1 k d l m) in
     record {
       bound = search rules;

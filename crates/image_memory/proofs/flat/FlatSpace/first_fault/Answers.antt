@@ -30,7 +30,8 @@ returns-in-Some-fault c =
     let bad : access_fault c.args.access (option_map kind_of (holding items at)) ≡ Some c.in-Some-fault.fault
     = rw held (sym c.fault.ensures ∙ c.in-Some-fault.is) in
     sym (fault_stops (λ a. access_fault c.args.access (option_map kind_of (holding items a)))
-    c.args.address c.loop-done.done c.args.count c.in-Some-fault.fault c.loop-done.invariant.good bad c.loop-done-test.true)
+    c.args.address c.loop-done.done c.args.count c.in-Some-fault.fault c.loop-done.invariant.good bad
+    c.loop-done-test.true)
 
 pub loop-done-preserved : goal.loop-done-preserved
 loop-done-preserved c =

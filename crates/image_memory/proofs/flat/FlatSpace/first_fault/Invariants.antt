@@ -7,7 +7,8 @@ use Rattle.image_memory.proofs.flat.FlatSpace.first_fault.Given as goal
 abbrev pub invariant-loop-done : goal.invariant-loop-done
 invariant-loop-done l = record {
   bound : l.done ≤ l.count;
-  good : first_fault (λ a. access_fault l.access (option_map kind_of (holding l.self.pieces.items a))) l.address l.done ≡ None;
+  good : first_fault (λ a. access_fault l.access (option_map kind_of (holding l.self.pieces.items a))) l.address l.done
+      ≡ None;
 }
 
 abbrev pub decreases-loop-done : goal.decreases-loop-done

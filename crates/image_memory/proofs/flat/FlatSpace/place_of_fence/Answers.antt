@@ -12,17 +12,21 @@ use Rattle.image_memory.proofs.flat.FlatSpace.place_of_fence.Goals as goal
 in_list : (c : goal.After-fences_begun) → c.requires.0 < length c.args.self.now.fences.items
 in_list c = rw (length-map c.args.self.now.fences.items fence_range) at c.requires.1
 
-is_range : (c : goal.After-fences_begun) (d : Fence) → (get_or c.args.self.now.fences.items c.requires.0 d).range ≡ c.args.range
-is_range c d = sym (get_or-map fence_range c.args.self.now.fences.items c.requires.0 d c.args.range (in_list c)) ∙ c.requires.2
+is_range : (c : goal.After-fences_begun) (d : Fence)
+    → (get_or c.args.self.now.fences.items c.requires.0 d).range ≡ c.args.range
+is_range c d = sym (get_or-map fence_range c.args.self.now.fences.items c.requires.0 d c.args.range (in_list c))
+    ∙ c.requires.2
 
-begins : (c : goal.After-fences_begun) (d : Fence) → (get_or c.args.self.now.fences.items c.requires.0 d).range.low ≡ c.args.range.low
+begins : (c : goal.After-fences_begun) (d : Fence) → (get_or c.args.self.now.fences.items c.requires.0 d).range.low
+    ≡ c.args.range.low
 begins c d = ap (λ (r : Range). r.low) (is_range c d)
 
 place : (c : goal.After-fences_begun) → c.fences_begun.result ≡ suc c.requires.0
 place c =
     let fences = c.args.self.now.fences in
     let e = c.fences_begun.ensures in
-    place_of fence_range 0 fences.items c.args.range.low c.requires.0 c.fences_begun.result c.args.self.now.fenced (in_list c) (begins c)
+    place_of fence_range 0 fences.items c.args.range.low c.requires.0 c.fences_begun.result c.args.self.now.fenced
+    (in_list c) (begins c)
     (omega (arith, fences.ok.0))
     (λ k d m. e.below k d (omega arith) m)
     (λ k d m o. e.above k d m (omega (arith, fences.ok.0)))
@@ -37,7 +41,8 @@ returns c =
     let l = in_list c in
     record {
       within = omega (arith, fences.ok.0);
-      taken = taken_out fence_range (λ fence. are_same fence.range c.args.range) 0 fences.items c.args.range.low c.requires.0
+      taken = taken_out fence_range (λ fence. are_same fence.range c.args.range) 0 fences.items c.args.range.low
+          c.requires.0
           c.fences_begun.result c.args.self.now.fenced l (begins c)
           (λ d. rw (is_range c d) (are_same_self c.args.range))
           (λ fence apart. grind (arith, nat_tests)) p;

@@ -9,14 +9,16 @@ use Rattle.image_memory.proofs.flat.FlatSpace.place_of_piece.Goals as goal
 
 begins : (c : goal.After-begun) (d : Piece) → (get_or c.args.self.now.pieces.items c.requires.0 d).base ≡ c.args.base
 begins c d =
-    ap (λ (p : Piece). p.base) (get_or_default c.args.self.now.pieces.items c.requires.0 d c.requires.1 c.requires.2 ∙ c.requires.3) ∙ c.requires.4
+    ap (λ (p : Piece). p.base) (get_or_default c.args.self.now.pieces.items c.requires.0 d c.requires.1 c.requires.2
+    ∙ c.requires.3) ∙ c.requires.4
 
 place : (c : goal.After-begun) → c.begun.result ≡ suc c.requires.0
 place c =
     let pieces = c.args.self.now.pieces in
     let e = c.begun.ensures in
     let same = c.from.ensures in
-    place_of piece_range 0 pieces.items c.args.base c.requires.0 c.begun.result c.args.self.now.ascend c.requires.2 (begins c) (omega (arith, pieces.ok.0))
+    place_of piece_range 0 pieces.items c.args.base c.requires.0 c.begun.result c.args.self.now.ascend c.requires.2
+    (begins c) (omega (arith, pieces.ok.0))
     (λ k d m. let h = e.below k d (omega arith) m in omega arith)
     (λ k d m o. let h = e.above k d m (omega (arith, pieces.ok.0)) in omega arith)
 
@@ -30,7 +32,8 @@ returns c =
     let l = c.requires.2 in
     record {
       within = omega (arith, pieces.ok.0);
-      taken = taken_out piece_range (λ piece. piece.base == c.args.base) 0 pieces.items c.args.base c.requires.0 c.begun.result
+      taken = taken_out piece_range (λ piece. piece.base == c.args.base) 0 pieces.items c.args.base c.requires.0
+          c.begun.result
           c.args.self.now.ascend c.requires.2 (begins c)
           (λ d. let e = begins c d in grind (arith, nat_tests))
           (λ piece apart. grind (arith, nat_tests)) p;

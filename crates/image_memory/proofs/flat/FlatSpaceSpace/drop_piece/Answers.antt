@@ -11,7 +11,8 @@ use Rattle.image_memory.proofs.flat.FlatSpaceSpace.drop_piece.Goals as goal
 pub invariant_of-self-clause-ascend : goal.invariant_of-self-clause-ascend
 invariant_of-self-clause-ascend c =
     let P : List Piece → Type 0 = λ ps. Ascends piece_range 0 ps in
-    subst P (sym c.remove.ensures.items) (Ascends-remove piece_range 0 c.args.self.now.pieces.items _ c.args.self.now.ascend)
+    subst P (sym c.remove.ensures.items)
+    (Ascends-remove piece_range 0 c.args.self.now.pieces.items _ c.args.self.now.ascend)
 
 pub invariant_of-self-clause-end_below : goal.invariant_of-self-clause-end_below
 invariant_of-self-clause-end_below c =

@@ -10,4 +10,5 @@ pub invariant_of-self-clause-fenced : goal.invariant_of-self-clause-fenced
 invariant_of-self-clause-fenced c =
     let P : List Fence → Type 0 = λ fs. Ascends fence_range 0 fs in
     subst P (sym (c.insert_spare.ensures.items ∙ c.fences_begun-at.ensures.put _ refl))
-    (Ascends-put fence_range 0 _ c.args.self.now.fences.items (omega arith) c.requires.full c.requires.apart c.args.self.now.fenced)
+    (Ascends-put fence_range 0 _ c.args.self.now.fences.items
+    (omega arith) c.requires.full c.requires.apart c.args.self.now.fenced)

@@ -23,4 +23,5 @@ invariant_of-self-2-clause-fenced c =
 pub invariant_of-self-2-clause-placeable : goal.invariant_of-self-2-clause-placeable
 invariant_of-self-2-clause-placeable c =
     let P : List Range → Type 0 = λ rs. All IsPlaceable rs in
-    subst P (sym (c.from_vec.ensures ∙ c.in_ok-ranges.ensures)) (All-map IsPlaceable piece_range c.args.pieces.now c.requires)
+    subst P (sym (c.from_vec.ensures ∙ c.in_ok-ranges.ensures))
+    (All-map IsPlaceable piece_range c.args.pieces.now c.requires)

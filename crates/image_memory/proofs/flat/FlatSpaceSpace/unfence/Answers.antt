@@ -9,4 +9,5 @@ use Rattle.image_memory.proofs.flat.FlatSpaceSpace.unfence.Goals as goal
 pub invariant_of-self-clause-fenced : goal.invariant_of-self-clause-fenced
 invariant_of-self-clause-fenced c =
     let P : List Fence → Type 0 = λ fs. Ascends fence_range 0 fs in
-    subst P (sym c.remove.ensures.items) (Ascends-remove fence_range 0 c.args.self.now.fences.items _ c.args.self.now.fenced)
+    subst P (sym c.remove.ensures.items)
+    (Ascends-remove fence_range 0 c.args.self.now.fences.items _ c.args.self.now.fenced)

@@ -13,7 +13,8 @@ unfolding window_at view
 returns-in-Some-fence_at-clause-exact c =
     let space = c.args.self.now in
     let fence = c.in-Some-fence_at.fence.now in
-    let code : code_from space.pieces.items c.args.pc ≡ Some c.in-Some.bytes.now = sym (rw c.in-Some.is at c.code_from.ensures) in
+    let code : code_from space.pieces.items c.args.pc ≡ Some c.in-Some.bytes.now =
+    sym (rw c.in-Some.is at c.code_from.ensures) in
     let held : find (λ f. lies_in c.args.pc (fence_range f)) space.fences.items ≡ Some fence
     = sym (rw c.in-Some-fence_at.is at c.fence_at.ensures) in
     let fenced : list_any (lies_in c.args.pc) (map fence_range space.fences.items) ≡ true
@@ -39,7 +40,8 @@ returns-in-None-clause-exact c =
     rw (code, unspliced, free, shows) refl
 
 pub returns-in-Some-fence_at-clause-tells : goal.returns-in-Some-fence_at-clause-tells
-returns-in-Some-fence_at-clause-tells c = window_tells _ c.args.pc c.window.result (returns-in-Some-fence_at-clause-exact c)
+returns-in-Some-fence_at-clause-tells c = window_tells _ c.args.pc c.window.result
+    (returns-in-Some-fence_at-clause-exact c)
 
 pub returns-in-None-clause-tells : goal.returns-in-None-clause-tells
 returns-in-None-clause-tells c = window_tells _ c.args.pc _ (returns-in-None-clause-exact c)

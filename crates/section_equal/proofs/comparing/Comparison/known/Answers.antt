@@ -9,9 +9,12 @@ use Rattle.section_equal.proofs.comparing.Comparison.known.Goals as goal
 pub returns-in-Some-get : goal.returns-in-Some-get
 returns-in-Some-get c =
     let inside = c.self.inside in
-    let all : AreKnown inside.pre.now inside.post.now c.in-Some.known = subst (λ (kept : Option (BTreeMap Ends ℕ)). AreKept inside.pre.now inside.post.now kept) c.in-Some.is c.self.invariant in
+    let all : AreKnown inside.pre.now inside.post.now c.in-Some.known =
+    subst (λ (kept : Option (BTreeMap Ends ℕ)). AreKept inside.pre.now inside.post.now kept) c.in-Some.is
+    c.self.invariant in
     subst (λ (objects : Compared). IsKnown objects.pre objects.post c.args.ends c.in-Some-get.count.now) c.self.view_is
-    (lookup_all ends_cmp exact_ends (IsKnown inside.pre.now inside.post.now) c.args.ends c.in-Some.known.entries c.in-Some-get.count.now all
+    (lookup_all ends_cmp exact_ends (IsKnown inside.pre.now inside.post.now) c.args.ends c.in-Some.known.entries
+    c.in-Some-get.count.now all
     (sym c.get.ensures.value ∙ ap option_copied c.in-Some-get.is))
 
 pub returns-in-None : goal.returns-in-None

@@ -11,8 +11,12 @@ invariant_of-self c =
     let inside = c.self.inside in
     elim c.match-self.branch [
       | in-Some w ↦
-          let here : IsKnown inside.pre.now inside.post.now c.args.ends c.args.count = subst (λ (objects : Compared). IsKnown objects.pre objects.post c.args.ends c.args.count) (sym c.self.view_is) c.requires in
-          let all : AreKnown inside.pre.now inside.post.now w.in-Some.known = subst (λ (kept : Option (BTreeMap Ends ℕ)). AreKept inside.pre.now inside.post.now kept) w.in-Some.is c.self.invariant in
+          let here : IsKnown inside.pre.now inside.post.now c.args.ends c.args.count =
+          subst (λ (objects : Compared). IsKnown objects.pre objects.post c.args.ends c.args.count)
+          (sym c.self.view_is) c.requires in
+          let all : AreKnown inside.pre.now inside.post.now w.in-Some.known =
+          subst (λ (kept : Option (BTreeMap Ends ℕ)). AreKept inside.pre.now inside.post.now kept) w.in-Some.is
+          c.self.invariant in
           rw w.self-inside-is (w.keep.ensures inside.pre.now inside.post.now all here)
       | in_default w ↦ rw w.self-inside-is c.self.invariant
     ]
