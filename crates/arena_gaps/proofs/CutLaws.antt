@@ -5,7 +5,8 @@ use Rattle.std.proofs.lemmas.Bool.{ltb-true, cases_Bool}
 use Rattle.std.proofs.lemmas.Bool.Decides.{nat_tests}
 use Rattle.std.proofs.lemmas.List.Concat.{flat_map-append}
 use Rattle.ks_base.specs.declared.places.Range.{Range}
-use Rattle.link_post.specs.Places.{from_to, unless_empty, cut, without}
+use Rattle.image_memory.specs.Ranges.{from_to}
+use Rattle.link_post.specs.Places.{unless_empty, cut, without}
 
 -- the addresses from one on and below another
 abbrev pub part : ℕ → ℕ → List Range

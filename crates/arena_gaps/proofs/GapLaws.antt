@@ -5,8 +5,8 @@ use Rattle.std.proofs.lemmas.Bool.{ltb-true, ltb-false, cases_Bool, or_from}
 use Rattle.std.proofs.lemmas.Bool.Decides.{nat_tests}
 use Rattle.std.proofs.lemmas.List.Elements.{All-nil, All-cons, All-head, All-tail, All-append}
 use Rattle.ks_base.specs.declared.places.Range.{Range}
-use Rattle.image_memory.specs.Ranges.{Ascends, meets, MeetsNone}
-use Rattle.link_post.specs.Places.{from_to, cut, without}
+use Rattle.image_memory.specs.Ranges.{Ascends, meets, MeetsNone, from_to}
+use Rattle.link_post.specs.Places.{cut, without}
 use Rattle.arena_gaps.proofs.CutLaws.{part}
 
 abbrev own : Range → Range

@@ -10,8 +10,8 @@ use Rattle.std.proofs.lemmas.List.Concat.{flat_map-append}
 use Rattle.std.proofs.lemmas.List.Elements.{All-head, All-tail}
 use Rattle.std.proofs.lemmas.List.Sums.{fold-append, fold_more}
 use Rattle.ks_base.specs.declared.places.Range.{Range}
-use Rattle.image_memory.specs.Ranges.{Ascends}
-use Rattle.link_post.specs.Places.{from_to, cut, without}
+use Rattle.image_memory.specs.Ranges.{Ascends, from_to}
+use Rattle.link_post.specs.Places.{cut, without}
 use Rattle.arena_gaps.specs.inside.Sweeping.{Stands}
 use Rattle.arena_gaps.proofs.CutLaws.{part, cut_part}
 

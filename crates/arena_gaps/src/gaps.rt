@@ -2,8 +2,8 @@
 ghost use Rattle.std.specs.Prelude.{◌≡◌, ◌+◌, ◌-◌, ◌^◌, ◌++◌, [], ◌∷◌, ◌<◌, max, nat_lt, if◌then◌else◌, fold, IfOk};
 ghost use Rattle.std.specs.Prelude.{OnOk};
 ghost use Rattle.std.specs.List.Sorted.{IsNonDecreasingBy, IsPermutation};
-ghost use Rattle.image_memory.specs.Ranges.{Ascends};
-ghost use Rattle.link_post.specs.Places.{from_to, unless_empty, without};
+ghost use Rattle.image_memory.specs.Ranges.{Ascends, from_to};
+ghost use Rattle.link_post.specs.Places.{unless_empty, without};
 ghost use Rattle.arena_gaps.specs.inside.Sweeping.{Stands};
 
 use ks_base::{Range, Ranges};

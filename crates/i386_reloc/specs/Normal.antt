@@ -1,7 +1,7 @@
 -- The loaded sections of an object as they are compared: their names, classes, functions, bytes with zeros in the
 -- fields that relocations change, and references (System V gABI, chapter 4, "Sections" and "Symbol Table").
 use Rattle.std.specs.Prelude.{◌≡◌, ℕ, zero, suc, ◌%◌, Bool, false, ◌&&◌, ◌||◌, ◌==◌, nat_eq, nat_lt, if◌then◌else◌}
-use Rattle.std.specs.Prelude.{List, [], ◌∷◌, ◌++◌, find, Option, Some, None, is_none, IsSome, option_map}
+use Rattle.std.specs.Prelude.{List, [], ◌∷◌, ◌++◌, find, Option, Some, None, is_none, IsSome, option_map, unwrap_or}
 use Rattle.std.specs.Cmp.Lexicographic.{pointwise}
 use Rattle.std.specs.List.Sorted.{IsNonDecreasingBy}
 use Rattle.elf32_object.specs.declared.elf.TheConstants.{STT_FUNC}
@@ -80,6 +80,10 @@ is_not_one_function bytes i = is_code bytes i && (is_none (function_symbol bytes
 -- a section's name
 abbrev pub name_of : NormalSection → List ℕ
 name_of section = section.name
+
+-- the name of the function that a section is, without bytes where it is none
+abbrev pub function_name : NormalSection → List ℕ
+function_name section = unwrap_or section.function []
 
 -- a code section is a function
 pub record IsFunction (section : NormalSection) : Type 0 where

@@ -18,11 +18,24 @@ abbrev pub at_place : List NormalSection → Option ℕ → Option NormalSection
 at_place sections None = None
 at_place sections (Some place) = slice_get sections place
 
+-- the bytes of the section at a place
+abbrev pub bytes_of : Option NormalSection → List ℕ
+bytes_of None = []
+bytes_of (Some section) = section.bytes
+
+abbrev pub bytes_at : List NormalSection → ℕ → List ℕ
+bytes_at sections place = bytes_of (slice_get sections place)
+
 -- the place of the section that a reference goes to
 abbrev pub place_of_target : List NormalSection → Target → Option ℕ
 place_of_target sections (Section name) = place_named sections name
 place_of_target sections (Text name offset text) = place_named sections name
 place_of_target sections (Outside name) = None
+
+-- the references of a section
+abbrev pub references_in : Option NormalSection → List Ref
+references_in None = []
+references_in (Some section) = section.refs
 
 -- the k-th reference of the section at a place
 abbrev pub reference_in : Option NormalSection → ℕ → Option Ref

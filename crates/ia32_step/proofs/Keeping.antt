@@ -5,12 +5,12 @@ use Rattle.ks_base.specs.declared.places.Range.{Range}
 use Rattle.ks_base.specs.declared.refusals.Fault.{Fault}
 use Rattle.image_memory.specs.declared.types.Kind.{Kind}
 use Rattle.image_memory.specs.declared.types.Piece.{Piece}
-use Rattle.image_memory.specs.Contents.{Contents}
+use Rattle.image_memory.specs.Contents.{Contents, shape_of}
 use Rattle.image_memory.specs.Access.{overlaid, overlaid_piece, written}
 use Rattle.ia32_step.specs.declared.types.Store.{Store}
 use Rattle.ia32_step.specs.declared.types.Thread.{Thread}
 use Rattle.ia32_step.specs.declared.types.Change.{Change}
-use Rattle.ia32_step.specs.Step.{Left, shape, store_fault, after_store, unless_barred, done, next_change, exits}
+use Rattle.ia32_step.specs.Step.{Left, store_fault, after_store, unless_barred, done, next_change, exits}
 use Rattle.ia32_step.specs.Step.{stepped}
 
 pub as_long : (start : ℕ) (bytes : List ℕ) (address : ℕ) (old : List ℕ)
@@ -19,27 +19,27 @@ unfolding overlaid
 as_long start bytes address [] = refl
 as_long start bytes address (b ∷ bs) = ap suc (as_long start bytes (address + 1) bs)
 
-same_shape : (start : ℕ) (bytes : List ℕ) (piece : Piece) → shape (overlaid_piece start bytes piece) ≡ shape piece
+same_shape : (start : ℕ) (bytes : List ℕ) (piece : Piece) → shape_of (overlaid_piece start bytes piece) ≡ shape_of piece
 same_shape start bytes piece =
     ap (λ (n : ℕ). (piece.kind, record { low = piece.base; high = piece.base + n }))
     (as_long start bytes piece.base piece.bytes)
 
 same_shapes : (start : ℕ) (bytes : List ℕ) (pieces : List Piece)
-    → map shape (written start bytes pieces) ≡ map shape pieces
+    → map shape_of (written start bytes pieces) ≡ map shape_of pieces
 same_shapes start bytes [] = refl
 same_shapes start bytes (piece ∷ pieces) =
-    ap (λ (s : Kind × Range). s ∷ map shape (written start bytes pieces)) (same_shape start bytes piece)
-    ∙ ap (λ (rest : List (Kind × Range)). shape piece ∷ rest) (same_shapes start bytes pieces)
+    ap (λ (s : Kind × Range). s ∷ map shape_of (written start bytes pieces)) (same_shape start bytes piece)
+    ∙ ap (λ (rest : List (Kind × Range)). shape_of piece ∷ rest) (same_shapes start bytes pieces)
 
 -- what a step keeps
 pub record Keeps (contents : Contents) (thread : Thread) (left : Left) : Type 0 where
   pub number : left.thread.number ≡ thread.number
   pub stack : left.thread.stack ≡ thread.stack
   pub fences : left.contents.fences ≡ contents.fences
-  pub shapes : map shape left.contents.pieces ≡ map shape contents.pieces
+  pub shapes : map shape_of left.contents.pieces ≡ map shape_of contents.pieces
 
 stored : (contents : Contents) (store : Option Store)
-    → map shape (after_store contents store).pieces ≡ map shape contents.pieces
+    → map shape_of (after_store contents store).pieces ≡ map shape_of contents.pieces
 stored contents None = refl
 stored contents (Some store) = same_shapes _ _ contents.pieces
 

@@ -148,7 +148,7 @@ product_taken read width r operand b context =
     given (operand_value read context width operand) (λ a.
     Ok (goes_on (with_lower_product width r (product_of true (bits width) a b) context)))
 
--- all five flags are clear after DIV and IDIV (own)
+-- all five flags are clear: after DIV and IDIV (own), and when a thread starts
 abbrev pub clear_flags : Flags
 clear_flags = record { cf = false; pf = false; zf = false; sf = false; of = false }
 

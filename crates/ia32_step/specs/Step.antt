@@ -1,10 +1,8 @@
 -- One step of a thread.
-use Rattle.std.specs.Prelude.{ℕ, ◌==◌, if◌then◌else◌, List, take, Option, Some, None, Result, Ok, Err}
+use Rattle.std.specs.Prelude.{ℕ, ◌==◌, if◌then◌else◌, List, Option, Some, None, Result, Ok, Err}
 use Rattle.ks_base.specs.declared.refusals.Fault.{Fault}
 use Rattle.ks_base.specs.declared.refusals.Fault.TheVariants.{Undecoded}
-use Rattle.ks_base.specs.declared.places.Range.{Range}
-use Rattle.image_memory.specs.Contents.{Contents, piece_range}
-use Rattle.image_memory.specs.declared.types.Kind.{Kind}
+use Rattle.image_memory.specs.Contents.{Contents}
 use Rattle.image_memory.specs.declared.types.Piece.{Piece}
 use Rattle.image_memory.specs.declared.types.Window.{Window}
 use Rattle.image_memory.specs.Fetch.{fetched, window_at}
@@ -124,7 +122,3 @@ window_length (Ok window) = window.length
 unfoldable pub fetched_count : Contents → Thread → ℕ
 fetched_count contents thread =
     if thread.pc == 0xFFFF_0000 then 0 else window_length (window_at contents thread.pc)
-
--- the kind of a piece and the addresses that it has
-abbrev pub shape : Piece → Kind × Range
-shape piece = (piece.kind, piece_range piece)

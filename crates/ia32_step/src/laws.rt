@@ -6,10 +6,10 @@ ghost use Rattle.ks_base.specs.declared.refusals.Fault.{Fault};
 ghost use Rattle.ks_base.specs.declared.refusals.Fault.TheVariants.{Stray};
 ghost use Rattle.image_memory.specs.declared.types.Piece.{Piece};
 ghost use Rattle.image_memory.specs.declared.types.Kind.TheVariants.{Code};
-ghost use Rattle.image_memory.specs.Contents.{Contents, ArePlaced, holding};
+ghost use Rattle.image_memory.specs.Contents.{Contents, ArePlaced, holding, shape_of};
 ghost use Rattle.image_memory.specs.Access.{kind_of, written};
 ghost use Rattle.ia32_decode.specs.declared.types.Decoded.{Decoded};
-ghost use Rattle.ia32_step.specs.Step.{Left, shape, store_fault, after_store, change_by, done, carried_out};
+ghost use Rattle.ia32_step.specs.Step.{Left, store_fault, after_store, change_by, done, carried_out};
 ghost use Rattle.ia32_step.specs.Step.{stepped, stored};
 ghost use Rattle.ia32_step.specs.Threads.{esp_of};
 ghost use Rattle.ia32_step.specs.Code.{KeepsCode, SameData, SameLeft};
@@ -29,7 +29,7 @@ pub fn steps_keep()
     ensures fences { (contents : Contents) (thread : Thread) →
         (stepped contents thread).contents.fences ≡ contents.fences }
     ensures shapes { (contents : Contents) (thread : Thread) →
-        map shape (stepped contents thread).contents.pieces ≡ map shape contents.pieces }
+        map shape_of (stepped contents thread).contents.pieces ≡ map shape_of contents.pieces }
 {}
 
 /// What a step tells that it wrote can be written, and is all that the step changes of memory.

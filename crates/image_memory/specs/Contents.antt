@@ -1,6 +1,6 @@
 -- What a memory holds, and what is seen at one address of it.
 use Rattle.std.specs.Prelude.{ℕ, ◌+◌, ◌-◌, ◌≤◌, Bool, ◌&&◌, ◌==◌, List, length, slice_index}
-use Rattle.std.specs.Prelude.{Option}
+use Rattle.std.specs.Prelude.{Option, ◌×◌}
 use Rattle.std.specs.Option.{option_map}
 use Rattle.std.specs.List.{find, list_any, All}
 use native.Mathlib.Bridge.{le_prop}
@@ -23,6 +23,10 @@ pub record Room : Type 0 where
 
 abbrev pub piece_range : Piece → Range
 piece_range piece = record { low = piece.base; high = piece.base + length piece.bytes }
+
+-- what a piece is used for, and where it lies
+abbrev pub shape_of : Piece → Kind × Range
+shape_of piece = (piece.kind, piece_range piece)
 
 abbrev pub fence_range : Fence → Range
 fence_range fence = fence.range

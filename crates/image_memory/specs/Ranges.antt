@@ -6,6 +6,10 @@ use mathlib.Core.HLevel.{Unit-prop}
 use native.Mathlib.Bridge.{le_prop}
 use Rattle.ks_base.specs.declared.places.Range.{Range}
 
+-- the range from an address up to another
+abbrev pub from_to : (low high : ℕ) → Range
+from_to low high = record { low = low; high = high }
+
 -- whether an address is one of a range's
 abbrev pub lies_in : ℕ → Range → Bool
 lies_in address range = nat_le range.low address && nat_lt address range.high

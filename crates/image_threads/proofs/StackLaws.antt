@@ -14,9 +14,8 @@ use Rattle.image_memory.specs.declared.types.Kind.{Kind}
 use Rattle.image_memory.specs.declared.types.Kind.TheVariants.{Code, ReadOnly, Writable}
 use Rattle.image_memory.specs.declared.types.Piece.{Piece}
 use Rattle.image_memory.specs.Ranges.{lies_in, Ascends}
-use Rattle.image_memory.specs.Contents.{Contents, IsValid, piece_range, holding}
+use Rattle.image_memory.specs.Contents.{Contents, IsValid, piece_range, holding, shape_of}
 use Rattle.image_memory.specs.Access.{kind_of, first_fault, write_fault, unwritable, overlaid, written}
-use Rattle.ia32_step.specs.Step.{shape}
 use Rattle.ia32_step.specs.declared.types.Thread.{Thread}
 use Rattle.image_threads.specs.Program.{IsStackRange}
 use Rattle.image_memory.specs.Ranges.{are_same}
@@ -118,12 +117,12 @@ stacks_after_write start bytes pieces ranges h =
 abbrev has_shape : Range → Kind × Range → Bool
 has_shape range s = is_writable s.0 && are_same s.1 range
 
-by_shape : (pieces : List Piece) (range : Range) → is_stack pieces range ≡ list_any (has_shape range) (map shape pieces)
+by_shape : (pieces : List Piece) (range : Range) → is_stack pieces range ≡ list_any (has_shape range) (map shape_of pieces)
 by_shape [] range = refl
-by_shape (p ∷ ps) range = ap (λ (b : Bool). has_shape range (shape p) || b) (by_shape ps range)
+by_shape (p ∷ ps) range = ap (λ (b : Bool). has_shape range (shape_of p) || b) (by_shape ps range)
 
 -- what are stacks still are where each piece keeps its kind, its base and its length
-pub stacks_by_shape : (pieces later : List Piece) (ranges : List Range) → map shape later ≡ map shape pieces
+pub stacks_by_shape : (pieces later : List Piece) (ranges : List Range) → map shape_of later ≡ map shape_of pieces
     → AreStacks pieces ranges → AreStacks later ranges
 stacks_by_shape pieces later ranges same h =
     All-weaker (λ (range : Range). IsTrue (is_stack pieces range)) (λ (range : Range). IsTrue (is_stack later range))

@@ -1,5 +1,5 @@
 -- How a thread is started.
-use Rattle.std.specs.Prelude.{ℕ, ◌-◌, Bool, true, false, IsTrue, ◌&&◌, not, nat_le, ◌==◌, if◌then◌else◌, List}
+use Rattle.std.specs.Prelude.{ℕ, ◌-◌, Bool, true, false, IsTrue, ◌&&◌, not, nat_le, if◌then◌else◌, List}
 use Rattle.std.specs.Prelude.{[], ◌∷◌, ◌++◌, length, replicate, set, Option, Some, None, Result, Ok, Err}
 use Rattle.std.specs.Option.{option_map, unwrap_or}
 use Rattle.std.specs.List.{find, list_any, slice_get, All}
@@ -15,10 +15,10 @@ use Rattle.image_memory.specs.Ranges.{are_same}
 use Rattle.image_memory.specs.Contents.{piece_range}
 use Rattle.symbol_table.specs.declared.symbols.Symbol.{Symbol}
 use Rattle.symbol_table.specs.Symbols.{function_named}
-use Rattle.ia32_alu.specs.declared.types.Flags.{Flags}
 use Rattle.ia32_step.specs.declared.types.State.TheVariants.{Running}
 use Rattle.ia32_step.specs.declared.types.Thread.{Thread}
 use Rattle.ia32_step.specs.Threads.{runs}
+use Rattle.ia32_step.specs.Arithmetic.{clear_flags}
 use Rattle.image_threads.specs.Program.{Program}
 
 abbrev pub is_writable : Kind → Bool
@@ -58,9 +58,6 @@ first_bytes stack argument =
     ++ to_le_bytes w32 argument
     ++ replicate 12 0
 
-abbrev pub no_flags : Flags
-no_flags = record { cf = false; pf = false; zf = false; sf = false; of = false }
-
 -- a thread at first; all registers but ESP are clear
 abbrev pub first_thread : ℕ → Range → ℕ → Thread
 first_thread number stack pc = record {
@@ -68,7 +65,7 @@ first_thread number stack pc = record {
   stack = stack;
   registers = set (replicate 8 0) 4 (first_top stack);
   pc = pc;
-  flags = no_flags;
+  flags = clear_flags;
   state = Running;
 }
 

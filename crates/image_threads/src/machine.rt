@@ -4,8 +4,9 @@ ghost use Rattle.std.specs.Prelude.{IfSome, IsSomeAnd, IsTrue, Contains, MatchRe
 ghost use Rattle.std.specs.Borrow.{Lends, sem};
 ghost use Rattle.ks_base.specs.declared.refusals.Refusal.TheVariants.{Memory};
 ghost use Rattle.ia32_step.specs.declared.types.State.TheVariants.{Running};
-ghost use Rattle.ia32_step.specs.Step.{left_by, shape, stepped, stored, store_fault, after_store, fetched_count};
+ghost use Rattle.ia32_step.specs.Step.{left_by, stepped, stored, store_fault, after_store, fetched_count};
 ghost use Rattle.image_memory.specs.Access.{after_write};
+ghost use Rattle.image_memory.specs.Contents.{shape_of};
 ghost use Rattle.image_threads.specs.Program.{AreNumbered, WellPlaced, running_at, running_numbers};
 ghost use Rattle.image_threads.specs.Spawning.{is_stack, AreStacks, is_taken, free_stack};
 ghost use Rattle.image_threads.specs.Spawning.{first_bytes, first_thread, spawned};
@@ -248,7 +249,7 @@ fn step_numbered<S: Space>(space: &mut S, thread: &mut Thread) -> Traced
     ensures room { S.room space.new ≡ S.room space.old }
     ensures number { thread.new.number ≡ thread.old.number }
     ensures stack { thread.new.stack ≡ thread.old.stack }
-    ensures shapes { map shape (S.contents space.new).pieces ≡ map shape (S.contents space.old).pieces }
+    ensures shapes { map shape_of (S.contents space.new).pieces ≡ map shape_of (S.contents space.old).pieces }
 {
     // A step keeps the thread's number and stack, and the shapes of the pieces, and writes what it tells.
     steps_keep();

@@ -1,21 +1,18 @@
 -- The difference between two objects: what becomes of each section of the second, and which functions go.
-use Rattle.std.specs.Prelude.{ℕ, List, [], ◌∷◌, ◌++◌, codes, Option, Some, None, unwrap_or}
+use Rattle.std.specs.Prelude.{ℕ, List, [], ◌∷◌, ◌++◌, codes, Option, Some, None}
 use Rattle.std.specs.List.{flat_map}
 use Rattle.ks_base.specs.Text.{shown_name}
 use Rattle.i386_reloc.specs.declared.types.NormalSection.{NormalSection}
-use Rattle.i386_reloc.specs.Normal.{section_named}
+use Rattle.i386_reloc.specs.Normal.{section_named, function_name}
 use Rattle.extract_post.specs.declared.types.Extract.{Extract}
 use Rattle.section_roles.specs.declared.role.Role.{Role}
 use Rattle.section_roles.specs.declared.role.Role.TheVariants.{Changed, Added, Carried, NewData}
 use Rattle.section_roles.specs.Roles.{role_of}
 
 -- the name of the function that a section is, where there is one
-abbrev pub function_in : NormalSection → List ℕ
-function_in section = unwrap_or section.function []
-
 abbrev pub function_of : Option NormalSection → List ℕ
 function_of None = []
-function_of (Some section) = function_in section
+function_of (Some section) = function_name section
 
 -- a line: what becomes of a function or a section, and its name
 abbrev pub verb_line : List ℕ → List ℕ → List ℕ
@@ -26,7 +23,7 @@ verb_line verb name = verb ++ shown_name name ++ 10 ∷ []
 abbrev pub section_line : Option Role → Option NormalSection → NormalSection → List ℕ
 section_line None old new = []
 section_line (Some Changed) old new = verb_line (codes "changed ") (function_of old)
-section_line (Some Added) old new = verb_line (codes "added ") (function_in new)
+section_line (Some Added) old new = verb_line (codes "added ") (function_name new)
 section_line (Some Carried) old new = verb_line (codes "carried ") new.name
 section_line (Some NewData) old new = verb_line (codes "data ") new.name
 

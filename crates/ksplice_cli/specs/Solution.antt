@@ -6,8 +6,7 @@ use Rattle.i386_reloc.specs.declared.types.NormalSection.{NormalSection}
 use Rattle.i386_reloc.specs.Normal.{section_named}
 use Rattle.symbol_table.specs.declared.values.Unknown.{Unknown}
 use Rattle.symbol_table.specs.declared.values.Unknown.TheVariants.{Code, Data, Outside}
-use Rattle.symbol_table.specs.declared.values.Solved.{Solved}
-use Rattle.symbol_table.specs.declared.values.Solved.TheVariants.{Body, Address}
+use Rattle.symbol_table.specs.Unknowns.{address_in}
 use Rattle.symbol_solve.specs.Solve.{Value}
 use Rattle.ksplice_cli.specs.Difference.{function_of}
 
@@ -17,14 +16,9 @@ unknown_text object (Code section) = codes "code " ++ shown_name (function_of (s
 unknown_text object (Data section) = codes "data " ++ shown_name section
 unknown_text object (Outside name) = codes "outside " ++ shown_name name
 
--- where it is: a function at its home
-abbrev pub place_of : Solved → ℕ
-place_of (Body home base length) = home
-place_of (Address address) = address
-
--- the line of a value
+-- the line of a value: what it is of, and where that is
 unfoldable pub value_line : List NormalSection → Value → List ℕ
-value_line object value = unknown_text object value.0 ++ 32 ∷ hex_text (place_of value.1) ++ 10 ∷ []
+value_line object value = unknown_text object value.0 ++ 32 ∷ hex_text (address_in value.1) ++ 10 ∷ []
 
 -- the lines of values, in their order
 unfoldable pub value_lines : List NormalSection → List Value → List ℕ

@@ -2,7 +2,8 @@
 ghost use Rattle.std.specs.Prelude.{◌≡◌, ◌++◌, Some, IfOk, OnOk};
 ghost use Rattle.std.specs.Option.{option_copied};
 ghost use Rattle.std.specs.List.{flat_map};
-ghost use Rattle.ksplice_cli.specs.Difference.{function_in, function_of, verb_line, section_line};
+ghost use Rattle.i386_reloc.specs.Normal.{function_name};
+ghost use Rattle.ksplice_cli.specs.Difference.{function_of, verb_line, section_line};
 ghost use Rattle.ksplice_cli.specs.Difference.{line_in, dropped_line, listing_by, listing};
 ghost use Rattle.section_roles.specs.Roles.{role_at};
 
@@ -86,7 +87,7 @@ fn put_in_role(
 {
     match role {
         Role::Changed => put_line(alloc, lines, "changed ", function_of(old)),
-        Role::Added => put_line(alloc, lines, "added ", function_in(section)),
+        Role::Added => put_line(alloc, lines, "added ", function_name(section)),
         Role::Carried => put_line(alloc, lines, "carried ", section.name.as_slice()),
         Role::NewData => put_line(alloc, lines, "data ", section.name.as_slice()),
     }
@@ -120,13 +121,13 @@ pub fn function_of<'a>(section: Option<&'a NormalSection<'_>>) -> &'a [u8]
     ensures { result.now ≡ function_of (option_copied section.entry) }
 {
     match section {
-        Some(section) => function_in(section),
+        Some(section) => function_name(section),
         None => &[],
     }
 }
 
-fn function_in<'a>(section: &'a NormalSection<'_>) -> &'a [u8]
-    ensures { result.now ≡ function_in section.now }
+fn function_name<'a>(section: &'a NormalSection<'_>) -> &'a [u8]
+    ensures { result.now ≡ function_name section.now }
 {
     match &section.function {
         Some(function) => function.as_slice(),

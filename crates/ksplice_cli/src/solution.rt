@@ -2,10 +2,11 @@
 ghost use Rattle.std.specs.Prelude.{◌≡◌, ◌++◌, [], Ok, IfOk, OnOk};
 ghost use Rattle.ks_base.specs.Gives.{Gives};
 ghost use Rattle.ks_base.specs.Text.{shown_name};
+ghost use Rattle.symbol_table.specs.Unknowns.{address_in};
 ghost use Rattle.image_file.specs.Reading.{image_of};
 ghost use Rattle.image_file.specs.Seen.{contents_of};
 ghost use Rattle.ksplice_cli.specs.Reply.{match_reply, matched_in};
-ghost use Rattle.ksplice_cli.specs.Solution.{place_of, unknown_text, value_line, value_lines};
+ghost use Rattle.ksplice_cli.specs.Solution.{unknown_text, value_line, value_lines};
 
 use crate::listing::function_of;
 use i386_reloc::Normal;
@@ -77,7 +78,7 @@ fn put_value(
 {
     put_unknown(alloc, lines, object, unknown)?;
     lines.put_text(" ")?;
-    lines.put_hex(place_of(solved))?;
+    lines.put_hex(address_in(solved))?;
     lines.put_text("\n")
 }
 
@@ -107,8 +108,8 @@ fn put_named(lines: &mut Line, kind: &str, name: &Name) -> Result<(), AllocError
 }
 
 // Where a function has its home, or where a section or name is.
-fn place_of(solved: Solved) -> u32
-    ensures { result ≡ place_of solved }
+fn address_in(solved: Solved) -> u32
+    ensures { result ≡ address_in solved }
 {
     match solved {
         Solved::Body { home, .. } => home,

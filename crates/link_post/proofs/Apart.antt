@@ -8,10 +8,10 @@ use Rattle.std.proofs.lemmas.Bool.Decides.{nat_tests}
 use Rattle.std.proofs.lemmas.Option.{same_Some}
 use Rattle.ks_base.specs.declared.places.Range.{Range}
 use Rattle.ks_base.specs.declared.refusals.Refusal.{Refusal}
-use Rattle.image_memory.specs.Ranges.{Ascends, meets, MeetsNone}
+use Rattle.image_memory.specs.Ranges.{Ascends, meets, MeetsNone, from_to}
 use Rattle.link_post.specs.declared.types.SectionSize.{SectionSize}
 use Rattle.link_post.specs.declared.types.Placed.{Placed}
-use Rattle.link_post.specs.Places.{from_to, unless_empty, boundary, start_in, extent, extents, placed}
+use Rattle.link_post.specs.Places.{unless_empty, boundary, start_in, extent, extents, placed}
 use Rattle.link_post.specs.Places.{placed_at, placed_by, after_placed, LiesInOne, IsPlace, ArePlaces}
 use Rattle.link_post.specs.inside.Rooms.{own, fits, left_of, first_start, after_first}
 use Rattle.link_post.proofs.Rounding.{rounded_multiple}

@@ -11,11 +11,12 @@ use Rattle.std.proofs.Math.Seq.{take-append_seam, drop-append_seam}
 use Rattle.std.proofs.Common.{subst, append_assoc}
 use Rattle.ks_base.specs.declared.places.Range.{Range}
 use Rattle.link_post.specs.declared.types.SectionSize.{SectionSize}
-use Rattle.link_post.specs.Places.{from_to, unless_empty, start_in}
+use Rattle.link_post.specs.Places.{unless_empty, start_in}
 use Rattle.std.proofs.lemmas.Bool.{lt-ltb, cases_Bool}
 use Rattle.std.proofs.lemmas.Bool.Decides.{nat_tests}
 use Rattle.std.specs.Prelude.{nat_lt}
 use Rattle.std.proofs.Common.{inl, inr}
+use Rattle.image_memory.specs.Ranges.{from_to}
 use Rattle.link_post.specs.inside.Rooms.{fits, left_of, first_start, after_first}
 
 pub fits_first : (s : SectionSize) (xs : List Range) (i : ℕ) (d : Range) → i < length xs → fits s (get_or xs i d) ≡ true

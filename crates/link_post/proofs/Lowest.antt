@@ -8,9 +8,9 @@ use Rattle.std.proofs.lemmas.Bool.{lt-ltb, leb-true, cases_Bool}
 use Rattle.std.proofs.lemmas.Bool.Decides.{nat_tests}
 use Rattle.std.proofs.lemmas.Option.{same_Some}
 use Rattle.ks_base.specs.declared.places.Range.{Range}
-use Rattle.image_memory.specs.Ranges.{Ascends}
+use Rattle.image_memory.specs.Ranges.{Ascends, from_to}
 use Rattle.link_post.specs.declared.types.SectionSize.{SectionSize}
-use Rattle.link_post.specs.Places.{from_to, unless_empty, cut, without, boundary, start_in, fitting, lowest, extent}
+use Rattle.link_post.specs.Places.{unless_empty, cut, without, boundary, start_in, fitting, lowest, extent}
 use Rattle.link_post.specs.inside.Rooms.{own, fits, first_start, after_first}
 use Rattle.link_post.proofs.Rounding.{rounds_up}
 use Rattle.link_post.proofs.Fitting.{left_where_empty}

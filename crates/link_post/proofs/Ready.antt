@@ -13,8 +13,9 @@ use Rattle.i386_reloc.specs.Normal.{section_named}
 use Rattle.i386_reloc.specs.Reaches.{is_data_class, is_in, has_class}
 use Rattle.symbol_table.specs.declared.values.Unknown.TheVariants as unknown
 use Rattle.symbol_table.specs.declared.values.Solved.{Solved}
+use Rattle.symbol_table.specs.Unknowns.{address_in}
 use Rattle.link_post.specs.declared.types.Placed.{Placed}
-use Rattle.link_post.specs.Values.{ValueList, solved_as, address_in, needed_by, is_kept_data, Tell}
+use Rattle.link_post.specs.Values.{ValueList, solved_as, needed_by, is_kept_data, Tell}
 use Rattle.link_post.specs.Places.{base_in}
 use Rattle.link_post.specs.Linked.{value_in, section_address, target_address}
 

@@ -7,6 +7,7 @@ use Rattle.std.specs.List.{fold}
 use Rattle.std.specs.Int.{w32, to_le_bytes}
 use Rattle.symbol_table.specs.declared.values.Unknown.{Unknown}
 use Rattle.symbol_table.specs.declared.values.Unknown.TheVariants as unknown
+use Rattle.symbol_table.specs.Unknowns.{address_in}
 use Rattle.i386_reloc.specs.declared.types.Class.{Class}
 use Rattle.i386_reloc.specs.declared.types.Class.TheVariants.{Zero}
 use Rattle.i386_reloc.specs.declared.types.Target.{Target}
@@ -19,7 +20,7 @@ use Rattle.i386_reloc.specs.Places.{place_named}
 use Rattle.i386_reloc.specs.Reaches.{is_data_class, is_in, is_interior}
 use Rattle.i386_reloc.specs.Value.{value_of}
 use Rattle.link_post.specs.declared.types.Placed.{Placed}
-use Rattle.link_post.specs.Values.{ValueList, solved_as, address_in}
+use Rattle.link_post.specs.Values.{ValueList, solved_as}
 use Rattle.link_post.specs.Places.{base_in}
 
 -- where the section of a name stands among those of post, or behind them where there is none

@@ -7,12 +7,9 @@ use Rattle.ks_base.specs.declared.places.Range.{Range}
 use Rattle.ks_base.specs.declared.refusals.Refusal.{Refusal}
 use Rattle.ks_base.specs.declared.refusals.Refusal.TheVariants.{NoRoom}
 use Rattle.i386_reloc.specs.Normal.{same_bytes}
-use Rattle.image_memory.specs.Ranges.{MeetsNone}
+use Rattle.image_memory.specs.Ranges.{MeetsNone, from_to}
 use Rattle.link_post.specs.declared.types.SectionSize.{SectionSize}
 use Rattle.link_post.specs.declared.types.Placed.{Placed}
-
-abbrev pub from_to : (low high : ℕ) → Range
-from_to low high = record { low = low; high = high }
 
 -- a range, where it isn't empty
 abbrev pub unless_empty : Range → List Range

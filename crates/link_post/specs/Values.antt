@@ -9,7 +9,7 @@ use Rattle.symbol_table.specs.declared.symbols.Symbol.{Symbol}
 use Rattle.symbol_table.specs.declared.values.Unknown.{Unknown}
 use Rattle.symbol_table.specs.declared.values.Unknown.TheVariants as unknown
 use Rattle.symbol_table.specs.declared.values.Solved.{Solved}
-use Rattle.symbol_table.specs.declared.values.Solved.TheVariants.{Body, Address}
+use Rattle.symbol_table.specs.declared.values.Solved.TheVariants.{Address}
 use Rattle.symbol_table.specs.Symbols.{global_addresses, data_addresses}
 use Rattle.symbol_table.specs.Unknowns.{same_unknown}
 use Rattle.i386_reloc.specs.declared.types.Target.{Target}
@@ -19,6 +19,7 @@ use Rattle.i386_reloc.specs.declared.types.ObjectSymbol.{ObjectSymbol}
 use Rattle.i386_reloc.specs.declared.types.NormalSection.{NormalSection}
 use Rattle.i386_reloc.specs.Normal.{section_named}
 use Rattle.i386_reloc.specs.Reaches.{is_data_class, is_in}
+use Rattle.i386_reloc.specs.Places.{references_in}
 
 -- values of unknowns, as a map of them is seen
 abbrev pub ValueList : Type 0
@@ -28,11 +29,6 @@ ValueList = List (Unknown × Solved)
 abbrev pub solved_as : ValueList → Unknown → Option Solved
 solved_as [] which = None
 solved_as (pair ∷ values) which = if same_unknown which pair.0 then Some pair.1 else solved_as values which
-
--- the address that stands for it: of a function its home
-abbrev pub address_in : Solved → ℕ
-address_in (Body home base length) = home
-address_in (Address address) = address
 
 -- whether a data section of post is one of pre too
 abbrev pub is_kept_data : (pre post : List NormalSection) → List ℕ → Bool
@@ -98,10 +94,6 @@ resolved_by pre post symbols (r ∷ rs) values =
     then_resolved (resolved_by pre post symbols rs) (with_needed post symbols values (needed_by pre post r.target))
 
 -- the references that stand in the section of a name
-abbrev pub references_in : Option NormalSection → List Ref
-references_in None = []
-references_in (Some section) = section.refs
-
 abbrev pub references_of : List NormalSection → List ℕ → List Ref
 references_of post name = references_in (section_named post name)
 

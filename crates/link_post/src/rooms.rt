@@ -1,7 +1,8 @@
 //! Room for a section among free ranges.
 ghost use Rattle.std.specs.Prelude.{◌≡◌, ◌++◌, ◌<◌, ◌≤◌, ◌^◌, ◌+◌, take, drop};
 ghost use Rattle.std.specs.Prelude.{true, Some, length, position, IfOk, OnOk};
-ghost use Rattle.link_post.specs.Places.{round_up, start_in, from_to, unless_empty};
+ghost use Rattle.image_memory.specs.Ranges.{from_to};
+ghost use Rattle.link_post.specs.Places.{round_up, start_in, unless_empty};
 ghost use Rattle.link_post.specs.inside.Rooms.{fits, left_of, first_start, after_first};
 
 use crate::types::SectionSize;

@@ -11,6 +11,7 @@ use Rattle.ks_base.specs.declared.places.Range.{Range}
 use Rattle.image_memory.specs.Ranges.{Ascends}
 use Rattle.image_memory.specs.Contents.{piece_range}
 use Rattle.image_memory.specs.declared.types.Piece.{Piece}
+use Rattle.image_memory.specs.Access.{kind_of}
 use Rattle.i386_reloc.specs.declared.types.Class.{Class}
 use Rattle.i386_reloc.specs.declared.types.Class.TheVariants.{Zero, Code, Writable, Strings, ReadOnly}
 use Rattle.i386_reloc.specs.declared.types.Ref.{Ref}
@@ -23,7 +24,7 @@ use Rattle.link_post.specs.Places.{AreApart, ArePlaces, IsPlace, LiesInOne, base
 use Rattle.link_post.specs.Linked.{filled, linked, linked_by, linked_section, with_word}
 use Rattle.new_code.specs.Parts.{NewPart, at_place, at_places, size_of}
 use Rattle.new_code.specs.Pieces.{new_piece, new_pieces}
-use Rattle.new_code.specs.Apart.{IsWhole, IsPartOf, ArePartsOf, IsInGap, AreNewPieces, kind_in, kind_for}
+use Rattle.new_code.specs.Apart.{IsWhole, IsPartOf, ArePartsOf, IsInGap, AreNewPieces, kind_for}
 
 -- ---- the length of linked bytes
 word_length : (word : ℕ) → length (to_le_bytes w32 word) ≡ 4
@@ -96,7 +97,7 @@ ranges_are post placement values (part ∷ parts) (place ∷ places) are =
 
 kinds_are : (post : List NormalSection) (placement : List Placed) (values : ValueList) (gaps : List Range)
     (parts : List NewPart) (places : List Placed) → AllZip (IsPlace gaps) (map size_of parts) places
-    → map kind_in (pieces_at post placement values parts places) ≡ map kind_for parts
+    → map kind_of (pieces_at post placement values parts places) ≡ map kind_for parts
 kinds_are post placement values gaps [] places each = refl
 kinds_are post placement values gaps (part ∷ parts) [] each = absurd each
 kinds_are post placement values gaps (part ∷ parts) (place ∷ places) each =

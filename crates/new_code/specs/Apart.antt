@@ -6,13 +6,14 @@ use Rattle.ks_base.specs.declared.places.Range.{Range}
 use Rattle.image_memory.specs.declared.types.Kind.{Kind}
 use Rattle.image_memory.specs.declared.types.Piece.{Piece}
 use Rattle.image_memory.specs.Contents.{piece_range}
+use Rattle.image_memory.specs.Access.{kind_of}
 use Rattle.i386_reloc.specs.declared.types.Class.TheVariants.{Zero}
 use Rattle.i386_reloc.specs.declared.types.NormalSection.{NormalSection}
 use Rattle.i386_reloc.specs.Normal.{section_named}
 use Rattle.link_post.specs.declared.types.Placed.{Placed}
 use Rattle.link_post.specs.Places.{AreApart, LiesInOne, base_in, extents}
 use Rattle.new_code.specs.Parts.{NewPart, AtPlace, size_of}
-use Rattle.new_code.specs.Pieces.{kind_of}
+use Rattle.new_code.specs.Pieces.{kind_of_class}
 
 -- a section has some bytes, and as many as its size where the file holds them
 pub record IsWhole (section : NormalSection) : Type 0 where
@@ -30,11 +31,8 @@ pub record IsPartOf (post : List NormalSection) (part : NewPart) : Type 0 where
 abbrev pub ArePartsOf : List NormalSection → List NewPart → Type 0
 ArePartsOf post parts = AllByRecursion (IsPartOf post) parts
 
-abbrev pub kind_in : Piece → Kind
-kind_in piece = piece.kind
-
 abbrev pub kind_for : NewPart → Kind
-kind_for part = kind_of part.section.class
+kind_for part = kind_of_class part.section.class
 
 -- a piece has some bytes, all of them in one of the gaps
 pub record IsInGap (gaps : List Range) (piece : Piece) : Type 0 where
@@ -45,7 +43,7 @@ pub record IsInGap (gaps : List Range) (piece : Piece) : Type 0 where
 pub record AreNewPieces (gaps : List Range) (parts : List NewPart) (placement : List Placed) (pieces : List Piece)
     : Type 0 where
   pub ranges : map piece_range pieces ≡ extents (map size_of parts) placement
-  pub kinds : map kind_in pieces ≡ map kind_for parts
+  pub kinds : map kind_of pieces ≡ map kind_for parts
   pub each : AllByRecursion (IsInGap gaps) pieces
   pub apart : AreApart (map piece_range pieces)
 

@@ -4,10 +4,11 @@ use Rattle.std.specs.List.{flat_map}
 use Rattle.symbol_table.specs.declared.symbols.Symbol.{Symbol}
 use Rattle.i386_reloc.specs.declared.types.ObjectSymbol.{ObjectSymbol}
 use Rattle.i386_reloc.specs.declared.types.NormalSection.{NormalSection}
+use Rattle.i386_reloc.specs.Normal.{function_name}
 use Rattle.link_post.specs.declared.types.Placed.{Placed}
 use Rattle.section_roles.specs.declared.role.Role.{Role}
 use Rattle.section_roles.specs.declared.role.Role.TheVariants.{Changed, Added, Carried, NewData}
-use Rattle.new_code.specs.Parts.{NewPart, AtPlace, at_places, function_name}
+use Rattle.new_code.specs.Parts.{NewPart, AtPlace, at_places}
 
 abbrev pub function_symbol : NormalSection → ℕ → Symbol
 function_symbol section base =

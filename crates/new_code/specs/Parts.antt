@@ -1,5 +1,5 @@
 -- The sections of a new object that an update places, and their places.
-use Rattle.std.specs.Prelude.{ℕ, List, [], ◌∷◌, unwrap_or}
+use Rattle.std.specs.Prelude.{ℕ, List, [], ◌∷◌}
 use Rattle.i386_reloc.specs.declared.types.NormalSection.{NormalSection}
 use Rattle.link_post.specs.declared.types.SectionSize.{SectionSize}
 use Rattle.link_post.specs.declared.types.Placed.{Placed}
@@ -16,10 +16,6 @@ new_part section role = record { section = section; role = role }
 -- what is needed to place it
 abbrev pub size_of : NewPart → SectionSize
 size_of part = record { name = part.section.name; size = part.section.size; align = part.section.align }
-
--- the name of the function that a section is, without bytes where it is none
-abbrev pub function_name : NormalSection → List ℕ
-function_name section = unwrap_or section.function []
 
 -- a section of the new object with the address of its first byte
 pub record AtPlace : Type 0 where

@@ -12,18 +12,18 @@ use Rattle.link_post.specs.Linked.{linked}
 use Rattle.new_code.specs.Parts.{NewPart, AtPlace, at_places}
 
 -- what the piece of a section may be used for
-abbrev pub kind_of : Class → Kind
-kind_of Code = kinds.Code
-kind_of ReadOnly = kinds.ReadOnly
-kind_of Strings = kinds.ReadOnly
-kind_of Writable = kinds.Writable
-kind_of Zero = kinds.Writable
+abbrev pub kind_of_class : Class → Kind
+kind_of_class Code = kinds.Code
+kind_of_class ReadOnly = kinds.ReadOnly
+kind_of_class Strings = kinds.ReadOnly
+kind_of_class Writable = kinds.Writable
+kind_of_class Zero = kinds.Writable
 
 -- a section at its place, with its linked bytes
 abbrev pub new_piece : List NormalSection → List Placed → ValueList → AtPlace → Piece
 new_piece post placement values part =
     record {
-      kind = kind_of part.section.class;
+      kind = kind_of_class part.section.class;
       base = part.base;
       bytes = linked post placement values part.section.name;
     }

@@ -5,13 +5,13 @@ use Rattle.ks_base.specs.declared.reports.Report.{Report}
 use Rattle.ks_base.specs.declared.reports.Replaced.{Replaced}
 use Rattle.ks_base.specs.declared.reports.Added.{Added as AddedFunction}
 use Rattle.i386_reloc.specs.declared.types.NormalSection.{NormalSection}
-use Rattle.i386_reloc.specs.Normal.{same_bytes}
+use Rattle.i386_reloc.specs.Normal.{same_bytes, function_name}
 use Rattle.link_post.specs.declared.types.Placed.{Placed}
 use Rattle.retired_code.specs.declared.types.OldFunction.{OldFunction}
 use Rattle.retired_code.specs.Retired.{is_dropped}
 use Rattle.section_roles.specs.declared.role.Role.{Role}
 use Rattle.section_roles.specs.declared.role.Role.TheVariants.{Changed, Added, Carried, NewData}
-use Rattle.new_code.specs.Parts.{NewPart, AtPlace, at_places, function_name}
+use Rattle.new_code.specs.Parts.{NewPart, AtPlace, at_places}
 
 -- the function of the old object that is the section of a name
 abbrev pub old_named : List OldFunction → List ℕ → Option OldFunction

@@ -1,6 +1,7 @@
 //! The sections of a new object that an update places, and their places.
 ghost use Rattle.std.specs.Prelude.{◌≡◌, map, IfOk};
-ghost use Rattle.new_code.specs.Parts.{at_places, function_name, new_part, placed_part, size_of};
+ghost use Rattle.i386_reloc.specs.Normal.{function_name};
+ghost use Rattle.new_code.specs.Parts.{at_places, new_part, placed_part, size_of};
 
 use i386_reloc::NormalSection;
 use ks_base::Name;

@@ -1,7 +1,7 @@
 //! The pieces of memory that an update adds.
 ghost use Rattle.std.specs.Prelude.{◌≡◌, IfOk};
 ghost use Rattle.link_post.specs.Linked.{AreInOrder};
-ghost use Rattle.new_code.specs.Pieces.{kind_of, new_piece, new_pieces};
+ghost use Rattle.new_code.specs.Pieces.{kind_of_class, new_piece, new_pieces};
 
 use crate::parts::{Part, PlacedPart, at_places};
 use i386_reloc::{Class, Normal};
@@ -47,15 +47,15 @@ fn new_piece(
     let name = Name::from_slice(alloc, section.name.as_slice())?;
     let bytes = linked(alloc, post, &name, placement, values)?;
     Ok(Piece {
-        kind: kind_of(section.class),
+        kind: kind_of_class(section.class),
         base: part.base(),
         bytes,
     })
 }
 
 // What the piece of a section may be used for.
-fn kind_of(class: Class) -> Kind
-    ensures { result ≡ kind_of class }
+fn kind_of_class(class: Class) -> Kind
+    ensures { result ≡ kind_of_class class }
 {
     match class {
         Class::Code => Kind::Code,

@@ -13,12 +13,12 @@ use Rattle.ks_base.specs.declared.places.Range.{Range}
 use Rattle.ks_base.specs.declared.refusals.Refusal.TheVariants.{Overlap}
 use Rattle.i386_reloc.specs.Normal.{same_bytes}
 use Rattle.i386_reloc.specs.Refused.{first_among}
-use Rattle.image_memory.specs.Ranges.{meets, MeetsNone}
+use Rattle.image_memory.specs.Ranges.{meets, MeetsNone, from_to}
 use Rattle.image_memory.specs.Contents.{Contents}
 use Rattle.symbol_table.specs.declared.symbols.Symbol.{Symbol}
 use Rattle.retired_code.specs.declared.types.TheConstants.{JUMP_LENGTH}
 use Rattle.retired_code.specs.declared.types.OldFunction.{OldFunction}
-use Rattle.retired_code.specs.Retired.{body_range, is_first, is_replaced, is_retired, range_of, retired_by}
+use Rattle.retired_code.specs.Retired.{body_range, is_first, is_replaced, is_retired, retired_by}
 use Rattle.retired_code.specs.Retired.{retired_range, section_of, takes_jump}
 use Rattle.retired_code.specs.Overlaps.{LieApart, code_refusal, is_other, other_bodies, overlap_refusal, overlap_with}
 use Rattle.retired_code.specs.Overlaps.{room_refusal}
@@ -113,15 +113,15 @@ bounds_by : (old : OldFunction) (b : Bool) → takes_jump old ≡ b → Bounds o
 bounds_by old true jump =
     let first : old.base ≡ old.home = eqb-true old.base old.home (and_parts (is_replaced old.fate) (is_first old)
     jump).1 in
-    let is : retired_range old ≡ range_of old.home (old.home + max old.length JUMP_LENGTH) =
-    ap (λ c. cond c (range_of old.home (old.home + max old.length JUMP_LENGTH)) (body_range old)) jump in
+    let is : retired_range old ≡ from_to old.home (old.home + max old.length JUMP_LENGTH) =
+    ap (λ c. cond c (from_to old.home (old.home + max old.length JUMP_LENGTH)) (body_range old)) jump in
     record {
       low = ap (λ (r : Range). r.low) is ∙ sym first;
       high = (let high = ap (λ (r : Range). r.high) is in omega (arith, high, first));
     }
 bounds_by old false later =
     let is : retired_range old ≡ body_range old =
-    ap (λ c. cond c (range_of old.home (old.home + max old.length JUMP_LENGTH)) (body_range old)) later in
+    ap (λ c. cond c (from_to old.home (old.home + max old.length JUMP_LENGTH)) (body_range old)) later in
     record {
       low = ap (λ (r : Range). r.low) is;
       high = (let high = ap (λ (r : Range). r.high) is in omega (arith, high));

@@ -7,7 +7,7 @@ use Rattle.std.proofs.lemmas.Bool.{ltb-true, lt-ltb, eqb-true, and_parts, or_cas
 use Rattle.std.proofs.lemmas.List.{length-take, take_all}
 use Rattle.ks_base.specs.declared.places.Range.{Range}
 use Rattle.image_memory.specs.declared.types.Fence.{Fence}
-use Rattle.image_memory.specs.Ranges.{lies_in, meets, MeetsNone, Ascends}
+use Rattle.image_memory.specs.Ranges.{lies_in, meets, MeetsNone, Ascends, from_to}
 use Rattle.image_memory.specs.Contents.{Contents, IsValid, fence_range, spliced_at}
 use Rattle.image_memory.specs.Fetch.{Stray, Bytes, seen_in, view, view_at, code_from}
 use Rattle.image_memory.specs.Fetch.{cut_before, window_of}
@@ -15,7 +15,6 @@ use Rattle.image_memory.proofs.RangeLaws.{found, each_above, inside, within}
 use Rattle.ia32_decode.specs.Decode.{decoded_from}
 use Rattle.symbol_table.specs.declared.symbols.Symbol.{Symbol}
 use Rattle.symbol_table.specs.Symbols.{next_address}
-use Rattle.retired_code.specs.Retired.{range_of}
 use Rattle.retired_code.specs.Room.{padding_length, padding_by, padding_end, up_to_symbol}
 use Rattle.retired_code.specs.Room.{room}
 use Rattle.retired_code.specs.inside.Met.{code_met}
@@ -213,7 +212,7 @@ none_or_some n = grind arith
 
 -- what is known of a first version's body
 module _ (contents : Contents) (home long : ℕ) (valid : IsValid contents)
-    (apart : MeetsNone fence_range (range_of home (home + long)) contents.fences) (some : AreSome)
+    (apart : MeetsNone fence_range (from_to home (home + long)) contents.fences) (some : AreSome)
     (short : AreWithin) where
   ends_retired : (n : ℕ) → list_any (lies_in home) (ranges_in contents) ≡ true → padding_end
       contents n (home + long) ≤ home
@@ -229,9 +228,9 @@ module _ (contents : Contents) (home long : ℕ) (valid : IsValid contents)
             ap (padding_end contents n) begin ∙ not_padded contents n home nothing in
             omega (arith, stays)
         | inr full ↦
-            let met = lies_then_meets (range_of home (home + long)) (ranges_in contents) home refl
+            let met = lies_then_meets (from_to home (home + long)) (ranges_in contents) home refl
             (omega (arith, full)) retired in
-            let none = ranges_meet (range_of home (home + long)) contents.fences apart in
+            let none = ranges_meet (from_to home (home + long)) contents.fences apart in
             absurd cc
       ]
 
@@ -244,10 +243,10 @@ module _ (contents : Contents) (home long : ℕ) (valid : IsValid contents)
             let each = each_above same_range 0 (ranges_in contents) k d
             (ascends_ranges 0 contents.fences valid.fenced) less in
             let full = each.1 in
-            let met = meet_where (range_of home (home + long)) (get_or (ranges_in contents) k d)
+            let met = meet_where (from_to home (home + long)) (get_or (ranges_in contents) k d)
             (omega (arith, above, full)) across (omega (arith, above, across)) full in
-            absurd (none_of (meets (range_of home (home + long))) (ranges_in contents) k d
-            (ranges_meet (range_of home (home + long)) contents.fences apart) less met)
+            absurd (none_of (meets (from_to home (home + long))) (ranges_in contents) k d
+            (ranges_meet (from_to home (home + long)) contents.fences apart) less met)
         | inr before ↦ before
       ] where
         some_or_none : (a b : ℕ) → (a < b) ⊎ (b ≤ a)
@@ -320,7 +319,7 @@ by_symbol home end_code end_padding limit (Some address) same = omega (arith, sa
 
 -- what room there is for a jump
 pub room_is : (contents : Contents) (symbols : List Symbol) (home long n : ℕ) → IsValid contents →
-    MeetsNone fence_range (range_of home (home + long)) contents.fences → AreSome → AreWithin →
+    MeetsNone fence_range (from_to home (home + long)) contents.fences → AreSome → AreWithin →
     n ≡ min (length (code_met (view_at contents home))) 5 →
     min (room contents symbols home long) 5
     ≡ up_to_symbol (min (padding_end contents (home + n - (home + long)) (home + long)) (home + n))

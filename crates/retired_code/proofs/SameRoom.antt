@@ -5,11 +5,11 @@ use Rattle.ks_base.specs.declared.places.Range.{Range}
 use Rattle.image_memory.specs.declared.types.Kind.{Kind}
 use Rattle.image_memory.specs.declared.types.Piece.{Piece}
 use Rattle.image_memory.specs.Ranges.{lies_in}
-use Rattle.image_memory.specs.Contents.{Contents, holding, piece_range}
+use Rattle.image_memory.specs.Contents.{Contents, holding, piece_range, shape_of}
 use Rattle.image_memory.specs.Fetch.{HasCode, is_code, code_in, code_from, view_at}
 use Rattle.symbol_table.specs.declared.symbols.Symbol.{Symbol}
 use Rattle.symbol_table.specs.Symbols.{next_address}
-use Rattle.retired_code.specs.Room.{HaveOneShape, shape_of, end_of_code, padded_end, padding_end, up_to_symbol, room}
+use Rattle.retired_code.specs.Room.{HaveOneShape, end_of_code, padded_end, padding_end, up_to_symbol, room}
 use Rattle.retired_code.proofs.PaddingLaws.{padded_same}
 
 -- how many bytes of code there are

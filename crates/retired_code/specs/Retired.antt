@@ -2,7 +2,7 @@
 use Rattle.std.specs.Prelude.{ℕ, ◌+◌, ◌^◌, ◌<◌, Bool, true, false, ◌&&◌, ◌==◌, max, if◌then◌else◌, List, ◌++◌, map}
 use Rattle.std.specs.List.{All, filter}
 use Rattle.ks_base.specs.declared.places.Range.{Range}
-use Rattle.image_memory.specs.Ranges.{MeetsNone}
+use Rattle.image_memory.specs.Ranges.{MeetsNone, from_to}
 use Rattle.image_memory.specs.Contents.{Contents, fence_range}
 use Rattle.retired_code.specs.declared.types.TheConstants.{JUMP_LENGTH}
 use Rattle.retired_code.specs.declared.types.Fate.{Fate}
@@ -28,12 +28,9 @@ is_retired Dropped = true
 abbrev pub section_of : OldFunction → List ℕ
 section_of old = old.section
 
-abbrev pub range_of : (low high : ℕ) → Range
-range_of low high = record { low = low; high = high }
-
 -- the newest version's body
 abbrev pub body_range : OldFunction → Range
-body_range old = range_of old.base (old.base + old.length)
+body_range old = from_to old.base (old.base + old.length)
 
 -- the newest version is the first one
 abbrev pub is_first : OldFunction → Bool
@@ -45,13 +42,13 @@ takes_jump old = is_replaced old.fate && is_first old
 
 -- the bytes at a home that a jump takes
 abbrev pub jump_range : OldFunction → Range
-jump_range old = range_of old.home (old.home + JUMP_LENGTH)
+jump_range old = from_to old.home (old.home + JUMP_LENGTH)
 
 -- What is retired of a function: of a first version that is replaced its body, and at least the bytes of the jump; of a
 -- later version, and of a function that is dropped, the body.
 abbrev pub retired_range : OldFunction → Range
 retired_range old =
-    if takes_jump old then range_of old.home (old.home + max old.length JUMP_LENGTH) else body_range old
+    if takes_jump old then from_to old.home (old.home + max old.length JUMP_LENGTH) else body_range old
 
 -- the ranges that are retired, in the functions' order
 unfoldable pub retired_by : List OldFunction → List Range

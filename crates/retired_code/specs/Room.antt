@@ -1,10 +1,8 @@
 -- How many bytes a jump may take at the home of a first version.
 use Rattle.std.specs.Prelude.{◌≡◌, ℕ, zero, suc, ◌+◌, ◌-◌, min, length, if◌then◌else◌, List, [], map, Option, Some}
 use Rattle.std.specs.Prelude.{None, unwrap_or}
-use Rattle.ks_base.specs.declared.places.Range.{Range}
-use Rattle.image_memory.specs.declared.types.Kind.{Kind}
 use Rattle.image_memory.specs.declared.types.Piece.{Piece}
-use Rattle.image_memory.specs.Contents.{Contents, piece_range}
+use Rattle.image_memory.specs.Contents.{Contents, shape_of}
 use Rattle.image_memory.specs.Fetch.{View, Unmapped, AtHome, Stray, Bytes, code_from, view_at}
 use Rattle.symbol_table.specs.declared.symbols.Symbol.{Symbol}
 use Rattle.symbol_table.specs.Symbols.{next_address}
@@ -53,10 +51,6 @@ unfoldable pub room : Contents → List Symbol → (home length : ℕ) → ℕ
 room contents symbols home length =
     up_to_symbol (min (end_of_code contents.pieces home) (padded_end contents home length)) (next_address symbols home)
     - home
-
--- what a piece is used for, and where it lies
-abbrev pub shape_of : Piece → Kind × Range
-shape_of piece = (piece.kind, piece_range piece)
 
 -- the pieces of two memories differ in their bytes alone
 abbrev pub HaveOneShape : Contents → Contents → Type 0

@@ -1,9 +1,8 @@
 //! The room for a jump at the home of a first version.
 ghost use Rattle.std.specs.Prelude.{◌≡◌, ◌≤◌, ◌<◌, ◌+◌, ◌-◌, ◌^◌, min, length, IfSome};
-ghost use Rattle.image_memory.specs.Ranges.{MeetsNone};
+ghost use Rattle.image_memory.specs.Ranges.{MeetsNone, from_to};
 ghost use Rattle.image_memory.specs.Contents.{fence_range};
 ghost use Rattle.image_memory.specs.Fetch.{fetched, view_at};
-ghost use Rattle.retired_code.specs.Retired.{range_of};
 ghost use Rattle.retired_code.specs.Room.{padding_length, padding_end, room, up_to_symbol};
 ghost use Rattle.retired_code.specs.inside.Met.{code_met};
 
@@ -82,7 +81,7 @@ fn up_to_symbol(end: u32, next: Option<u32>) -> u32
 /// and at most five instructions are decoded.
 pub fn room_for_jump<S: Space>(space: &S, table: &SymbolTable, home: u32, length: u32) -> u32
     requires fits { home + length < 2 ^ 32 }
-    requires in_use { MeetsNone fence_range (range_of home (home + length)) (S.contents space.now).fences }
+    requires in_use { MeetsNone fence_range (from_to home (home + length)) (S.contents space.now).fences }
     ensures { result ≡ min (room (S.contents space.now) table.now.symbols home length) JUMP_LENGTH }
 {
     // Nothing is done here: the law says how many bytes an instruction has.

@@ -1,9 +1,10 @@
 -- What stands of one text stands of another that shares it.
-use Rattle.std.proofs.Common.{◌≡◌, ℕ, suc, ◌-◌, ◌<◌, true, List, min, subst, arith}
+use Rattle.std.proofs.Common.{◌≡◌, ℕ, suc, ◌-◌, true, List, min, subst, arith}
 use Rattle.i386_reloc.specs.declared.types.NormalSection.{NormalSection}
+use Rattle.i386_reloc.specs.Places.{bytes_at}
 use Rattle.image_memory.specs.declared.types.Piece.{Piece}
 use Rattle.run_pre_match.specs.declared.endings.End.{End}
-use Rattle.run_pre_match.specs.inside.Endings.{Agree, bytes_at}
+use Rattle.run_pre_match.specs.inside.Endings.{Agree}
 use Rattle.run_pre_match.specs.inside.Texts.{StandBefore}
 use Rattle.run_pre_match.specs.Constants.{is_byte, constant_at}
 

@@ -3,8 +3,9 @@
 ghost use Rattle.std.specs.Prelude.{◌≡◌, ◌+◌, ◌-◌, ◌<◌, ◌≤◌, ℕ, List, length, slice_index, IfOk, IfSome, All};
 ghost use Rattle.std.specs.Bool.{OnTrue};
 ghost use Rattle.i386_reloc.specs.declared.types.NormalSection.{NormalSection};
+ghost use Rattle.i386_reloc.specs.Places.{bytes_at};
 ghost use Rattle.run_pre_match.specs.declared.endings.End.{End};
-ghost use Rattle.run_pre_match.specs.inside.Endings.{Agree, IsLevel, AreEndings, bytes_at, end_at};
+ghost use Rattle.run_pre_match.specs.inside.Endings.{Agree, IsLevel, AreEndings, end_at};
 
 use i386_reloc::{Normal, NormalSection, Ref, Target};
 use std::alloc::{AllocError, Global};

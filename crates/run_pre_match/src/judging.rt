@@ -5,12 +5,12 @@ ghost use Rattle.std.specs.List.{slice_get};
 ghost use Rattle.std.specs.Ordering.{nat_cmp};
 ghost use Rattle.std.specs.BTreeMap.{get};
 ghost use Rattle.i386_reloc.specs.Normal.{same_bytes};
+ghost use Rattle.i386_reloc.specs.Places.{bytes_at};
 ghost use Rattle.run_pre_match.specs.Found.{Found, is_off, section_stands, section_lies};
 ghost use Rattle.run_pre_match.specs.Goals.{interior_address};
 ghost use Rattle.run_pre_match.specs.declared.values.Values.{Values};
 ghost use Rattle.run_pre_match.specs.declared.goals.Verdict.TheVariants.{Holds, Absent};
 ghost use Rattle.run_pre_match.specs.declared.goals.Goal.TheVariants.{Entry, Inside, Variable, Constant, Outside, Text};
-ghost use Rattle.run_pre_match.specs.inside.Endings.{bytes_at};
 ghost use Rattle.run_pre_match.specs.inside.Texts.{AreKnown};
 ghost use Rattle.run_pre_match.specs.inside.Kept.{first_of, Keeps, Judges, given};
 

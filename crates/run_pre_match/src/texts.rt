@@ -4,9 +4,10 @@ ghost use Rattle.std.specs.Prelude.{◌≡◌, ◌≤◌, ◌+◌, ◌-◌, suc,
 ghost use Rattle.std.specs.Ordering.{nat_cmp};
 ghost use Rattle.std.specs.BTreeMap.{get};
 ghost use Rattle.i386_reloc.specs.declared.types.NormalSection.{NormalSection};
+ghost use Rattle.i386_reloc.specs.Places.{bytes_at};
 ghost use Rattle.image_memory.specs.declared.types.Piece.{Piece};
 ghost use Rattle.run_pre_match.specs.Constants.{stand_at};
-ghost use Rattle.run_pre_match.specs.inside.Endings.{AreEndings, bytes_at};
+ghost use Rattle.run_pre_match.specs.inside.Endings.{AreEndings};
 ghost use Rattle.run_pre_match.specs.inside.Texts.{StandBefore, StandFor, IsKnown, AreKnown};
 
 use crate::constants::constant_at;

@@ -22,13 +22,13 @@ use Rattle.i386_reloc.specs.declared.types.NormalSection.{NormalSection}
 use Rattle.i386_reloc.specs.Classes.{is_strings_class}
 use Rattle.i386_reloc.specs.Normal.{same_bytes}
 use Rattle.i386_reloc.specs.Places.{place_named, at_place, place_of_target}
-use Rattle.i386_reloc.specs.Places.{reference_in, reference_at, place_of_reference}
+use Rattle.i386_reloc.specs.Places.{reference_in, reference_at, place_of_reference, bytes_of, bytes_at, references_in}
 use Rattle.i386_reloc.specs.Texts.{StandsAt, StandsIn, HasTexts}
 use Rattle.i386_reloc.specs.PlaceLaws.{section_named_at}
 use Rattle.section_equal.specs.Same.{same_class, same_reference, is_same}
 use Rattle.section_equal.specs.declared.texts.Ends.{Ends}
-use Rattle.section_equal.specs.inside.Texts.{Agree, AgreeFor, bytes_of, IsKnown, AreKnown, bytes_at}
-use Rattle.section_equal.specs.inside.Texts.{refs_of, refs_at, EndsIn, HoldsAt, HoldsTarget, same_content}
+use Rattle.section_equal.specs.inside.Texts.{Agree, AgreeFor, IsKnown, AreKnown}
+use Rattle.section_equal.specs.inside.Texts.{refs_at, EndsIn, HoldsAt, HoldsTarget, same_content}
 
 -- no byte is compared
 pub none_agree : (old new : List ℕ) (old_end new_end : ℕ) → Agree old new old_end new_end 0
@@ -199,7 +199,7 @@ all_at sections all place (Some section) k r at texts is =
     (texts place section (slice_get_within all place section at)) in
     stands_in sections (Some section) k r here is
 
-in_section : (section : Option NormalSection) (k : ℕ) (r : Ref) → slice_get (refs_of section) k ≡ Some r
+in_section : (section : Option NormalSection) (k : ℕ) (r : Ref) → slice_get (references_in section) k ≡ Some r
     → reference_in section k ≡ Some r
 in_section None k r at = absurd cc
 in_section (Some section) k r at = at

@@ -4,8 +4,9 @@ ghost use Rattle.std.specs.List.{slice_get};
 ghost use Rattle.std.specs.Cmp.Lexicographic.{pointwise};
 ghost use Rattle.i386_reloc.specs.declared.types.NormalSection.{NormalSection};
 ghost use Rattle.i386_reloc.specs.Normal.{same_bytes};
+ghost use Rattle.i386_reloc.specs.Places.{bytes_at};
 ghost use Rattle.section_equal.specs.Same.{same_target, same_reference, is_same, are_same, same_in};
-ghost use Rattle.section_equal.specs.inside.Texts.{IsKnown, AreKnown, bytes_at, refs_at, EndsIn, HoldsTarget};
+ghost use Rattle.section_equal.specs.inside.Texts.{IsKnown, AreKnown, refs_at, EndsIn, HoldsTarget};
 
 use crate::parts::{equal_bytes, same_content, same_field};
 use crate::texts::{Ends, agreement};

@@ -10,7 +10,7 @@ use Rattle.std.proofs.lemmas.Bool.Decides.{nat_tests}
 use Rattle.ks_base.specs.declared.places.Range.{Range}
 use Rattle.ks_base.specs.declared.refusals.Difference.{Difference}
 use Rattle.image_memory.specs.declared.types.Fence.{Fence}
-use Rattle.image_memory.specs.Ranges.{Ascends, MeetsNone, lies_in, meets}
+use Rattle.image_memory.specs.Ranges.{Ascends, MeetsNone, lies_in, meets, from_to}
 use Rattle.image_memory.specs.Contents.{Contents, IsValid, fence_range, spliced_at}
 use Rattle.image_memory.specs.Fetch.{View, Unmapped, AtHome, Stray, Bytes, code_from, cut_before, seen_in, view}
 use Rattle.image_memory.specs.Fetch.{view_at, window_of}
@@ -23,7 +23,6 @@ use Rattle.run_pre_match.specs.Candidate.{Candidate, pairs, pre_list, run_list}
 use Rattle.run_pre_match.specs.Differences.{difference_from}
 use Rattle.run_pre_match.specs.Found.{all_found, own_home}
 use Rattle.run_pre_match.specs.Matched.{matched_by, matched_unless, outcome, statements}
-use Rattle.retired_code.specs.Retired.{range_of}
 use Rattle.retired_code.proofs.CountLaws.{they_meet}
 use Rattle.update_plan.proofs.SoundLists.{Has, any_none}
 
@@ -201,10 +200,10 @@ nothing_through there (suc n) (suc k) place none =
     ap (λ o. end_of place (through_kept (suc k) (listed_on o (listed there n)))) none
 
 apart_where : (low high : ℕ) (range : Range) → (high ≤ low) ⊎ ((range.high ≤ low) ⊎ (high ≤ range.low))
-    → meets (range_of low high) range ≡ false
+    → meets (from_to low high) range ≡ false
 apart_where low high range apart =
-    false_from_ne_true (meets (range_of low high) range) (λ met.
-    let m = they_meet (range_of low high) range met in
+    false_from_ne_true (meets (from_to low high) range) (λ met.
+    let m = they_meet (from_to low high) range met in
     let first = m.first in
     let second = m.second in
     let one = m.one in
@@ -243,15 +242,15 @@ module _ (within : AreWithin) (contents : Contents) (valid : IsValid contents) w
               n k base (omega (arith, here.0, below))))
         ]
 
-    body_apart : (n k base : ℕ) → meets (range_of base (end_at n k base)) fence.range ≡ false
+    body_apart : (n k base : ℕ) → meets (from_to base (end_at n k base)) fence.range ≡ false
     body_apart n k base =
         apart_where base (end_at n k base) fence.range (body_by n k base (there base) refl)
 
   pub run_in_use : (k base : ℕ)
-      → MeetsNone fence_range (range_of base (end_of base (run_body contents base k))) contents.fences
+      → MeetsNone fence_range (from_to base (end_of base (run_body contents base k))) contents.fences
   unfolding run_code
   run_in_use k base =
-      any_none (λ (f : Fence). meets (range_of base (end_of base (run_body contents base k))) f.range) contents.fences
+      any_none (λ (f : Fence). meets (from_to base (end_of base (run_body contents base k))) f.range) contents.fences
       (λ fence has. body_apart fence has (2 ^ 32 - base) k base)
 
   on_from : (place : ℕ) (i : Instruction) → there place ≡ Some i → place ≤ after i
@@ -274,11 +273,11 @@ matched_length c m is =
     (matched_by c (statements c (all_found c))) m is))
 
 pub matched_in_use : AreWithin → (c : Candidate) (m : Matched) → IsValid c.contents → outcome c ≡ Ok m
-    → MeetsNone fence_range (range_of c.base (c.base + m.length)) c.contents.fences
+    → MeetsNone fence_range (from_to c.base (c.base + m.length)) c.contents.fences
 matched_in_use within c m valid is =
     let k = length (kept_of (pre_list c)) in
     let rises = run_rises within c.contents valid k c.base in
     let long = matched_length c m is in
     let end : end_of c.base (run_list c) ≡ c.base + m.length = omega (arith, rises, long) in
-    subst (λ high. MeetsNone fence_range (range_of c.base high) c.contents.fences) end
+    subst (λ high. MeetsNone fence_range (from_to c.base high) c.contents.fences) end
     (run_in_use within c.contents valid k c.base)

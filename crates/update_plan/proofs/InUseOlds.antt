@@ -5,7 +5,7 @@ use Rattle.std.specs.Prelude.{Result, Ok, Err}
 use Rattle.std.specs.List.{AllZip, filter, flat_map, fold}
 use Rattle.ks_base.specs.declared.refusals.Refusal.{Refusal}
 use Rattle.i386_reloc.specs.declared.types.NormalSection.{NormalSection}
-use Rattle.image_memory.specs.Ranges.{MeetsNone}
+use Rattle.image_memory.specs.Ranges.{MeetsNone, from_to}
 use Rattle.image_memory.specs.Contents.{Contents, IsValid, fence_range}
 use Rattle.symbol_table.specs.declared.values.Unknown.{Unknown}
 use Rattle.symbol_table.specs.declared.values.Unknown.TheVariants.{Code}
@@ -24,7 +24,7 @@ use Rattle.symbol_solve.specs.Solution.{IsChoice, IsSolution}
 use Rattle.extract_post.specs.declared.types.Extract.{Extract}
 use Rattle.link_post.specs.Values.{ValueList, solved_as}
 use Rattle.retired_code.specs.declared.types.OldFunction.{OldFunction}
-use Rattle.retired_code.specs.Retired.{AreInUse, body_range, range_of}
+use Rattle.retired_code.specs.Retired.{AreInUse, body_range}
 use Rattle.update_plan.specs.Olds.{is_function, old_as, old_in, olds_of}
 use Rattle.update_plan.proofs.SoundLists.{Has, all_of, flat_has, has_either, has_of, map_has}
 use Rattle.update_plan.proofs.InUse.{AreWithin, matched_in_use}
@@ -146,20 +146,20 @@ left_here running object c solution has =
 module _ (within : AreWithin) (law : IsSolved) (running : Running) (object : List NormalSection)
     (valid : IsValid running.contents) (clear : obstacle running object ≡ None) where
   left_in_use : (c : Candidate) (m : Matched) → Has (left_of running object) c → outcome c ≡ Ok m
-      → MeetsNone fence_range (range_of c.base (c.base + m.length)) running.contents.fences
+      → MeetsNone fence_range (from_to c.base (c.base + m.length)) running.contents.fences
   left_in_use c m has is =
       let same = left_here running object c (law running object clear) has in
-      subst (λ (contents : Contents). MeetsNone fence_range (range_of c.base (c.base + m.length)) contents.fences)
+      subst (λ (contents : Contents). MeetsNone fence_range (from_to c.base (c.base + m.length)) contents.fences)
       (sym same) (matched_in_use within c m (subst IsValid same valid) is)
 
   value_in_use : (about : Unknown) (home base length : ℕ)
       → Has (values (left_of running object)) (about, Body home base length)
-      → MeetsNone fence_range (range_of base (base + length)) running.contents.fences
+      → MeetsNone fence_range (from_to base (base + length)) running.contents.fences
   value_in_use about home base length has =
       let (c, has_c, inner) = values_has (left_of running object) (about, Body home base length) has in
       let it = body_of c (outcome c) about home base length refl inner in
-      subst (λ n. MeetsNone fence_range (range_of base (base + n)) running.contents.fences) it.length_is
-      (subst (λ b. MeetsNone fence_range (range_of b (b + it.matched.length)) running.contents.fences) it.base_is
+      subst (λ n. MeetsNone fence_range (from_to base (base + n)) running.contents.fences) it.length_is
+      (subst (λ b. MeetsNone fence_range (from_to b (b + it.matched.length)) running.contents.fences) it.base_is
       (left_in_use c it.matched has_c it.matches))
 
   all_in_use : (extract : Extract)

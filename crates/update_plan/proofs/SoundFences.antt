@@ -6,11 +6,11 @@ use Rattle.std.specs.List.{All, AllPairs, Contains, filter}
 use Rattle.std.proofs.lemmas.Bool.{and_parts, eqb-true}
 use Rattle.ks_base.specs.declared.places.Range.{Range}
 use Rattle.image_memory.specs.declared.types.Fence.{Fence}
-use Rattle.image_memory.specs.Ranges.{meets, MeetsNone}
+use Rattle.image_memory.specs.Ranges.{meets, MeetsNone, from_to}
 use Rattle.image_memory.specs.Contents.{Contents, fence_range}
 use Rattle.splice_jump.specs.Jumps.{IsFenced}
 use Rattle.retired_code.specs.declared.types.OldFunction.{OldFunction}
-use Rattle.retired_code.specs.Retired.{body_range, is_first, is_replaced, is_retired, range_of, retired_by}
+use Rattle.retired_code.specs.Retired.{body_range, is_first, is_replaced, is_retired, retired_by}
 use Rattle.retired_code.specs.Retired.{retired_range, takes_jump}
 use Rattle.retired_code.specs.Overlaps.{LieApart}
 use Rattle.retired_code.proofs.CountLaws.{meet_where}
@@ -23,7 +23,7 @@ abbrev retired_of : List OldFunction → List OldFunction
 retired_of olds = filter (λ old. is_retired old.fate) olds
 
 abbrev with_jump : OldFunction → Range
-with_jump old = range_of old.home (old.home + max old.length 5)
+with_jump old = from_to old.home (old.home + max old.length 5)
 
 low_by : (old : OldFunction) (b : Bool) → takes_jump old ≡ b →
     (cond b (with_jump old) (body_range old)).low ≡ old.base

@@ -18,6 +18,7 @@ use Rattle.image_memory.specs.declared.types.Kind.TheVariants.{Code, ReadOnly, W
 use Rattle.image_memory.specs.declared.types.Piece.{Piece}
 use Rattle.image_memory.specs.Ranges.{Ascends, MeetsNone}
 use Rattle.image_memory.specs.Contents.{Contents, IsValid, piece_range, holding, look_at, kind_and_byte, spliced_at}
+use Rattle.image_memory.specs.Contents.{shape_of}
 use Rattle.image_memory.specs.Access.{kind_of}
 use Rattle.image_memory.specs.Fetch.{view_at, code_in, code_from}
 use Rattle.link_post.specs.Places.{unless_empty, without}
@@ -25,7 +26,7 @@ use Rattle.match_candidates.specs.Candidates.{Running}
 use Rattle.match_candidates.specs.Alike.{RunAlike}
 use Rattle.run_pre_match.specs.Alike.{AreAlike}
 use Rattle.run_pre_match.specs.Constants.{constant_byte, constant_at}
-use Rattle.retired_code.specs.Room.{shape_of, HaveOneShape}
+use Rattle.retired_code.specs.Room.{HaveOneShape}
 use Rattle.splice_jump.specs.Jumps.{jumped, jumped_memory, IsSpliced, AreSpliced}
 use Rattle.symbol_table.specs.declared.symbols.Symbol.{Symbol}
 use Rattle.symbol_table.specs.Bodies.{home_of, homes, newest}

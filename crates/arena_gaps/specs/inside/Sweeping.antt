@@ -1,7 +1,8 @@
 -- One pass over free ranges and those that are taken, both in order.
 use Rattle.std.specs.Prelude.{◌≡◌, ℕ, ◌≤◌, ◌<◌, max, List, [], ◌∷◌, length, take, fold}
 use Rattle.ks_base.specs.declared.places.Range.{Range}
-use Rattle.link_post.specs.Places.{from_to, unless_empty, without}
+use Rattle.image_memory.specs.Ranges.{from_to}
+use Rattle.link_post.specs.Places.{unless_empty, without}
 
 -- what the first of the taken ranges leave of a range from floor on is what lies above their highest end
 pub record Stands (taken : List Range) (floor next reach : ℕ) : Type 0 where

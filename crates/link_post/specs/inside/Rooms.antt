@@ -3,9 +3,10 @@ use Rattle.std.specs.Prelude.{ℕ, ◌+◌, Bool, nat_lt, nat_le, if◌then◌el
 use Rattle.std.specs.Prelude.{[], ◌∷◌, ◌++◌, Option, Some, None, Result, Ok, Err}
 use Rattle.ks_base.specs.declared.places.Range.{Range}
 use Rattle.ks_base.specs.declared.refusals.Refusal.{Refusal}
+use Rattle.image_memory.specs.Ranges.{from_to}
 use Rattle.link_post.specs.declared.types.SectionSize.{SectionSize}
 use Rattle.link_post.specs.declared.types.Placed.{Placed}
-use Rattle.link_post.specs.Places.{from_to, unless_empty, start_in}
+use Rattle.link_post.specs.Places.{unless_empty, start_in}
 
 abbrev pub own : Range → Range
 own range = range

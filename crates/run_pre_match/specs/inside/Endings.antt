@@ -1,19 +1,11 @@
 -- What is known of the bytes before the ends of an object's texts.
-use Rattle.std.specs.Prelude.{◌≡◌, ℕ, suc, ◌+◌, ◌-◌, ◌<◌, ◌≤◌, List, [], length, All, Option, Some, None, slice_index}
+use Rattle.std.specs.Prelude.{◌≡◌, ℕ, suc, ◌+◌, ◌-◌, ◌<◌, ◌≤◌, List, length, All, slice_index}
 use Rattle.std.specs.Prelude.{slice_index_or}
-use Rattle.std.specs.List.{slice_get}
 use Rattle.i386_reloc.specs.declared.types.NormalSection.{NormalSection}
+use Rattle.i386_reloc.specs.Places.{bytes_at}
 use Rattle.run_pre_match.specs.declared.endings.End.{End}
 use Rattle.run_pre_match.specs.declared.endings.Level.{Level}
 use Rattle.run_pre_match.specs.declared.endings.Endings.{Endings}
-
--- the bytes of the section at a place
-abbrev pub bytes_of : Option NormalSection → List ℕ
-bytes_of None = []
-bytes_of (Some section) = section.bytes
-
-abbrev pub bytes_at : List NormalSection → ℕ → List ℕ
-bytes_at sections place = bytes_of (slice_get sections place)
 
 -- as many bytes before an end are those before another
 pub record Agree (object : List NormalSection) (x y : End) (count : ℕ) : Type 0 where

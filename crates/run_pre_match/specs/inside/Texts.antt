@@ -3,11 +3,11 @@ use Rattle.std.specs.Prelude.{◌≡◌, ℕ, suc, ◌+◌, ◌-◌, ◌<◌, �
 use Rattle.std.specs.Ordering.{nat_cmp}
 use Rattle.std.specs.BTreeMap.{BTreeMap, get}
 use Rattle.i386_reloc.specs.declared.types.NormalSection.{NormalSection}
+use Rattle.i386_reloc.specs.Places.{bytes_at}
 use Rattle.image_memory.specs.declared.types.Piece.{Piece}
 use Rattle.run_pre_match.specs.declared.goals.Goal.{Goal}
 use Rattle.run_pre_match.specs.declared.goals.Goal.TheVariants.{Entry, Inside, Variable, Constant, Outside, Text}
 use Rattle.run_pre_match.specs.declared.texts.Known.{Known}
-use Rattle.run_pre_match.specs.inside.Endings.{bytes_at}
 use Rattle.run_pre_match.specs.Constants.{is_byte, constant_at}
 
 -- As many bytes before an end in a list are those of read-only memory before an address.

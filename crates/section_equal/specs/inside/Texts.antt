@@ -1,6 +1,6 @@
 -- What is known of the bytes before the ends of texts.
 use Rattle.std.specs.Prelude.{◌≡◌, ◌≢◌, ℕ, suc, ◌+◌, ◌<◌, ◌≤◌, Bool, false, ◌&&◌, ◌||◌}
-use Rattle.std.specs.Prelude.{◌==◌, List, [], length, All, Option, Some, None, IsSomeAnd}
+use Rattle.std.specs.Prelude.{◌==◌, List, length, All, Option, Some, None, IsSomeAnd}
 use Rattle.std.specs.List.{slice_get, slice_index, slice_index_or}
 use Rattle.std.specs.BTreeMap.{BTreeMap}
 use Rattle.i386_reloc.specs.declared.types.NormalSection.{NormalSection}
@@ -10,6 +10,7 @@ use Rattle.i386_reloc.specs.declared.types.Target.TheVariants.{Section, Outside,
 use Rattle.i386_reloc.specs.Classes.{is_strings_class}
 use Rattle.i386_reloc.specs.Normal.{same_bytes}
 use Rattle.i386_reloc.specs.Texts.{StandsAt}
+use Rattle.i386_reloc.specs.Places.{bytes_at, references_in}
 use Rattle.section_equal.specs.Same.{same_class, same_form}
 use Rattle.section_equal.specs.declared.texts.Ends.{Ends}
 
@@ -27,21 +28,9 @@ pub record AgreeFor (old new : List ℕ) (old_end new_end bound count : ℕ) : T
   pub differs : (i j : ℕ) → count < bound → i + suc count ≡ old_end → j + suc count ≡ new_end
       → slice_index old i ≢ slice_index new j
 
--- the bytes of the section at a place
-abbrev pub bytes_of : Option NormalSection → List ℕ
-bytes_of None = []
-bytes_of (Some section) = section.bytes
-
-abbrev pub bytes_at : List NormalSection → ℕ → List ℕ
-bytes_at sections place = bytes_of (slice_get sections place)
-
 -- the references of the section at a place
-abbrev pub refs_of : Option NormalSection → List Ref
-refs_of None = []
-refs_of (Some section) = section.refs
-
 abbrev pub refs_at : List NormalSection → ℕ → List Ref
-refs_at sections place = refs_of (slice_get sections place)
+refs_at sections place = references_in (slice_get sections place)
 
 -- so many bytes before the ends are equal
 abbrev pub IsKnown : (pre post : List NormalSection) → Ends → ℕ → Type 0

@@ -1,7 +1,8 @@
 -- The range is the first that fits, and what is left of it is put in its place, the upper part first.
 use Rattle.std.proofs.Common.{suc, ◌+◌, ◌++◌, Some, sym, ◌∙◌, ap, take, drop}
 use Rattle.std.proofs.lemmas.List.Quantifiers.{position-Some}
-use Rattle.link_post.specs.Places.{from_to, unless_empty}
+use Rattle.image_memory.specs.Ranges.{from_to}
+use Rattle.link_post.specs.Places.{unless_empty}
 use Rattle.link_post.specs.inside.Rooms.{fits}
 use Rattle.link_post.proofs.Fitting.{fits_there, start_there, left_there, left_where_taken, left_where_empty, replaced}
 use Rattle.link_post.proofs.rooms.take_at.Goals as goal

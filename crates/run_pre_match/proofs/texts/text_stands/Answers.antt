@@ -1,7 +1,7 @@
 -- What is known is enough, or the rest is counted.
 use Rattle.std.proofs.Common.{ℕ, ◌+◌, List, subst, sym, arith}
 use Rattle.image_memory.specs.declared.types.Piece.{Piece}
-use Rattle.run_pre_match.specs.inside.Endings.{bytes_at}
+use Rattle.i386_reloc.specs.Places.{bytes_at}
 use Rattle.run_pre_match.specs.inside.Texts.{StandBefore, StandFor}
 use Rattle.run_pre_match.proofs.Ends.{fewer_stand, whole_stands, counted_stand}
 use Rattle.run_pre_match.proofs.texts.text_stands.Goals as goal

@@ -1,9 +1,9 @@
 -- What is said of a goal of each kind.
 use Rattle.std.proofs.Common.{◌∙◌, ap, sym, subst, List, length, take, drop, IfOk}
+use Rattle.i386_reloc.specs.Places.{bytes_at}
 use Rattle.run_pre_match.specs.declared.goals.Given.{Given}
 use Rattle.run_pre_match.specs.declared.goals.Goal.TheVariants.{Entry, Inside, Variable, Constant, Outside, Text}
 use Rattle.run_pre_match.specs.Found.{Found}
-use Rattle.run_pre_match.specs.inside.Endings.{bytes_at}
 use Rattle.run_pre_match.specs.inside.Texts.{IsPart, HasText}
 use Rattle.run_pre_match.specs.inside.Kept.{Keeps, Judges, given}
 use Rattle.run_pre_match.proofs.Verdicts.{given_is}

@@ -1,6 +1,7 @@
 -- All bytes are equal where as many are found.
 use Rattle.std.proofs.Common.{◌∙◌, ap}
-use Rattle.section_equal.specs.inside.Texts.{Compared, bytes_at}
+use Rattle.i386_reloc.specs.Places.{bytes_at}
+use Rattle.section_equal.specs.inside.Texts.{Compared}
 use Rattle.section_equal.proofs.EndsOfTexts.{all_agree}
 use Rattle.section_equal.proofs.comparing.Comparison.same_before.Goals as goal
 
