@@ -4,7 +4,7 @@
 mod code;
 mod laws;
 mod lines;
-pub mod listing;
+mod listing;
 
 pub use laws::lines_follow_one_another;
 pub use listing::{Listing, list_code};

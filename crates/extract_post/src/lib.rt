@@ -14,7 +14,7 @@ mod member_edges;
 mod members;
 mod naming;
 mod reaching;
-pub mod types;
+mod types;
 
 pub use crate::extracting::extract;
 pub use crate::laws::{extract_is_computed, objects_have_one_extract};

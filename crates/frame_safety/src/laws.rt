@@ -4,9 +4,9 @@ ghost use Rattle.frame_safety.specs.Slots.{UpdatesKeepSlots, UndosKeepSlots, Upd
 ghost use Rattle.frame_safety.specs.Windows.{StartsKeepWindows, StepsKeepWindows, UpdatesKeepWindows, UndosKeepWindows};
 ghost use Rattle.frame_safety.specs.Windows.{FetchedHaveWindows};
 
-use arena_gaps::laws::gaps_are_free;
-use memory_changes::laws::pieces_are_added;
-use update_plan::laws::plans_can_be_made;
+use arena_gaps::gaps_are_free;
+use memory_changes::pieces_are_added;
+use update_plan::plans_can_be_made;
 
 /// Where an update is accepted, no running thread, and no frame of it that keeps the slot rule, is in the code that is
 /// retired.

@@ -2,4 +2,9 @@
 //! to.
 #![tactic(auto)]
 
-pub mod laws;
+mod laws;
+
+pub use crate::laws::{
+    accepted_updates_are_clear, fetched_bytes_have_windows, threads_keep_windows,
+    undone_updates_are_clear, updates_keep_slots, updates_keep_windows,
+};

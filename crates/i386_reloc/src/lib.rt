@@ -20,7 +20,7 @@ mod source;
 mod span;
 mod targets;
 mod texts;
-pub mod types;
+mod types;
 mod value;
 
 pub use crate::reading::normalise;

@@ -4,15 +4,18 @@
 
 mod bounds;
 mod front;
-pub mod laws;
+mod laws;
 mod numbers;
-pub mod reading;
+mod reading;
 mod regions;
 mod stacks;
 mod symbols;
-pub mod types;
-pub mod writing;
+mod types;
+mod writing;
 
+pub use crate::laws::{
+    functions_lie_in_code, image_keeps_rules, read_is_spelled, spelling_is_read, written_is_read,
+};
 pub use reading::read_image;
 pub use types::Image;
 pub use writing::write_image;

@@ -3,15 +3,15 @@
 #![tactic(auto)]
 
 mod bytes;
-pub mod changes;
-pub mod flat;
-pub mod laws;
-pub mod lookup;
+mod changes;
+mod flat;
+mod laws;
+mod lookup;
 mod parts;
-pub mod placement;
-pub mod space;
+mod placement;
+mod space;
 mod spare;
-pub mod types;
+mod types;
 
 pub use changes::put_piece;
 pub use flat::FlatSpace;

@@ -2,10 +2,10 @@
 #![tactic(auto)]
 
 mod first;
-pub mod machine;
-pub mod stacks;
+mod machine;
+mod stacks;
 mod thread_list;
-pub mod turns;
+mod turns;
 
 pub use machine::Machine;
 pub use stacks::are_stacks;

@@ -2,13 +2,13 @@
 //! object, the refusals, and the bytes of one reply.
 #![tactic(auto)]
 
-pub mod list;
+mod list;
 mod parts;
-pub mod places;
+mod places;
 mod refusal_texts;
-pub mod refusals;
-pub mod reply;
-pub mod reports;
+mod refusals;
+mod reply;
+mod reports;
 
 pub use list::ListOf;
 pub use places::{Bytes, Name, Names, Range, Ranges, Spot};

@@ -1,12 +1,12 @@
 //! What a disciplined run is spared.
 ghost use Rattle.ksplice_session.specs.Safety.{OpenFramesKeepWindows, NoReturnIsLost};
 
-use frame_safety::laws::{
+use frame_safety::{
     accepted_updates_are_clear, threads_keep_windows, undone_updates_are_clear, updates_keep_slots,
     updates_keep_windows,
 };
 use ia32_step::instructions_are_never_stray;
-use update_stack::taking_back::machines_are_built;
+use update_stack::machines_are_built;
 
 /// In every list of events from the start of an image that keeps the discipline, an open frame whose address had a
 /// window when its call was made has one at each later moment while it is open; and no step stops for want of code, but

@@ -1,19 +1,20 @@
 //! A session: a program that runs under a script, and the watch over its events.
 #![tactic(auto)]
 
-pub mod answers;
+mod answers;
 mod files;
-pub mod laws;
+mod laws;
 mod lines;
 mod memory;
 mod places;
-pub mod running;
-pub mod session;
+mod running;
+mod session;
 mod stepping;
 #[cfg(test)]
 mod tests;
-pub mod types;
+mod types;
 
+pub use crate::laws::disciplined_runs_are_safe;
 pub use answers::answer;
 pub use files::{OBJECT_LIMIT, write_file_line};
 pub use lines::{

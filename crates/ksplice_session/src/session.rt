@@ -11,15 +11,14 @@ ghost use Rattle.ksplice_session.specs.Watching.{first_watched, watched_after};
 ghost use Rattle.ksplice_session.specs.Answers.{MadeFront};
 
 use crate::memory::all_pieces;
-use frame_safety::laws::updates_keep_slots;
+use frame_safety::updates_keep_slots;
 use frame_watch::{Verdict, Watch};
 use ia32_step::{State, Thread};
-use image_file::Image;
-use image_file::laws::image_keeps_rules;
+use image_file::{Image, image_keeps_rules};
 use image_memory::{FlatSpace, pieces_stay_placed};
 use image_threads::Machine;
 use ks_base::{Name, Refusal, Report};
-use splice_jump::laws::{jumps_change_their_bytes_alone, jumps_leave_views};
+use splice_jump::{jumps_change_their_bytes_alone, jumps_leave_views};
 use std::alloc::{AllocError, Global};
 use std::marker::Model;
 use symbol_table::SymbolTable;

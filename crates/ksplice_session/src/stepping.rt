@@ -8,11 +8,11 @@ ghost use Rattle.ksplice_session.specs.Watching.{watched_after, watched_after_al
 ghost use Rattle.ksplice_session.specs.inside.InStep.{watched_taken};
 
 use crate::session::Session;
-use frame_safety::laws::{fetched_bytes_have_windows, threads_keep_windows};
+use frame_safety::{fetched_bytes_have_windows, threads_keep_windows};
 use ia32_step::calls_and_returns;
 use image_threads::Turns;
-use splice_jump::laws::{homes_stay_spliced, jumps_change_their_bytes_alone, jumps_leave_views};
-use update_stack::laws::steps_stand;
+use splice_jump::{homes_stay_spliced, jumps_change_their_bytes_alone, jumps_leave_views};
+use update_stack::steps_stand;
 
 impl Session {
     /// A step of the running thread of a number, and whether there is one. It takes no memory.

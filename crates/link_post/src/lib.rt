@@ -3,14 +3,17 @@
 
 mod blocks;
 mod gaps;
-pub mod laws;
+mod laws;
 mod linking;
 mod lookups;
 mod placing;
 mod resolving;
 mod rooms;
-pub mod types;
+mod types;
 
+pub use crate::laws::{
+    needed_targets_have_addresses, places_keep_the_order, places_lie_apart, values_are_found,
+};
 pub use crate::linking::linked;
 pub use crate::lookups::in_order;
 pub use crate::placing::{ascend, place};

@@ -3,9 +3,9 @@
 
 mod codes;
 mod homes;
-pub mod laws;
-pub mod running;
-pub mod trials;
+mod laws;
+mod running;
+mod trials;
 mod trying;
 
 pub use laws::alike_programs_have_alike_candidates;

@@ -11,8 +11,7 @@ ghost use Rattle.memory_changes.specs.Rows.{row_of, old_of};
 
 use crate::types::Jump;
 use image_memory::{Fence, Pieces, Space};
-use splice_jump::laws::code_stays_code;
-use splice_jump::{five_at, splice};
+use splice_jump::{code_stays_code, five_at, splice};
 
 /// Adds pieces, in their order. Each takes its spare range, and no range is spare then.
 pub fn add_pieces<S: Space>(space: &mut S, pieces: Pieces)

@@ -16,7 +16,7 @@ ghost use Rattle.memory_changes.specs.Withdrawn.{without_pieces, ranges_but, wit
 ghost use Rattle.memory_changes.specs.declared.types.Jump.{Jump};
 
 use image_memory::pieces_stay_placed;
-use splice_jump::laws::{code_stays_code, homes_stay_spliced, pieces_come_and_go_past_jumps};
+use splice_jump::{code_stays_code, homes_stay_spliced, pieces_come_and_go_past_jumps};
 
 /// Memory with pieces more is a memory, with the retired ranges that it had. Each piece that was there is there; where
 /// bytes of one code piece were, they are, and homes stay spliced.

@@ -12,8 +12,7 @@ ghost use Rattle.memory_changes.specs.Withdrawn.{without_pieces, without_ranges,
 use crate::types::Jump;
 use image_memory::Space;
 use ks_base::Range;
-use splice_jump::laws::code_stays_code;
-use splice_jump::restore;
+use splice_jump::{code_stays_code, restore};
 
 /// Puts the old bytes back at each home, in the order of the jumps.
 pub fn restore_code<S: Space>(space: &mut S, jumps: &[Jump])

@@ -13,7 +13,7 @@ ghost use Rattle.new_code.specs.Parts.{NewPart, at_places, size_of};
 ghost use Rattle.new_code.specs.Pieces.{new_pieces};
 ghost use Rattle.new_code.specs.Apart.{AreWhole, ArePartsOf, AreNewPieces, AreFound};
 
-use link_post::laws::places_lie_apart;
+use link_post::places_lie_apart;
 
 /// The loaded sections of an object that breaks no rule: each has some bytes, and as many as its size where the file
 /// holds them.

@@ -1,13 +1,14 @@
 //! What an update adds to the running program: its pieces of memory and its symbols; and what it reports.
 #![tactic(auto)]
 
-pub mod laws;
+mod laws;
 mod olds;
 mod parts;
 mod pieces;
 mod reporting;
 mod symbols;
 
+pub use crate::laws::{new_pieces_lie_apart, places_are_found, sections_are_whole};
 pub use crate::parts::{Part, function_name, sizes};
 pub use crate::pieces::new_pieces;
 pub use crate::reporting::report_of;

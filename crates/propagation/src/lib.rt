@@ -3,7 +3,7 @@
 #![tactic(auto)]
 
 mod building;
-pub mod choice;
+mod choice;
 mod conflicts;
 mod engine;
 mod marking;

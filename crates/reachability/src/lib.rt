@@ -3,7 +3,7 @@
 
 mod along;
 mod directed;
-pub mod edge;
+mod edge;
 mod walk;
 
 pub use along::reached_along;

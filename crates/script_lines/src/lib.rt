@@ -4,9 +4,9 @@
 mod forms;
 mod lines;
 mod numbers;
-pub mod reading;
-pub mod texts;
-pub mod types;
+mod reading;
+mod texts;
+mod types;
 
 pub use reading::read_script;
 pub use texts::text_of;

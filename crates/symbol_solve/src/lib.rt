@@ -4,7 +4,7 @@
 
 mod choices;
 mod first_claims;
-pub mod laws;
+mod laws;
 mod left;
 mod numbers;
 mod points;

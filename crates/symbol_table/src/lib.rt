@@ -2,17 +2,17 @@
 //! which body of a function is the newest, and what the unknowns of an object come to.
 #![tactic(auto)]
 
-pub mod addresses;
+mod addresses;
 mod blocks;
-pub mod bodies;
+mod bodies;
 mod entries;
 mod functions;
 mod kinds;
 mod names;
 mod next;
-pub mod symbols;
-pub mod table;
-pub mod values;
+mod symbols;
+mod table;
+mod values;
 
 pub use addresses::Addresses;
 pub use bodies::Bodies;

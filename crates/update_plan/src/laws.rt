@@ -20,8 +20,8 @@ ghost use Rattle.update_plan.specs.Plan.{planned};
 ghost use Rattle.update_plan.specs.Sound.{AreGaps, AreListed, CanBeMade};
 
 use ia32_decode::instructions_have_bytes;
-use link_post::laws::places_lie_apart;
-use new_code::laws::{new_pieces_lie_apart, sections_are_whole};
+use link_post::places_lie_apart;
+use new_code::{new_pieces_lie_apart, sections_are_whole};
 use retired_code::{retired_code_lies_apart, room_is_code, room_is_met};
 use symbol_solve::{
     alike_programs_have_one_answer, answer_is_only_solution, answers_tell_each_body,

@@ -2,11 +2,14 @@
 #![tactic(auto)]
 
 mod fates;
-pub mod laws;
+mod laws;
 mod olds;
 mod parts;
 mod planning;
 mod types;
 
+pub use crate::laws::{
+    alike_programs_have_one_plan, fields_stand_inside, matched_bodies_are_in_use, plans_can_be_made,
+};
 pub use planning::plan;
 pub use types::{Fences, Plan};

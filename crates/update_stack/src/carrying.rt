@@ -22,17 +22,16 @@ ghost use Rattle.update_plan.specs.declared.types.Plan.{Plan as Planned};
 ghost use Rattle.update_plan.specs.Sound.{CanBeMade};
 
 use crate::updates::{Kept, KeptList, Update, Updates};
-use arena_gaps::laws::gaps_of_pieces;
+use arena_gaps::gaps_of_pieces;
 use image_memory::{Fence, Piece, Pieces, Space};
 use image_threads::Machine;
 use ks_base::{Name, Range, Ranges, Replaced, Report};
-use memory_changes::laws::{
-    changes_are_withdrawn, code_that_stays, pieces_are_added, pieces_are_added_past_code,
-    ranges_are_retired,
+use memory_changes::{
+    Jump, Jumps, add_pieces, changes_are_withdrawn, code_that_stays, note_old_code,
+    pieces_are_added, pieces_are_added_past_code, ranges_are_retired, retire, write_jumps,
 };
-use memory_changes::{Jump, Jumps, add_pieces, note_old_code, retire, write_jumps};
 use new_code::NewSymbols;
-use splice_jump::laws::{
+use splice_jump::{
     code_stays_code, homes_stay_spliced, jumps_are_added_and_replaced, jumps_are_taken_back,
     jumps_change_their_bytes_alone,
 };

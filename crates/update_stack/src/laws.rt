@@ -12,8 +12,8 @@ ghost use Rattle.update_stack.specs.Systems.{text_of, Holds};
 
 use ia32_decode::jumps_decode;
 use ia32_step::code_bytes_have_no_say;
-use memory_changes::laws::code_that_stays;
-use splice_jump::laws::{
+use memory_changes::code_that_stays;
+use splice_jump::{
     code_stays_code, data_are_written_past_jumps, homes_stay_spliced, jumps_leave_views,
     jumps_stand,
 };

@@ -3,12 +3,14 @@
 #![tactic(auto)]
 
 mod carrying;
-pub mod laws;
+mod laws;
 mod live;
-pub mod system;
-pub mod taking_back;
-pub mod updates;
+mod system;
+mod taking_back;
+mod updates;
 mod withdrawing;
 
+pub use crate::laws::{data_are_written_past_updates, steps_stand};
+pub use crate::taking_back::{machines_are_built, undo_restores};
 pub use system::System;
 pub use updates::{Update, Updates};

@@ -29,22 +29,20 @@ use crate::laws::steps_stand;
 use crate::live::{bodies_of, is_taken, retired_by};
 use crate::updates::{KeptList, Updates};
 use crate::withdrawing::{take_back, updates_are_taken_back};
-use arena_gaps::laws::gaps_are_free;
-use arena_gaps::without_all;
+use arena_gaps::{gaps_are_free, without_all};
 use ia32_step::{Outcome, Traced};
 use image_memory::Space;
 use image_threads::Machine;
 use ks_base::{Name, Range, Ranges, Refusal, Report};
-use memory_changes::laws::code_that_stays;
-use splice_jump::laws::{
+use memory_changes::code_that_stays;
+use splice_jump::{
     code_stays_code, data_are_written_past_jumps, homes_stay_spliced,
     jumps_change_their_bytes_alone, jumps_leave_views,
 };
 use stack_scan::{check_threads, order_has_no_say, sorted};
 use std::alloc::{AllocError, Global};
 use std::marker::Model;
-use update_plan::laws::{alike_programs_have_one_plan, plans_can_be_made};
-use update_plan::{Plan, plan};
+use update_plan::{Plan, alike_programs_have_one_plan, plan, plans_can_be_made};
 
 // So many updates may be live.
 const MOST_UPDATES: usize = 64;

@@ -1,10 +1,10 @@
 //! What is restored when an update is taken back.
 ghost use Rattle.update_stack.specs.TakenBack.{TakenBackIsRestored, MachinesAreBuilt};
 
-use arena_gaps::laws::gaps_are_free;
+use arena_gaps::gaps_are_free;
 use image_memory::pieces_stay_placed;
-use memory_changes::laws::{changes_are_withdrawn, pieces_are_added, ranges_are_retired};
-use update_plan::laws::plans_can_be_made;
+use memory_changes::{changes_are_withdrawn, pieces_are_added, ranges_are_retired};
+use update_plan::plans_can_be_made;
 
 /// In every list of events from the start of an image, an undo leaves the machine's text, the system's code with its
 /// jumps, the table, the retired ranges, the symbols and the places of data as they were just before the event that
