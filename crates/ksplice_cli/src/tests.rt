@@ -327,6 +327,8 @@ fn faults_of_the_outside(rt: HostRuntime) -> Result<(), Fail> {
     let code: [&str; 3] = ["code", "program", "f"];
     let matches: [&str; 3] = ["match", "pair", "start"];
     let run: [&str; 3] = ["run", "program", "script"];
+    // the words, the numbers of the loads and of the writes that fail, the most bytes that a write takes, the output and
+    // the status
     let calls: [(&[&str], &[u64], &[u64], usize, &str, u8); 19] = [
         (&diff, &[1], &[], 100, "file one failed\n", 4),
         (&diff, &[2], &[], 100, "file two failed\n", 4),

@@ -83,6 +83,8 @@ fn compared(alloc: Global, place: usize, value: u8, name: &str) -> Result<(bool,
 #[test]
 fn sections_differ_by_one_thing(rt: HostRuntime) -> Result<(), Fail> {
     let alloc = rt.alloc();
+    // what differs, the place and the value of the byte that is changed, the section that is asked for, whether it is
+    // the same, and how many sections of the second object are
     let rows: [(&str, usize, u8, &str, bool, usize); 15] = [
         ("nothing", 0x00, 0x7f, ".text.f", true, 4),
         ("no such name", 0x00, 0x7f, ".text.h", false, 4),
