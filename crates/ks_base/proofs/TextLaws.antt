@@ -6,7 +6,7 @@ use Rattle.std.proofs.lemmas.List.{map-append, append-nil}
 use Rattle.std.proofs.lemmas.Int.Digits.{digits_of_step}
 use Rattle.std.specs.Int.Digits.{digits_of}
 use Rattle.ks_base.specs.Text.{hex_digit}
-use Rattle.ks_base.specs.Parts.{part_text, with_parts, parts_text}
+use Rattle.ks_base.specs.inside.Parts.{part_text, with_parts, parts_text}
 use Rattle.ks_base.specs.declared.parts.Part.{Part}
 
 -- the digits of a number that isn't zero are those of its quotient, and then the remainder

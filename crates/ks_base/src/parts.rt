@@ -1,6 +1,6 @@
 //! A line's text by its parts.
 ghost use Rattle.std.specs.Prelude.{◌≡◌, ◌++◌, OnOk};
-ghost use Rattle.ks_base.specs.Parts.{part_text, parts_text};
+ghost use Rattle.ks_base.specs.inside.Parts.{part_text, parts_text};
 
 use crate::places::Name;
 use crate::reply::Line;

@@ -1,6 +1,6 @@
--- Public clauses cite Clashes (which candidates can't be chosen together), Conflicts (what is reported of two that must
--- be chosen and clash), Solve (what is answered), Solution (what a solution is) and Answered (what an answer tells of a
--- code section). What stands in inside is the code's own.
+-- Public clauses cite Solve (what is answered), by Clashes (which candidates can't be chosen together) and Conflicts
+-- (what is reported of two that must be chosen and clash), Solution (what a solution is) and Answered (what an answer
+-- tells of a code section). What stands in inside is the code's own.
 pub mod Clashes
 pub mod Conflicts
 pub mod Solve

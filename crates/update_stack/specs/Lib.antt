@@ -1,4 +1,4 @@
--- Public clauses cite all of these: the machine that never patches code (CallTable, Steps, Apply, Undo, Events), that
+-- Public clauses cite the machine that never patches code (CallTable and its Events, by Steps, Apply and Undo), that
 -- undoing restores what was (TakenBack), what stands for the machine (StandsFor), its steps beside those of a memory
 -- with its jumps (Jumps), and a system seen as it (Systems), with what holds of it and of what it keeps (Stacked).
 -- What stands in inside is the code's own.

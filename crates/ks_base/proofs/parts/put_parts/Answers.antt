@@ -1,7 +1,7 @@
 use Rattle.std.proofs.Common.{◌∙◌, ◌++◌, ap, arith}
 use Rattle.std.specs.List.{flat_map}
 use Rattle.std.proofs.lemmas.List.{take_all}
-use Rattle.ks_base.specs.Parts.{part_text}
+use Rattle.ks_base.specs.inside.Parts.{part_text}
 use Rattle.ks_base.proofs.TextLaws.{parts_flat}
 use Rattle.ks_base.proofs.parts.put_parts.Goals as goal
 

@@ -1,6 +1,6 @@
 use Rattle.std.proofs.Common.{◌≡◌, ◌++◌, take}
 use Rattle.std.specs.List.{flat_map}
-use Rattle.ks_base.specs.Parts.{part_text}
+use Rattle.ks_base.specs.inside.Parts.{part_text}
 use Rattle.ks_base.proofs.parts.put_parts.Given as goal
 
 -- the parts so far

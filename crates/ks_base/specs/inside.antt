@@ -1,0 +1,2 @@
+-- What contracts inside this crate alone say.
+pub mod Parts
