@@ -1,6 +1,6 @@
 -- What a memory holds, and what is seen at one address of it.
 use Rattle.std.specs.Prelude.{ℕ, ◌+◌, ◌-◌, ◌≤◌, Bool, ◌&&◌, ◌==◌, List, length, slice_index}
-use Rattle.std.specs.Prelude.{Option, ◌×◌}
+use Rattle.std.specs.Prelude.{Option}
 use Rattle.std.specs.Option.{option_map}
 use Rattle.std.specs.List.{find, list_any, All}
 use native.Mathlib.Bridge.{le_prop}
