@@ -10,8 +10,6 @@ mod places;
 mod running;
 mod session;
 mod stepping;
-#[cfg(test)]
-mod tests;
 mod types;
 
 pub use crate::laws::disciplined_runs_are_safe;

@@ -68,6 +68,16 @@ impl Session {
         &self.system
     }
 
+    /// The system and the watch.
+    pub fn into_parts(self) -> (System<FlatSpace>, Watch)
+        ensures system { result.0 ≡ self.machine }
+        ensures watch { result.1 ≡ self.watch }
+    {
+        // The pattern leaves no rest: beside these a session has nothing that it could answer from.
+        let Session { system, watch } = self;
+        (system, watch)
+    }
+
     /// Whether each event so far has kept the discipline, or which one has not.
     pub(crate) fn verdict(&self) -> Verdict
         ensures { result ≡ self.now.watch.verdict }

@@ -1,4 +1,5 @@
 //! A session of a small program: the replies to a script, the system that it leaves, and the line of a lost file.
+use frame_watch::Verdict;
 use image_file::read_image;
 use ks_io::{FileFault, MemoryFiles, MemorySink};
 use ksplice_session::{Session, SessionEnd, run_session, write_file_line};
@@ -93,6 +94,21 @@ fn broken_rule_is_shown(rt: HostRuntime) -> Result<(), Fail> {
     )
     .ok_or("no script")?;
     assert!(rt; end == (SessionEnd::SomeRefused, true));
+    Ok(())
+}
+
+// What a session answers from is its system and its watch: these are all its parts.
+#[test]
+fn session_is_its_system_and_its_watch(rt: HostRuntime) -> Result<(), Fail> {
+    let alloc = rt.alloc();
+    let mut session = session_of(alloc).ok_or("no session")?;
+    let replies = "spawned 0 0x00100010 main+0x0\nwatch disciplined\n";
+    let end = ends(alloc, &mut session, "spawn main 7\nwatch\n", replies).ok_or("no script")?;
+    assert!(rt; end == (SessionEnd::Done, true));
+    let (system, watch) = session.into_parts();
+    assert_eq!(rt; system.updates().len(), 0);
+    assert_eq!(rt; system.machine().threads().len(), 1);
+    assert!(rt; watch.verdict() == Verdict::Disciplined);
     Ok(())
 }
 
