@@ -1,5 +1,5 @@
 //! References of data to the interior of functions that an update can't keep.
-ghost use Rattle.std.specs.Prelude.{◌≡◌, ◌<◌, Some, IfOk, length, position};
+ghost use Rattle.std.specs.Prelude.{◌≡◌, Some, IfOk, length, position};
 ghost use Rattle.std.specs.List.{slice_get};
 ghost use Rattle.i386_reloc.specs.Places.{reference_at};
 ghost use Rattle.extract_post.specs.Members.{Member};
