@@ -31,8 +31,8 @@ impl Class {
 }
 
 impl<'a> Ref<'a> {
-    /// Whether the reference, where it goes to a function, goes elsewhere than to its entry. A call of the entry has the
-    /// addend -4, since a relative value is counted from the field's start.
+    /// Whether the reference, where it goes to a function, goes elsewhere than to its entry. A call of the entry has
+    /// the addend -4, since a relative value is counted from the field's start.
     pub fn is_interior(&self) -> bool
         ensures { result ≡ is_interior self.now }
     {
