@@ -5,7 +5,7 @@ use Rattle.std.proofs.Common.{if◌then◌else◌, ◌∙◌, inl, inr, arith, l
 use Rattle.std.proofs.lemmas.Bool.{cases_Bool, cases_lt, leb-true, ltb-true}
 use Rattle.std.proofs.Common.{eq-eqb, ◌⊎◌}
 use Rattle.std.proofs.lemmas.Bool.Decides.{nat_tests}
-use Rattle.elf32_object.specs.declared.elf.TheConstants.{SHT_NOBITS}
+use Rattle.elf32_object.specs.Numbers.{SHT_NOBITS}
 use Rattle.elf32_object.specs.declared.types.SectionHeader.{SectionHeader}
 use Rattle.elf32_object.specs.declared.types.Reloc.{Reloc}
 use Rattle.elf32_object.specs.Below.{first_below, sum_below}

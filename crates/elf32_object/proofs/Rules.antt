@@ -1,7 +1,7 @@
 -- What an object that breaks no rule keeps.
 use Rattle.std.proofs.Common.{◌≡◌, ℕ, zero, suc, ◌<◌, true, not, ◌||◌, ◌==◌, nat_le}
 use Rattle.std.proofs.Common.{length, List, [], ◌∷◌, None, refl, sym, ◌∙◌, arith}
-use Rattle.elf32_object.specs.declared.elf.TheConstants.{SHT_SYMTAB}
+use Rattle.elf32_object.specs.Numbers.{SHT_SYMTAB}
 use Rattle.elf32_object.specs.declared.types.ObjectFault.TheVariants.{BadSymbol, TooLarge}
 use Rattle.elf32_object.specs.declared.types.Large.TheVariants as large
 use Rattle.elf32_object.specs.Below.{first_of, first_below}

@@ -6,7 +6,7 @@ use Rattle.std.specs.Vec.{vec_items}
 use Rattle.std.specs.Global.{Vec}
 use Rattle.std.proofs.lemmas.List.{map-set, get_or-map, get_or-set_same, get_or-set_other}
 use Rattle.std.proofs.lemmas.List.{get_or_append_left, length-map, length-set, length-append}
-use Rattle.std.proofs.Math.Seq.{get_or-append_right, get_or-append_seam}
+use Rattle.std.proofs.Math.Seq.{get_or-append_right}
 use Rattle.std.proofs.lemmas.Bool.{cases_lt, cases_Bool, eqb-true}
 use Rattle.std.proofs.lemmas.Bool.Decides.{nat_tests}
 use Rattle.elf32_object.specs.declared.rows.Spot.{Spot}

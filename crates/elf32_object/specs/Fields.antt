@@ -5,9 +5,9 @@ use Rattle.std.specs.Prelude.{nat_eq, nat_lt, nat_le, if◌then◌else◌, List,
 use Rattle.std.specs.Prelude.{length, slice_index, bit_and, codes, Option, Some, None, unwrap_or}
 use Rattle.std.specs.List.{list_any, before_first, starts_with}
 use Rattle.byteorder.specs.Endian.{little_number}
-use Rattle.elf32_object.specs.declared.elf.TheConstants.{E_SHOFF, E_SHNUM, E_SHSTRNDX, SHDR_SIZE, SYM_SIZE, REL_SIZE}
-use Rattle.elf32_object.specs.declared.elf.TheConstants.{SHT_NULL, SHT_PROGBITS, SHT_SYMTAB, SHT_STRTAB, SHT_NOBITS}
-use Rattle.elf32_object.specs.declared.elf.TheConstants.{SHT_REL, SHT_INIT_ARRAY, SHT_FINI_ARRAY, SHF_ALLOC}
+use Rattle.elf32_object.specs.Numbers.{E_SHOFF, E_SHNUM, E_SHSTRNDX, SHDR_SIZE, SYM_SIZE, REL_SIZE}
+use Rattle.elf32_object.specs.Numbers.{SHT_NULL, SHT_PROGBITS, SHT_SYMTAB, SHT_STRTAB, SHT_NOBITS, SHT_REL}
+use Rattle.elf32_object.specs.Numbers.{SHT_INIT_ARRAY, SHT_FINI_ARRAY, SHF_ALLOC}
 use Rattle.elf32_object.specs.declared.types.SectionHeader.{SectionHeader}
 use Rattle.elf32_object.specs.declared.types.SymbolEntry.{SymbolEntry}
 use Rattle.elf32_object.specs.declared.types.Reloc.{Reloc}

@@ -4,12 +4,11 @@
 use Rattle.std.specs.Prelude.{ℕ, zero, suc, ◌+◌, ◌*◌, ◌/◌, ◌%◌, Bool, true, false, not, ◌&&◌, ◌||◌, ◌==◌, nat_eq}
 use Rattle.std.specs.Prelude.{nat_lt, nat_le, if◌then◌else◌, List, [], ◌∷◌, length, slice_index, Option, None}
 use Rattle.std.specs.List.{list_any, starts_with}
-use Rattle.elf32_object.specs.declared.elf.TheConstants.{EI_CLASS, EI_DATA, EI_VERSION, ELFCLASS32, ELFDATA2LSB}
-use Rattle.elf32_object.specs.declared.elf.TheConstants.{EV_CURRENT, E_TYPE, E_MACHINE, E_VERSION, E_SHOFF, E_EHSIZE}
-use Rattle.elf32_object.specs.declared.elf.TheConstants.{E_SHENTSIZE, E_SHNUM, E_SHSTRNDX, ET_REL, EM_386, EHDR_SIZE}
-use Rattle.elf32_object.specs.declared.elf.TheConstants.{SHDR_SIZE, SHT_SYMTAB, SHT_RELA, SHT_NOBITS, SHF_TLS}
-use Rattle.elf32_object.specs.declared.elf.TheConstants.{SHF_COMPRESSED, SHN_UNDEF, SHN_ABS, SHN_COMMON, SYM_SIZE}
-use Rattle.elf32_object.specs.declared.elf.TheConstants.{REL_SIZE, R_386_32, R_386_PC32, R_386_PLT32}
+use Rattle.elf32_object.specs.Numbers.{EI_CLASS, EI_DATA, EI_VERSION, ELFCLASS32, ELFDATA2LSB, EV_CURRENT, E_TYPE}
+use Rattle.elf32_object.specs.Numbers.{E_MACHINE, E_VERSION, E_SHOFF, E_EHSIZE, E_SHENTSIZE, E_SHNUM, E_SHSTRNDX}
+use Rattle.elf32_object.specs.Numbers.{ET_REL, EM_386, EHDR_SIZE, SHDR_SIZE, SYM_SIZE, REL_SIZE}
+use Rattle.elf32_object.specs.Numbers.{SHT_SYMTAB, SHT_RELA, SHT_NOBITS, SHF_TLS, SHF_COMPRESSED}
+use Rattle.elf32_object.specs.Numbers.{SHN_UNDEF, SHN_ABS, SHN_COMMON, R_386_32, R_386_PC32, R_386_PLT32}
 use Rattle.elf32_object.specs.declared.types.ObjectFault.{ObjectFault}
 use Rattle.elf32_object.specs.declared.types.ObjectFault.TheVariants.{NotElf, NotRel386, BadHeader, BadSection}
 use Rattle.elf32_object.specs.declared.types.ObjectFault.TheVariants.{BadSymbol, BadReloc, TooLarge}

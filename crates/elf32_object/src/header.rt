@@ -16,6 +16,12 @@ use crate::reading::{half, header_at, piece, word};
 use crate::strings::Strings;
 use crate::types::{Large, ObjectFault};
 
+/// How many bytes a file may have.
+const MOST_BYTES: usize = 8_388_608;
+
+/// How many entries the section header table may have.
+const MOST_SECTIONS: u16 = 4096;
+
 /// Whether the file is a 32-bit little-endian relocatable file for the i386.
 #[tactic(auto, unfolding(crate::specs::Rules::is_relocatable_386))]
 fn is_relocatable_386(bytes: &[u8]) -> bool
@@ -35,7 +41,7 @@ fn check_kind(bytes: &[u8]) -> Result<(), ObjectFault>
     ensures finds { Finds ObjectFault.Memory result (kind_fault bytes.now) }
     ensures whole { OnOk result (EHDR_SIZE ≤ length bytes.now) }
 {
-    if bytes.len() > 8_388_608 {
+    if bytes.len() > MOST_BYTES {
         return Err(ObjectFault::TooLarge(Large::Bytes));
     }
     if !bytes.starts_with(b"\x7fELF") {
@@ -99,7 +105,7 @@ fn check_header(bytes: &[u8]) -> Result<(), ObjectFault>
     if half(bytes, E_SHNUM) == 0 {
         return Err(ObjectFault::BadHeader(E_SHNUM as u32));
     }
-    if half(bytes, E_SHNUM) > 4096 {
+    if half(bytes, E_SHNUM) > MOST_SECTIONS {
         return Err(ObjectFault::TooLarge(Large::Sections));
     }
     if !has_section_table(bytes) {

@@ -1,6 +1,6 @@
 //! An object file that keeps every rule.
 
-ghost use Rattle.std.specs.Prelude.{◌≡◌, ℕ, ◌<◌, ◌≤◌, ◌+◌, ◌==◌, true, false, length, None, IfOk, IfErr, ◌≢◌};
+ghost use Rattle.std.specs.Prelude.{◌≡◌, ℕ, ◌<◌, ◌≤◌, ◌+◌, ◌==◌, true, false, length, None};
 ghost use Rattle.elf32_object.specs.declared.types.Reloc.{Reloc};
 ghost use Rattle.elf32_object.specs.Rules.{object_fault, is_alignment, is_section_of_symbol, has_field, meets};
 ghost use Rattle.elf32_object.specs.Fields.{has_no_bytes, section_count, section_header, section_name};

@@ -1,12 +1,9 @@
 //! Checks the relocations of loaded sections.
 
-ghost use Rattle.std.specs.Prelude.{◌≡◌, ℕ, ◌+◌, ◌*◌, ◌≤◌, ◌<◌, ◌&&◌, ◌||◌, not};
-ghost use Rattle.std.specs.Prelude.{true, false, suc, length, None, OnOk, IfErr};
-ghost use Rattle.std.specs.Ordering.{nat_cmp};
-ghost use Rattle.std.specs.BTreeSet.{contains, Updates};
+ghost use Rattle.std.specs.Prelude.{◌≡◌, ◌+◌, ◌*◌, ◌≤◌, ◌<◌, not, true, false, suc, length, None, OnOk};
 ghost use Rattle.elf32_object.specs.Below.{first_below};
-ghost use Rattle.elf32_object.specs.Fields.{section_count, section_header, symbol_count, relocation, entry_count};
-ghost use Rattle.elf32_object.specs.Rules.{has_field, is_met_before, is_placed};
+ghost use Rattle.elf32_object.specs.Fields.{section_count, section_header, symbol_count};
+ghost use Rattle.elf32_object.specs.Rules.{is_met_before, is_placed};
 ghost use Rattle.elf32_object.specs.Rules.{relocation_fault, relocations_fault, section_fault};
 ghost use Rattle.elf32_object.specs.Rule.{Finds};
 ghost use Rattle.elf32_object.specs.inside.Taken.{field_key, AreTaken, IsFree, IsMet};
@@ -37,7 +34,8 @@ fn is_free(fields: &BTreeSet<u64>, section: u32, offset: u32) -> bool
     }
 }
 
-/// Whether the four bytes at an offset of a section are apart from the fields that earlier entries change.
+/// Whether the four bytes at an offset of a section are apart from the fields that earlier entries change. The set
+/// has those fields, and it alone is asked: the file, and the place of the entry, are for the contract.
 fn is_apart(
     layout: &Layout<'_>,
     fields: &BTreeSet<u64>,

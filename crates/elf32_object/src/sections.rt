@@ -1,9 +1,9 @@
 //! Checks the sections of a file whose header is in order.
 
-ghost use Rattle.std.specs.Prelude.{◌≡◌, ◌+◌, ◌≤◌, ◌<◌, ◌&&◌, ◌||◌, ◌==◌, ◌%◌, true, suc, nat_le, IfOk};
+ghost use Rattle.std.specs.Prelude.{◌≡◌, ◌≤◌, ◌<◌, ◌&&◌, ◌||◌, ◌==◌, suc, IfOk};
 ghost use Rattle.elf32_object.specs.Below.{sum_below, count_below, first_below};
 ghost use Rattle.elf32_object.specs.Fields.{section_count, section_header, has_no_bytes, lies_in_file, is_section};
-ghost use Rattle.elf32_object.specs.Fields.{is_symbol_table, is_string_table, patches_loaded, entry_count, is_loaded};
+ghost use Rattle.elf32_object.specs.Fields.{is_symbol_table, is_string_table, patches_loaded, entry_count};
 ghost use Rattle.elf32_object.specs.Rules.{only_where, is_alignment, can_be_loaded, place_fault, symbol_table_fault};
 ghost use Rattle.elf32_object.specs.Rules.{relocation_section_fault, loaded_size, content_fault, section_fault};
 ghost use Rattle.elf32_object.specs.inside.Kept.{AreTotals};
@@ -13,6 +13,15 @@ use crate::elf::{REL_SIZE, SHF_COMPRESSED, SHF_TLS, SHT_RELA, SHT_SYMTAB, SYM_SI
 use crate::layout::{Layout, has_flag, has_no_bytes, is_string_table, lies_in_file};
 use crate::strings::is_name;
 use crate::types::{Large, ObjectFault, SectionHeader};
+
+/// How many entries a symbol table may have.
+const MOST_SYMBOLS: u32 = 65_536;
+
+/// How many relocations of loaded sections a file may have.
+const MOST_RELOCATIONS: u32 = 262_144;
+
+/// How many bytes the loaded sections of a file may have in all.
+const MOST_CONTENT: u64 = 8_388_608;
 
 /// Whether a number is 0 or a power of two up to 4,096.
 fn is_alignment(n: u32) -> bool
@@ -93,7 +102,7 @@ fn check_symbol_table(layout: &Layout<'_>, tables: u32, i: u32) -> Result<(), Ob
     {
         return Err(ObjectFault::BadSection(i));
     }
-    if header.size / SYM_SIZE > 65_536 {
+    if header.size / SYM_SIZE > MOST_SYMBOLS {
         return Err(ObjectFault::TooLarge(Large::Symbols));
     }
     Ok(())
@@ -122,7 +131,7 @@ fn check_relocation_section(layout: &Layout<'_>, total: u32, i: u32) -> Result<u
         return Err(ObjectFault::BadSection(i));
     }
     let total = total + header.size / REL_SIZE;
-    if total > 262_144 {
+    if total > MOST_RELOCATIONS {
         return Err(ObjectFault::TooLarge(Large::Relocations));
     }
     Ok(total)
@@ -157,7 +166,7 @@ fn check_content(layout: &Layout<'_>, total: u64, i: u32) -> Result<u64, ObjectF
         return Err(ObjectFault::BadSection(i));
     }
     let total = total + u64::from(loaded_size(layout, i));
-    if total > 8_388_608 {
+    if total > MOST_CONTENT {
         return Err(ObjectFault::TooLarge(Large::Content));
     }
     Ok(total)

@@ -1,8 +1,11 @@
 //! String tables (System V gABI, chapter 4, "String Table").
 
-ghost use Rattle.std.specs.Prelude.{◌≡◌, ℕ, ◌+◌, ◌<◌, ◌≤◌, nat_lt, nat_le, true, false, length, drop, slice_index, ◌-◌};
+ghost use Rattle.std.specs.Prelude.{◌≡◌, ℕ, ◌<◌, ◌≤◌, nat_lt, nat_le, false, length, drop, slice_index, ◌-◌};
 ghost use Rattle.std.specs.List.{list_any, position_or_len};
 ghost use Rattle.elf32_object.specs.Fields.{is_zero, ends_in, text_at};
+
+/// How many bytes the name of a section or symbol may have.
+const LONGEST_NAME: usize = 4096;
 
 /// Where the first zero stands, or the length where none does.
 fn first_zero(bytes: &[u8]) -> usize
@@ -29,7 +32,7 @@ pub(crate) fn text(table: &[u8], place: u32) -> &[u8]
 fn ends_as_name(text: &[u8]) -> bool
     ensures { result ≡ nat_le (position_or_len is_zero text.now) 4096 }
 {
-    first_zero(text) <= 4096
+    first_zero(text) <= LONGEST_NAME
 }
 
 /// Whether the text at a place has no more bytes than a name may have. It looks at no more bytes than that.
@@ -38,7 +41,7 @@ pub(crate) fn is_name(table: &[u8], place: u32) -> bool
     ensures { result ≡ nat_le (length (text_at table.now place)) 4096 }
 {
     let rest = &table[place as usize..];
-    ends_as_name(&rest[..rest.len().min(4097)])
+    ends_as_name(&rest[..rest.len().min(LONGEST_NAME + 1)])
 }
 
 /// The place behind the last zero, or 0 where there is none.

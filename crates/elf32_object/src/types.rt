@@ -121,6 +121,7 @@ impl Reloc {
 /// A section of an object. It borrows from the file.
 #[derive(Clone, Copy, Debug)]
 pub struct Section<'a> {
+    /// The section's name, without the zero that ends it.
     pub name: &'a [u8],
     /// `sh_type`.
     pub kind: u32,
@@ -141,6 +142,7 @@ pub struct Section<'a> {
 /// A symbol of an object. It borrows from the file.
 #[derive(Clone, Copy, Debug)]
 pub struct Symbol<'a> {
+    /// The symbol's name, without the zero that ends it.
     pub name: &'a [u8],
     /// `st_value`.
     pub value: u32,

@@ -1,6 +1,6 @@
 -- What the answers say.
 use Rattle.std.proofs.Common.{◌≡◌, inl, inr, ℕ, zero, suc, ◌+◌, ◌<◌, Bool, true, false, not, List}
-use Rattle.std.proofs.Common.{[], ◌∷◌, length, Some, None, Ok, Err, sym, subst, ◌∙◌, arith}
+use Rattle.std.proofs.Common.{[], ◌∷◌, length, Option, Some, None, is_some, Ok, Err, refl, sym, ap, subst, ◌∙◌, arith}
 use Rattle.std.specs.List.{slice_get, position}
 use Rattle.std.proofs.lemmas.Bool.{and_parts}
 use Rattle.std.proofs.lemmas.List.Elements.{All-head, All-tail}
@@ -76,19 +76,28 @@ first_is : {X : Type 0} (P : X → Type 0) (xs : List X) (x : X) → IsFirst P x
 first_is P xs x (Here y ys is) = is
 first_is P xs x (Later y ys z isnt first) = first_is P ys z first
 
-pub extracted : (pre post : List NormalSection) (first : List Bool) (k : ℕ) (extract : Extract) →
-    TellWhich (IsSeed pre post) post first → position (λ m. m) first ≡ Some k → HasNoOther pre post →
+pub extracted : (pre post : List NormalSection) (first : List Bool) (extract : Extract) →
+    TellWhich (IsSeed pre post) post first → is_some (position (λ m. m) first) ≡ true → HasNoOther pre post →
     NoneIs (IsBroken pre post) (places post) → IsExtract pre post extract → Extracts pre post (Ok extract)
-extracted pre post first k extract told at same whole is =
-    let (s, at_s, it) = first_marked_section (IsSeed pre post) post first told k at in
-    Extracted s.name extract same whole (seed_member pre post s.name (first_is (λ s. IsSeed pre post s.name) post s it))
-    is
+extracted pre post first extract told some same whole is =
+    elim (option_cases (position (λ m. m) first)) [
+      | inl none ↦ let e = sym some ∙ ap is_some none in absurd cc
+      | inr at ↦
+          let (s, at_s, it) = first_marked_section (IsSeed pre post) post first told at.0 at.1 in
+          Extracted s.name extract same whole
+          (seed_member pre post s.name (first_is (λ s. IsSeed pre post s.name) post s it)) is
+    ]
+
+no_place : (o : Option ℕ) → is_some o ≡ false → o ≡ None
+no_place None none = refl
+no_place (Some k) none = absurd cc
 
 pub without_members : (pre post : List NormalSection) (first : List Bool) → TellWhich (IsSeed pre post) post first →
-    position (λ m. m) first ≡ None → HasNoOther pre post → NoneIs (IsBroken pre post) (places post) →
+    is_some (position (λ m. m) first) ≡ false → HasNoOther pre post → NoneIs (IsBroken pre post) (places post) →
     Extracts pre post (Err refusal.NoChange)
 without_members pre post first told none same whole =
-    NoMember same whole (no_member pre post (no_marked_section (IsSeed pre post) post first told none))
+    NoMember same whole (no_member pre post (no_marked_section (IsSeed pre post) post first told
+    (no_place (position (λ m. m) first) none)))
 
 pub broken : (pre post : List NormalSection) (place k : ℕ) (why : Refusal) → FirstBroken pre post place k →
     HasNoOther pre post →

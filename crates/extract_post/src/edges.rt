@@ -1,7 +1,7 @@
 //! The edges along which an update's parts are searched for.
-ghost use Rattle.std.specs.Prelude.{◌≡◌, ◌<◌, ◌≤◌, ◌+◌, ◌++◌, ◌^◌, length, OnOk, IfOk, option_to_list};
+ghost use Rattle.std.specs.Prelude.{◌≡◌, ◌+◌, ◌++◌, OnOk, IfOk, option_to_list};
 ghost use Rattle.std.specs.List.{flat_map};
-ghost use Rattle.extract_post.specs.inside.Edges.{edge, forward, backward, member_node, from_node, into_node};
+ghost use Rattle.extract_post.specs.inside.Edges.{edge, forward, backward};
 
 use crate::types::{Link, Numbers};
 use reachability::Edge;

@@ -1,5 +1,5 @@
 //! References of data to the interior of functions that an update can't keep.
-ghost use Rattle.std.specs.Prelude.{◌≡◌, ◌<◌, Some, IfOk, length, position};
+ghost use Rattle.std.specs.Prelude.{◌≡◌, Some, IfOk, length, position};
 ghost use Rattle.std.specs.List.{slice_get};
 ghost use Rattle.i386_reloc.specs.Places.{reference_at};
 ghost use Rattle.extract_post.specs.Members.{Member};
@@ -53,50 +53,54 @@ fn data_of(
     Ok(reached(alloc, post, links, starts)?.and(&wanted))
 }
 
-// Whether a reference to a place breaks: from old data to a changed section, or from new data to one that stays.
-fn breaks_at(old: bool, new: bool, changed: &Marks, stays: &Marks, place: Option<usize>) -> bool
-    ensures { result ≡ breaks_at old new changed.now stays.now place }
-{
-    match place {
-        Some(place) => old && changed.has(place) || new && stays.has(place),
-        None => false,
+// What the references of a section are tried by: whether the section is old data and whether it is new, and which
+// sections are changed and which stay.
+#[derive(Clone, Copy)]
+struct Trial<'m> {
+    from_old: bool,
+    from_new: bool,
+    changed: &'m Marks,
+    stays: &'m Marks,
+}
+
+impl<'m> Trial<'m> {
+    // Whether a reference to the interior of the section at a place breaks: from old data to a changed section, or from
+    // new data to one that stays.
+    fn breaks_at(&self, place: Option<usize>) -> bool
+        ensures { result ≡ breaks_at self.now.from_old self.now.from_new self.now.changed.now self.now.stays.now place }
+    {
+        match place {
+            Some(place) => self.from_old && self.changed.has(place)
+                || self.from_new && self.stays.has(place),
+            None => false,
+        }
     }
 }
 
 // Whether a reference goes to an interior and breaks: the reference `k` of the section at a place.
-fn breaks(
-    post: &Normal<'_>,
-    old: bool,
-    new: bool,
-    changed: &Marks,
-    stays: &Marks,
-    place: usize,
-    k: usize,
-    r: &Ref<'_>,
-) -> bool
+fn breaks(post: &Normal<'_>, trial: &Trial<'_>, place: usize, k: usize, r: &Ref<'_>) -> bool
     requires { reference_at post.now place k ≡ Some r.now }
-    ensures { result ≡ breaks post.now old new changed.now stays.now r.now }
+    ensures { result ≡ breaks post.now trial.now.from_old trial.now.from_new trial.now.changed.now trial.now.stays.now
+        r.now }
 {
-    r.is_interior() && breaks_at(old, new, changed, stays, place_of_target(post, place, k, r))
+    r.is_interior() && trial.breaks_at(place_of_target(post, place, k, r))
 }
 
 // The first reference of the section at a place that breaks, as its place among them.
 #[tactic(auto, using(crate::proofs::Targets::reference_here))]
 fn first_in(
     post: &Normal<'_>,
-    old: bool,
-    new: bool,
-    changed: &Marks,
-    stays: &Marks,
+    trial: &Trial<'_>,
     place: usize,
     section: &NormalSection<'_>,
 ) -> Option<usize>
     requires { slice_get post.now place ≡ Some section.now }
-    ensures { result ≡ position (breaks post.now old new changed.now stays.now) section.now.refs }
+    ensures { result ≡ position (breaks post.now trial.now.from_old trial.now.from_new trial.now.changed.now
+        trial.now.stays.now) section.now.refs }
 {
     let refs = section.refs.as_slice();
     for k in 0..refs.len() {
-        if breaks(post, old, new, changed, stays, place, k, &refs[k]) {
+        if breaks(post, trial, place, k, &refs[k]) {
             return Some(k);
         }
     }
@@ -115,16 +119,13 @@ fn first_break(
 {
     let sections = post.as_slice();
     for i in 0..sections.len() {
-        let found = first_in(
-            post,
-            old.has(i),
-            new.has(i),
+        let trial = Trial {
+            from_old: old.has(i),
+            from_new: new.has(i),
             changed,
             stays,
-            i,
-            &sections[i],
-        );
-        if let Some(k) = found {
+        };
+        if let Some(k) = first_in(post, &trial, i, &sections[i]) {
             return Some((i, k));
         }
     }

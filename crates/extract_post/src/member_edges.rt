@@ -2,7 +2,6 @@
 ghost use Rattle.std.specs.Prelude.{◌≡◌, ◌<◌, ◌+◌, ◌*◌, ◌^◌, ◌++◌, ◌∷◌, [], true, false, IfOk, OnOk, All, length};
 ghost use Rattle.std.specs.List.{flat_map};
 ghost use Rattle.i386_reloc.specs.Classes.{is_code_class};
-ghost use Rattle.i386_reloc.specs.Places.{place_named};
 ghost use Rattle.extract_post.specs.inside.Edges.{edge, links_in, joins, twins_from, member_edges};
 ghost use Rattle.extract_post.specs.inside.Edges.{member_node, from_node, into_node};
 ghost use Rattle.i386_reloc.specs.Reaches.{is_constant_class};

@@ -80,8 +80,7 @@ fn reaching_read_only(
         → TellReaching of.now (tests (is_changed_read_only of.now pre post) of.now) marks) }
 {
     let seeds = Marks::of(alloc, Asked::Here(Wanted::ReadOnly), of, of)?.and(other);
-    let marks = reaching(alloc, of, links, &seeds)?;
-    Ok(marks)
+    reaching(alloc, of, links, &seeds)
 }
 
 /// Which sections of the second object aren't the same in the first, or reach, in either, read-only data of it that

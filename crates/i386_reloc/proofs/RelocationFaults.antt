@@ -8,7 +8,7 @@ use Rattle.std.proofs.lemmas.Bool.{cases_lt, ltb-true}
 use Rattle.std.proofs.lemmas.Bool.Decides.{nat_tests}
 use Rattle.std.proofs.lemmas.List.Elements.{All-nil, All-cons, All-filter, All-weaker, filter_passes}
 use Rattle.std.proofs.lemmas.List.Sorted.{All-permutation}
-use Rattle.elf32_object.specs.declared.elf.TheConstants.{SHN_UNDEF, SHN_ABS, SHN_COMMON, R_386_NONE}
+use Rattle.elf32_object.specs.Numbers.{SHN_UNDEF, SHN_ABS, SHN_COMMON, R_386_NONE}
 use Rattle.elf32_object.specs.declared.types.Reloc.{Reloc}
 use Rattle.elf32_object.specs.declared.types.Section.{Section}
 use Rattle.elf32_object.specs.Below.{first_of}

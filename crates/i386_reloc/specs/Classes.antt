@@ -1,6 +1,6 @@
 -- The classes of loaded sections (System V gABI, chapter 4, "Sections").
 use Rattle.std.specs.Prelude.{ℕ, Bool, true, false, ◌&&◌, ◌==◌, if◌then◌else◌, List}
-use Rattle.elf32_object.specs.declared.elf.TheConstants.{SHT_NOBITS, SHF_WRITE, SHF_EXECINSTR, SHF_MERGE, SHF_STRINGS}
+use Rattle.elf32_object.specs.Numbers.{SHT_NOBITS, SHF_WRITE, SHF_EXECINSTR, SHF_MERGE, SHF_STRINGS}
 use Rattle.elf32_object.specs.declared.types.SectionHeader.{SectionHeader}
 use Rattle.elf32_object.specs.Fields.{section_header, is_loaded, has_flag}
 use Rattle.i386_reloc.specs.declared.types.Class.{Class}

@@ -1,6 +1,7 @@
 -- Public clauses cite Classes, References (relocations, fields, targets, symbols), Normal (the sections as they are
--- compared), Refused (when there are none), Places and Texts (where names, targets and texts stand) and Value;
--- PlaceLaws has a law of them. What stands in inside is the code's own.
+-- compared), Refused (when there are none), Places and Texts (where names, targets and texts stand), Reaches (what
+-- sections reach, and where in a function a reference goes) and Value (of a field). PlaceLaws and NamedPlaces have laws
+-- of places. What stands in inside is the code's own.
 pub mod Classes
 pub mod Normal
 pub mod Places

@@ -1,22 +1,22 @@
 -- The loaded sections of an object as they are compared: their names, classes, functions, bytes with zeros in the
 -- fields that relocations change, and references (System V gABI, chapter 4, "Sections" and "Symbol Table").
-use Rattle.std.specs.Prelude.{◌≡◌, ℕ, zero, suc, ◌%◌, Bool, false, ◌&&◌, ◌||◌, ◌==◌, nat_eq, nat_lt, if◌then◌else◌}
+use Rattle.std.specs.Prelude.{◌≡◌, ℕ, zero, suc, Bool, false, ◌&&◌, ◌||◌, ◌==◌, nat_eq, nat_lt, if◌then◌else◌}
 use Rattle.std.specs.Prelude.{List, [], ◌∷◌, ◌++◌, find, Option, Some, None, is_none, IsSome, option_map, unwrap_or}
 use Rattle.std.specs.Cmp.Lexicographic.{pointwise}
 use Rattle.std.specs.List.Sorted.{IsNonDecreasingBy}
-use Rattle.elf32_object.specs.declared.elf.TheConstants.{STT_FUNC}
+use Rattle.elf32_object.specs.Numbers.{STT_FUNC}
 use Rattle.elf32_object.specs.Below.{any_below, least_below}
 use Rattle.elf32_object.specs.Fields.{section_count, section_header, is_loaded, section_name}
 use Rattle.elf32_object.specs.Fields.{symbol_count, symbol_entry, symbol_name}
 use Rattle.i386_reloc.specs.declared.types.Class.TheVariants.{Code}
 use Rattle.i386_reloc.specs.declared.types.NormalSection.{NormalSection}
 use Rattle.i386_reloc.specs.Classes.{class_of, is_code}
-use Rattle.i386_reloc.specs.References.{is_global, references_of, blanked_bytes, objects_of}
+use Rattle.i386_reloc.specs.References.{symbol_type, is_global, references_of, blanked_bytes, objects_of}
 
 -- whether symbol k is a function of section i; symbol 0 is none
 unfoldable pub is_function_of : List ℕ → ℕ → ℕ → Bool
 is_function_of bytes i k =
-    nat_lt 0 k && (symbol_entry bytes k).info % 16 == STT_FUNC && (symbol_entry bytes k).section == i
+    nat_lt 0 k && symbol_type (symbol_entry bytes k).info == STT_FUNC && (symbol_entry bytes k).section == i
 
 -- A code section is the function of the first function symbol at its start.
 unfoldable pub starts : List ℕ → ℕ → ℕ → Bool

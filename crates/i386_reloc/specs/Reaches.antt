@@ -60,8 +60,9 @@ pub data Reaches (sections : List NormalSection) : List ℕ → List ℕ → Typ
   Further : (name between other : List ℕ) → Reaches sections name between → IsTrue (refers_on sections between other)
       → Reaches sections name other
 
--- A reference to a code section goes to its entry where it is absolute and has the addend 0, or relative and has -4,
--- which is counted from the field's end. Every other one goes to its interior.
+-- A reference to a code section goes to its entry where it is absolute and has the addend 0, or relative and has -4:
+-- the processor counts a relative value from the field's end, four bytes behind its begin. Every other one goes to its
+-- interior.
 abbrev pub is_entry_by : Form → ℕ → Bool
 is_entry_by Absolute addend = addend == 0
 is_entry_by Relative addend = addend == 2 ^ 32 - 4

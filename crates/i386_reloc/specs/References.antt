@@ -4,8 +4,7 @@ use Rattle.std.specs.Prelude.{◌≡◌, ◌<◌, ℕ, suc, ◌+◌, ◌^◌, �
 use Rattle.std.specs.Prelude.{nat_lt, nat_le, if◌then◌else◌, List, [], ◌∷◌, ◌++◌, map, filter}
 use Rattle.std.specs.List.{list_any}
 use Rattle.std.specs.List.Sorted.{IsNonDecreasingBy, IsPermutation}
-use Rattle.elf32_object.specs.declared.elf.TheConstants.{SHN_UNDEF, SHN_COMMON, STB_GLOBAL, STB_WEAK}
-use Rattle.elf32_object.specs.declared.elf.TheConstants.{STT_OBJECT, STT_SECTION, R_386_32}
+use Rattle.elf32_object.specs.Numbers.{SHN_UNDEF, SHN_COMMON, STB_GLOBAL, STB_WEAK, STT_OBJECT, STT_SECTION, R_386_32}
 use Rattle.elf32_object.specs.declared.types.Reloc.{Reloc}
 use Rattle.elf32_object.specs.declared.types.SymbolEntry.{SymbolEntry}
 use Rattle.elf32_object.specs.Below.{each_below, all_below}
@@ -48,6 +47,13 @@ pub record AreByOffset (relocations fields : List Reloc) : Type 0 where
 pub record HasOrder (bytes : List ℕ) (n : ℕ) : Type 0 where
   pub each : (i : ℕ) → i < n → is_loaded bytes i ≡ true → AreByOffset (relocations_of bytes i) (fields_of bytes i)
 
+-- the type and the binding in a symbol's st_info ("Symbol Table", ELF32_ST_TYPE and ELF32_ST_BIND)
+abbrev pub symbol_type : ℕ → ℕ
+symbol_type info = info % 16
+
+abbrev pub symbol_binding : ℕ → ℕ
+symbol_binding info = info / 16
+
 -- R_386_32 is absolute, R_386_PC32 and R_386_PLT32 are relative: there is no procedure linkage table
 abbrev pub is_absolute : Reloc → Bool
 is_absolute r = r.kind == R_386_32
@@ -68,7 +74,7 @@ abbrev pub is_outside : SymbolEntry → Bool
 is_outside symbol = symbol.section == SHN_UNDEF || symbol.section == SHN_COMMON
 
 abbrev pub is_section_symbol : SymbolEntry → Bool
-is_section_symbol symbol = symbol.info % 16 == STT_SECTION
+is_section_symbol symbol = symbol_type symbol.info == STT_SECTION
 
 -- where the text begins that a symbol of a section of texts names with an addend
 abbrev pub text_offset : SymbolEntry → ℕ → ℕ
@@ -115,7 +121,7 @@ blanked_bytes bytes i = blanked_from 0 (fields_of bytes i) (section_bytes bytes 
 
 -- whether a symbol of this st_info is seen from other objects; every other binding is local
 abbrev pub is_global : ℕ → Bool
-is_global info = info / 16 == STB_GLOBAL || info / 16 == STB_WEAK
+is_global info = symbol_binding info == STB_GLOBAL || symbol_binding info == STB_WEAK
 
 -- the symbols of variables of section i, in order; symbol 0 is none
 abbrev pub object_symbol : List ℕ → ℕ → ObjectSymbol
@@ -129,7 +135,7 @@ object_symbol bytes k =
 
 abbrev pub is_object_of : List ℕ → ℕ → ℕ → Bool
 is_object_of bytes i k =
-    nat_lt 0 k && (symbol_entry bytes k).info % 16 == STT_OBJECT && (symbol_entry bytes k).section == i
+    nat_lt 0 k && symbol_type (symbol_entry bytes k).info == STT_OBJECT && (symbol_entry bytes k).section == i
 
 unfoldable pub objects_of : List ℕ → ℕ → List ObjectSymbol
 objects_of bytes i = all_below (λ k. if is_object_of bytes i k then object_symbol bytes k ∷ [] else [])

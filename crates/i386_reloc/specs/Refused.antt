@@ -5,7 +5,7 @@ use Rattle.ks_base.specs.declared.refusals.Refusal.{Refusal}
 use Rattle.ks_base.specs.declared.refusals.Refusal.TheVariants as refusal
 use Rattle.ks_base.specs.declared.refusals.Large.{Large}
 use Rattle.ks_base.specs.declared.refusals.Large.TheVariants as limit
-use Rattle.elf32_object.specs.declared.elf.TheConstants.{SHN_ABS, R_386_NONE}
+use Rattle.elf32_object.specs.Numbers.{SHN_ABS, R_386_NONE}
 use Rattle.elf32_object.specs.declared.types.ObjectFault.{ObjectFault}
 use Rattle.elf32_object.specs.declared.types.ObjectFault.TheVariants as fault
 use Rattle.elf32_object.specs.declared.types.Large as object

@@ -1,9 +1,10 @@
 //! The function symbols of each section.
-ghost use Rattle.std.specs.Prelude.{◌≡◌, ◌<◌, ℕ, ◌+◌, ◌%◌, ◌&&◌, ◌==◌, if◌then◌else◌, IfOk, length, slice_index_or};
+ghost use Rattle.std.specs.Prelude.{◌≡◌, ◌<◌, ℕ, ◌+◌, ◌&&◌, ◌==◌, if◌then◌else◌, IfOk, length, slice_index_or};
 ghost use Rattle.elf32_object.specs.Fields.{symbol_count};
+ghost use Rattle.i386_reloc.specs.References.{symbol_type};
 ghost use Rattle.i386_reloc.specs.inside.Functions.{AreFunctions, functions_with};
 
-use crate::known::Named;
+use crate::known::{Named, symbol_type};
 use crate::source::Source;
 use elf32_object::elf::STT_FUNC;
 use std::alloc::{AllocError, Global};
@@ -69,12 +70,12 @@ fn gather_symbol(table: &mut [Functions], source: &Source<'_, '_>, k: u32)
 /// Notes symbol `k` at its section, where it is a function.
 fn note(table: &mut [Functions], k: u32, symbol: &Named<'_>)
     ensures { (i : ℕ) (d : Functions) → i < length table.old
-        → slice_index_or table.new i d ≡ (if symbol.now.info % 16 == STT_FUNC && symbol.now.section == i
+        → slice_index_or table.new i d ≡ (if symbol_type symbol.now.info == STT_FUNC && symbol.now.section == i
         then functions_with (slice_index_or table.old i d) k symbol.now.value
         else slice_index_or table.old i d) }
 {
     let section = usize::from(symbol.section);
-    if symbol.info % 16 == STT_FUNC && section < table.len() {
+    if symbol_type(symbol.info) == STT_FUNC && section < table.len() {
         table[section] = table[section].with(k, symbol.value);
     }
 }

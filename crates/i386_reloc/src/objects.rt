@@ -1,12 +1,12 @@
 //! The object symbols of each section.
-ghost use Rattle.std.specs.Prelude.{◌≡◌, ◌<◌, ℕ, ◌+◌, ◌%◌, ◌&&◌, ◌==◌, ◌++◌, ◌∷◌, []};
+ghost use Rattle.std.specs.Prelude.{◌≡◌, ◌<◌, ℕ, ◌+◌, ◌&&◌, ◌==◌, ◌++◌, ◌∷◌, []};
 ghost use Rattle.std.specs.Prelude.{if◌then◌else◌, IfOk, OnOk, length, slice_index_or, List};
 ghost use Rattle.elf32_object.specs.Fields.{section_count, symbol_count};
 ghost use Rattle.i386_reloc.specs.inside.Objects.{AreLeft, AreObjects, object_with};
-ghost use Rattle.i386_reloc.specs.References.{is_global, objects_of};
+ghost use Rattle.i386_reloc.specs.References.{symbol_type, is_global, objects_of};
 ghost use Rattle.i386_reloc.specs.declared.types.ObjectSymbol.{ObjectSymbol as Seen};
 
-use crate::known::Named;
+use crate::known::{Named, symbol_binding, symbol_type};
 use crate::source::Source;
 use crate::span::Span;
 use crate::types::{ObjectSymbol, Objects};
@@ -61,13 +61,13 @@ fn gather_object<'a>(
 fn note<'a>(table: &mut Vec<Objects<'a>>, symbol: &Named<'a>) -> Result<(), AllocError>
     ensures len { OnOk result (length table.new.items ≡ length table.old.items) }
     ensures each { OnOk result ((i : ℕ) (d : List Seen) → i < length table.old.items
-        → slice_index_or table.new.items i d ≡ (if symbol.now.info % 16 == STT_OBJECT && symbol.now.section == i
+        → slice_index_or table.new.items i d ≡ (if symbol_type symbol.now.info == STT_OBJECT && symbol.now.section == i
         then slice_index_or table.old.items i d
         ++ object_with symbol.now.name symbol.now.value symbol.now.info ∷ []
         else slice_index_or table.old.items i d)) }
 {
     let section = usize::from(symbol.section);
-    if symbol.info % 16 != STT_OBJECT || section >= table.len() {
+    if symbol_type(symbol.info) != STT_OBJECT || section >= table.len() {
         return Ok(());
     }
     table[section].push(object_symbol(symbol))
@@ -88,7 +88,7 @@ fn object_symbol<'a>(symbol: &Named<'a>) -> ObjectSymbol<'a>
 pub(crate) fn is_global(info: u8) -> bool
     ensures { result ≡ is_global info }
 {
-    info / 16 == STB_GLOBAL || info / 16 == STB_WEAK
+    symbol_binding(info) == STB_GLOBAL || symbol_binding(info) == STB_WEAK
 }
 
 /// Takes the object symbols of section `i` out of the table.

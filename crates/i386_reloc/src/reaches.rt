@@ -1,8 +1,11 @@
-//! What references go to, and the classes of the sections that are reached.
+//! The classes of the sections that are reached, and where in a function a reference goes.
 ghost use Rattle.std.specs.Prelude.{◌≡◌};
-ghost use Rattle.i386_reloc.specs.Reaches.{is_read_only_class, is_constant_class, is_data_class, goes_to, is_interior};
+ghost use Rattle.i386_reloc.specs.Reaches.{is_read_only_class, is_constant_class, is_data_class, is_interior};
 
-use crate::types::{Class, Form, Ref, Target};
+use crate::types::{Class, Form, Ref};
+
+/// The addend -4 of a call.
+const CALL_ADDEND: u32 = 0xffff_fffc;
 
 impl Class {
     /// Whether this is the class of read-only data.
@@ -16,45 +19,26 @@ impl Class {
     pub fn is_constant(self) -> bool
         ensures { result ≡ is_constant_class self }
     {
-        match self {
-            Class::ReadOnly => true,
-            Class::Strings => true,
-            _ => false,
-        }
+        matches!(self, Class::ReadOnly | Class::Strings)
     }
 
     /// Whether this is a class of data that the program may change.
     pub fn is_data(self) -> bool
         ensures { result ≡ is_data_class self }
     {
-        match self {
-            Class::Zero => true,
-            Class::Writable => true,
-            _ => false,
-        }
+        matches!(self, Class::Zero | Class::Writable)
     }
 }
 
 impl<'a> Ref<'a> {
-    /// Whether the reference goes to the section of a name, or to a text in it.
-    pub fn goes_to(&self, name: &[u8]) -> bool
-        ensures { result ≡ goes_to name.now self.now }
-    {
-        match &self.target {
-            Target::Section(section) => section.as_slice() == name,
-            Target::Text { section, .. } => section.as_slice() == name,
-            Target::Outside(_) => false,
-        }
-    }
-
-    /// Whether the reference, if it is one to a function, doesn't go to the function's entry. Code calls the entry by
+    /// Whether the reference, where it goes to a function, goes elsewhere than to its entry. A call of the entry has
     /// the addend -4, since a relative value is counted from the field's start.
     pub fn is_interior(&self) -> bool
         ensures { result ≡ is_interior self.now }
     {
         match self.form {
             Form::Absolute => self.addend != 0,
-            Form::Relative => self.addend != 0xffff_fffc,
+            Form::Relative => self.addend != CALL_ADDEND,
         }
     }
 }

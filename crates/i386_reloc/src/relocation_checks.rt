@@ -1,7 +1,7 @@
 //! Why a relocation of a loaded section is refused.
 ghost use Rattle.std.specs.Prelude.{◌≡◌, ◌≤◌, ◌<◌, ◌+◌, ◌==◌, ◌||◌, ◌&&◌, if◌then◌else◌};
 ghost use Rattle.std.specs.Prelude.{not, nat_lt, true, length, OnOk, All};
-ghost use Rattle.elf32_object.specs.Fields.{section_bytes, symbol_count, symbol_entry, is_loaded, ends_in};
+ghost use Rattle.elf32_object.specs.Fields.{section_bytes, symbol_count, is_loaded, ends_in};
 ghost use Rattle.elf32_object.specs.Rule.{Finds};
 ghost use Rattle.elf32_object.specs.Rules.{has_field};
 ghost use Rattle.i386_reloc.specs.Classes.{is_code_class, is_strings, is_strings_class};

@@ -1,5 +1,5 @@
 //! Room for a section among blocks of free ranges.
-ghost use Rattle.std.specs.Prelude.{◌≡◌, ◌++◌, ◌<◌, ◌≤◌, Some, length, take, drop, position, IfOk, OnOk};
+ghost use Rattle.std.specs.Prelude.{◌≡◌, ◌++◌, ◌≤◌, Some, length, take, drop, position, IfOk, OnOk};
 ghost use Rattle.link_post.specs.inside.Rooms.{first_start, after_first};
 ghost use Rattle.link_post.specs.inside.BlockLists.{ranges_of, block_fits};
 
@@ -9,10 +9,11 @@ use crate::types::SectionSize;
 use ks_base::Range;
 use std::alloc::{AllocError, Global};
 
-// How many ranges a new block has, and how many it may come to have.
-const WIDTH: usize = 256;
+// How many ranges a block is made with, where there are more.
+const NEW_BLOCK_LENGTH: usize = 256;
 
-const MOST: usize = 512;
+// How many ranges a block may come to have: one with more becomes two.
+const MOST_BLOCK_LENGTH: usize = 512;
 
 // Ranges in blocks.
 pub(crate) fn blocks_of(alloc: Global, ranges: &[Range]) -> Result<Vec<Block>, AllocError>
@@ -21,7 +22,7 @@ pub(crate) fn blocks_of(alloc: Global, ranges: &[Range]) -> Result<Vec<Block>, A
     let mut blocks = Vec::new(alloc);
     let mut rest = ranges;
     while !rest.is_empty() {
-        let (front, back) = rest.split_at(WIDTH.min(rest.len()));
+        let (front, back) = rest.split_at(NEW_BLOCK_LENGTH.min(rest.len()));
         add_block(alloc, &mut blocks, front)?;
         rest = back;
     }
@@ -89,8 +90,8 @@ fn put_ranges(
     ensures { OnOk result (ranges_of blocks.new.items
         ≡ ranges_of (take i blocks.old.items) ++ (ranges.items ++ ranges_of (drop i blocks.old.items))) }
 {
-    if ranges.len() > MOST {
-        let upper = Block::new(alloc, ranges.split_off(WIDTH)?)?;
+    if ranges.len() > MOST_BLOCK_LENGTH {
+        let upper = Block::new(alloc, ranges.split_off(NEW_BLOCK_LENGTH)?)?;
         let lower = Block::new(alloc, ranges)?;
         blocks.insert(i, upper)?;
         blocks.insert(i, lower)?;

@@ -1,9 +1,9 @@
 //! Where sections were placed, and what unknowns came to.
-ghost use Rattle.std.specs.Prelude.{◌≡◌, ◌≤◌, ◌<◌, ◌↔◌, length, map, true, false, IsTrue};
+ghost use Rattle.std.specs.Prelude.{◌≡◌, ◌≤◌, ◌↔◌, length, true, false, IsTrue};
 ghost use Rattle.std.specs.List.Sorted.{IsPartitionPoint};
 ghost use Rattle.link_post.specs.Places.{base_in};
 ghost use Rattle.link_post.specs.Values.{solved_as};
-ghost use Rattle.link_post.specs.Linked.{place_in, section_of, AreInOrder, value_in};
+ghost use Rattle.link_post.specs.Linked.{place_in, AreInOrder, value_in};
 ghost use Rattle.link_post.specs.inside.Lookups.{is_before};
 
 use crate::types::{Placed, Placement};

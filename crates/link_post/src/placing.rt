@@ -1,5 +1,5 @@
 //! Places for sections.
-ghost use Rattle.std.specs.Prelude.{◌≡◌, ◌≢◌, ◌<◌, ◌≤◌, ◌∷◌, ◌↔◌, List, Err, IsTrue, IfErr, OnOk};
+ghost use Rattle.std.specs.Prelude.{◌≡◌, ◌≢◌, ◌∷◌, ◌↔◌, List, Err, IsTrue, IfErr, OnOk};
 ghost use Rattle.ks_base.specs.Gives.{Gives};
 ghost use Rattle.image_memory.specs.Ranges.{Ascends};
 ghost use Rattle.link_post.specs.declared.types.SectionSize.{SectionSize as Section};

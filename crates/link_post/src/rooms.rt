@@ -3,7 +3,7 @@ ghost use Rattle.std.specs.Prelude.{◌≡◌, ◌++◌, ◌<◌, ◌≤◌, ◌
 ghost use Rattle.std.specs.Prelude.{true, Some, length, position, IfOk, OnOk};
 ghost use Rattle.image_memory.specs.Ranges.{from_to};
 ghost use Rattle.link_post.specs.Places.{round_up, start_in, unless_empty};
-ghost use Rattle.link_post.specs.inside.Rooms.{fits, left_of, first_start, after_first};
+ghost use Rattle.link_post.specs.inside.Rooms.{fits, first_start, after_first};
 
 use crate::types::SectionSize;
 use ks_base::Range;

@@ -8,18 +8,18 @@ use crate::comparing::Comparison;
 use i386_reloc::{Normal, NormalSection};
 use std::alloc::{AllocError, Global};
 
-/// Of each section of two objects, in order, whether both have one of its name, and it is the same.
+/// For each section of two objects, in order: whether both have a section of its name, and the two are the same.
 #[derive(Debug, Drop)]
 pub struct SameSections {
-    /// Of the first object's sections.
+    /// For the first object's sections.
     pub pre: Vec<bool>,
-    /// Of the second's.
+    /// For the second's.
     pub post: Vec<bool>,
 }
 
-/// Whether both objects have a section of this name, and it is the same: class, size, bytes outside the fields, and
-/// references are equal. Of sections of texts nothing but the class is compared, since their texts are compared at the
-/// references. It takes no memory; to compare many sections, see [`same_sections`].
+/// Whether both objects have a section of this name, and the two are the same: class, size, bytes outside the fields,
+/// and references are equal. Of sections of texts nothing but the class is compared, since their texts are compared at
+/// the references. It takes no memory; to compare many sections, see [`same_sections`].
 pub fn same_section<'a>(pre: &Normal<'a>, post: &Normal<'a>, name: &[u8]) -> bool
     ensures { result ≡ same_in pre.now post.now name.now }
 {
@@ -27,7 +27,7 @@ pub fn same_section<'a>(pre: &Normal<'a>, post: &Normal<'a>, name: &[u8]) -> boo
     comparison.same_named(name)
 }
 
-/// Which sections are the same in both objects. Bytes of texts that end at one place are compared once.
+/// Which sections are the same in both objects. Bytes of texts that end at the same two places are compared once.
 pub fn same_sections<'a>(
     alloc: Global,
     pre: &Normal<'a>,
@@ -45,7 +45,7 @@ pub fn same_sections<'a>(
     })
 }
 
-// Of each section of the second object.
+// For each section of the second object, whether it is the same in the first.
 fn marks_of_post(
     alloc: Global,
     comparison: &mut Comparison<'_, '_>,
@@ -88,7 +88,7 @@ fn marks_of_names(
         .collect(alloc)
 }
 
-// Of each section of the first object, from those of the second.
+// For each section of the first object, whether it is the same in the second, by the marks of the second's sections.
 fn marks_of_pre(
     alloc: Global,
     pre: &Normal<'_>,

@@ -15,8 +15,9 @@ use std::alloc::Global;
 use std::collections::BTreeMap;
 use std::marker::Model;
 
-/// Compares the sections of two objects. Texts are compared from their ends. Where it is kept for each pair of ends how
-/// many bytes before them are equal, these are compared once for all references to texts that end there.
+/// Compares the sections of two objects. Texts are compared from their ends. A comparison for many sections keeps, for
+/// each pair of ends, how many bytes before them are equal: however many references go to texts that end there, these
+/// bytes are compared once.
 #[derive(Drop)]
 pub(crate) struct Comparison<'n, 'a> {
     pre: &'n Normal<'a>,
@@ -44,8 +45,8 @@ fn bytes_at<'n>(normal: &'n Normal<'_>, place: usize) -> &'n [u8]
     }
 }
 
-// Where the section stands that holds the text to which the reference `k` of a section goes. Of a reference to no text
-// nothing is said.
+// Where the section stands that holds the text to which the reference `k` of a section goes. Where the reference goes
+// to no text, the answer says nothing.
 #[tactic(auto, using(crate::proofs::EndsOfTexts::holds_target))]
 fn place_of_text(normal: &Normal<'_>, section: usize, k: usize, r: &Ref<'_>) -> usize
     requires { slice_get (refs_at normal.now section) k ≡ Some r.now }
@@ -63,8 +64,8 @@ fn end_of_text(offset: u32, text: &[u8]) -> usize
     offset as usize + text.len()
 }
 
-// Keeps how many bytes before the ends are equal. Where there is no memory for it nothing is kept, and no more than
-// time is lost.
+// Keeps how many bytes before the ends are equal. Where there is no memory for that, nothing is kept: the bytes are
+// compared again.
 fn keep(known: &mut BTreeMap<Ends, usize>, ends: Ends, count: usize)
     ensures { (pre post : List NormalSection) → AreKnown pre post known.old → IsKnown pre post ends count
         → AreKnown pre post known.new }

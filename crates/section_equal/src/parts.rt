@@ -13,7 +13,7 @@ pub fn equal_bytes(a: &[u8], b: &[u8]) -> bool
     a == b
 }
 
-/// Whether two classes are one.
+/// Whether two classes are the same.
 pub fn same_class(old: Class, new: Class) -> bool
     ensures { result ≡ same_class old new }
 {
@@ -21,14 +21,10 @@ pub fn same_class(old: Class, new: Class) -> bool
 }
 
 // Whether the values of two references are counted alike.
-fn same_form(a: Form, b: Form) -> bool
-    ensures { result ≡ same_form a b }
+fn same_form(old: Form, new: Form) -> bool
+    ensures { result ≡ same_form old new }
 {
-    match (a, b) {
-        (Form::Absolute, Form::Absolute) => true,
-        (Form::Relative, Form::Relative) => true,
-        (_, _) => false,
-    }
+    old == new
 }
 
 /// Whether two references agree in all but their targets.

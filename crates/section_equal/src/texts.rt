@@ -50,7 +50,7 @@ fn blocks(old: &[u8], new: &[u8], ends: Ends, known: usize, bound: usize) -> usi
     count
 }
 
-/// How many bytes before the ends are equal, at most `bound`. So many as are known to be equal aren't compared again.
+/// How many bytes before the ends are equal, at most `bound`. Those that are known to be equal aren't compared again.
 pub(crate) fn agreement(old: &[u8], new: &[u8], ends: Ends, known: usize, bound: usize) -> usize
     requires old_end { ends.old_end ≤ length old.now }
     requires new_end { ends.new_end ≤ length new.now }

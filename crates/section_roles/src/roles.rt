@@ -49,8 +49,6 @@ fn put_role<'e>(
     ensures { OnOk result ((q : List ℕ) → role_at roles.new q
         ≡ (if same_bytes name.now q then Some role else role_at roles.old q)) }
 {
-    match roles.insert(name, role) {
-        Ok(_) => Ok(()),
-        Err(_) => Err(AllocError),
-    }
+    roles.insert(name, role)?;
+    Ok(())
 }

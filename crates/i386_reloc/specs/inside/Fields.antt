@@ -1,7 +1,7 @@
 -- What is known of the relocations of a section: of each, and of one that changes a field and is not refused.
 use Rattle.std.specs.Prelude.{◌≡◌, ◌<◌, ◌≤◌, ℕ, ◌+◌, ◌==◌, Bool, true, false}
 use Rattle.std.specs.Prelude.{not, ◌&&◌, nat_lt, if◌then◌else◌, List, length}
-use Rattle.elf32_object.specs.declared.elf.TheConstants.{SHN_ABS}
+use Rattle.elf32_object.specs.Numbers.{SHN_ABS}
 use Rattle.elf32_object.specs.declared.types.Reloc.{Reloc}
 use Rattle.elf32_object.specs.Fields.{section_header, section_bytes, symbol_name, is_loaded, symbol_count}
 use Rattle.elf32_object.specs.Rules.{has_field}

@@ -5,5 +5,6 @@ use Rattle.extract_post.proofs.interiors.first_in.Goals as goal
 
 pub loop-k-init : goal.loop-k-init
 loop-k-init c =
-    sym (position_from-zero (breaks c.args.post.now c.args.old c.args.new c.args.changed.now c.args.stays.now)
+    let trial = c.args.trial.now in
+    sym (position_from-zero (breaks c.args.post.now trial.from_old trial.from_new trial.changed.now trial.stays.now)
     c.as_slice-refs.result.now)

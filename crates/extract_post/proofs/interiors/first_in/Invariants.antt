@@ -6,5 +6,6 @@ use Rattle.extract_post.proofs.interiors.first_in.Given as goal
 -- none of the references that are passed breaks
 abbrev pub invariant-loop-k : goal.invariant-loop-k
 invariant-loop-k l =
-    position_from (breaks l.post l.old l.new l.changed l.stays) l.k (drop l.k l.refs) ≡ position
-    (breaks l.post l.old l.new l.changed l.stays) l.refs
+    position_from (breaks l.post l.trial.from_old l.trial.from_new l.trial.changed.now l.trial.stays.now) l.k
+    (drop l.k l.refs)
+    ≡ position (breaks l.post l.trial.from_old l.trial.from_new l.trial.changed.now l.trial.stays.now) l.refs

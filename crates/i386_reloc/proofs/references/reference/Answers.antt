@@ -1,5 +1,5 @@
 use Rattle.std.proofs.Common.{◌≡◌, ◌==◌, ◌||◌, ◌+◌, ◌%◌, ◌^◌, true, false, sym, ap, ◌∙◌}
-use Rattle.elf32_object.specs.declared.elf.TheConstants.{SHN_UNDEF, SHN_COMMON, STT_SECTION}
+use Rattle.elf32_object.specs.Numbers.{SHN_UNDEF, SHN_COMMON, STT_SECTION}
 use Rattle.elf32_object.specs.Fields.{section_name, symbol_name}
 use Rattle.i386_reloc.specs.declared.types.Target.TheVariants as to
 use Rattle.i386_reloc.specs.Classes.{is_strings}

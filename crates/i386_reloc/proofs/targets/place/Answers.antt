@@ -1,5 +1,5 @@
 use Rattle.std.proofs.Common.{◌≡◌, ◌==◌, ◌||◌, true, false, length, Some, sym, ap, ◌∙◌}
-use Rattle.elf32_object.specs.declared.elf.TheConstants.{SHN_UNDEF, SHN_COMMON}
+use Rattle.elf32_object.specs.Numbers.{SHN_UNDEF, SHN_COMMON}
 use Rattle.i386_reloc.specs.Normal.{loaded_below}
 use Rattle.i386_reloc.specs.References.{symbol_of, is_outside}
 use Rattle.i386_reloc.proofs.Going.{place_outside, place_inside}

@@ -1,5 +1,5 @@
 use Rattle.std.proofs.Common.{◌≡◌, ◌==◌, ◌+◌, ◌≤◌, false, length, ℕ, ◌<◌, List, ap, ◌∙◌, sym, subst}
-use Rattle.elf32_object.specs.declared.elf.TheConstants.{SHT_NOBITS}
+use Rattle.elf32_object.specs.Numbers.{SHT_NOBITS}
 use Rattle.elf32_object.specs.Fields.{section_header, section_bytes, symbol_count, section_count}
 use Rattle.elf32_object.specs.Fields.{is_loaded, relocations_below, IsRelocation}
 use Rattle.elf32_object.proofs.Loads.{loaded_within}
