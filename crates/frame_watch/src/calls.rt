@@ -9,7 +9,7 @@ use crate::memory::esp_of;
 use crate::notes::Notes;
 use crate::types::Verdict;
 use ia32_decode::Width;
-use ia32_step::{Outcome, Store, Thread, Traced};
+use ia32_step::{Outcome, RETURN_ADDRESS, Store, Thread, Traced};
 use image_memory::Space;
 use std::alloc::{AllocError, Global};
 use std::marker::Model;
@@ -132,6 +132,6 @@ fn first_store(thread: &Thread) -> Store
     Store {
         address: esp_of(thread),
         width: Width::Dword,
-        value: 0xFFFF_0000,
+        value: RETURN_ADDRESS,
     }
 }

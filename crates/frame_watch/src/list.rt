@@ -166,7 +166,8 @@ impl ThreadList {
         }
     }
 
-    // The thread at a place has made a step. Its number is answered, unless it ended or its slots are such.
+    // The thread at a place has made a step. Its number is answered where it goes on and one of its slots is outside
+    // the bounds of the slot rule.
     fn go<S: Space>(
         &mut self,
         at: Option<usize>,
@@ -189,13 +190,14 @@ impl ThreadList {
             thread.go(after, flow, space);
             number_unless(thread.is_in_place(), thread.number())
         } else {
-            let _ = self.threads.remove(at);
+            self.threads.remove(at);
             None
         }
     }
 
     // A thread has made a step. The first of the rules but the slot rule that it breaks is answered; or its number,
-    // unless it isn't watched after the step or its slots are such. No thread is looked up where none can change.
+    // where it is watched after the step and one of its slots is outside the bounds of the slot rule. No thread is
+    // looked up where none can change.
     pub(crate) fn step<S: Space>(
         &mut self,
         before: &Thread,
@@ -217,6 +219,7 @@ impl ThreadList {
             → HoldBut (S.contents space.now).pieces self.old store
             → IsTouched (S.contents space.now).pieces displaced store self.new) }
     {
+        // Nothing is done here: no two threads have one number.
         let _ = &self.threads;
         if goes_on(before, after, outcome, fetched) {
             return Ok(None);
@@ -258,6 +261,7 @@ impl ThreadList {
         requires { IsTouched (S.contents space.now).pieces displaced store self.now }
         ensures { result ≡ least (breaking (S.contents space.now).pieces self.now) }
     {
+        // Nothing is done here: the stacks don't meet, and no two threads have one number.
         let _ = &self.threads;
         match store {
             Some(store) => self.least_written(displaced, &store, space),
@@ -275,6 +279,7 @@ impl ThreadList {
         requires { IsTouched (S.contents space.now).pieces displaced (Some store.now) self.now }
         ensures { result ≡ least (breaking (S.contents space.now).pieces self.now) }
     {
+        // Nothing is done here: the stacks don't meet, and no two threads have one number.
         let _ = &self.threads;
         let rest = store.address % 4;
         let slot = u64::from(store.address - rest);

@@ -7,15 +7,15 @@ ghost use Rattle.ia32_step.specs.Threads as threads;
 ghost use Rattle.frame_watch.specs.Conditions.{HaveWindows};
 ghost use Rattle.frame_watch.specs.inside.Events.{WasFetched};
 
-use ia32_step::{Frame, Thread};
-use image_memory::Space;
+use ia32_step::{ESP, Frame, Thread};
+use image_memory::{JUMP_LENGTH, Space};
 use ks_base::{Fault, Range};
 
 // Where a thread's ESP points.
 pub(crate) fn esp_of(thread: &Thread) -> u32
     ensures { result ≡ threads.esp_of thread.now }
 {
-    thread.registers[4]
+    thread.registers[ESP]
 }
 
 // Whether a thread that comes to an address has a window there.
@@ -30,7 +30,7 @@ pub(crate) fn has_window<S: Space>(space: &S, pc: u32) -> bool
 pub(crate) fn was_fetched(from: u32, fetched: u32, address: u32) -> bool
     ensures { result ≡ true → WasFetched from fetched address }
 {
-    5 < fetched && from <= address && address - from < fetched
+    fetched > JUMP_LENGTH as u32 && from <= address && address - from < fetched
 }
 
 // Whether a thread that comes to an address from a pc, where so many bytes were fetched, has a window there.

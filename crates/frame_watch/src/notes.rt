@@ -75,7 +75,7 @@ impl Notes {
     }
 
     // What a step comes to by all rules but the slot rule, where so many bytes were fetched. The thread's number is
-    // answered, unless it isn't watched after the step or its slots are such.
+    // answered where it is watched after the step and one of its slots is outside the bounds of the slot rule.
     #[tactic(auto, unfolding(crate::specs::inside::Events::advanced))]
     pub(crate) fn advance<S: Space>(
         &mut self,

@@ -11,7 +11,7 @@ ghost use Rattle.frame_watch.specs.inside.Events.{flow_frames};
 ghost use Rattle.ia32_step.specs.declared.types.Flow.TheVariants.{Call};
 
 use crate::memory::{dword_at, esp_of, holds_address, is_slot};
-use ia32_step::{Flow, Frame, Thread};
+use ia32_step::{Flow, Frame, RETURN_ADDRESS, Thread};
 use image_memory::Space;
 use ks_base::Range;
 use std::alloc::{AllocError, Global};
@@ -50,7 +50,7 @@ impl ThreadFrames {
         let mut frames = Vec::with_capacity(alloc, most as usize)?;
         frames.push_reserved(Frame {
             slot: esp,
-            address: 0xFFFF_0000,
+            address: RETURN_ADDRESS,
         });
         Ok(ThreadFrames {
             thread: thread.number,
@@ -107,7 +107,7 @@ impl ThreadFrames {
                 address: dword_at(space, self.esp),
             }),
             Flow::Return => {
-                let _ = self.frames.pop();
+                self.frames.pop();
             }
         }
     }
@@ -122,7 +122,8 @@ impl ThreadFrames {
             .all(|frame| keeps_slot(stack, esp, *frame, space))
     }
 
-    // Whether all slots are such, where all but the last lie in the stack: then the last, which is the least, tells.
+    // Whether each slot is a multiple of 4 at or above ESP and inside the stack, where all but the last are multiples
+    // of 4 inside it: then the last, which is the least, tells.
     pub(crate) fn is_in_place(&self) -> bool
         requires { is_based self.now ≡ true }
         ensures { result ≡ is_in_place self.now }

@@ -38,7 +38,7 @@ fn exclusive_or(width: Width, a: u32, b: u32) -> (u32, Flags)
     (value, flags_of_result(width, value, false, false))
 }
 
-/// The operand's bits turned.
+/// The operand with each bit inverted.
 fn complement(width: Width, a: u32) -> u32
     ensures value { result ≡ 2 ^ size width - 1 - unsigned (size width) a }
     ensures small { result < 2 ^ size width }

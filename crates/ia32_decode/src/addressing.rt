@@ -214,7 +214,7 @@ pub(crate) fn addressing_at(window: &[u8], at: u32) -> Addressing
     }
 }
 
-/// What stands for it where there is no ModRM byte.
+/// The addressing of an instruction without a ModRM byte.
 #[tactic(auto, unfolding(crate::specs::Encoding::no_addressing))]
 pub(crate) fn absent_addressing(at: u32) -> Addressing
     ensures value { result ≡ no_addressing at }

@@ -90,7 +90,7 @@ fn has(bytes: &[u8], byte: u8) -> bool
     bytes.iter().any(|b| *b == byte)
 }
 
-/// The prefixes that some bytes are.
+/// Which prefixes are among `count` bytes that are prefixes.
 #[tactic(auto, unfolding(crate::specs::Encoding::prefixes_of))]
 fn prefixes(front: &[u8], count: u32) -> Prefixes
     ensures { result ≡ prefixes_of front.now count }
@@ -110,7 +110,7 @@ fn prefixes(front: &[u8], count: u32) -> Prefixes
     }
 }
 
-/// What no bytes are.
+/// No prefix.
 #[tactic(auto, unfolding(crate::specs::Encoding::prefixes_of))]
 fn no_prefixes() -> Prefixes
     ensures { result ≡ prefixes_of [] 0 }

@@ -66,10 +66,7 @@ fn is_the_base(register: Register, base: Option<Register>) -> bool
 fn has_an_index(index: Option<Index>) -> bool
     ensures { result ≡ has_index index }
 {
-    match index {
-        None => false,
-        Some(_) => true,
-    }
+    index.is_some()
 }
 
 /// Whether an address is the register alone.

@@ -5,7 +5,6 @@ use Rattle.ks_base.specs.declared.refusals.Fault.TheVariants.{Unsupported, Trap,
 use Rattle.ia32_alu.specs.declared.types.Unary.TheVariants as alu
 use Rattle.ia32_decode.specs.declared.types.Register.TheVariants.{Eax}
 use Rattle.ia32_decode.specs.declared.types.Width.{Width}
-use Rattle.ia32_decode.specs.declared.types.Width.TheVariants.{Byte, Word, Dword}
 use Rattle.ia32_decode.specs.Widths.{is_dword}
 use Rattle.ia32_decode.specs.declared.types.Arithmetic.{Arithmetic as Operation}
 use Rattle.ia32_decode.specs.declared.types.Arithmetic.TheVariants.{Cmp}

@@ -337,10 +337,7 @@ fn is_stepped(instr: &Instr) -> bool
 fn takes_repeat(instr: &Instr) -> bool
     ensures { result ≡ takes_repeat instr.now }
 {
-    match *instr {
-        Instr::Nop | Instr::Return { .. } | Instr::EndBranch => true,
-        _ => false,
-    }
+    matches!(*instr, Instr::Nop | Instr::Return { .. } | Instr::EndBranch)
 }
 
 /// Whether there is a prefix that isn't carried out.
@@ -357,28 +354,19 @@ fn refuses_prefixes(prefixes: &Prefixes, instr: &Instr) -> bool
 fn traps(instr: &Instr) -> bool
     ensures { result ≡ traps instr.now }
 {
-    match *instr {
-        Instr::Breakpoint | Instr::Undefined => true,
-        _ => false,
-    }
+    matches!(*instr, Instr::Breakpoint | Instr::Undefined)
 }
 
 fn is_memory(operand: Operand) -> bool
     ensures { result ≡ is_memory operand }
 {
-    match operand {
-        Operand::Memory(_) => true,
-        Operand::Register(_) => false,
-    }
+    matches!(operand, Operand::Memory(_))
 }
 
 fn writes(operation: Arithmetic) -> bool
     ensures { result ≡ writes operation }
 {
-    match operation {
-        Arithmetic::Cmp => false,
-        _ => true,
-    }
+    !matches!(operation, Arithmetic::Cmp)
 }
 
 /// Whether the prefix F0 may stand before an instruction.

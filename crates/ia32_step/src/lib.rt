@@ -23,4 +23,4 @@ pub use laws::{
     steps_leave_code, steps_write_one_number,
 };
 pub use step::{step_thread, step_traced};
-pub use types::{Flow, Frame, Outcome, State, Store, Thread, Threads, Traced};
+pub use types::{ESP, Flow, Frame, Outcome, RETURN_ADDRESS, State, Store, Thread, Threads, Traced};

@@ -10,7 +10,7 @@ ghost use Rattle.ia32_step.specs.declared.types.Outcome.TheVariants.{Stopped, Ex
 ghost use Rattle.ia32_step.specs.inside.Comes.{Comes, fault_of};
 
 use crate::exec::execute;
-use crate::types::{Change, Context, Flow, Outcome, State, Store, Thread, Traced};
+use crate::types::{Change, Context, Flow, Outcome, RETURN_ADDRESS, State, Store, Thread, Traced};
 use ia32_decode::{Decoded, Width, decode};
 use image_memory::{Space, Window};
 use ks_base::Fault;
@@ -169,7 +169,7 @@ pub fn step_traced<S: Space>(space: &mut S, thread: &mut Thread) -> Traced
     ensures fetched { result.fetched ≡ fetched_count (S.contents space.old) thread.old }
     ensures room { S.room space.new ≡ S.room space.old }
 {
-    if thread.pc == 0xFFFF_0000 {
+    if thread.pc == RETURN_ADDRESS {
         return unwritten(exit(thread), 0);
     }
     match space.window(thread.pc) {

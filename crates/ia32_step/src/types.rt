@@ -14,6 +14,12 @@ pub enum State {
     Stopped(Fault),
 }
 
+/// The address to which the function returns that a thread is started at. Where a thread comes to it, it ends.
+pub const RETURN_ADDRESS: u32 = 0xFFFF_0000;
+
+/// The number of ESP among a thread's registers.
+pub const ESP: usize = 4;
+
 /// A thread: its registers and where its stack is.
 #[derive(Clone, Copy, PartialEq, Eq, Debug)]
 pub struct Thread {

@@ -7,10 +7,13 @@ ghost use Rattle.image_memory.specs.Contents.{piece_range, ArePlaced};
 use image_memory::Piece;
 use ks_base::Range;
 
+// The file begins with the bytes 4B 49 4D 31 ("KIM1"), read as a number.
+pub(crate) const MAGIC: u32 = 0x314D_494B;
+
 // The lowest address of a region or stack.
 pub(crate) const LOWEST: u32 = 0x1000;
 
-// No region or stack ends above this address.
+// No region or stack ends above this address, where no piece of memory may end.
 pub(crate) const END_LIMIT: u32 = 0xFFFF_0000;
 
 // All regions, the arena, and all stacks have at most so many bytes each.

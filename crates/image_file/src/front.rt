@@ -6,12 +6,39 @@ ghost use Rattle.image_file.specs.Rules.{magic_rules, arena_low_rules, arena_hig
 ghost use Rattle.image_file.specs.Keeps.{all_hold, keeps_arena};
 ghost use Rattle.image_file.specs.Reading.{header_at};
 
-use crate::bounds::{MEMORY_LIMIT, is_aligned, is_arena_placed};
+use crate::bounds::{MAGIC, MEMORY_LIMIT, is_aligned, is_arena_placed};
 use crate::numbers::{count_of, number_of};
 use ks_base::{ImageFault, Range, Refusal};
 
-// The bytes 4B 49 4D 31 as a number.
-const MAGIC: u32 = 0x314D_494B;
+// The offset of the magic bytes.
+const MAGIC_OFFSET: u32 = 0;
+
+// The offset of the number of regions.
+const REGIONS_OFFSET: u32 = 4;
+
+// The offset of the number of symbols.
+const SYMBOLS_OFFSET: u32 = 8;
+
+// The offset of the number of stacks.
+const STACKS_OFFSET: u32 = 12;
+
+// The offset of the arena's low bound.
+const ARENA_LOW_OFFSET: u32 = 16;
+
+// The offset of the arena's high bound.
+const ARENA_HIGH_OFFSET: u32 = 20;
+
+// The header has so many bytes.
+pub(crate) const HEADER_LENGTH: u32 = 24;
+
+// A file has at most so many regions.
+const REGIONS_LIMIT: u32 = 1024;
+
+// A file has at most so many symbols.
+const SYMBOLS_LIMIT: u32 = 65_536;
+
+// A file has at most so many stacks.
+const STACKS_LIMIT: u32 = 64;
 
 // What stands before the regions.
 #[derive(Clone, Copy)]
@@ -32,9 +59,9 @@ pub(crate) fn header_of(bytes: &[u8]) -> Result<Header, Refusal>
     ensures arena { IfOk result (λ header. IsTrue (keeps_arena header.arena)) }
 {
     magic_of(bytes)?;
-    let regions = count_of(bytes, 4, 1024)?;
-    let symbols = count_of(bytes, 8, 65_536)?;
-    let stacks = count_of(bytes, 12, 64)?;
+    let regions = count_of(bytes, REGIONS_OFFSET, REGIONS_LIMIT)?;
+    let symbols = count_of(bytes, SYMBOLS_OFFSET, SYMBOLS_LIMIT)?;
+    let stacks = count_of(bytes, STACKS_OFFSET, STACKS_LIMIT)?;
     let low = arena_low_of(bytes)?;
     let high = arena_high_of(bytes, low)?;
     Ok(Header {
@@ -48,9 +75,9 @@ pub(crate) fn header_of(bytes: &[u8]) -> Result<Header, Refusal>
 fn magic_of(bytes: &[u8]) -> Result<u32, Refusal>
     ensures { Gives (λ n. n) result (field bytes.now 0 magic_rules) }
 {
-    let magic = number_of(bytes, 0)?;
+    let magic = number_of(bytes, MAGIC_OFFSET)?;
     if magic != MAGIC {
-        return Err(Refusal::BadImage(0, ImageFault::Magic));
+        return Err(Refusal::BadImage(MAGIC_OFFSET, ImageFault::Magic));
     }
     Ok(magic)
 }
@@ -59,9 +86,9 @@ fn arena_low_of(bytes: &[u8]) -> Result<u32, Refusal>
     ensures exact { Gives (λ n. n) result (field bytes.now 16 arena_low_rules) }
     ensures kept { IfOk result (λ n. IsTrue (all_hold (arena_low_rules n))) }
 {
-    let low = number_of(bytes, 16)?;
+    let low = number_of(bytes, ARENA_LOW_OFFSET)?;
     if !is_aligned(low) {
-        return Err(Refusal::BadImage(16, ImageFault::Range));
+        return Err(Refusal::BadImage(ARENA_LOW_OFFSET, ImageFault::Range));
     }
     Ok(low)
 }
@@ -70,18 +97,18 @@ fn arena_high_of(bytes: &[u8], low: u32) -> Result<u32, Refusal>
     ensures exact { Gives (λ n. n) result (field bytes.now 20 (arena_high_rules low)) }
     ensures kept { IfOk result (λ n. IsTrue (all_hold (arena_high_rules low n))) }
 {
-    let high = number_of(bytes, 20)?;
+    let high = number_of(bytes, ARENA_HIGH_OFFSET)?;
     if high.saturating_sub(low) > MEMORY_LIMIT {
-        return Err(Refusal::BadImage(20, ImageFault::Limit));
+        return Err(Refusal::BadImage(ARENA_HIGH_OFFSET, ImageFault::Limit));
     }
     if !is_aligned(high) {
-        return Err(Refusal::BadImage(20, ImageFault::Range));
+        return Err(Refusal::BadImage(ARENA_HIGH_OFFSET, ImageFault::Range));
     }
     if low > high {
-        return Err(Refusal::BadImage(20, ImageFault::Range));
+        return Err(Refusal::BadImage(ARENA_HIGH_OFFSET, ImageFault::Range));
     }
     if !is_arena_placed(low, high) {
-        return Err(Refusal::BadImage(20, ImageFault::Range));
+        return Err(Refusal::BadImage(ARENA_HIGH_OFFSET, ImageFault::Range));
     }
     Ok(high)
 }

@@ -36,8 +36,7 @@ pub(crate) fn plain_of(bytes: &[u8], offset: u32) -> Result<u32, Refusal>
     requires { offset < 2 ^ 31 }
     ensures { Gives (λ n. n) result (field bytes.now offset no_rules) }
 {
-    let number = number_of(bytes, offset)?;
-    Ok(number)
+    number_of(bytes, offset)
 }
 
 // The count at an offset, which is at most a limit.

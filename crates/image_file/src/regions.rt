@@ -9,10 +9,20 @@ ghost use Rattle.image_file.specs.Keeps.{all_hold, keeps_region};
 ghost use Rattle.image_file.specs.Reading.{region_after, region_at, region_width};
 
 use crate::bounds::{END_LIMIT, LOWEST, MEMORY_LIMIT, meets};
+use crate::front::HEADER_LENGTH;
 use crate::numbers::{content_of, number_of};
 use image_memory::{Kind, Piece, Pieces};
 use ks_base::{Bytes, ImageFault, Range, Refusal};
 use std::alloc::Global;
+
+// The offset of a region's base, behind its kind.
+const BASE_OFFSET: u32 = 4;
+
+// The offset of the number of its bytes.
+const LENGTH_OFFSET: u32 = 8;
+
+// The offset of its bytes.
+const BYTES_OFFSET: u32 = 12;
 
 // The regions of a file, and the offset behind them.
 pub(crate) fn regions_of(
@@ -33,13 +43,13 @@ pub(crate) fn regions_of(
     let mut pieces = Pieces::new(alloc);
     let mut floor = 0;
     let mut total = 0;
-    let mut offset = 24;
+    let mut offset = HEADER_LENGTH;
     for _ in 0..count {
         let piece = region_of(alloc, bytes, arena, floor, total, offset)?;
         let length = piece.bytes.len() as u32;
         floor = piece.base + length;
         total += length;
-        offset += 12 + length;
+        offset += BYTES_OFFSET + length;
         pieces.push(piece)?;
     }
     Ok((pieces, offset))
@@ -65,9 +75,9 @@ fn region_of(
     ensures kept { IfOk result (λ piece. IsTrue (keeps_region arena piece)) }
 {
     let kind = kind_number_of(bytes, offset)?;
-    let base = base_of(bytes, offset + 4)?;
-    let length = length_of(bytes, offset + 8, arena, floor, total, base)?;
-    let content = content_of(bytes, offset + 12, length)?;
+    let base = base_of(bytes, offset + BASE_OFFSET)?;
+    let length = length_of(bytes, offset + LENGTH_OFFSET, arena, floor, total, base)?;
+    let content = content_of(bytes, offset + BYTES_OFFSET, length)?;
     Ok(Piece {
         kind: region_kind(kind),
         base,

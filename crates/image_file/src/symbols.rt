@@ -21,10 +21,16 @@ use symbol_table::{Symbol, SymbolTable};
 const NAME_LIMIT: u32 = 4096;
 
 // The number of a function symbol.
-const FUNCTION: u32 = 1;
+pub(crate) const FUNCTION: u32 = 1;
+
+// The number of a data symbol.
+pub(crate) const DATA: u32 = 2;
+
+// The number of a local symbol.
+pub(crate) const LOCAL: u32 = 0;
 
 // The number of a global symbol.
-const GLOBAL: u32 = 1;
+pub(crate) const GLOBAL: u32 = 1;
 
 // The symbols of a file from an offset on, and the offset behind them.
 pub(crate) fn symbols_of(

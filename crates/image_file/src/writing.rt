@@ -7,15 +7,14 @@ ghost use Rattle.image_file.specs.Spelling.{stack_spelling, header_spelling, spe
 ghost use Rattle.image_file.specs.Reading.{image_of};
 ghost use Rattle.image_file.specs.Seen.{contents_of};
 
+use crate::bounds::MAGIC;
 use crate::laws::written_is_read;
+use crate::symbols::{DATA, FUNCTION, GLOBAL, LOCAL};
 use crate::types::Image;
 use image_memory::{Kind, Piece};
 use ks_base::{Bytes, Range};
 use std::alloc::{AllocError, Global};
 use symbol_table::{Symbol, SymbolTable};
-
-// The bytes 4B 49 4D 31 as a number.
-const MAGIC: u32 = 0x314D_494B;
 
 /// The one spelling of an image as the bytes of a file, which are read as that image again. `Err` comes for
 /// want of memory alone.
@@ -24,7 +23,7 @@ pub fn write_image(alloc: Global, image: &Image) -> Result<Bytes, AllocError>
     ensures exact { IfOk result (λ bytes. bytes ≡ spelling (contents_of image.now)) }
     ensures read_again { IfOk result (λ bytes. image_of bytes ≡ Ok (contents_of image.now)) }
 {
-    // the law that `read_again` stands on
+    // Nothing is done here: the law says that what is written is read as the image again.
     written_is_read(image);
     let mut out = Vec::new(alloc);
     put_header(&mut out, image)?;
@@ -89,13 +88,13 @@ fn put_regions(out: &mut Vec<u8>, pieces: &[Piece]) -> Result<(), AllocError>
 fn symbol_kind(symbol: &Symbol) -> u32
     ensures { result ≡ symbol_kind symbol.now }
 {
-    if symbol.function { 1 } else { 2 }
+    if symbol.function { FUNCTION } else { DATA }
 }
 
 fn binding_number(global: bool) -> u32
     ensures { result ≡ (if global then 1 else 0) }
 {
-    if global { 1 } else { 0 }
+    if global { GLOBAL } else { LOCAL }
 }
 
 #[tactic(auto, unfolding(crate::specs::Spelling::symbol_spelling))]

@@ -41,6 +41,7 @@ pub(crate) fn insert_spare<T: Drop>(items: &mut Vec<T>, at: usize, item: T)
     ensures len { vec_len items.new ≡ vec_len items.old + 1 }
     ensures capacity { vec_capacity items.old ≤ vec_capacity items.new }
 {
+    // This can't fail, since there is room.
     let _ = items.insert(at, item);
 }
 

@@ -18,7 +18,7 @@ use crate::changes::{insert_spare, put_spare, ranges_of};
 use crate::lookup::{begun, piece_at};
 use crate::space::Space;
 use crate::spare::SpareRanges;
-use crate::types::{Access, Fence, Kind, Piece, Pieces, Window};
+use crate::types::{Access, Fence, Kind, Piece, Pieces, WINDOW_LENGTH, Window};
 use ks_base::{Fault, Range};
 use std::alloc::{AllocError, Global};
 
@@ -175,7 +175,7 @@ impl FlatSpace {
     {
         match self.fence_after(pc) {
             Some(fence) => at_most_15((fence.range.low - pc) as usize),
-            None => 15,
+            None => WINDOW_LENGTH,
         }
     }
 
@@ -209,7 +209,7 @@ fn nth_fence(fences: &[Fence], i: usize) -> Option<&Fence>
 fn at_most_15(count: usize) -> usize
     ensures { result ≡ min 15 count }
 {
-    if count < 15 { count } else { 15 }
+    count.min(WINDOW_LENGTH)
 }
 
 // Puts bytes over those that pieces have from an address on. The pieces before `first` end at or below
@@ -298,7 +298,7 @@ impl Space for FlatSpace {
 
     fn drop_piece(&mut self, base: u32) {
         let at = self.place_of_piece(base);
-        let _ = self.pieces.remove(at);
+        self.pieces.remove(at);
         self.spare_ranges.clear();
     }
 
@@ -314,6 +314,6 @@ impl Space for FlatSpace {
 
     fn unfence(&mut self, range: Range) {
         let at = self.place_of_fence(range);
-        let _ = self.fences.remove(at);
+        self.fences.remove(at);
     }
 }

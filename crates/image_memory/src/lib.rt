@@ -19,4 +19,4 @@ pub use laws::pieces_stay_placed;
 pub use lookup::piece_at;
 pub use placement::are_placed;
 pub use space::Space;
-pub use types::{Access, Fence, Kind, Piece, Pieces, Window};
+pub use types::{Access, Fence, JUMP_LENGTH, Kind, Piece, Pieces, Window};

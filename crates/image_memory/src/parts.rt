@@ -8,7 +8,7 @@ ghost use Rattle.image_memory.specs.Access.{access_fault, overlaid_piece, writte
 ghost use Rattle.image_memory.specs.Fetch.{code_in, shown, window_for, AtHome, Stray};
 
 use crate::bytes::{front, overlay};
-use crate::types::{Access, Fence, Kind, Piece, Window};
+use crate::types::{Access, Fence, JUMP_LENGTH, Kind, Piece, WINDOW_LENGTH, Window};
 use ks_base::{Bytes, Fault, Range};
 use std::alloc::Global;
 use std::mem;
@@ -96,7 +96,7 @@ impl Fence {
             (take 5 bytes.now) }
     {
         if self.is_home(pc) {
-            Ok(Window::of(front(bytes, 5)))
+            Ok(Window::of(front(bytes, JUMP_LENGTH)))
         } else {
             Err(Fault::Stray)
         }
@@ -109,10 +109,10 @@ impl Window {
         requires { length bytes.now ≤ 15 }
         ensures { result ≡ shown bytes.now }
     {
-        if bytes.len() == 15 {
+        if bytes.len() == WINDOW_LENGTH {
             return Window::whole(bytes);
         }
-        let mut filled = [0; 15];
+        let mut filled = [0; WINDOW_LENGTH];
         filled[..bytes.len()].copy_from_slice(bytes);
         Window {
             bytes: filled,
@@ -125,11 +125,11 @@ impl Window {
         requires { length bytes.now ≡ 15 }
         ensures { result ≡ shown bytes.now }
     {
-        let mut filled = [0; 15];
+        let mut filled = [0; WINDOW_LENGTH];
         filled.copy_from_slice(bytes);
         Window {
             bytes: filled,
-            length: 15,
+            length: WINDOW_LENGTH as u32,
         }
     }
 }

@@ -69,7 +69,7 @@ impl SpareRanges {
         if at == 0 {
             self.taken += 1;
         } else {
-            let _ = self.ranges.remove(self.taken + at);
+            self.ranges.remove(self.taken + at);
         }
     }
 }

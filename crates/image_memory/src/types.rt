@@ -44,11 +44,17 @@ pub struct Fence {
     pub jump: bool,
 }
 
+/// How many bytes the jump at a spliced home has.
+pub const JUMP_LENGTH: usize = 5;
+
+// A window has at most so many bytes.
+pub(crate) const WINDOW_LENGTH: usize = 15;
+
 /// What is fetched at an address.
 #[derive(Clone, Copy, PartialEq, Eq, Debug)]
 pub struct Window {
     /// The bytes from the address on, zeros behind `length`.
-    pub bytes: [u8; 15],
+    pub bytes: [u8; WINDOW_LENGTH],
     /// How many bytes were fetched, at most 15.
     pub length: u32,
 }

@@ -4,12 +4,9 @@ ghost use Rattle.image_memory.specs.Ranges.{are_same};
 ghost use Rattle.image_threads.specs.Spawning.{is_taken, free_stack, first_top, first_bytes, first_thread};
 
 use ia32_alu::Flags;
-use ia32_step::{State, Thread};
+use ia32_step::{ESP, RETURN_ADDRESS, State, Thread};
 use ks_base::Range;
 use std::alloc::{AllocError, Global};
-
-/// The address to which a thread's function returns, and there the thread ends.
-const RETURN_ADDRESS: u32 = 0xFFFF_0000;
 
 /// How many bytes of a stack stand at and above the first ESP.
 const FIRST_FRAME: u32 = 20;
@@ -34,7 +31,7 @@ pub(crate) fn first_thread(number: u32, stack: Range, pc: u32) -> Thread
     ensures { result ≡ first_thread number stack pc }
 {
     let mut registers = [0; 8];
-    registers[4] = stack.high - FIRST_FRAME;
+    registers[ESP] = stack.high - FIRST_FRAME;
     Thread {
         number,
         stack,

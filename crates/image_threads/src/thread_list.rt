@@ -172,10 +172,7 @@ fn if_running(thread: Thread) -> Option<Thread>
 fn is_running(state: State) -> bool
     ensures { result ≡ is_running state }
 {
-    match state {
-        State::Running => true,
-        State::Exited(_) | State::Stopped(_) => false,
-    }
+    matches!(state, State::Running)
 }
 
 fn are_same(a: Range, b: Range) -> bool

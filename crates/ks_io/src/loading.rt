@@ -49,11 +49,7 @@ fn load_one<F: Files>(alloc: Global, files: &mut F, file: &Wanted<'_>) -> Result
     ensures quiet { F.quiet files.old → result ≢ Err FileFault.Failed }
 {
     let mut bytes = Vec::new(alloc);
-    match files.load(file.name, file.limit, &mut bytes) {
-        Ok(()) => {
-            bytes.shrink_to_fit();
-            Ok(bytes)
-        }
-        Err(fault) => Err(fault),
-    }
+    files.load(file.name, file.limit, &mut bytes)?;
+    bytes.shrink_to_fit();
+    Ok(bytes)
 }

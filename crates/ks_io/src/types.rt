@@ -32,17 +32,21 @@ impl From<AllocError> for FileFault {
     }
 }
 
-/// A file that is wanted: its name, and the most bytes that it may have.
+/// A file that is wanted.
 #[derive(Clone, Copy, Debug)]
 pub struct Wanted<'a> {
+    /// The file's name.
     pub name: &'a str,
+    /// The most bytes that it may have.
     pub limit: u32,
 }
 
-/// A file that was not loaded: which of those that were wanted, counted from 0, and why.
+/// A file that was not loaded.
 #[derive(Clone, Copy, Debug, PartialEq, Eq)]
 pub struct Lost {
+    /// Which of the wanted files, counted from 0.
     pub index: usize,
+    /// Why it was not loaded.
     pub fault: FileFault,
 }
 

@@ -1,6 +1,6 @@
 -- What is left of things when those are taken away that don't pass a test.
-use Rattle.std.proofs.Common.{◌≡◌, ℕ, zero, suc, ◌+◌, ◌<◌, ◌≤◌, Bool, true, false, cond, not, ◌&&◌, nat_lt, List, []}
-use Rattle.std.proofs.Common.{◌∷◌, map, length, get_or, Option, Some, refl, sym, ap, ◌∙◌, arith}
+use Rattle.std.proofs.Common.{◌≡◌, ℕ, zero, suc, ◌<◌, ◌≤◌, Bool, true, false, cond, ◌&&◌, nat_lt, List, []}
+use Rattle.std.proofs.Common.{◌∷◌, map, length, get_or, Some, refl, ap, ◌∙◌, arith}
 use Rattle.std.specs.List.{filter, find, All, Any, Contains}
 use Rattle.std.proofs.lemmas.List.Elements.{All-head, All-tail}
 use Rattle.ks_base.specs.declared.places.Range.{Range}

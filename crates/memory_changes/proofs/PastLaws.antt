@@ -1,6 +1,6 @@
 -- Pieces are added past writes over code, and an update is taken back whole.
 use Rattle.std.proofs.Common.{◌≡◌, ℕ, ◌+◌, ◌-◌, ◌<◌, ◌≤◌, Bool, true, false, cond, nat_lt, List, [], ◌∷◌, ◌++◌}
-use Rattle.std.proofs.Common.{map, length, get_or, refl, sym, ap, ◌∙◌, arith, ◌⊎◌, inl, inr}
+use Rattle.std.proofs.Common.{map, length, get_or, refl, sym, ap, ◌∙◌, arith, inl, inr}
 use Rattle.std.specs.List.{All, AllPairs}
 use Rattle.std.proofs.lemmas.List.{length-map, get_or-map}
 use Rattle.std.proofs.lemmas.List.Elements.{All-head, All-tail}
@@ -21,10 +21,8 @@ use Rattle.splice_jump.proofs.RowLaws.{writes_apart, misses_jumps}
 use Rattle.splice_jump.proofs.JumpLaws.{all_outside}
 use Rattle.splice_jump.proofs.DataLaws.{unjumped-append, same_left}
 use Rattle.splice_jump.proofs.ChangeLaws.{not_held_twice}
-use Rattle.memory_changes.specs.declared.types.Jump.{Jump}
 use Rattle.memory_changes.specs.Added.{AreAddable, with_pieces}
 use Rattle.memory_changes.specs.Retired.{AreRetirable, with_fences}
-use Rattle.memory_changes.specs.Rows.{rows_of, olds_of}
 use Rattle.memory_changes.specs.Withdrawn.{without_pieces, without_ranges, withdrawn_memory}
 use Rattle.memory_changes.proofs.PieceLaws.{none_added, first_added, first_clear, rest_addable, fences_stay, StayPlaced}
 use Rattle.memory_changes.proofs.PieceLaws.{along_pieces}

@@ -1,23 +1,22 @@
 -- What is left to do when changes are taken back one after another.
-use Rattle.std.proofs.Common.{◌≡◌, ◌≢◌, ℕ, zero, suc, ◌+◌, ◌<◌, ◌≤◌, Bool, true, false, not, ◌&&◌, ◌||◌, ◌==◌, List, []}
-use Rattle.std.proofs.Common.{◌∷◌, map, length, get_or, drop, refl, sym, ap, subst, ◌∙◌, arith}
-use Rattle.std.specs.List.{filter, list_any, All, Any, AllPairs, Contains}
+use Rattle.std.proofs.Common.{◌≡◌, ◌≢◌, ℕ, ◌+◌, ◌<◌, ◌≤◌, Bool, true, false, not, ◌&&◌, ◌||◌, ◌==◌, List, []}
+use Rattle.std.proofs.Common.{◌∷◌, map, length, get_or, take, drop, refl, sym, ap, subst, ◌∙◌, add-one, arith}
+use Rattle.std.specs.List.{list_any, Any, Contains}
 use Rattle.std.proofs.lemmas.Bool.Decides.{nat_tests}
 use Rattle.std.proofs.lemmas.List.{at_drop_more, at_drop_all, length-map, get_or-map}
-use Rattle.std.proofs.lemmas.List.Elements.{All-head, All-tail, filter_agree}
+use Rattle.std.proofs.lemmas.List.Elements.{filter_agree}
 use Rattle.ks_base.specs.declared.places.Range.{Range}
 use Rattle.image_memory.specs.declared.types.Piece.{Piece}
 use Rattle.image_memory.specs.declared.types.Fence.{Fence}
 use Rattle.image_memory.specs.Ranges.{are_same}
 use Rattle.image_memory.specs.Contents.{Contents, fence_range}
-use Rattle.image_memory.specs.Changes.{HasPiece, IsRetired, without_piece, without_fence, after_drop, after_unfence}
+use Rattle.image_memory.specs.Changes.{HasPiece, IsRetired, after_drop, after_unfence}
 use Rattle.splice_jump.specs.Jump.{after_old}
 use Rattle.splice_jump.specs.Jumps.{unjumped}
 use Rattle.splice_jump.proofs.WriteLaws.{piece_after, unjumped-is}
 use Rattle.memory_changes.specs.declared.types.Jump.{Jump}
 use Rattle.memory_changes.specs.Rows.{old_of}
-use Rattle.memory_changes.specs.Withdrawn.{without_pieces, without_ranges}
-use Rattle.memory_changes.proofs.PutLaws.{pairs_tail}
+use Rattle.memory_changes.specs.Withdrawn.{without_pieces, without_ranges, spare_after}
 use Rattle.memory_changes.proofs.KeptLaws.{filter_map, filter_all, filter_twice, any_left, contains_left}
 use Rattle.memory_changes.proofs.WithdrawLaws.{keeps_piece, keeps_fence}
 
@@ -84,6 +83,12 @@ next_dropped contents now bases i d l is =
 pub all_dropped : (contents : Contents) (bases : List ℕ) (i : ℕ) → length bases ≤ i
     → contents ≡ dropped_memory (drop i bases) contents
 all_dropped contents bases i l = sym (none_dropped contents) ∙ sym (at_drop_all (with_dropped contents) bases i l)
+
+-- no range is spare after the first of them
+pub none_spare : (bases : List ℕ) (i : ℕ) (spare : List Range) → i < length bases
+    → [] ≡ spare_after (take (i + 1) bases) spare
+none_spare [] i spare l = absurd (omega arith)
+none_spare (base ∷ bases) i spare l = rw (add-one) refl
 
 -- a piece that begins elsewhere is still there
 pub still_there : (contents now : Contents) (base other : ℕ) → now ≡ after_drop contents base → base ≢ other

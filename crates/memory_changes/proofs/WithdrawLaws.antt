@@ -1,5 +1,5 @@
 -- What is left of memory when an update's changes are taken away.
-use Rattle.std.proofs.Common.{◌≡◌, ℕ, zero, suc, ◌+◌, ◌-◌, ◌<◌, ◌≤◌, Bool, true, false, not, ◌==◌, List, [], ◌∷◌, map}
+use Rattle.std.proofs.Common.{◌≡◌, ℕ, zero, suc, ◌+◌, ◌<◌, ◌≤◌, Bool, true, false, not, ◌==◌, List, [], ◌∷◌, map}
 use Rattle.std.proofs.Common.{length, get_or, Option, Some, None, refl, sym, ap, ◌∙◌, arith}
 use Rattle.std.specs.Option.{unwrap_or}
 use Rattle.std.specs.List.{filter, list_any, All}
@@ -11,7 +11,7 @@ use Rattle.ks_base.specs.declared.places.Range.{Range}
 use Rattle.image_memory.specs.declared.types.Piece.{Piece}
 use Rattle.image_memory.specs.declared.types.Fence.{Fence}
 use Rattle.image_memory.specs.Ranges.{are_same, meets, MeetsNone}
-use Rattle.image_memory.specs.Contents.{Contents, ArePlaced, IsValid, piece_range, fence_range, holding}
+use Rattle.image_memory.specs.Contents.{Contents, IsValid, piece_range, fence_range, holding}
 use Rattle.image_memory.specs.Access.{byte_at, bytes_at, written, overlaid_piece}
 use Rattle.image_memory.specs.Fetch.{code_in, HasCode}
 use Rattle.image_memory.specs.Changes.{ArePlaceable, after_add, after_fence}

@@ -1,5 +1,5 @@
 -- Memory from which pieces and retired ranges are taken away.
-use Rattle.std.specs.Prelude.{ℕ, Bool, not, ◌==◌, List}
+use Rattle.std.specs.Prelude.{ℕ, Bool, not, ◌==◌, List, [], ◌∷◌}
 use Rattle.std.specs.List.{filter, list_any}
 use Rattle.ks_base.specs.declared.places.Range.{Range}
 use Rattle.image_memory.specs.declared.types.Piece.{Piece}
@@ -14,6 +14,11 @@ is_based_at bases piece = list_any (λ base. base == piece.base) bases
 
 abbrev pub without_pieces : List ℕ → List Piece → List Piece
 without_pieces bases pieces = filter (λ piece. not (is_based_at bases piece)) pieces
+
+-- the ranges that are spare after the pieces were taken away that begin at some addresses: none, where there was one
+abbrev pub spare_after : List ℕ → List Range → List Range
+spare_after [] spare = spare
+spare_after (base ∷ bases) spare = []
 
 -- whether a range is one of some, the ranges that aren't, and the retired ranges that aren't
 abbrev pub is_one_of : List Range → Range → Bool

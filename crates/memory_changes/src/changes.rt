@@ -55,6 +55,7 @@ pub fn write_jumps<S: Space>(space: &mut S, jumps: &[Jump])
     ensures contents { S.contents space.new ≡ jumped_memory (map row_of jumps.now) (S.contents space.old) }
     ensures room { S.room space.new ≡ S.room space.old }
 {
+    // Nothing is done here: the law says that code stands at each home after each jump that is written.
     code_stays_code();
     for jump in jumps {
         splice(space, jump.home, jump.base);

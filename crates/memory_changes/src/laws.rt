@@ -39,6 +39,8 @@ pub fn pieces_are_added()
         ArePlaceable pieces → AreAddable contents pieces → AreSpliced contents rows →
         AreSpliced (with_pieces contents pieces) rows }
 {
+    // Nothing is done here: the laws say that where one piece is added pieces stay placed, code stays code, and homes
+    // stay spliced.
     pieces_stay_placed();
     code_stays_code();
     homes_stay_spliced();
@@ -114,6 +116,8 @@ pub fn pieces_are_added_past_code()
         ArePlaceable pieces → AreAddable contents pieces → AreSpliced contents rows →
         (with_pieces (jumped_memory rows contents) pieces).pieces ≡ jumped rows (with_pieces contents pieces).pieces }
 {
+    // Nothing is done here: the laws say what stays where one piece is added, and that it is added past jumps as
+    // without them.
     pieces_stay_placed();
     code_stays_code();
     homes_stay_spliced();
@@ -131,5 +135,6 @@ pub fn updates_are_withdrawn()
         (jumped_memory (rows_of jumps) (with_fences (with_pieces contents pieces) fences))
         ≡ contents }
 {
+    // Nothing is done here: the law says that pieces stay placed.
     pieces_stay_placed();
 }

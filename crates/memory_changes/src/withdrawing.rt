@@ -7,7 +7,7 @@ ghost use Rattle.image_memory.specs.Fetch.{HasCode};
 ghost use Rattle.image_memory.specs.Changes.{HasPiece, IsRetired};
 ghost use Rattle.splice_jump.specs.Jumps.{unjumped};
 ghost use Rattle.memory_changes.specs.Rows.{old_of};
-ghost use Rattle.memory_changes.specs.Withdrawn.{without_pieces, without_ranges, withdrawn_memory};
+ghost use Rattle.memory_changes.specs.Withdrawn.{without_pieces, without_ranges, spare_after, withdrawn_memory};
 
 use crate::types::Jump;
 use image_memory::Space;
@@ -21,6 +21,7 @@ pub fn restore_code<S: Space>(space: &mut S, jumps: &[Jump])
         ≡ record (S.contents space.old) { pieces = unjumped (map old_of jumps.now) (S.contents space.old).pieces } }
     ensures room { S.room space.new ≡ S.room space.old }
 {
+    // Nothing is done here: the law says that code stands at each home after old bytes are put back.
     code_stays_code();
     for jump in jumps {
         restore(space, jump.home, jump.old);
@@ -40,12 +41,14 @@ pub fn unretire<S: Space>(space: &mut S, ranges: &[Range])
     }
 }
 
-/// Takes the pieces away that begin at some addresses, of which none stands twice.
+/// Takes the pieces away that begin at some addresses, of which none stands twice. No range is spare then, unless there
+/// are no such addresses.
 pub fn drop_pieces<S: Space>(space: &mut S, bases: &[u32])
     requires there { All (HasPiece (S.contents space.old)) bases.now }
     requires once { AllPairs (λ base other. base ≢ other) bases.now }
     ensures contents { S.contents space.new
         ≡ record (S.contents space.old) { pieces = without_pieces bases.now (S.contents space.old).pieces } }
+    ensures ranges { (S.room space.new).ranges ≡ spare_after bases.now (S.room space.old).ranges }
     ensures fences { (S.room space.new).fences ≡ (S.room space.old).fences }
 {
     for base in bases {
@@ -54,7 +57,7 @@ pub fn drop_pieces<S: Space>(space: &mut S, bases: &[u32])
 }
 
 /// Takes an update's changes back: puts the old bytes back at each home, retires the ranges no longer, and takes the
-/// pieces away that begin at the bases.
+/// pieces away that begin at the bases. No range is spare then, unless there are no bases.
 pub fn withdraw<S: Space>(space: &mut S, bases: &[u32], ranges: &[Range], jumps: &[Jump])
     requires code { All (λ jump. HasCode (S.contents space.old).pieces jump.home 5) jumps.now }
     requires retired { All (IsRetired (S.contents space.old)) ranges.now }
@@ -63,6 +66,7 @@ pub fn withdraw<S: Space>(space: &mut S, bases: &[u32], ranges: &[Range], jumps:
     requires bases_once { AllPairs (λ base other. base ≢ other) bases.now }
     ensures contents { S.contents space.new
         ≡ withdrawn_memory bases.now ranges.now (map old_of jumps.now) (S.contents space.old) }
+    ensures ranges { (S.room space.new).ranges ≡ spare_after bases.now (S.room space.old).ranges }
     ensures fences { (S.room space.new).fences ≡ (S.room space.old).fences }
 {
     restore_code(space, jumps);

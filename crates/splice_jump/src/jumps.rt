@@ -4,23 +4,24 @@ ghost use Rattle.image_memory.specs.Access.{byte_at};
 ghost use Rattle.image_memory.specs.Fetch.{HasCode};
 ghost use Rattle.splice_jump.specs.Jump.{jump_bytes, five_at, after_jump, after_old};
 
-use image_memory::Space;
+use image_memory::{JUMP_LENGTH, Space};
 
 // JMP by a displacement of 32 bits.
 const JUMP: u8 = 0xE9;
 
 /// The five bytes of the jump that stands at `home` and goes to `base`: E9, and how far it is from the jump's end to
 /// `base`, modulo 2^32, the lowest byte first.
-pub fn jump_bytes(home: u32, base: u32) -> [u8; 5]
+pub fn jump_bytes(home: u32, base: u32) -> [u8; JUMP_LENGTH]
     ensures { result ≡ jump_bytes home base }
 {
-    let [a, b, c, d] = base.wrapping_sub(home.wrapping_add(5)).to_le_bytes();
+    let end = home.wrapping_add(JUMP_LENGTH as u32);
+    let [a, b, c, d] = base.wrapping_sub(end).to_le_bytes();
     [JUMP, a, b, c, d]
 }
 
 /// Writes the jump to `base` over the five bytes of code at `home`, and answers those that stood there. All else in
 /// memory stays as it was.
-pub fn splice<S: Space>(space: &mut S, home: u32, base: u32) -> [u8; 5]
+pub fn splice<S: Space>(space: &mut S, home: u32, base: u32) -> [u8; JUMP_LENGTH]
     requires { HasCode (S.contents space.old).pieces home 5 }
     ensures contents { S.contents space.new ≡ after_jump (S.contents space.old) home base }
     ensures old { result ≡ five_at (S.contents space.old).pieces home }
@@ -32,7 +33,7 @@ pub fn splice<S: Space>(space: &mut S, home: u32, base: u32) -> [u8; 5]
 }
 
 /// Puts five bytes back over the jump at `home`. All else in memory stays as it was.
-pub fn restore<S: Space>(space: &mut S, home: u32, old: [u8; 5])
+pub fn restore<S: Space>(space: &mut S, home: u32, old: [u8; JUMP_LENGTH])
     requires { HasCode (S.contents space.old).pieces home 5 }
     ensures contents { S.contents space.new ≡ after_old (S.contents space.old) home old }
     ensures room { S.room space.new ≡ S.room space.old }
@@ -42,7 +43,7 @@ pub fn restore<S: Space>(space: &mut S, home: u32, old: [u8; 5])
 
 /// The five bytes that stand from an address on, 0 where there is none. They are looked at, since code can't be read as
 /// data.
-pub fn five_at<S: Space>(space: &S, home: u32) -> [u8; 5]
+pub fn five_at<S: Space>(space: &S, home: u32) -> [u8; JUMP_LENGTH]
     requires { home + 5 ≤ 2 ^ 32 }
     ensures { result ≡ five_at (S.contents space.now).pieces home }
 {

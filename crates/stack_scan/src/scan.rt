@@ -7,12 +7,9 @@ ghost use Rattle.stack_scan.specs.Standing.{HasStack, IsStack, stands, first_pla
 use crate::places::{first_on_stack, first_register};
 use crate::targets::Targets;
 use crate::types::StackOut;
-use ia32_step::{State, Thread};
+use ia32_step::{ESP, State, Thread};
 use image_memory::Space;
 use ks_base::{Place, Range, Standing};
-
-/// The number of ESP among the registers.
-const ESP: usize = 4;
 
 /// Where a thread stands in one of some ranges of addresses: the first place that holds an address of one, and the
 /// address. The places are pc; EAX, ECX, EDX, EBX, EBP, ESI and EDI; and the dwords of the stack at multiples of 4,

@@ -36,10 +36,7 @@ fn lies_in_writable(piece: &Piece, stack: Range) -> bool
 fn is_writable(kind: Kind) -> bool
     ensures { IsTrue result ↔ (kind ≡ Writable) }
 {
-    match kind {
-        Kind::Code | Kind::ReadOnly => false,
-        Kind::Writable => true,
-    }
+    kind == Kind::Writable
 }
 
 /// Whether an address isn't above a piece's end.

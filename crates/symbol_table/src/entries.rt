@@ -117,7 +117,7 @@ fn push_symbol(entries: &mut Vec<Entry>, index: Index, symbol: &Symbol, place: u
 {
     if is_in(index, symbol) {
         let address = symbol.address;
-        let _ = entries.push(Entry { address, place });
+        entries.push_reserved(Entry { address, place });
     }
 }
 

@@ -1,5 +1,5 @@
 //! The table of symbols.
-ghost use Rattle.std.specs.Prelude.{◌≡◌, ◌==◌, ◌+◌, ◌-◌, ◌<◌, ◌≤◌, ◌++◌, [], ◌∷◌, length, take, OnOk, IfOk};
+ghost use Rattle.std.specs.Prelude.{◌≡◌, ◌==◌, ◌+◌, ◌-◌, ◌<◌, ◌≤◌, ◌++◌, [], ◌∷◌, length, take, max, OnOk, OnErr, IfOk};
 ghost use Rattle.std.specs.Option.{option_copied, option_map};
 ghost use Rattle.std.specs.List.{slice_get, list_any};
 ghost use Rattle.ks_base.specs.Gives.{Gives};
@@ -145,7 +145,7 @@ impl SymbolTable {
 
     /// The name that an address is shown with, and the offset from it in bytes: of the function symbols
     /// at or below the address the one with the greatest address, of several there the first, where the
-    /// offset is below 65,536; `None` exactly where there is none such. It takes no memory.
+    /// offset is below 65,536; `None` exactly where there is no such symbol. It takes no memory.
     pub fn name_at(&self, address: u32) -> Option<(&Name, u32)>
         ensures { option_map (λ shown. (shown.0.now, shown.1)) result ≡ name_below self.now.symbols address }
     {
@@ -184,11 +184,12 @@ impl SymbolTable {
         )
     }
 
-    /// Makes at least `n` spare places. The symbols stay, whatever the answer is; after `Err` nothing is
-    /// said of the spare places.
+    /// Makes the spare places that are missing of `n`, if any. The symbols stay. `Err` comes for want of memory alone,
+    /// and the table is then as before.
     pub fn reserve(&mut self, n: u32) -> Result<(), AllocError>
         ensures symbols { self.new.symbols ≡ self.old.symbols }
-        ensures spare { OnOk result (n ≤ self.new.spare) }
+        ensures spare { OnOk result (self.new.spare ≡ max self.old.spare n) }
+        ensures err { OnErr result (self.new ≡ self.old) }
     {
         let wanted = n as usize;
         if wanted <= self.spare {
@@ -212,7 +213,7 @@ impl SymbolTable {
         ensures symbols { self.new.symbols ≡ self.old.symbols ++ symbol ∷ [] }
         ensures spare { self.new.spare + 1 ≡ self.old.spare }
     {
-        let _ = self.symbols.push(symbol);
+        self.symbols.push_reserved(symbol);
         let symbols = self.symbols.as_slice();
         note_last(&mut self.functions, Index::Functions, symbols);
         note_last(&mut self.data_entries, Index::Data, symbols);

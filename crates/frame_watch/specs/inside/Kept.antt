@@ -41,7 +41,8 @@ placed threads (Some at) = slice_get threads at
 abbrev pub HasStack : ℕ → Range → List Watched → Type 0
 HasStack number stack threads = All (λ watched. watched.thread ≡ number → watched.stack ≡ stack) threads
 
--- all slots of a thread are such, whatever they hold
+-- each slot of a thread is within the bounds of the slot rule, whatever it holds: a multiple of 4 at or above ESP and
+-- inside the stack
 abbrev pub is_in_place : Watched → Bool
 is_in_place watched = list_all (λ (frame : Frame). is_slot watched.stack watched.esp frame.slot) watched.frames
 
@@ -66,8 +67,8 @@ number_unless test (Some watched) = if test watched then None else Some watched.
 abbrev pub stacked_at : List Watched → ℕ → Option Watched
 stacked_at threads address = find (λ watched. lies_in address (stack_of watched)) threads
 
--- What is known where a slot rule can be broken only by one thread, which is displaced unless its slots are such, and
--- by what was written.
+-- What is known where the slot rule can be broken only by one thread, which is displaced where one of its slots is
+-- outside the bounds, and by what was written.
 pub record IsTouched (pieces : List Piece) (displaced : Option ℕ) (store : Option Store)
     (threads : List Watched) : Type 0 where
   pub number : ℕ

@@ -2,7 +2,7 @@ use Rattle.std.proofs.Common.{sym, ap, subst, ◌∙◌, arith, get_or}
 use Rattle.std.proofs.lemmas.List.{get_or_default}
 use Rattle.image_memory.specs.Changes.{HasPiece}
 use Rattle.image_memory.specs.Contents.{Room}
-use Rattle.memory_changes.proofs.TakeLaws.{next_dropped, all_dropped, still_there}
+use Rattle.memory_changes.proofs.TakeLaws.{next_dropped, all_dropped, none_spare, still_there}
 use Rattle.memory_changes.proofs.withdrawing.drop_pieces.Goals as goal
 
 pub drop_piece-requires : goal.drop_piece-requires
@@ -23,6 +23,7 @@ loop-base-preserved g c =
       contents =
           next_dropped before now bases i 0 c.loop-base-test.true c.drop_piece.ensures.contents
           ∙ c.loop-base.invariant.contents;
+      spare = ap (λ (r : Room). r.ranges) c.drop_piece.ensures.room ∙ none_spare bases i _ c.loop-base-test.true;
       kept = ap (λ (r : Room). r.fences) c.drop_piece.ensures.room ∙ c.loop-base.invariant.kept;
     }
 

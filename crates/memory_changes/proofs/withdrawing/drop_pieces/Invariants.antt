@@ -1,5 +1,6 @@
-use Rattle.std.proofs.Common.{◌≡◌, ℕ, ◌<◌, ◌≤◌, length, get_or, drop}
+use Rattle.std.proofs.Common.{◌≡◌, ℕ, ◌<◌, ◌≤◌, length, get_or, take, drop}
 use Rattle.image_memory.specs.Changes.{HasPiece}
+use Rattle.memory_changes.specs.Withdrawn.{spare_after}
 use Rattle.memory_changes.proofs.TakeLaws.{dropped_memory}
 use Rattle.memory_changes.proofs.withdrawing.drop_pieces.Given as goal
 
@@ -12,5 +13,7 @@ invariant-loop-base g l = record {
   contents :
       dropped_memory (drop l.base-index l.fn.bases) (g.S.Space.contents l.space)
       ≡ dropped_memory l.fn.bases (g.S.Space.contents l.fn.space);
+  spare : (g.S.Space.room l.space).ranges
+      ≡ spare_after (take l.base-index l.fn.bases) (g.S.Space.room l.fn.space).ranges;
   kept : (g.S.Space.room l.space).fences ≡ (g.S.Space.room l.fn.space).fences;
 }

@@ -2,7 +2,7 @@ use Rattle.std.proofs.Common.{sym, ap, subst, ◌∙◌, map, get_or}
 use Rattle.image_memory.specs.Contents.{Contents, Room}
 use Rattle.image_memory.specs.Changes.{HasPiece, IsRetired}
 use Rattle.memory_changes.specs.Rows.{old_of}
-use Rattle.memory_changes.specs.Withdrawn.{withdrawn_memory}
+use Rattle.memory_changes.specs.Withdrawn.{spare_after, withdrawn_memory}
 use Rattle.memory_changes.proofs.TakeLaws.{unretired_memory, dropped_memory, begin_still}
 use Rattle.memory_changes.proofs.withdrawing.withdraw.Goals as goal
 
@@ -24,6 +24,11 @@ returns-clause-contents g c =
     c.drop_pieces.ensures.contents
     ∙ ap (dropped_memory c.args.bases.now)
     (c.unretire.ensures.contents ∙ ap (unretired_memory c.args.ranges.now) c.restore_code.ensures.contents)
+
+pub returns-clause-ranges : goal.returns-clause-ranges
+returns-clause-ranges g c =
+    c.drop_pieces.ensures.ranges
+    ∙ ap (λ (r : Room). spare_after c.args.bases.now r.ranges) (c.unretire.ensures.room ∙ c.restore_code.ensures.room)
 
 pub returns-clause-fences : goal.returns-clause-fences
 returns-clause-fences g c =
