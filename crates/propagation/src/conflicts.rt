@@ -83,7 +83,7 @@ fn stuck(alive: &[bool], choice: &Choice) -> bool
     choice.matches && !mark_at(alive, choice.section as usize)
 }
 
-// The first such choice.
+// The first choice that can be chosen and of whose section nothing is left.
 fn first_stuck(choices: &[Choice], alive: &[bool]) -> Option<usize>
     ensures none { IfNone result ((place : ℕ) (c : Choice) → At choices.now place c → is_stuck alive.now c ≡ false) }
     ensures within { IfSome result (λ place. place < length choices.now) }
@@ -99,7 +99,7 @@ fn first_stuck(choices: &[Choice], alive: &[bool]) -> Option<usize>
     None
 }
 
-// The marks of such choices of a section.
+// Marks of the choices of a section that can be chosen, where nothing is left of the section.
 fn stuck_in(
     alloc: Global,
     choices: &[Choice],
@@ -114,7 +114,7 @@ fn stuck_in(
         .collect(alloc)
 }
 
-// The marks of such choices of other sections.
+// Marks of the choices that can be chosen, of other sections of which nothing is left.
 fn stuck_out(
     alloc: Global,
     choices: &[Choice],
@@ -129,7 +129,8 @@ fn stuck_out(
         .collect(alloc)
 }
 
-// The first of them in one section that clashes with one of another, and the first of these with which it does.
+// Of two sections of which nothing is left: the first choice of one that clashes with one of the other, and the first
+// of the other with which it does.
 fn conflict_between(
     alloc: Global,
     choices: &[Choice],
@@ -157,7 +158,8 @@ fn conflict_between(
     }
 }
 
-// The same, for the first other section of which one clashes with one of a section.
+// The same for a section and the first choice, of another section, that clashes with one of it: the section of this
+// choice is the other.
 fn conflict_around(
     alloc: Global,
     choices: &[Choice],

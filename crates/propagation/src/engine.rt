@@ -16,8 +16,8 @@ use crate::tables::{Entry, Known, Table};
 use std::alloc::{AllocError, Global};
 use std::marker::Model;
 
-// Which choices are left, and what the choices say. A list that is gone through loses what isn't left, and what stays
-// agrees with what was asked, which is asked once: so all walks together come to no more than all that choices say.
+// Which choices are left, and what the choices say. A list that was walked through keeps only what is left and agrees;
+// each value and each demand is carried out once. So all walks together are about as long as all that the choices say.
 #[derive(Drop)]
 pub(crate) struct Engine {
     marks: Marks,
@@ -356,8 +356,7 @@ impl Engine {
         let list = self.marks.narrowed(self.members.take(alloc, section));
         let places = places_of(alloc, whole.get(section), list.as_slice())?;
         self.members.put(section, list);
-        self.carry_out_each(alloc, choices, places.as_slice())?;
-        Ok(())
+        self.carry_out_each(alloc, choices, places.as_slice())
     }
 
     // Looks at a section that waits. `whole` has each choice at its section. The answer is false exactly where none

@@ -175,8 +175,8 @@ impl Marks {
         self.is_left(choice) && choice != except
     }
 
-    // How long the front of a list is that ends with the last choice that is left, and not at a place, among the first
-    // ones.
+    // Of the first `end` choices of a list, where the last stands that is left and isn't `except`: the length of the
+    // front that ends with it, 0 where there is none.
     fn end_of_left(&self, list: &[usize], end: usize, except: usize) -> usize
         requires { end ≤ length list.now }
         ensures { IsEnd self.now.left list.now end except result }

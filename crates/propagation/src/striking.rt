@@ -61,6 +61,5 @@ pub(crate) fn first_struck(
     ensures { IfOk result (λ first. FirstStruck choices.now marks.now by.now first) }
 {
     let rest = without_struck(alloc, choices, marks, by)?;
-    let first = first_lost(marks, rest.as_slice());
-    Ok(first)
+    Ok(first_lost(marks, rest.as_slice()))
 }

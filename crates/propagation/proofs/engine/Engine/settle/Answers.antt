@@ -1,6 +1,7 @@
 use Rattle.std.proofs.Common.{◌≡◌, List, [], ℕ, set, ◌∙◌, subst, ap}
 use Rattle.std.specs.List.{fold}
 use Rattle.std.proofs.lemmas.List.{set-set}
+use Rattle.std.proofs.lemmas.Result.{on_ok_weaker}
 use Rattle.propagation.specs.inside.Engine.{Engine, list_at, carried_at}
 use Rattle.propagation.specs.inside.State.{IsNarrowed, carried_of}
 use Rattle.propagation.proofs.engine.Engine.settle.Goals as goal
@@ -27,10 +28,10 @@ returns c =
     (λ (t : List (List ℕ)). set t section list) c.take.ensures.after ∙ set-set inside.members section [] list in
     let P : Engine → Type 0 = λ e. IsNarrowed e.marking.left (list_at e.members section) list in
     let Q : List ℕ → Type 0 = λ l. IsNarrowed inside.marking.left l list in
-    record {
+    on_ok_weaker c.carry_out_each.result (λ done. record {
       list = list;
       narrowed = subst P c.self.view_is (subst Q c.take.ensures.items c.narrowed-list.ensures);
-      is = c.in_ok-carry_out_each.ensures ∙ ap (carry (record inside { members = c.put.new.self })) carried
+      is = done ∙ ap (carry (record inside { members = c.put.new.self })) carried
           ∙ ap (λ (t : List (List ℕ)). carry (record inside { members = t }) places) members
           ∙ ap (λ (e : Engine). carry (record e { members = set e.members section list }) places) c.self.view_is;
-    }
+    }) c.carry_out_each.ensures
