@@ -5,7 +5,7 @@ use Rattle.std.specs.Prelude.{Ok}
 use Rattle.std.specs.List.{filter}
 use Rattle.std.proofs.lemmas.Bool.{eqb-true}
 use Rattle.std.proofs.lemmas.Bool.Decides.{nat_tests}
-use Rattle.elf32_object.specs.declared.elf.TheConstants.{SHT_NOBITS}
+use Rattle.elf32_object.specs.Numbers.{SHT_NOBITS}
 use Rattle.elf32_object.specs.declared.types.SectionHeader.{SectionHeader}
 use Rattle.elf32_object.specs.declared.types.Reloc.{Reloc}
 use Rattle.elf32_object.specs.Below.{all_below, each_below, first_below}
