@@ -2,12 +2,12 @@
 
 ghost use Rattle.std.specs.Prelude.{◌≡◌, ℕ, ◌<◌, ◌≤◌, ◌+◌, ◌==◌, true, false, length, None};
 ghost use Rattle.elf32_object.specs.declared.types.Reloc.{Reloc};
+ghost use Rattle.elf32_object.specs.Numbers.{SHT_NOBITS};
 ghost use Rattle.elf32_object.specs.Rules.{object_fault, is_alignment, is_section_of_symbol, has_field, meets};
 ghost use Rattle.elf32_object.specs.Fields.{has_no_bytes, section_count, section_header, section_name};
 ghost use Rattle.elf32_object.specs.Fields.{section_bytes, is_loaded, symbol_count, symbol_entry};
 ghost use Rattle.elf32_object.specs.Fields.{symbol_name, relocations_below, IsRelocation};
 
-use crate::elf::SHT_NOBITS;
 use crate::layout::Layout;
 use crate::rows::Spot;
 use crate::symbols::Symbols;

@@ -30,6 +30,7 @@ pub fn new_pieces_lie_apart()
         → placed (map size_of parts) gaps ≡ Ok placement
         → AreNewPieces gaps parts placement (new_pieces post parts placement values) }
 {
+    // Nothing is done here: the law says that places lie in gaps, and no two of them meet.
     places_lie_apart();
 }
 
@@ -40,5 +41,6 @@ pub fn places_are_found()
         → Ascends (λ range. range) 0 gaps → placed (map size_of parts) gaps ≡ Ok placement
         → AreInOrder post placement → AreFound placement (at_places parts placement) }
 {
+    // Nothing is done here: the law says that each section has its place.
     places_lie_apart();
 }

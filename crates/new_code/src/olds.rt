@@ -47,8 +47,6 @@ fn put_old<'o>(
     ensures { OnOk result ((q : List ℕ) → old_at by_section.new q
         ≡ (if same_bytes name.now q then Some old.now else old_at by_section.old q)) }
 {
-    match by_section.insert(name, old) {
-        Ok(_) => Ok(()),
-        Err(_) => Err(AllocError),
-    }
+    by_section.insert(name, old)?;
+    Ok(())
 }

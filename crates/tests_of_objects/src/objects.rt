@@ -103,7 +103,7 @@ enum Case {
 /// A field that isn't looked at, with what stands in it.
 const UNREAD: (usize, u32) = (24, 0);
 
-static CASES: [Case; 64] = [
+static CASES: [Case; 67] = [
     Accepted(24, 0),
     Refused(0, 0x474c457f, NotElf),
     Refused(4, 0x10102, NotRel386),
@@ -136,6 +136,10 @@ static CASES: [Case; 64] = [
     Refused(440, 0x2000, BadSection(1)),
     Accepted(440, 0x1000),
     Accepted(600, 0x3),
+    // Sections of types 14 and 15 are loaded, where an alignment of 3 is refused; one of type 16 isn't.
+    Longer(0, (492, 0xe), (520, 0x3), Some(BadSection(3))),
+    Longer(0, (492, 0xf), (520, 0x3), Some(BadSection(3))),
+    Longer(0, (492, 0x10), (520, 0x3), None),
     Refused(456, 0x406, BadSection(2)),
     Refused(456, 0x806, BadSection(2)),
     Refused(572, 0x2, BadSection(5)),

@@ -8,9 +8,9 @@ use Rattle.i386_reloc.specs.Normal.{same_bytes}
 use Rattle.new_code.proofs.OldNames.{copied_choice}
 use Rattle.new_code.proofs.olds.put_old.Goals as goal
 
-pub returns-in-Ok : goal.returns-in-Ok
-returns-in-Ok c = λ q.
+pub returns : goal.returns
+returns c = λ q.
     let name = c.args.name.now in
     let before = c.args.by_section.now in
-    ap option_copied (btree_map_updates_str name before c.insert.new.self _ c.in-Ok.ensures.updates q)
+    ap option_copied (btree_map_updates_str name before c.insert.new.self _ c.in_ok-insert.ensures.updates q)
     ∙ copied_choice (same_bytes name q) c.args.old (get_by (λ k. slice_cmp nat_cmp q k.now) before)
