@@ -1,5 +1,5 @@
 //! The code of a memory up to an end.
-ghost use Rattle.std.specs.Prelude.{◌≡◌, ◌<◌, ◌++◌, [], length, IfOk, None};
+ghost use Rattle.std.specs.Prelude.{◌≡◌, ◌<◌, ◌++◌, length, IfOk, None};
 ghost use Rattle.code_listing.specs.Listing.{listing, remaining};
 
 use crate::laws::lines_follow_one_another;
@@ -65,7 +65,7 @@ impl Code {
     ) -> Result<Option<u32>, AllocError>
         ensures lines { IfOk result (λ next. page.old ++ remaining self.now.contents self.now.end first
             ≡ page.new ++ remaining self.now.contents self.now.end next) }
-        ensures some { IfOk result (λ next. page.new ≡ [] → next ≡ None) }
+        ensures full { IfOk result (λ next. length page.new < 65536 → next ≡ None) }
     {
         let mut next = first;
         while page.bytes().len() < PAGE_LENGTH {

@@ -17,5 +17,6 @@ pub fn lines_follow_one_another()
     ensures end { (contents : Contents) (end address : ℕ) → end ≤ address → listing contents end address
         ≡ end_line address }
 {
+    // Nothing is done here: the law says that an instruction has bytes, and stands at its address.
     run_code_goes_on();
 }

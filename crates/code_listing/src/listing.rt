@@ -1,15 +1,14 @@
 //! The lines of a function's instructions, a page at a time.
-ghost use Rattle.std.specs.Prelude.{◌≡◌, ◌≤◌, ◌++◌, [], OnErr, IfOk, IfSome};
+ghost use Rattle.std.specs.Prelude.{◌≡◌, ◌≤◌, ◌<◌, ◌++◌, [], length, OnErr, IfOk, IfSome};
 ghost use Rattle.std.specs.Option.{option_copied};
 ghost use Rattle.ks_base.specs.Gives.{Gives};
-ghost use Rattle.image_memory.specs.Ranges.{lies_in};
 ghost use Rattle.image_memory.specs.Contents.{piece_range, holding};
 ghost use Rattle.image_file.specs.Seen.{contents_of};
 ghost use Rattle.code_listing.specs.Listing.{code_of, end_above, end_within};
 
 use crate::code::Code;
 use image_file::Image;
-use image_memory::{FlatSpace, Piece};
+use image_memory::{FlatSpace, Piece, piece_at};
 use ks_base::{Line, Name, Refusal};
 use std::alloc::{AllocError, Global};
 use std::marker::Model;
@@ -32,10 +31,11 @@ impl Model for Listing {
 }
 
 impl Listing {
-    /// Takes the next lines: some tens of thousands of bytes, or all that are left. They are none exactly where none
-    /// is left. For want of memory the listing is as before.
+    /// Takes the next lines: 65,536 bytes at least, or all that are left. They are none exactly where none is left.
+    /// `Err` comes for want of memory alone, and the listing is then as before.
     pub fn next_page(&mut self, alloc: Global) -> Result<Line, AllocError>
         ensures page { IfOk result (λ page. self.old ≡ page ++ self.new) }
+        ensures full { IfOk result (λ page. length page < 65536 → self.new ≡ []) }
         ensures end { IfOk result (λ page. page ≡ [] → self.old ≡ []) }
         ensures err { OnErr result (self.new ≡ self.old) }
     {
@@ -74,24 +74,12 @@ fn end_above(image: &Image, address: u32) -> u32
     end_within(region, image.symbols.next_address(address))
 }
 
-// The region that has a byte at an address.
+// The region that has a byte at an address. It is found by halving.
 fn region_at(image: &Image, address: u32) -> Option<&Piece>
     ensures region { option_copied result ≡ holding image.now.pieces address }
     ensures low { IfSome result (λ region. (piece_range region.now).high ≤ 0xFFFF_0000) }
 {
-    image
-        .pieces
-        .as_slice()
-        .iter()
-        .find(|region| has_byte(region, address))
-}
-
-fn has_byte(region: &Piece, address: u32) -> bool
-    ensures { result ≡ lies_in address (piece_range region.now) }
-{
-    let address = u64::from(address);
-    let base = u64::from(region.base);
-    base <= address && address - base < region.bytes.len() as u64
+    piece_at(image.pieces.as_slice(), u64::from(address))
 }
 
 // The end of a region, or the address of the next symbol where that is lower.

@@ -1,1 +1,2 @@
+-- Clauses cite Meets: it is what a reader has to believe.
 pub mod Meets

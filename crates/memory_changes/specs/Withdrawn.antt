@@ -15,7 +15,8 @@ is_based_at bases piece = list_any (λ base. base == piece.base) bases
 abbrev pub without_pieces : List ℕ → List Piece → List Piece
 without_pieces bases pieces = filter (λ piece. not (is_based_at bases piece)) pieces
 
--- the ranges that are spare after the pieces were taken away that begin at some addresses: none, where there was one
+-- the ranges that are spare after the pieces were taken away that begin at some addresses: none, unless there are no
+-- such addresses
 abbrev pub spare_after : List ℕ → List Range → List Range
 spare_after [] spare = spare
 spare_after (base ∷ bases) spare = []

@@ -15,29 +15,40 @@ const CODE: u32 = 0x0010_0000;
 
 const STACK: u32 = 0x0040_0000;
 
-/// A start: the thread's pc, the dword to which its ESP points, and the verdict.
-type Case = (u32, u32, Verdict);
+// The start of a thread, and what a watch says of it.
+#[derive(Clone, Copy)]
+struct Start {
+    // The thread's pc.
+    pc: u32,
+    // What stands where its ESP points.
+    dword: u32,
+    verdict: Verdict,
+}
 
-static CASES: [Case; 3] = [
-    (CODE, 0xFFFF_0000, Verdict::Disciplined),
-    (
-        0x0010_0001,
-        0xFFFF_0000,
-        Verdict::Broken {
+static STARTS: [Start; 3] = [
+    Start {
+        pc: CODE,
+        dword: 0xFFFF_0000,
+        verdict: Verdict::Disciplined,
+    },
+    Start {
+        pc: 0x0010_0001,
+        dword: 0xFFFF_0000,
+        verdict: Verdict::Broken {
             event: 1,
             thread: 3,
             rule: Rule::Start,
         },
-    ),
-    (
-        CODE,
-        0xFFFE_0000,
-        Verdict::Broken {
+    },
+    Start {
+        pc: CODE,
+        dword: 0xFFFE_0000,
+        verdict: Verdict::Broken {
             event: 1,
             thread: 3,
             rule: Rule::Slot,
         },
-    ),
+    },
 ];
 
 // A return, and a stack of a dword.
@@ -92,11 +103,11 @@ fn verdict_of(alloc: Global, space: &FlatSpace, thread: &Thread) -> Result<Verdi
 #[test]
 fn starts(rt: HostRuntime) -> Result<(), Fail> {
     let alloc = rt.alloc();
-    for (pc, dword, verdict) in &CASES {
-        let pieces = pieces_of(alloc, *dword)?;
+    for start in &STARTS {
+        let pieces = pieces_of(alloc, start.dword)?;
         assert!(rt; are_placed(&pieces));
         let space = FlatSpace::new(alloc, pieces)?;
-        assert!(rt; verdict_of(alloc, &space, &thread(*pc))? == *verdict);
+        assert!(rt; verdict_of(alloc, &space, &thread(start.pc))? == start.verdict);
     }
     Ok(())
 }
