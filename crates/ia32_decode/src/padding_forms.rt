@@ -56,10 +56,7 @@ fn is_same_register(left: Operand, right: Operand) -> bool
 fn is_the_base(register: Register, base: Option<Register>) -> bool
     ensures { result ≡ is_base register base }
 {
-    match base {
-        None => false,
-        Some(base) => register.number() == base.number(),
-    }
+    matches!(base, Some(base) if register.number() == base.number())
 }
 
 /// Whether there is an index.

@@ -251,7 +251,8 @@ fn step_numbered<S: Space>(space: &mut S, thread: &mut Thread) -> Traced
     ensures stack { thread.new.stack ≡ thread.old.stack }
     ensures shapes { map shape_of (S.contents space.new).pieces ≡ map shape_of (S.contents space.old).pieces }
 {
-    // A step keeps the thread's number and stack, and the shapes of the pieces, and writes what it tells.
+    // Nothing is done here: the laws say that a step keeps the thread's number and stack, and the shapes of the pieces,
+    // and writes what it tells.
     steps_keep();
     steps_write_one_number();
     step_traced(space, thread)

@@ -39,10 +39,7 @@ fn has_range(piece: &Piece, stack: Range) -> bool
 fn is_writable(kind: Kind) -> bool
     ensures { result ≡ is_writable kind }
 {
-    match kind {
-        Kind::Code | Kind::ReadOnly => false,
-        Kind::Writable => true,
-    }
+    matches!(kind, Kind::Writable)
 }
 
 /// Writes the bytes of a whole stack.

@@ -163,10 +163,7 @@ fn if_running(thread: Thread) -> Option<Thread>
     ensures same { IfSome result (λ other. other ≡ thread) }
     ensures running { IfSome result (λ other. other.state ≡ Running) }
 {
-    match thread.state {
-        State::Running => Some(thread),
-        State::Exited(_) | State::Stopped(_) => None,
-    }
+    is_running(thread.state).then_some(thread)
 }
 
 fn is_running(state: State) -> bool
