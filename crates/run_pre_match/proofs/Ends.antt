@@ -1,6 +1,6 @@
 -- What is known of texts.
 use Rattle.std.proofs.Common.{◌≡◌, ◌⊎◌, inl, inr, ℕ, suc, ◌+◌, ◌-◌, ◌<◌, ◌≤◌, Bool, true, false, List, take, drop}
-use Rattle.std.proofs.Common.{slice_index, Option, Some, None, Result, Ok, Err, OnOk, OnErr, unwrap_or, cond, is_eq}
+use Rattle.std.proofs.Common.{slice_index, Some, Result, Ok, Err, OnOk, OnErr, cond, is_eq}
 use Rattle.std.proofs.Common.{Ordering, Less, Equal, Greater, sym, ◌∙◌, ap, subst, refl, arith}
 use Rattle.std.specs.Ordering.{nat_cmp}
 use Rattle.std.specs.Map.{lookup}

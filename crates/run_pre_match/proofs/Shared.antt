@@ -1,5 +1,5 @@
 -- What stands of one text stands of another that shares it.
-use Rattle.std.proofs.Common.{◌≡◌, ℕ, suc, ◌-◌, ◌<◌, true, List, min, subst, arith}
+use Rattle.std.proofs.Common.{◌≡◌, ℕ, suc, ◌-◌, true, List, min, subst, arith}
 use Rattle.i386_reloc.specs.declared.types.NormalSection.{NormalSection}
 use Rattle.image_memory.specs.declared.types.Piece.{Piece}
 use Rattle.run_pre_match.specs.declared.endings.End.{End}

@@ -21,6 +21,9 @@ use image_memory::Space;
 use std::marker::Model;
 use symbol_table::SymbolTable;
 
+/// How many bytes the field of a reference has. A relative one holds the distance from its end.
+pub(crate) const FIELD_LENGTH: u32 = 4;
+
 /// What may be the function that a code section of an object is, with the places of the instructions of both.
 #[derive(Drop)]
 pub(crate) struct Candidate<'m, 'a, S: Space> {
@@ -181,6 +184,6 @@ pub(crate) fn interior_offset(r: &Ref<'_>) -> u32
 {
     match r.form {
         Form::Absolute => r.addend,
-        Form::Relative => r.addend.wrapping_add(4),
+        Form::Relative => r.addend.wrapping_add(FIELD_LENGTH),
     }
 }

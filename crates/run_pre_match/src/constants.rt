@@ -5,6 +5,7 @@ ghost use Rattle.std.specs.List.Sorted.{IsNonDecreasingBy};
 ghost use Rattle.i386_reloc.specs.Normal.{HasFieldsInOrder};
 ghost use Rattle.run_pre_match.specs.Constants.{constant_at, covers, lie_in_constants, stand_but_for_fields};
 
+use crate::candidate::FIELD_LENGTH;
 use i386_reloc::{NormalSection, Ref};
 use image_memory::{Kind, Space};
 
@@ -13,7 +14,7 @@ use image_memory::{Kind, Space};
 pub(crate) fn constant_at<S: Space>(space: &S, address: u64) -> Option<u8>
     ensures { result ≡ constant_at (S.contents space.now).pieces address }
 {
-    if address > 0xffff_ffff {
+    if address > u64::from(u32::MAX) {
         return None;
     }
     match space.look(address as u32) {
@@ -41,7 +42,7 @@ pub(crate) fn is_covered(refs: &[Ref<'_>], place: usize) -> bool
     if count == 0 {
         return false;
     }
-    place < refs[count - 1].offset as usize + 4
+    place < refs[count - 1].offset as usize + FIELD_LENGTH as usize
 }
 
 /// Whether a byte is that of a section at a place, or a field covers the place.
@@ -57,7 +58,7 @@ fn is_byte_or_field(refs: &[Ref<'_>], own: u8, place: usize, byte: u8) -> bool
 pub(crate) struct Lies {
     /// All of it lies in read-only memory.
     pub(crate) whole: bool,
-    /// So it does, and its bytes outside the fields of references stand there.
+    /// All of it lies there, and its bytes outside the fields of references are those of memory.
     pub(crate) equal: bool,
 }
 

@@ -18,8 +18,7 @@ pub(crate) struct End {
     pub(crate) end: usize,
 }
 
-/// So many bytes before an end and before the one that is a step further in the order are equal, for each end that has
-/// such a one.
+/// For each end that has one `step` places further in the order: how many bytes before both are equal at least.
 #[derive(Drop)]
 pub(crate) struct Level {
     pub(crate) step: usize,
@@ -243,7 +242,7 @@ impl Endings {
         if there == end { Some(number) } else { None }
     }
 
-    /// So many bytes before two ends are equal, which aren't fewer than there are where the first comes first.
+    /// How many bytes before the ends of two numbers are known to be equal; 0 where the second comes before the first.
     fn between(&self, first: usize, last: usize) -> usize
         ensures { (object : List NormalSection) → AreEndings object self.now
             → Agree object (end_at self.now.ends.items first) (end_at self.now.ends.items last) result }
@@ -261,7 +260,8 @@ impl Endings {
         if walk.at == last { walk.count } else { 0 }
     }
 
-    /// So many bytes before two ends are equal: all that are, where references go to texts that end there.
+    /// How many bytes before two ends are known to be equal: where references go to texts that end there, no fewer than
+    /// these texts have in common.
     pub(crate) fn shared(&self, x: End, y: End) -> usize
         ensures { (object : List NormalSection) → AreEndings object self.now → Agree object x y result }
     {

@@ -53,7 +53,7 @@ impl Marks {
 fn byte<S: Space>(space: &S, address: u64) -> u8
     ensures { result ≡ byte_at (S.contents space.now).pieces address }
 {
-    if address > 0xffff_ffff {
+    if address > u64::from(u32::MAX) {
         return 0;
     }
     match space.look(address as u32) {

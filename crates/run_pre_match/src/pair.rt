@@ -9,6 +9,7 @@ ghost use Rattle.run_pre_match.specs.Constants.{covers};
 ghost use Rattle.run_pre_match.specs.Found.{held_with};
 ghost use Rattle.run_pre_match.specs.Differences.{differs_in_opcode, blanked, differs_in_operand, difference_at};
 
+use crate::candidate::FIELD_LENGTH;
 use crate::instructions::PreInstruction;
 use crate::running::RunInstruction;
 use i386_reloc::Ref;
@@ -76,7 +77,8 @@ fn dword_in(bytes: &[u8], at: u32) -> u32
 fn is_in_field(refs: &[Ref<'_>], place: usize) -> bool
     ensures { result ≡ list_any (covers place) refs.now }
 {
-    refs.iter().any(|r| r.offset as usize <= place && place < r.offset as usize + 4)
+    refs.iter().any(|r| r.offset as usize <= place
+        && place < r.offset as usize + FIELD_LENGTH as usize)
 }
 
 /// Whether running bytes, with zeros in the fields of references, are those of an object's instruction.
@@ -169,7 +171,7 @@ impl Pair<'_, '_, '_> {
         ensures { result ≡ held_with (direct_branch self.now.pre) self.now r.now }
     {
         match self.pre.branch() {
-            Some(_) => self.run.target().wrapping_sub(4),
+            Some(_) => self.run.target().wrapping_sub(FIELD_LENGTH),
             None => dword_in(self.run.bytes(), r.offset.saturating_sub(self.pre.place())),
         }
     }

@@ -51,6 +51,7 @@ pub(crate) fn instructions_lie_within()
     ensures { (section : NormalSection) (offset : ℕ) (i : Instruction) → pre_instruction_at section offset ≡ Some i →
         (i.place ≡ offset) × (offset < after i) × (after i ≤ section.size) }
 {
+    // Nothing is done here: the law says that each instruction has a byte, and no more than are there.
     instructions_have_bytes();
 }
 

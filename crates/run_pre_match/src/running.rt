@@ -154,5 +154,6 @@ pub fn run_code_goes_on()
     ensures low { (contents : Contents) (address : ℕ) (i : Instruction) → IsValid contents →
         run_instruction_at contents address ≡ Some i → address < 0xFFFF_0000 }
 {
+    // Nothing is done here: the law says that each instruction has a byte, and at most 15.
     instructions_have_bytes();
 }
