@@ -1,5 +1,5 @@
 //! Code that overlaps what an update retires.
-ghost use Rattle.std.specs.Prelude.{◌≡◌, ◌++◌, ◌&&◌, IfOk};
+ghost use Rattle.std.specs.Prelude.{◌≡◌, ◌++◌, ◌&&◌, map, IfOk};
 ghost use Rattle.std.specs.List.{find, Contains};
 ghost use Rattle.elf32_object.specs.Rule.{Finds};
 ghost use Rattle.i386_reloc.specs.Refused.{first_among};
@@ -117,15 +117,24 @@ fn overlap(
     overlap_with(range, old, olds, retired)
 }
 
-// What is retired of a function may meet: the bodies, and the retired ranges.
-fn all_ranges(alloc: Global, olds: &[OldFunction], retired: &[Range]) -> Result<Ranges, AllocError>
+// The bodies of functions.
+fn body_ranges(alloc: Global, olds: &[OldFunction]) -> Result<Ranges, AllocError>
     requires { AreBodies olds.now }
-    ensures { IfOk result (λ ranges. ranges ≡ all_ranges olds.now retired.now) }
+    ensures { IfOk result (λ ranges. ranges ≡ map body_range olds.now) }
 {
     let mut ranges = Ranges::new(alloc);
     for old in olds {
         ranges.push(old.body_range())?;
     }
+    Ok(ranges)
+}
+
+// What is retired of a function may meet: the bodies, and the retired ranges.
+fn all_ranges(alloc: Global, olds: &[OldFunction], retired: &[Range]) -> Result<Ranges, AllocError>
+    requires { AreBodies olds.now }
+    ensures { IfOk result (λ ranges. ranges ≡ all_ranges olds.now retired.now) }
+{
+    let mut ranges = body_ranges(alloc, olds)?;
     for range in retired {
         ranges.push(*range)?;
     }

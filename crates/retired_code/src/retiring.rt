@@ -14,30 +14,21 @@ impl Fate {
     pub fn is_replaced(self) -> bool
         ensures { result ≡ is_replaced self }
     {
-        match self {
-            Fate::Replaced => true,
-            Fate::Kept | Fate::Dropped => false,
-        }
+        matches!(self, Fate::Replaced)
     }
 
     /// Whether the function is in the new object no longer.
     pub fn is_dropped(self) -> bool
         ensures { result ≡ is_dropped self }
     {
-        match self {
-            Fate::Dropped => true,
-            Fate::Kept | Fate::Replaced => false,
-        }
+        matches!(self, Fate::Dropped)
     }
 
     /// Whether the function's body is retired.
     pub fn is_retired(self) -> bool
         ensures { result ≡ is_retired self }
     {
-        match self {
-            Fate::Replaced | Fate::Dropped => true,
-            Fate::Kept => false,
-        }
+        matches!(self, Fate::Replaced | Fate::Dropped)
     }
 }
 
