@@ -35,7 +35,9 @@ fn code_at<'n, 'a>(
             let name = Name::from_slice(alloc, section.name.as_slice())?;
             Err(Refusal::PreUndecoded(name, offset))
         }
-        Err(_) => Err(Refusal::Memory),
+        Err(MatchFault::Memory) => Err(Refusal::Memory),
+        // The section's own code is never said to differ.
+        Err(MatchFault::Differs(_)) => Err(Refusal::Memory),
     }
 }
 

@@ -52,10 +52,7 @@ pub fn outcome_of<'a, S: Space>(
 fn length_of(outcome: Result<Matched<'_>, MatchFault>) -> Result<u32, MatchFault>
     ensures { result ≡ length_of outcome.entry }
 {
-    match outcome {
-        Ok(matched) => Ok(matched.length),
-        Err(fault) => Err(fault),
-    }
+    Ok(outcome?.length)
 }
 
 /// What is kept of a home of the section of a number, when it is tried.
