@@ -149,13 +149,14 @@ fn choice_of_match<S: Space>(
     naming: &Naming<'_, '_>,
     space: &S,
     code: &PreCode<'_, '_>,
-    t: &Tried,
+    tried: &Tried,
     matched: &Matched<'_>,
 ) -> Result<Choice, AllocError>
-    ensures { LiesIn (body_at code.now (S.contents space.now) t.now.base) t.now.base (t.now.base + matched.now.length)
+    ensures { LiesIn (body_at code.now (S.contents space.now) tried.now.base) tried.now.base
+        (tried.now.base + matched.now.length)
         → IfOk result (λ choice. choice
-        ≡ choice_from naming.now.object.now naming.now.numbers.now code.now.place t.now.home (Ok matched.now)
-        (standing naming.now.numbers.now.points (body_at code.now (S.contents space.now) t.now.base)
+        ≡ choice_from naming.now.object.now naming.now.numbers.now code.now.place tried.now.home (Ok matched.now)
+        (standing naming.now.numbers.now.points (body_at code.now (S.contents space.now) tried.now.base)
         (unwrap_or (slice_get naming.now.own.items code.now.place) []))) }
 {
     let numbers = naming.numbers;
@@ -163,11 +164,19 @@ fn choice_of_match<S: Space>(
     let length = matched.length;
     Ok(Choice {
         section: word(code.place())?,
-        home: t.home,
+        home: tried.home,
         matches: true,
         claims: numbered_claims(alloc, numbers, matched.claims.as_slice())?,
         demands: demands(alloc, naming.object, numbers, matched.interiors.as_slice())?,
-        met: met(alloc, space, code, t.base, length, numbers.points(), own)?,
+        met: met(
+            alloc,
+            space,
+            code,
+            tried.base,
+            length,
+            numbers.points(),
+            own,
+        )?,
     })
 }
 
@@ -177,19 +186,20 @@ fn choice_at<S: Space>(
     naming: &Naming<'_, '_>,
     space: &S,
     code: &PreCode<'_, '_>,
-    t: &Tried,
+    tried: &Tried,
     outcome: &Result<Matched<'_>, MatchFault>,
 ) -> Result<Choice, AllocError>
     ensures { ((matched : Matched) → outcome.now ≡ Ok matched
-        → LiesIn (body_at code.now (S.contents space.now) t.now.base) t.now.base (t.now.base + matched.length))
+        → LiesIn (body_at code.now (S.contents space.now) tried.now.base) tried.now.base
+        (tried.now.base + matched.length))
         → IfOk result (λ choice. choice
-        ≡ choice_from naming.now.object.now naming.now.numbers.now code.now.place t.now.home outcome.now
-        (standing naming.now.numbers.now.points (body_at code.now (S.contents space.now) t.now.base)
+        ≡ choice_from naming.now.object.now naming.now.numbers.now code.now.place tried.now.home outcome.now
+        (standing naming.now.numbers.now.points (body_at code.now (S.contents space.now) tried.now.base)
         (unwrap_or (slice_get naming.now.own.items code.now.place) []))) }
 {
     match outcome {
-        Ok(matched) => choice_of_match(alloc, naming, space, code, t, matched),
-        Err(_) => Ok(no_choice(alloc, word(code.place())?, t.home)),
+        Ok(matched) => choice_of_match(alloc, naming, space, code, tried, matched),
+        Err(_) => Ok(no_choice(alloc, word(code.place())?, tried.home)),
     }
 }
 
@@ -199,22 +209,22 @@ fn choice_among<S: Space>(
     naming: &Naming<'_, '_>,
     running: &Running<'_, S>,
     codes: &[PreCode<'_, '_>],
-    t: &Tried,
+    tried: &Tried,
 ) -> Result<Choice, AllocError>
-    requires { t.now.section < length codes.now }
-    ensures { (c : Candidate) → IsTried codes.now c t.now → RunsIn running.now c
+    requires { tried.now.section < length codes.now }
+    ensures { (c : Candidate) → IsTried codes.now c tried.now → RunsIn running.now c
         → slice_get naming.now.object.now c.place ≡ Some c.section
         → IfOk result (λ choice. choice ≡ choice_of naming.now.object.now naming.now.numbers.now c) }
 {
     // Nothing is done here: the laws say that a match lies in its bytes.
     matches_have_one_valuation();
     run_code_goes_on();
-    let code = &codes[t.section];
-    if !t.matches() {
-        return Ok(no_choice(alloc, word(code.place())?, t.home));
+    let code = &codes[tried.section];
+    if !tried.matches() {
+        return Ok(no_choice(alloc, word(code.place())?, tried.home));
     }
-    let outcome = outcome_of(alloc, running, code, t)?;
-    choice_at(alloc, naming, running.space, code, t, &outcome)
+    let outcome = outcome_of(alloc, running, code, tried)?;
+    choice_at(alloc, naming, running.space, code, tried, &outcome)
 }
 
 /// The candidates as choices, by numbers that aren't kept.
@@ -253,8 +263,8 @@ fn choices_of<S: Space>(
     };
     let codes = trials.codes();
     let mut choices = Vec::new(alloc);
-    for t in trials.tried() {
-        choices.push(choice_among(alloc, &naming, running, codes, t)?)?;
+    for tried in trials.tried() {
+        choices.push(choice_among(alloc, &naming, running, codes, tried)?)?;
     }
     Ok(choices)
 }

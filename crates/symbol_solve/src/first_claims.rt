@@ -42,7 +42,8 @@ pub(crate) fn first_claims<'c, 'a>(
     Ok(first)
 }
 
-/// The first of some claims that gives what a claim is of another value, where those of one thing give it one.
+/// The first of some claims that gives the thing of another claim another value, by the first claim of each thing. It
+/// is told where those of the claims that are of one thing give it one value.
 pub(crate) fn contradiction<'c, 'a>(
     alloc: Global,
     first: &FirstClaims<'c, 'a>,

@@ -198,7 +198,8 @@ pub(crate) fn word(number: usize) -> Result<u32, AllocError>
 fn point_of(object: &Normal<'_>, interior: &Interior<'_>) -> Option<Point>
     ensures { result ≡ point_of object.now interior.now }
 {
-    let count = object.len();
+    // The length says that sections are few: places fit 32 bits.
+    let _count = object.len();
     let place = object.place(interior.section.as_slice())?;
     Some(Point {
         place: place as u32,
@@ -225,8 +226,8 @@ pub(crate) fn number_all<S: Space>(
         points: IndexSet::new(alloc),
     };
     let codes = trials.codes();
-    for t in trials.tried() {
-        numbers.add_tried(alloc, object, running, codes, t)?;
+    for tried in trials.tried() {
+        numbers.add_tried(alloc, object, running, codes, tried)?;
     }
     numbers.sort_points()?;
     Ok(numbers)

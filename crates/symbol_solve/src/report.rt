@@ -45,8 +45,8 @@ fn claims_conflict(alloc: Global, a: &Claim<'_>, b: &Claim<'_>) -> Result<Refusa
     ))
 }
 
-/// The first of some claims that one of others contradicts, with the first that does, where others of one thing give it
-/// one value.
+/// What is reported of the first of some claims that one of the others contradicts, and of the first that does; nothing
+/// where none is contradicted. It is told where those of the others that are of one thing give it one value.
 #[tactic(auto, unfolding(propagation::specs::Conflicts::first_some))]
 fn conflict_of_claims(
     alloc: Global,
@@ -88,24 +88,25 @@ fn first_unmet<'i, 'a, S: Space>(
 fn interior_conflict<S: Space>(
     alloc: Global,
     body: &Body<'_, '_, '_, S>,
-    i: &Interior<'_>,
+    interior: &Interior<'_>,
 ) -> Result<Refusal, AllocError>
-    ensures { IfOk result (λ refusal. (d : Candidate) → body.now ≡ body_of d → refusal ≡ interior_conflict d i.now) }
+    ensures { IfOk result (λ refusal. (d : Candidate) → body.now ≡ body_of d
+        → refusal ≡ interior_conflict d interior.now) }
 {
-    let name = i.section.as_slice();
+    let name = interior.section.as_slice();
     let named = ConflictName {
         name: Name::from_slice(alloc, name)?,
-        offset: Some(i.offset),
+        offset: Some(interior.offset),
     };
     let target = Spot {
         section: Name::from_slice(alloc, name)?,
-        offset: i.offset,
+        offset: interior.offset,
     };
     Ok(Refusal::Conflict(
         named,
-        i.address,
-        body.address_of(i.offset),
-        i.place.owned(alloc)?,
+        interior.address,
+        body.address_of(interior.offset),
+        interior.place.owned(alloc)?,
         target,
     ))
 }

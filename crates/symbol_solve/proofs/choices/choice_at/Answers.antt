@@ -33,6 +33,7 @@ by object numbers code home base own m came contents r is told lies =
 
 pub returns-in-Ok : goal.returns-in-Ok
 returns-in-Ok g c =
-    by c.args.naming.now.object.now c.args.naming.now.numbers.now c.args.code.now c.args.t.now.home c.args.t.now.base
+    by c.args.naming.now.object.now c.args.naming.now.numbers.now c.args.code.now c.args.tried.now.home
+    c.args.tried.now.base
     (unwrap_or (slice_get c.args.naming.now.own.items c.args.code.now.place) []) c.in-Ok.matched c.args.outcome.now
     (g.S.Space.contents c.args.space.now) c.choice_of_match.result c.in-Ok.is c.choice_of_match.ensures
