@@ -114,6 +114,7 @@ impl Session {
         updates_keep_slots();
         let _threads = self.system.machine().threads();
         let report = self.system.apply(name, pre, post)?;
+        // After it each of the machine's updates lies on what was there without it.
         let _machine = self.system.machine();
         self.watch.note_update();
         Ok(report)
@@ -131,6 +132,7 @@ impl Session {
         updates_keep_slots();
         let _threads = self.system.machine().threads();
         let name = self.system.undo()?;
+        // After it each of the machine's updates lies on what was there without it.
         let _machine = self.system.machine();
         self.watch.note_update();
         Ok(name)
