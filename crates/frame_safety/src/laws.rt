@@ -14,7 +14,8 @@ pub fn accepted_updates_are_clear()
     ensures { AcceptedIsClear }
 {}
 
-/// Where an update is taken back, none is in its pieces.
+/// Where an update is taken back, no running thread, and no frame of it that keeps the slot rule, is in the update's
+/// pieces.
 pub fn undone_updates_are_clear()
     ensures { TakenBackIsClear }
 {}

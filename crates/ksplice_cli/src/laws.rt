@@ -22,6 +22,7 @@ pub fn calls_have_one_answer()
         → IsAnswer asked held lost one → IsAnswer asked held' lost' other
         → one.status ≢ 6 → other.status ≢ 6 → one ≡ other }
 {
+    // Nothing is done here: the law says that two objects have one extract.
     objects_have_one_extract();
 }
 

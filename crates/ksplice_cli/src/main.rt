@@ -1,6 +1,9 @@
 //! `ksplice`: the program. It reads its words, carries out the call, and ends with the call's status.
 #![tactic(auto)]
 
+ghost use Rattle.std.specs.Prelude.{◌≡◌, true};
+ghost use Rattle.ksplice_cli.specs.Calls.{is_status};
+
 pub mod answering;
 mod command;
 mod comparing;
@@ -34,12 +37,15 @@ fn words_of(rt: &HostRuntime) -> io::Result<Vec<String>> {
     Ok(words)
 }
 
-fn run(rt: &HostRuntime) -> Status {
+// Carries out the call that the words ask for.
+fn run(rt: &HostRuntime) -> Status
+    ensures { is_status result.code ≡ true }
+{
     let mut files = RealFiles::new(rt);
     let mut output = RealSink::new(rt);
     match words_of(rt) {
         Ok(words) => ksplice(rt.alloc(), words.as_slice(), &mut files, &mut output),
-        // A word that is no text has no reading, as none have no reading.
+        // A word that isn't UTF-8 has no reading, and neither has a call without words: it stands for that.
         Err(error) if error.kind() == ErrorKind::InvalidData => ksplice(
             rt.alloc(),
             &[],

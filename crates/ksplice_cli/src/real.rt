@@ -1,7 +1,9 @@
 //! The outside as the operating system gives it: its files, and standard output. Of what a file holds, or of what a
 //! reader of the output sees, nothing is told; the counts are kept as the traits ask.
-ghost use Rattle.std.specs.Prelude.{◌≡◌, ◌≢◌, ◌≤◌, ◌<◌, [], length, take, IfOk, IfSome, OnOk, IsErrOf};
+ghost use Rattle.std.specs.Prelude.{◌≡◌, ◌≢◌, ◌≤◌, ◌<◌, ◌↔◌, [], length, take, IfOk, IfSome, OnOk, IsErrOf};
+ghost use Rattle.std.specs.IoError.{error_kind};
 ghost use Rattle.std.specs.Io.KnownBytes.{Appends};
+ghost use Rattle.ks_io.specs.Outside.{no_counts};
 
 use ks_io::{FileFault, Files, Sink, SinkFault};
 use std::io::{Error, ErrorKind, Read, Write};
@@ -17,7 +19,10 @@ pub struct RealFiles<'a, R: rt::Files> {
 }
 
 impl<'a, R: rt::Files> RealFiles<'a, R> {
-    pub fn new(rt: &'a R) -> Self {
+    /// The files, of which nothing was counted so far.
+    pub fn new(rt: &'a R) -> Self
+        ensures { ⟦<RealFiles<'a, R> as Files>⟧.counts result ≡ no_counts }
+    {
         RealFiles {
             rt,
             absences: 0,
@@ -85,8 +90,11 @@ fn read_at_most<S: Read + Drop>(source: S, limit: u32, into: &mut Vec<u8>) -> Re
     }
 }
 
+// The fault of a file by the error that came of it. A folder isn't missing, nor is a file that can't be read.
 fn fault_of(error: &Error) -> FileFault
-    ensures { result ≢ FileFault.TooLong }
+    ensures missing { (result ≡ FileFault.Missing) ↔ (error_kind error.now ≡ ErrorKind.NotFound) }
+    ensures memory { (result ≡ FileFault.Memory) ↔ (error_kind error.now ≡ ErrorKind.OutOfMemory) }
+    ensures longer { result ≢ FileFault.TooLong }
 {
     match error.kind() {
         ErrorKind::NotFound => FileFault::Missing,
@@ -103,7 +111,10 @@ pub struct RealSink<'a, R: Print> {
 }
 
 impl<'a, R: Print> RealSink<'a, R> {
-    pub fn new(rt: &'a R) -> Self {
+    /// The output, of which no fault was counted so far.
+    pub fn new(rt: &'a R) -> Self
+        ensures { ⟦<RealSink<'a, R> as Sink>⟧.faults result ≡ 0 }
+    {
         RealSink { rt, faults: 0 }
     }
 }

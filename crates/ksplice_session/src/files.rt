@@ -15,7 +15,7 @@ use ks_io::{FileFault, Sink, SinkFault, Wanted, write_all};
 use script_lines::{Command, text_of};
 use std::alloc::{AllocError, Global};
 
-/// The most bytes that an object file may have.
+/// The most bytes that an object file may have: as many as `elf32_object` reads.
 pub const OBJECT_LIMIT: u32 = 8_388_608;
 
 impl<'a> Loads<'a> {

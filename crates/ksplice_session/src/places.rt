@@ -20,7 +20,7 @@ fn put_named(line: &mut Line, place: Option<(&Name, u32)>) -> Result<(), AllocEr
     Ok(())
 }
 
-// An address, and the function that it lies in.
+/// An address, and the function that it lies in.
 #[tactic(auto, unfolding(crate::specs::Places::place_text))]
 pub(crate) fn put_place(
     line: &mut Line,
@@ -49,7 +49,7 @@ fn fault_word(fault: Fault) -> &'static str
     }
 }
 
-// The state of a thread.
+/// The state of a thread.
 #[tactic(auto, unfolding(crate::specs::Places::state_text))]
 pub(crate) fn put_state(
     line: &mut Line,

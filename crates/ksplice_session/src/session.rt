@@ -123,6 +123,7 @@ impl Session {
         updates_keep_slots();
         let _threads = self.system.machine().threads();
         let report = self.system.apply(name, pre, post)?;
+        // After it each of the machine's updates lies on what was there without it.
         let _machine = self.system.machine();
         self.watch.note_update();
         Ok(report)
@@ -140,6 +141,7 @@ impl Session {
         updates_keep_slots();
         let _threads = self.system.machine().threads();
         let name = self.system.undo()?;
+        // After it each of the machine's updates lies on what was there without it.
         let _machine = self.system.machine();
         self.watch.note_update();
         Ok(name)

@@ -3,21 +3,13 @@ ghost use Rattle.std.specs.Prelude.{◌≡◌};
 ghost use Rattle.i386_reloc.specs.Classes.{is_code_class};
 ghost use Rattle.i386_reloc.specs.Reaches.{is_in};
 
-use elf32_object::read_object;
-use i386_reloc::{Normal, normalise, object_refusal};
+use i386_reloc::Normal;
 use image_file::read_image;
 use image_memory::{FlatSpace, Kind, Piece, Pieces, are_placed};
 use ks_base::{Bytes, Line, Name, Range, Refusal};
+use object_sections::read_sections;
 use run_pre_match::{MatchFault, Matched, match_body};
 use std::alloc::{AllocError, Global};
-
-// The sections of an object.
-fn sections_of(alloc: Global, bytes: &[u8]) -> Result<Normal<'_>, Refusal> {
-    match read_object(alloc, bytes) {
-        Ok(object) => normalise(alloc, &object),
-        Err(fault) => Err(object_refusal(fault)),
-    }
-}
 
 // A stack as it is at first.
 fn stack_piece(alloc: Global, stack: Range) -> Result<Piece, AllocError> {
@@ -37,9 +29,7 @@ fn all_pieces(alloc: Global, regions: Pieces, stacks: &[Range]) -> Result<Pieces
         let at = pieces
             .as_slice()
             .partition_point(|piece| piece.base < stack.low);
-        let piece = stack_piece(alloc, *stack)?;
-        pieces.reserve(1)?;
-        let _ = pieces.insert(at, piece);
+        pieces.insert(at, stack_piece(alloc, *stack)?)?;
     }
     Ok(Pieces::from_vec(pieces))
 }
@@ -74,7 +64,7 @@ fn compared<'a>(
     section: &Name,
     address: u32,
 ) -> Result<Option<Matched<'a>>, Refusal> {
-    let normal = sections_of(alloc, object)?;
+    let normal = read_sections(alloc, object)?;
     let image = read_image(alloc, image)?;
     let table = image.symbols;
     let pieces = all_pieces(alloc, image.pieces, image.stacks.as_slice())?;

@@ -46,8 +46,6 @@ fn put_fate<'e>(
     ensures { OnOk result ((q : List ℕ) → fate_at fates.new q
         ≡ (if same_bytes name.now q then fate else fate_at fates.old q)) }
 {
-    match fates.insert(name, fate) {
-        Ok(_) => Ok(()),
-        Err(_) => Err(AllocError),
-    }
+    fates.insert(name, fate)?;
+    Ok(())
 }

@@ -61,61 +61,95 @@ pub fn plan<'a, S: Space>(
 {
     let old = read_sections(alloc, pre)?;
     let new = read_sections(alloc, post)?;
-    plan_between(alloc, space, bodies, symbols, retired, gaps, &old, &new)
+    let program = Program {
+        space,
+        bodies,
+        symbols,
+        retired,
+        gaps,
+    };
+    let objects = Objects {
+        pre: &old,
+        post: &new,
+    };
+    plan_between(alloc, &program, &objects)
+}
+
+// A running program, for which an update is planned.
+#[derive(Drop)]
+struct Program<'p, S: Space> {
+    space: &'p S,
+    // the newest bases
+    bodies: &'p Bodies,
+    symbols: &'p SymbolTable,
+    // what is retired, the oldest first
+    retired: &'p Ranges,
+    // where new sections may be placed
+    gaps: &'p Ranges,
+}
+
+// The sections of the objects of an update.
+#[derive(Drop)]
+struct Objects<'o, 'a> {
+    pre: &'o Normal<'a>,
+    post: &'o Normal<'a>,
 }
 
 // The same of the sections of both objects.
-fn plan_between<'a, S: Space>(
+fn plan_between<S: Space>(
     alloc: Global,
-    space: &S,
-    bodies: &Bodies,
-    symbols: &SymbolTable,
-    retired: &Ranges,
-    gaps: &Ranges,
-    pre: &Normal<'a>,
-    post: &Normal<'a>,
+    program: &Program<'_, S>,
+    objects: &Objects<'_, '_>,
 ) -> Result<Plan, Refusal>
-    requires spliced { AreSpliced (S.contents space.now) bodies.now }
-    requires gaps { Ascends (λ range. range) 0 gaps.now }
+    requires spliced { AreSpliced (S.contents program.now.space.now) program.now.bodies.now }
+    requires gaps { Ascends (λ range. range) 0 program.now.gaps.now }
     ensures { Gives (λ plan. plan) result (planned_between
-        (record { contents = S.contents space.now; symbols = symbols.now.symbols; bodies = bodies.now })
-        retired.now gaps.now pre.now post.now) }
+        (record {
+          contents = S.contents program.now.space.now;
+          symbols = program.now.symbols.now.symbols;
+          bodies = program.now.bodies.now;
+        })
+        program.now.retired.now program.now.gaps.now objects.now.pre.now objects.now.post.now) }
 {
-    let extract = extract_of(alloc, pre, post)?;
-    let found = solve(alloc, pre, bodies, space, symbols)?;
-    plan_with(
-        alloc, space, bodies, symbols, retired, gaps, pre, post, &extract, &found,
-    )
+    let extract = extract_of(alloc, objects.pre, objects.post)?;
+    let found = solve(
+        alloc,
+        objects.pre,
+        program.bodies,
+        program.space,
+        program.symbols,
+    )?;
+    plan_with(alloc, program, objects, &extract, &found)
 }
 
 // The same where the difference and the old object's values are known.
 fn plan_with<S: Space>(
     alloc: Global,
-    space: &S,
-    bodies: &Bodies,
-    symbols: &SymbolTable,
-    retired: &Ranges,
-    gaps: &Ranges,
-    pre: &Normal<'_>,
-    post: &Normal<'_>,
+    program: &Program<'_, S>,
+    objects: &Objects<'_, '_>,
     extract: &Extract,
     found: &Values,
 ) -> Result<Plan, Refusal>
-    requires spliced { AreSpliced (S.contents space.now) bodies.now }
-    requires gaps { Ascends (λ range. range) 0 gaps.now }
-    requires solved { solved pre.now bodies.now (S.contents space.now) symbols.now.symbols ≡ Ok found.now.entries }
+    requires spliced { AreSpliced (S.contents program.now.space.now) program.now.bodies.now }
+    requires gaps { Ascends (λ range. range) 0 program.now.gaps.now }
+    requires solved { solved objects.now.pre.now program.now.bodies.now
+        (S.contents program.now.space.now) program.now.symbols.now.symbols ≡ Ok found.now.entries }
     ensures { Gives (λ plan. plan) result (planned_with
-        (record { contents = S.contents space.now; symbols = symbols.now.symbols; bodies = bodies.now })
-        retired.now gaps.now pre.now post.now extract.now found.now.entries) }
+        (record {
+          contents = S.contents program.now.space.now;
+          symbols = program.now.symbols.now.symbols;
+          bodies = program.now.bodies.now;
+        })
+        program.now.retired.now program.now.gaps.now objects.now.pre.now objects.now.post.now
+        extract.now found.now.entries) }
 {
-    let parts = parts_of(alloc, post, extract)?;
-    let values = values_for(alloc, pre, post, symbols, parts.as_slice(), found)?;
-    let olds = free_olds(alloc, space, bodies, symbols, retired, pre, found, extract)?;
+    let parts = parts_of(alloc, objects.post, extract)?;
+    let values = values_for(alloc, objects, program.symbols, parts.as_slice(), found)?;
+    let olds = free_olds(alloc, program, objects.pre, found, extract)?;
     plan_at(
         alloc,
-        space,
-        gaps,
-        post,
+        program,
+        objects.post,
         parts.as_slice(),
         &values,
         olds.as_slice(),
@@ -126,38 +160,36 @@ fn plan_with<S: Space>(
 #[tactic(auto, unfolding(crate::specs::inside::Rests::planned_at))]
 fn plan_at<S: Space>(
     alloc: Global,
-    space: &S,
-    gaps: &Ranges,
+    program: &Program<'_, S>,
     post: &Normal<'_>,
     parts: &[Part<'_, '_>],
     values: &Values,
     olds: &[OldFunction],
 ) -> Result<Plan, Refusal>
-    requires gaps { Ascends (λ range. range) 0 gaps.now }
+    requires gaps { Ascends (λ range. range) 0 program.now.gaps.now }
     requires order { AreNamesInOrder post.now (names_of parts.now) }
     requires bodies { AreBodies olds.now }
     ensures { (symbols : List Symbol) (bodies : List (ℕ × ℕ)) → Gives (λ plan. plan) result (planned_at
-        (record { contents = S.contents space.now; symbols = symbols; bodies = bodies })
-        gaps.now post.now parts.now values.now.entries olds.now) }
+        (record { contents = S.contents program.now.space.now; symbols = symbols; bodies = bodies })
+        program.now.gaps.now post.now parts.now values.now.entries olds.now) }
 {
-    let placement = places_of(alloc, post, parts, gaps)?;
-    Ok(plan_of(alloc, space, post, values, olds, parts, &placement)?)
+    let placement = places_of(alloc, post, parts, program.gaps)?;
+    Ok(plan_of(alloc, program.space, post, values, olds, parts, &placement)?)
 }
 
 // The values with those that the references of the sections to place need besides.
 fn values_for(
     alloc: Global,
-    pre: &Normal<'_>,
-    post: &Normal<'_>,
+    objects: &Objects<'_, '_>,
     symbols: &SymbolTable,
     parts: &[Part<'_, '_>],
     found: &Values,
 ) -> Result<Values, Refusal>
     ensures { Gives (λ values. values.entries) result
-        (resolved pre.now post.now symbols.now.symbols (names_of parts.now) found.now.entries) }
+        (resolved objects.now.pre.now objects.now.post.now symbols.now.symbols (names_of parts.now) found.now.entries) }
 {
     let names = names_of(alloc, parts)?;
-    resolve_post(alloc, pre, post, &names, found, symbols)
+    resolve_post(alloc, objects.pre, objects.post, &names, found, symbols)
 }
 
 // The lists of sections that an update is about.
@@ -172,18 +204,16 @@ fn extract_of<'a>(alloc: Global, pre: &Normal<'a>, post: &Normal<'a>) -> Result<
 // The functions of the old object as they run, where nothing of the code stands in the update's way.
 fn free_olds<S: Space>(
     alloc: Global,
-    space: &S,
-    bodies: &Bodies,
-    symbols: &SymbolTable,
-    retired: &Ranges,
+    program: &Program<'_, S>,
     pre: &Normal<'_>,
     found: &Values,
     extract: &Extract,
 ) -> Result<Vec<OldFunction>, Refusal>
-    requires spliced { AreSpliced (S.contents space.now) bodies.now }
-    requires solved { solved pre.now bodies.now (S.contents space.now) symbols.now.symbols ≡ Ok found.now.entries }
+    requires spliced { AreSpliced (S.contents program.now.space.now) program.now.bodies.now }
+    requires solved { solved pre.now program.now.bodies.now
+        (S.contents program.now.space.now) program.now.symbols.now.symbols ≡ Ok found.now.entries }
     ensures olds { Gives (λ olds. olds.items) result (unless
-        (code_refusal (S.contents space.now) symbols.now.symbols retired.now
+        (code_refusal (S.contents program.now.space.now) program.now.symbols.now.symbols program.now.retired.now
         (olds_of extract.now found.now.entries pre.now))
         (olds_of extract.now found.now.entries pre.now)) }
     ensures bodies { IfOk result (λ olds. AreBodies olds.items) }
@@ -194,7 +224,13 @@ fn free_olds<S: Space>(
     let _sections = pre.as_slice();
     answers_tell_each_body();
     matched_bodies_are_in_use();
-    code_refusal(alloc, space, symbols, retired, olds.as_slice())?;
+    code_refusal(
+        alloc,
+        program.space,
+        program.symbols,
+        program.retired,
+        olds.as_slice(),
+    )?;
     Ok(olds)
 }
 
@@ -210,8 +246,9 @@ fn places_of(
     ensures places { Gives (λ placement. placement) result (placed (map size_of parts.now) gaps.now) }
     ensures order { IfOk result (λ placement. AreInOrder post.now placement) }
 {
-    let sizes = sizes(alloc, parts)?;
+    // The law says that the places keep the order of the sections.
     places_keep_the_order();
+    let sizes = sizes(alloc, parts)?;
     place(alloc, sizes.as_slice(), gaps)
 }
 

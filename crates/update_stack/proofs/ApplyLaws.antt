@@ -1,24 +1,21 @@
 -- The update rule, by its first refusal or what it makes.
-use Rattle.std.proofs.Common.{◌≡◌, ℕ, ◌≤◌, ◌<◌, Bool, true, false, List, [], ◌∷◌, map, length, Option, Some, None}
+use Rattle.std.proofs.Common.{◌≡◌, ℕ, ◌≤◌, ◌<◌, true, false, List, length, Option, Some, None}
 use Rattle.std.proofs.Common.{Result, Ok, Err}
-use Rattle.std.proofs.Common.{refl, sym, ◌∙◌, ap, arith, nat_le, IfOk, subst}
+use Rattle.std.proofs.Common.{refl, sym, arith, nat_le, IfOk}
 use Rattle.std.specs.List.{list_any}
 use Rattle.std.specs.Result.{result_err}
 use Rattle.std.proofs.lemmas.Bool.Decides.{nat_tests}
 use Rattle.ks_base.specs.declared.refusals.Refusal.{Refusal}
 use Rattle.ks_base.specs.declared.refusals.Refusal.TheVariants.{TooMany, NameTaken, Memory}
-use Rattle.ks_base.specs.declared.reports.Report.{Report}
 use Rattle.ks_base.specs.Gives.{Gives}
 use Rattle.elf32_object.specs.Rule.{Finds}
-use Rattle.elf32_object.specs.Below.{first_of}
-use Rattle.i386_reloc.specs.Refused.{refused_where}
 use Rattle.stack_scan.specs.Standing.{thread_refusal}
 use Rattle.update_plan.specs.declared.types.Plan.{Plan}
-use Rattle.update_plan.specs.Plan.{planned, unless}
-use Rattle.update_stack.specs.CallTable.{CallTable, Update}
+use Rattle.update_plan.specs.Plan.{planned}
+use Rattle.update_stack.specs.CallTable.{CallTable}
 use Rattle.update_stack.specs.Apply.{has_name, name_refusal, running_of, retired_of, gaps_of, planned_in, committed}
 use Rattle.update_stack.specs.Apply.{applied}
-use Rattle.update_stack.specs.Events.{Apply, Applied, Happened, happened, apply_answered, answered}
+use Rattle.update_stack.specs.Events.{Apply, Applied, happened, answered}
 
 module _ (k : CallTable) (name pre post : List ℕ) where
   -- where as many updates are live as may be

@@ -1,6 +1,6 @@
 -- Data are written beside code: what is kept of updates is what it was.
-use Rattle.std.proofs.Common.{◌≡◌, ℕ, zero, suc, ◌+◌, ◌-◌, ◌<◌, ◌≤◌, Bool, true, false, cond, List, [], ◌∷◌, ◌++◌, map}
-use Rattle.std.proofs.Common.{length, get_or}
+use Rattle.std.proofs.Common.{◌≡◌, ℕ, zero, suc, ◌+◌, ◌-◌, ◌<◌, ◌≤◌, Bool, true, false, cond, List, [], ◌∷◌, map}
+use Rattle.std.proofs.Common.{length}
 use Rattle.std.proofs.Common.{Option, Some, None, refl, sym, ◌∙◌, ap, subst, arith, ◌⊎◌, inl, inr}
 use Rattle.std.specs.Option.{option_map, unwrap_or}
 use Rattle.std.specs.List.{All, fold, filter}
@@ -8,13 +8,11 @@ use Rattle.std.specs.List.Sorted.{IsPermutation}
 use Rattle.std.proofs.lemmas.List.{length-drop}
 use Rattle.std.proofs.lemmas.List.Elements.{All-head, All-tail}
 use Rattle.ks_base.specs.declared.places.Range.{Range}
-use Rattle.ks_base.specs.declared.refusals.Fault.{Fault}
-use Rattle.image_memory.specs.declared.types.Kind.{Kind}
 use Rattle.image_memory.specs.declared.types.Kind.TheVariants.{Code}
 use Rattle.image_memory.specs.declared.types.Piece.{Piece}
 use Rattle.image_memory.specs.Ranges.{lies_in}
 use Rattle.image_memory.specs.Contents.{Contents, IsValid, piece_range, holding, byte_in}
-use Rattle.image_memory.specs.Access.{kind_of, unwritable, write_fault, first_fault, byte_at, bytes_at, new_byte}
+use Rattle.image_memory.specs.Access.{kind_of, unwritable, write_fault, first_fault, byte_at, bytes_at}
 use Rattle.image_memory.specs.Access.{overlaid, overlaid_piece, written}
 use Rattle.image_memory.specs.Fetch.{HasCode}
 use Rattle.image_memory.proofs.RangeLaws.{found as found_at}
@@ -26,15 +24,15 @@ use Rattle.splice_jump.specs.Jumps.{jumped, unjumped, olds_at, AreSpliced}
 use Rattle.splice_jump.proofs.CodeLaws.{IsHeld, code_at, code_kind}
 use Rattle.splice_jump.proofs.WriteLaws.{Misses, byte_after, piece_after, jumps_of, jumped_as, jumped-is, unjumped-is}
 use Rattle.splice_jump.proofs.WriteLaws.{holding-after, byte_in_after, in_or_out}
-use Rattle.memory_changes.specs.Withdrawn.{is_based_at, without_pieces}
+use Rattle.memory_changes.specs.Withdrawn.{is_based_at}
 use Rattle.update_stack.specs.declared.updates.Kept.{Kept}
-use Rattle.update_stack.specs.CallTable.{CallTable, Row, Update, bodies_in, contents_of, jump_rows, with_replaced}
+use Rattle.update_stack.specs.CallTable.{CallTable, Row, Update, bodies_in, contents_of, jump_rows}
 use Rattle.update_stack.specs.Apply.{gaps_of}
-use Rattle.update_stack.specs.Undo.{withdrawn, ranges_in, newest_update}
-use Rattle.update_stack.specs.Stacked.{IsBuilt, IsKept, AreKept, NoneKept, OneKept}
+use Rattle.update_stack.specs.Undo.{withdrawn}
+use Rattle.update_stack.specs.Stacked.{IsBuilt, AreKept, NoneKept, OneKept}
 use Rattle.update_stack.proofs.TableLaws.{spliced_new}
 use Rattle.update_stack.proofs.BuiltLaws.{wrote, withdrawn_wrote}
-use Rattle.update_stack.proofs.KeptLaws.{HasNewest, built_newest, CodeWasThere, withdrawn_pieces}
+use Rattle.update_stack.proofs.KeptLaws.{built_newest, CodeWasThere, withdrawn_pieces}
 
 -- none of so many bytes from an address on is code
 abbrev pub AvoidsCode : (start count : ℕ) → List Piece → Type 0

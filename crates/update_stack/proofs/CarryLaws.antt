@@ -1,10 +1,10 @@
 -- What comes of a plan that is carried out.
-use Rattle.std.proofs.Common.{◌≡◌, ◌≢◌, ℕ, ◌+◌, ◌^◌, ◌<◌, ◌≤◌, Bool, false, List, [], ◌∷◌, ◌++◌, map, length, get_or}
+use Rattle.std.proofs.Common.{◌≡◌, ℕ, ◌+◌, ◌^◌, ◌<◌, ◌≤◌, List, [], ◌∷◌, ◌++◌, map, length, get_or}
 use Rattle.std.proofs.Common.{Some}
 use Rattle.std.proofs.Common.{refl, sym, ◌∙◌, ap, arith, subst}
-use Rattle.std.specs.List.{All, Any, AllPairs, fold, last_or, list_any}
+use Rattle.std.specs.List.{All, fold, list_any}
 use Rattle.std.specs.List.Sorted.{IsPermutation}
-use Rattle.std.proofs.lemmas.List.{length-map, get_or-map, length-append}
+use Rattle.std.proofs.lemmas.List.{length-append}
 use Rattle.std.proofs.lemmas.List.Elements.{All-head, All-tail, All-map, All-weaker}
 use Rattle.std.proofs.lemmas.List.Sorted.{IsPermutation-sym, IsPermutation-trans}
 use Rattle.ks_base.specs.declared.places.Range.{Range}
@@ -14,16 +14,16 @@ use Rattle.image_memory.specs.declared.types.Fence.{Fence}
 use Rattle.image_memory.specs.Ranges.{meets, MeetsNone}
 use Rattle.image_memory.specs.Contents.{Contents, IsValid, piece_range, fence_range}
 use Rattle.image_memory.specs.Access.{bytes_at, written}
-use Rattle.image_memory.specs.Changes.{ArePlaceable, with_piece, after_fence}
+use Rattle.image_memory.specs.Changes.{ArePlaceable, after_fence}
 use Rattle.image_memory.specs.Fetch.{HasCode}
 use Rattle.image_memory.proofs.WindowLaws.{list_any-map}
 use Rattle.symbol_table.specs.declared.symbols.Symbol.{Symbol}
 use Rattle.link_post.specs.Places.{unless_empty, without}
 use Rattle.splice_jump.specs.Jump.{five_at}
-use Rattle.splice_jump.specs.Jumps.{jumped, jumped_memory, olds_at, unjumped, IsFenced, AreSpliced}
+use Rattle.splice_jump.specs.Jumps.{jumped, jumped_memory, olds_at, unjumped, AreSpliced}
 use Rattle.memory_changes.specs.declared.types.Jump.{Jump}
 use Rattle.memory_changes.specs.Added.{AreAddable, with_pieces}
-use Rattle.memory_changes.specs.Retired.{AreRetirable, with_fences}
+use Rattle.memory_changes.specs.Retired.{with_fences}
 use Rattle.memory_changes.specs.Rows.{row_of, rows_of, old_of, olds_of}
 use Rattle.memory_changes.specs.Withdrawn.{without_pieces}
 use Rattle.image_threads.specs.Program.{Program}
@@ -36,9 +36,9 @@ use Rattle.update_stack.specs.CallTable.{jump_row, jump_rows}
 use Rattle.update_stack.specs.StandsFor.{Seen, seen, seen_of, patched}
 use Rattle.update_stack.specs.Apply.{with_new_piece, update_as, committed, gaps_of}
 use Rattle.update_stack.specs.Undo.{withdrawn, ranges_in, newest_update}
-use Rattle.update_stack.specs.Systems.{text_of, table_of, HasJumpCode, Holds, live_update, live_updates, machine_of}
-use Rattle.update_stack.specs.Stacked.{IsBuilt, IsKept, AreKept, OneKept}
-use Rattle.update_stack.specs.inside.Carrying.{bare_jump, shown_as, EndsLow, HasHomeCode, FitsIn, IsKeptOf}
+use Rattle.update_stack.specs.Systems.{text_of, HasJumpCode, Holds, live_update, live_updates, machine_of}
+use Rattle.update_stack.specs.Stacked.{IsBuilt, AreKept, OneKept}
+use Rattle.update_stack.specs.inside.Carrying.{bare_jump, shown_as, EndsLow, FitsIn, IsKeptOf}
 use Rattle.update_stack.specs.inside.Carrying.{IsCarriedOut, gaps_after, HoldsAfter}
 use Rattle.update_stack.proofs.LastLaws.{last_more, text_more, table_more, live_more}
 use Rattle.update_stack.proofs.TableLaws.{JumpsAdded, JumpsReplaced, spliced_new, jumps_stacked}

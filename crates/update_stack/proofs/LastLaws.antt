@@ -1,15 +1,14 @@
 -- Lists that end with one item more.
-use Rattle.std.proofs.Common.{◌≡◌, ℕ, zero, suc, ◌+◌, ◌-◌, List, [], ◌∷◌, ◌++◌, map, take, length, Option, Some, None}
+use Rattle.std.proofs.Common.{◌≡◌, ℕ, ◌+◌, ◌-◌, List, [], ◌∷◌, ◌++◌, take, length, Option, Some, None}
 use Rattle.std.proofs.Common.{refl, sym, ◌∙◌, ap, arith}
 use Rattle.std.specs.List.{last_or, fold, flat_map}
 use Rattle.std.proofs.lemmas.List.{length-append, append_assoc, append-nil}
-use Rattle.ks_base.specs.declared.reports.Replaced.{Replaced}
 use Rattle.image_memory.specs.declared.types.Piece.{Piece}
 use Rattle.splice_jump.specs.Jumps.{unjumped}
 use Rattle.memory_changes.specs.Rows.{olds_of}
 use Rattle.update_stack.specs.declared.updates.Update.{Update as Shown}
 use Rattle.update_stack.specs.declared.updates.Kept.{Kept}
-use Rattle.update_stack.specs.CallTable.{Row, Update, with_replaced}
+use Rattle.update_stack.specs.CallTable.{Update, with_replaced}
 use Rattle.update_stack.specs.Undo.{without_last}
 use Rattle.update_stack.specs.Systems.{text_of, replaced_by, table_of, live_update, live_updates}
 

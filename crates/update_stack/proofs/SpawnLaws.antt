@@ -11,7 +11,7 @@ use Rattle.image_memory.specs.declared.types.Piece.{Piece}
 use Rattle.image_memory.specs.Contents.{Contents, IsValid}
 use Rattle.image_memory.specs.Access.{written}
 use Rattle.image_threads.specs.Program.{Program, IsStackRange}
-use Rattle.image_threads.specs.Spawning.{Started, started, started_at, started_on, with_started, free_stack}
+use Rattle.image_threads.specs.Spawning.{started, started_at, started_on, with_started, free_stack}
 use Rattle.image_threads.specs.Spawning.{first_bytes, is_stack, AreStacks, first_thread, spawned as program_spawned}
 use Rattle.image_threads.proofs.StackLaws.{stack_written, length-first_bytes, stack_listed}
 use Rattle.symbol_table.specs.Symbols.{function_named}

@@ -1,25 +1,22 @@
 -- Where a thread stands in memory with jumps: as in memory without them, for a stack is data.
-use Rattle.std.proofs.Common.{◌≡◌, ℕ, zero, suc, ◌+◌, ◌-◌, ◌*◌, ◌/◌, ◌%◌, ◌<◌, ◌≤◌, Bool, true, false, ◌||◌, nat_lt}
-use Rattle.std.proofs.Common.{List, [], ◌∷◌, ◌++◌, map, length, get_or}
+use Rattle.std.proofs.Common.{◌≡◌, ℕ, zero, suc, ◌+◌, ◌-◌, ◌*◌, ◌/◌, ◌<◌, ◌≤◌, Bool, true, false}
+use Rattle.std.proofs.Common.{List, [], ◌∷◌, ◌++◌, map, get_or}
 use Rattle.std.proofs.Common.{Option, Some, None, Result, Ok, Err, refl, sym, ◌∙◌, ap, subst, arith, if◌then◌else◌}
 use Rattle.std.specs.Option.{option_map, option_or}
 use Rattle.std.specs.Int.{w32, from_le_bytes}
 use Rattle.std.specs.List.{All, Any}
 use Rattle.std.proofs.lemmas.Bool.Decides.{nat_tests}
-use Rattle.std.proofs.lemmas.List.{get_or_default}
 use Rattle.std.proofs.lemmas.List.Elements.{All-head, All-tail}
 use Rattle.ks_base.specs.declared.places.Range.{Range}
 use Rattle.ks_base.specs.declared.refusals.Place.{Place}
 use Rattle.ks_base.specs.declared.refusals.Place.TheVariants.{Pc, Stack}
-use Rattle.ks_base.specs.declared.refusals.Refusal.{Refusal}
 use Rattle.ks_base.specs.declared.refusals.Standing.{Standing}
-use Rattle.image_memory.specs.declared.types.Kind.{Kind}
 use Rattle.image_memory.specs.declared.types.Kind.TheVariants.{Writable}
 use Rattle.image_memory.specs.declared.types.Piece.{Piece}
 use Rattle.image_memory.specs.Ranges.{lies_in}
 use Rattle.image_memory.specs.Contents.{Contents, IsValid, piece_range, holding}
 use Rattle.image_memory.specs.Access.{byte_at, bytes_at, dword_at}
-use Rattle.image_memory.specs.Fetch.{is_code, code_in, code_from}
+use Rattle.image_memory.specs.Fetch.{code_in, code_from}
 use Rattle.image_memory.proofs.RangeLaws.{within, found_here}
 use Rattle.ia32_step.specs.declared.types.State.{State}
 use Rattle.ia32_step.specs.declared.types.State.TheVariants.{Running, Exited, Stopped}
@@ -28,9 +25,8 @@ use Rattle.ia32_step.specs.Threads.{esp_of}
 use Rattle.splice_jump.specs.Jumps.{jumped, AreSpliced}
 use Rattle.stack_scan.specs.declared.types.StackOut.{StackOut}
 use Rattle.stack_scan.specs.Standing.{LiesInWritable, IsStack, HasStack, addresses, looked_at, in_register, on_stack}
-use Rattle.stack_scan.specs.Standing.{stack_addresses, places, first_place, standing_at, stack_out, is_stack_out}
-use Rattle.stack_scan.specs.Standing.{stands_by, stands, standing_refused, thread_refusal, in_one}
-use Rattle.image_threads.specs.Program.{Program}
+use Rattle.stack_scan.specs.Standing.{places, first_place, standing_at, stack_out, is_stack_out}
+use Rattle.stack_scan.specs.Standing.{stands_by, stands, standing_refused, thread_refusal}
 
 -- a law of another crate: jumps leave data
 abbrev pub DataStay : Type 0

@@ -1,21 +1,17 @@
 -- What comes of taking the newest update back.
-use Rattle.std.proofs.Common.{◌≡◌, ◌≢◌, ℕ, ◌+◌, ◌≤◌, ◌<◌, ◌^◌, Bool, true, false, cond, not, List, [], ◌∷◌, ◌++◌, map}
-use Rattle.std.proofs.Common.{length, get_or, Option, Some, None}
+use Rattle.std.proofs.Common.{◌≡◌, ℕ, ◌+◌, ◌≤◌, ◌<◌, Bool, true, false, cond, not, List, [], ◌∷◌, ◌++◌, map}
+use Rattle.std.proofs.Common.{length, get_or, Some, None}
 use Rattle.std.proofs.Common.{refl, sym, ◌∙◌, ap, subst, arith}
-use Rattle.std.specs.List.{All, Any, AllPairs, Contains, fold, filter, last_or}
+use Rattle.std.specs.List.{All, Any, fold, last_or}
 use Rattle.std.proofs.lemmas.List.{length-map, length-append, get_or-map, get_or_default}
-use Rattle.std.proofs.lemmas.List.Elements.{All-head, All-tail, All-cons, All-map, All-weaker, All-push}
+use Rattle.std.proofs.lemmas.List.Elements.{All-head, All-tail, All-map, All-weaker, All-push}
 use Rattle.ks_base.specs.declared.places.Range.{Range}
 use Rattle.ks_base.specs.declared.reports.Replaced.{Replaced}
 use Rattle.image_memory.specs.declared.types.Piece.{Piece}
 use Rattle.image_memory.specs.declared.types.Fence.{Fence}
-use Rattle.image_memory.specs.Ranges.{are_same}
 use Rattle.image_memory.specs.Contents.{Contents, IsValid, piece_range, fence_range}
 use Rattle.image_memory.specs.Access.{bytes_at, written}
-use Rattle.image_memory.specs.Changes.{HasPiece, IsRetired}
 use Rattle.image_memory.specs.Fetch.{HasCode}
-use Rattle.symbol_table.specs.declared.symbols.Symbol.{Symbol}
-use Rattle.ia32_step.specs.declared.types.Thread.{Thread}
 use Rattle.splice_jump.specs.Jump.{five_at, jump_bytes}
 use Rattle.splice_jump.specs.Jumps.{jumped, jumped_memory, with_row, old_at, olds_at, unjumped, AreSpliced}
 use Rattle.memory_changes.specs.declared.types.Jump.{Jump}
@@ -30,7 +26,7 @@ use Rattle.update_stack.specs.StandsFor.{Seen, seen, seen_of, patched}
 use Rattle.update_stack.specs.Undo.{without_last, without_base, withdrawn, newest_update}
 use Rattle.update_stack.specs.Systems.{text_of, replaced_by, table_of, live_update, live_updates, machine_of}
 use Rattle.update_stack.specs.Systems.{HasJumpCode, Holds}
-use Rattle.update_stack.specs.Stacked.{IsSound, IsOnTop, IsBuilt, IsKept, AreKept, NoneKept, OneKept}
+use Rattle.update_stack.specs.Stacked.{IsBuilt, AreKept, NoneKept, OneKept}
 use Rattle.update_stack.specs.inside.TakingBack.{CanBeTaken, after_taking, IsHeldBefore}
 use Rattle.update_stack.proofs.LastLaws.{last_more, without_more, text_more, table_more, live_more}
 use Rattle.update_stack.proofs.TableLaws.{JumpsAdded, JumpsReplaced, first_table, table_stays, table_back, spliced_new}

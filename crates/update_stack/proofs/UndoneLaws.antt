@@ -1,9 +1,8 @@
 -- The undo rule, by its refusal or what it makes.
 use Rattle.std.proofs.Common.{◌≡◌, ℕ, List, Option, Some, None, Result, Ok, Err, MatchResult, refl, sym, ◌∙◌, ap, subst}
 use Rattle.ks_base.specs.declared.refusals.Refusal.{Refusal}
-use Rattle.stack_scan.specs.Standing.{thread_refusal}
 use Rattle.update_stack.specs.CallTable.{CallTable, Update}
-use Rattle.update_stack.specs.Undo.{withdrawn, ranges_in, newest_update, undone_by, undone}
+use Rattle.update_stack.specs.Undo.{withdrawn, newest_update, undone_by, undone}
 use Rattle.update_stack.specs.Events.{Undo, Undone, Happened, happened, undo_answered, answered}
 use Rattle.update_stack.specs.inside.TakingBack.{refusal_of, undo_refusal, ComesOfUndo}
 

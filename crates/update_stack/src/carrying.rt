@@ -163,29 +163,11 @@ pub(crate) fn kept_of(
         pieces: bases_of(alloc, plan.pieces.as_slice())?,
         ranges: in_order(alloc, plan, ranges)?,
         retired: ranges_of(alloc, plan.fences.as_slice())?,
-        symbols: copy_of_symbols(&plan.symbols)?,
+        symbols: plan.symbols.clone()?,
         symbol_count: counted(plan.symbols.len())?,
-        jumps: copy_of_jumps(jumps)?,
-        gaps: copy_of_ranges(gaps)?,
+        jumps: jumps.clone()?,
+        gaps: gaps.clone()?,
     })
-}
-
-fn copy_of_symbols(symbols: &NewSymbols) -> Result<NewSymbols, AllocError>
-    ensures { IfOk result (λ copy. copy ≡ symbols.now) }
-{
-    symbols.clone()
-}
-
-fn copy_of_jumps(jumps: &Jumps) -> Result<Jumps, AllocError>
-    ensures { IfOk result (λ copy. copy ≡ jumps.now) }
-{
-    jumps.clone()
-}
-
-fn copy_of_ranges(ranges: &Ranges) -> Result<Ranges, AllocError>
-    ensures { IfOk result (λ copy. copy ≡ ranges.now) }
-{
-    ranges.clone()
 }
 
 // The ranges of a plan's pieces in ascending order.
@@ -286,6 +268,8 @@ pub(crate) fn plans_are_carried_out()
         → IsCarriedOut before after plan jumps → IsKeptOf plan jumps gaps one
         → HoldsAfter before after arena gaps updates kept name plan one }
 {
+    // Nothing is done here: the laws say what each change of the memory leaves, what taking it back restores, and what
+    // is free of the arena then.
     pieces_are_added();
     ranges_are_retired();
     changes_are_withdrawn();

@@ -23,6 +23,8 @@ use splice_jump::{
 pub fn steps_stand()
     ensures { (k : CallTable) (thread : Thread) → CanJump k → StepsStand k thread }
 {
+    // Nothing is done here: the laws say that a jump's bytes decode to it, that an instruction does the same whatever
+    // bytes of code stand beside its data, and what jumps leave of memory.
     jumps_decode();
     code_bytes_have_no_say();
     jumps_leave_views();
@@ -41,6 +43,7 @@ pub fn data_are_written_past_updates()
         text_of kept (written start bytes program.contents.pieces)
         ≡ written start bytes (text_of kept program.contents.pieces) }
 {
+    // Nothing is done here: the laws say that data are written past jumps, and that code stays code.
     data_are_written_past_jumps();
     code_stays_code();
     homes_stay_spliced();

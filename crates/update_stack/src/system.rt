@@ -120,6 +120,7 @@ impl<S: Space> System<S> {
             (λ refusal. refusal ≢ Memory → answered self.old (Spawn name.now argument) ≡ Err refusal) }
         ensures refused { OnErr result (self.new ≡ self.old) }
     {
+        // The laws say that a start, which writes data alone, leaves the jumps and what is seen past them.
         data_are_written_past_jumps();
         code_stays_code();
         homes_stay_spliced();
@@ -244,6 +245,7 @@ impl<S: Space> System<S> {
     fn take_newest_back(&mut self) -> Result<Name, Refusal>
         ensures { ComesOfUndo (newest_update self.old) self.old self.new result }
     {
+        // The law says that what is kept of the newest update can be taken away, and what holds then.
         updates_are_taken_back();
         let Some(update) = self.updates.pop() else {
             return Err(Refusal::NothingApplied);

@@ -26,6 +26,7 @@ pub fn undo_restores()
 pub fn machines_are_built()
     ensures { MachinesAreBuilt }
 {
+    // Nothing is done here: the laws say what each change of the machine leaves.
     pieces_stay_placed();
     pieces_are_added();
     ranges_are_retired();

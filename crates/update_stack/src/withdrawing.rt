@@ -48,6 +48,8 @@ pub(crate) fn updates_are_taken_back()
         → Holds before arena gaps (updates ++ update ∷ []) (kept ++ one ∷ [])
         → seen after ≡ after_taking one (seen before) → IsHeldBefore before after arena updates kept update one }
 {
+    // Nothing is done here: the laws say what jumps and the other changes of memory leave, and what taking them back
+    // restores.
     jumps_are_added_and_replaced();
     jumps_are_taken_back();
     jumps_change_their_bytes_alone();

@@ -3,7 +3,7 @@
 use object_builder::Kind::{Comment, Data, Global, Local, ReadOnly, Strings, Zeros};
 use object_builder::{ABSOLUTE, RELATIVE, Section};
 
-/// `mov eax, 1` and `ret`.
+// `mov eax, 1` and `ret`.
 const F: Section = Section {
     name: ".text.f",
     kind: Global("f"),
@@ -11,7 +11,7 @@ const F: Section = Section {
     references: &[],
 };
 
-/// `mov eax, 2` and `ret`.
+// `mov eax, 2` and `ret`.
 const F_CHANGED: Section = Section {
     name: ".text.f",
     kind: Global("f"),
@@ -40,7 +40,7 @@ const H: Section = Section {
     references: &[],
 };
 
-/// Calls `f`.
+// Calls `f`.
 const MAIN: Section = Section {
     name: ".text.main",
     kind: Global("main"),
@@ -48,7 +48,7 @@ const MAIN: Section = Section {
     references: &[(1, RELATIVE, ".text.f")],
 };
 
-/// A jump to the start of the cold part, and `ret`.
+// A jump to the start of the cold part, and `ret`.
 const WORK: Section = Section {
     name: ".text.work",
     kind: Global("work"),
@@ -56,7 +56,7 @@ const WORK: Section = Section {
     references: &[(1, RELATIVE, ".text.unlikely.work")],
 };
 
-/// A jump back, behind that jump.
+// A jump back, behind that jump.
 const COLD: Section = Section {
     name: ".text.unlikely.work",
     kind: Local("work.cold"),
@@ -71,7 +71,7 @@ const WORK_ALONE: Section = Section {
     references: &[],
 };
 
-/// Gives the address of the text at 0.
+// Gives the address of the text at 0.
 const TEXT_AT_0: Section = Section {
     name: ".text.f",
     kind: Global("f"),
@@ -79,7 +79,7 @@ const TEXT_AT_0: Section = Section {
     references: &[(1, ABSOLUTE, ".rodata.str1.1")],
 };
 
-/// Gives the address of the text at 3.
+// Gives the address of the text at 3.
 const TEXT_AT_3: Section = Section {
     name: ".text.f",
     kind: Global("f"),
@@ -129,8 +129,8 @@ const EIGHT_ZEROS: Section = Section {
     references: &[],
 };
 
-/// A `switch` over its argument, by a jump table: 10 for 0, 20 for 1, the text `hi` for 2, and else, by way of the cold
-/// part, 99.
+// A `switch` over its argument, by a jump table: 10 for 0, 20 for 1, the text `hi` for 2, and else, by way of the cold
+// part, 99.
 const SWITCH: Section = Section {
     name: ".text.work",
     kind: Global("work"),
@@ -143,7 +143,7 @@ const SWITCH: Section = Section {
     ],
 };
 
-/// The same with 11 for 10 and 100 for 99.
+// The same with 11 for 10 and 100 for 99.
 const SWITCH_CHANGED: Section = Section {
     name: ".text.work",
     kind: Global("work"),
@@ -163,7 +163,7 @@ const SWITCH_COLD: Section = Section {
     references: &[(1, RELATIVE, ".text.work")],
 };
 
-/// Calls `work` twice and adds the answers.
+// Calls `work` twice and adds the answers.
 const TWO_CALLS: Section = Section {
     name: ".text.main",
     kind: Global("main"),
@@ -211,7 +211,7 @@ const STACK_NOTE: Section = Section {
     references: &[],
 };
 
-/// Loads the variable `x`, and `ret`; twice.
+// Loads the variable `x`, and `ret`; twice.
 const P: Section = Section {
     name: ".text.p",
     kind: Global("p"),
@@ -233,7 +233,7 @@ const X: Section = Section {
     references: &[],
 };
 
-/// `xor eax, eax` and `ret`.
+// `xor eax, eax` and `ret`.
 const TW: Section = Section {
     name: ".text.tw",
     kind: Local("tw"),
@@ -241,7 +241,7 @@ const TW: Section = Section {
     references: &[],
 };
 
-/// Calls `tw` and `ext`, and `ret`.
+// Calls `tw` and `ext`, and `ret`.
 const START: Section = Section {
     name: ".text.start",
     kind: Global("start"),
@@ -249,7 +249,7 @@ const START: Section = Section {
     references: &[(1, RELATIVE, ".text.tw"), (6, RELATIVE, "ext")],
 };
 
-/// No instruction.
+// No instruction.
 const F_CUT: Section = Section {
     name: ".text.f",
     kind: Global("f"),

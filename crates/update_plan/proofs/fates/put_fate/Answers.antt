@@ -9,9 +9,9 @@ use Rattle.retired_code.specs.declared.types.Fate.TheVariants.{Kept}
 use Rattle.update_plan.proofs.Choices.{chosen}
 use Rattle.update_plan.proofs.fates.put_fate.Goals as goal
 
-pub returns-in-Ok : goal.returns-in-Ok
-returns-in-Ok c = λ q.
+pub returns : goal.returns
+returns c = λ q.
     let name = c.args.name.now in
     let before = c.args.fates.now in
-    ap (λ o. unwrap_or o Kept) (btree_map_updates_str name before c.insert.new.self _ c.in-Ok.ensures.updates q)
+    ap (λ o. unwrap_or o Kept) (btree_map_updates_str name before c.insert.new.self _ c.in_ok-insert.ensures.updates q)
     ∙ chosen (same_bytes name q) c.args.fate Kept (get_by (λ k. slice_cmp nat_cmp q k.now) before)

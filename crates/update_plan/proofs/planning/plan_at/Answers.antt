@@ -11,7 +11,7 @@ pub returns : goal.returns
 unfolding planned_at
 returns g c = λ symbols bodies.
     let running : Running = record {
-      contents = g.S.Space.contents c.args.space.now;
+      contents = g.S.Space.contents c.args.program.now.space.now;
       symbols = symbols;
       bodies = bodies;
     } in
@@ -23,7 +23,7 @@ pub returns-in_err-placement : goal.returns-in_err-placement
 unfolding planned_at
 returns-in_err-placement g c = λ symbols bodies.
     let running : Running = record {
-      contents = g.S.Space.contents c.args.space.now;
+      contents = g.S.Space.contents c.args.program.now.space.now;
       symbols = symbols;
       bodies = bodies;
     } in

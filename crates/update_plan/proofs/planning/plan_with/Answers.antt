@@ -12,15 +12,16 @@ use Rattle.update_plan.proofs.planning.plan_with.Goals as goal
 pub returns : goal.returns
 returns g c =
     let running : Running = record {
-      contents = g.S.Space.contents c.args.space.now;
-      symbols = c.args.symbols.now.symbols;
-      bodies = c.args.bodies.now;
+      contents = g.S.Space.contents c.args.program.now.space.now;
+      symbols = c.args.program.now.symbols.now.symbols;
+      bodies = c.args.program.now.bodies.now;
     } in
-    let gaps = c.args.gaps.now in
-    let post = c.args.post.now in
+    let gaps = c.args.program.now.gaps.now in
+    let post = c.args.objects.now.post.now in
     let values = c.in_ok-values.values.entries in
     let olds = c.in_ok-olds.olds.items in
-    let goes_on = olds_go_on running c.args.retired.now gaps c.args.pre.now post c.args.extract.now
+    let goes_on = olds_go_on running c.args.program.now.retired.now gaps c.args.objects.now.pre.now post
+    c.args.extract.now
     c.args.found.now.entries c.as_slice.result.now (c.as_slice.ensures.value ∙ c.in_ok-parts.ensures.parts) values
     c.in_ok-values.ensures olds c.in_ok-olds.ensures.olds in
     let same_parts = ap (λ (parts : List NewPart). planned_at running gaps post parts values olds)
@@ -33,26 +34,28 @@ returns g c =
 pub returns-in_err-values : goal.returns-in_err-values
 returns-in_err-values g c =
     let running : Running = record {
-      contents = g.S.Space.contents c.args.space.now;
-      symbols = c.args.symbols.now.symbols;
-      bodies = c.args.bodies.now;
+      contents = g.S.Space.contents c.args.program.now.space.now;
+      symbols = c.args.program.now.symbols.now.symbols;
+      bodies = c.args.program.now.bodies.now;
     } in
     let refused = c.from_residual-in_err-values in
     let p = err_from_is_err_and refused.result refused.ensures.1 in
-    rw (p.1, p.2) (λ free. values_end running c.args.retired.now c.args.gaps.now c.args.pre.now c.args.post.now
+    rw (p.1, p.2) (λ free. values_end running c.args.program.now.retired.now c.args.program.now.gaps.now
+    c.args.objects.now.pre.now c.args.objects.now.post.now
     c.args.extract.now c.args.found.now.entries c.as_slice.result.now
     (c.as_slice.ensures.value ∙ c.in_ok-parts.ensures.parts) _ (c.in_err-values.ensures free))
 
 pub returns-in_err-olds : goal.returns-in_err-olds
 returns-in_err-olds g c =
     let running : Running = record {
-      contents = g.S.Space.contents c.args.space.now;
-      symbols = c.args.symbols.now.symbols;
-      bodies = c.args.bodies.now;
+      contents = g.S.Space.contents c.args.program.now.space.now;
+      symbols = c.args.program.now.symbols.now.symbols;
+      bodies = c.args.program.now.bodies.now;
     } in
     let refused = c.from_residual-in_err-olds in
     let p = err_from_is_err_and refused.result refused.ensures.1 in
-    rw (p.1, p.2) (λ free. olds_end running c.args.retired.now c.args.gaps.now c.args.pre.now c.args.post.now
+    rw (p.1, p.2) (λ free. olds_end running c.args.program.now.retired.now c.args.program.now.gaps.now
+    c.args.objects.now.pre.now c.args.objects.now.post.now
     c.args.extract.now c.args.found.now.entries c.as_slice.result.now
     (c.as_slice.ensures.value ∙ c.in_ok-parts.ensures.parts) c.in_ok-values.values.entries c.in_ok-values.ensures _
     (c.in_err-olds.ensures.olds free))

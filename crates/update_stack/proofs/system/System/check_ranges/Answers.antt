@@ -1,4 +1,4 @@
-use Rattle.std.proofs.Common.{◌≡◌, List, sym, ◌∙◌, ap, subst}
+use Rattle.std.proofs.Common.{List, sym, ◌∙◌, ap, subst}
 use Rattle.std.specs.List.{All}
 use Rattle.image_memory.specs.Contents.{Contents}
 use Rattle.ia32_step.specs.declared.types.Thread.{Thread}

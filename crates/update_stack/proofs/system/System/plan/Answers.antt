@@ -1,7 +1,7 @@
-use Rattle.std.proofs.Common.{◌≡◌, ℕ, ◌≤◌, ◌<◌, true, false, List, length, arith, Result, Ok, Err, sym, ◌∙◌, ap, subst}
+use Rattle.std.proofs.Common.{◌≡◌, ℕ, ◌≤◌, ◌<◌, true, false, List, length, arith, Result, Err, sym, ◌∙◌, ap, subst}
 use Rattle.std.specs.List.{list_any}
 use Rattle.ks_base.specs.declared.refusals.Refusal.{Refusal}
-use Rattle.ks_base.specs.declared.refusals.Refusal.TheVariants.{TooMany, NameTaken}
+use Rattle.ks_base.specs.declared.refusals.Refusal.TheVariants.{NameTaken}
 use Rattle.ks_base.specs.Gives.{Gives}
 use Rattle.i386_reloc.specs.Normal.{same_bytes}
 use Rattle.update_plan.specs.declared.types.Plan.{Plan}
