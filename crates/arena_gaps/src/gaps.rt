@@ -19,7 +19,7 @@ pub fn without_all(alloc: Global, free: &Ranges, taken: &[Range]) -> Result<Rang
     swept(alloc, free.as_slice(), taken.as_slice())
 }
 
-// Ranges by their lows.
+/// Ranges by their lows.
 fn in_order(mut ranges: Vec<Range>) -> Vec<Range>
     ensures same { IsPermutation ranges.items result.items }
     ensures rises { IsNonDecreasingBy (λ range. range.low) result.items }
@@ -28,7 +28,7 @@ fn in_order(mut ranges: Vec<Range>) -> Vec<Range>
     ranges
 }
 
-// The same where the taken ones are in order, in one pass over both.
+/// The same where the taken ones are in order, in one pass over both.
 fn swept(alloc: Global, free: &[Range], taken: &[Range]) -> Result<Ranges, AllocError>
     requires ascend { Ascends (λ range. range) 0 free.now }
     requires rises { IsNonDecreasingBy (λ range. range.low) taken.now }
@@ -42,14 +42,14 @@ fn swept(alloc: Global, free: &[Range], taken: &[Range]) -> Result<Ranges, Alloc
     Ok(left)
 }
 
-// How many of the taken ranges are passed, and the highest end of these.
+/// How many of the taken ranges are passed, and the highest end of these.
 #[derive(Clone, Copy)]
 struct Sweep {
     next: usize,
     reach: u32,
 }
 
-// Puts what is left of one range at the end, and passes the taken ones that begin below its end.
+/// Puts what is left of one range at the end, and passes the taken ones that begin below its end.
 fn leave(left: &mut Ranges, range: Range, taken: &[Range], from: Sweep) -> Result<Sweep, AllocError>
     requires full { range.low < range.high }
     requires rises { IsNonDecreasingBy (λ range. range.low) taken.now }
@@ -65,7 +65,7 @@ fn leave(left: &mut Ranges, range: Range, taken: &[Range], from: Sweep) -> Resul
     Ok(at)
 }
 
-// Passes a range that is taken: what lies below it, above the end of those before it, is left.
+/// Passes a range that is taken: what lies below it, above the end of those before it, is left.
 fn pass(left: &mut Ranges, range: Range, taken: Range, at: Sweep) -> Result<Sweep, AllocError>
     requires { at.next < 2 ^ 64 - 1 }
     ensures next { IfOk result (λ to. to.next ≡ at.next + 1) }
@@ -87,7 +87,7 @@ fn pass(left: &mut Ranges, range: Range, taken: Range, at: Sweep) -> Result<Swee
     })
 }
 
-// Puts a range at the end, where it isn't empty.
+/// Puts a range at the end, where it isn't empty.
 fn put(left: &mut Ranges, low: u32, high: u32) -> Result<(), AllocError>
     ensures { OnOk result (left.new ≡ left.old ++ unless_empty (from_to low high)) }
 {

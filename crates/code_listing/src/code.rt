@@ -10,10 +10,10 @@ use run_pre_match::instruction_at;
 use std::alloc::AllocError;
 use std::marker::Model;
 
-// A page takes no further line once it has so many bytes.
+/// A page takes no further line once it has so many bytes.
 const PAGE_LENGTH: usize = 65_536;
 
-// A memory, and the address at which the listing of its code ends.
+/// A memory, and the address at which the listing of its code ends.
 #[derive(Drop)]
 pub(crate) struct Code {
     memory: FlatSpace,
@@ -29,14 +29,14 @@ impl Model for Code {
 }
 
 impl Code {
-    // The code of a memory up to an end.
+    /// The code of a memory up to an end.
     pub(crate) fn new(memory: FlatSpace, end: u32) -> Self
         ensures { result ≡ record { contents = ⟦<FlatSpace as Space>⟧.contents memory; end = end } }
     {
         Code { memory, end }
     }
 
-    // Puts the line of an address, and answers the address of the line behind it, `None` where it is the last one.
+    /// Puts the line of an address, and answers the address of the line behind it, `None` where it is the last one.
     fn put_line(&self, address: u32, page: &mut Line) -> Result<Option<u32>, AllocError>
         ensures lines { IfOk result (λ next. page.old ++ listing self.now.contents self.now.end address
             ≡ page.new ++ remaining self.now.contents self.now.end next) }
@@ -56,8 +56,8 @@ impl Code {
         Ok(Some(instruction.after()))
     }
 
-    // Puts the lines from an address on until the page is full, and answers the address of the line behind them, `None`
-    // where none is left.
+    /// Puts the lines from an address on until the page is full, and answers the address of the line behind them,
+    /// `None` where none is left.
     pub(crate) fn put_lines(
         &self,
         first: Option<u32>,

@@ -33,7 +33,7 @@ fn put_padding_word(page: &mut Line, decoded: &Decoded) -> Result<(), AllocError
     Ok(())
 }
 
-// The line of an instruction: its address, its length, its bytes, and whether it is padding.
+/// The line of an instruction: its address, its length, its bytes, and whether it is padding.
 #[tactic(auto, unfolding(crate::specs::Lines::instruction_line))]
 pub(crate) fn put_instruction(
     page: &mut Line,
@@ -52,7 +52,7 @@ pub(crate) fn put_instruction(
     page.put_text("\n")
 }
 
-// The last line, where no instruction is left below the end.
+/// The last line, where no instruction is left below the end.
 #[tactic(auto, unfolding(crate::specs::Lines::end_line))]
 pub(crate) fn put_end(page: &mut Line, address: u32) -> Result<(), AllocError>
     ensures line { OnOk result (page.new ≡ page.old ++ end_line address) }
@@ -63,7 +63,7 @@ pub(crate) fn put_end(page: &mut Line, address: u32) -> Result<(), AllocError>
     page.put_text("\n")
 }
 
-// The last line, where no instruction stands at the address.
+/// The last line, where no instruction stands at the address.
 #[tactic(auto, unfolding(crate::specs::Lines::undecoded_line))]
 pub(crate) fn put_undecoded(page: &mut Line, address: u32) -> Result<(), AllocError>
     ensures line { OnOk result (page.new ≡ page.old ++ undecoded_line address) }

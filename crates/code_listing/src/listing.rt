@@ -17,7 +17,7 @@ use std::marker::Model;
 #[derive(Drop)]
 pub struct Listing {
     code: Code,
-    // the address of the next line, `None` after the last line
+    /// the address of the next line, `None` after the last line
     next: Option<u32>,
 }
 
@@ -64,7 +64,7 @@ pub fn list_code(alloc: Global, image: Image, name: &Name) -> Result<Listing, Re
     })
 }
 
-// Where the listing of the function at an address ends.
+/// Where the listing of the function at an address ends.
 fn end_above(image: &Image, address: u32) -> u32
     ensures { result ≡ end_above (contents_of image.now) address }
 {
@@ -74,7 +74,7 @@ fn end_above(image: &Image, address: u32) -> u32
     end_within(region, image.symbols.next_address(address))
 }
 
-// The region that has a byte at an address. It is found by halving.
+/// The region that has a byte at an address. It is found by halving.
 fn region_at(image: &Image, address: u32) -> Option<&Piece>
     ensures region { option_copied result ≡ holding image.now.pieces address }
     ensures low { IfSome result (λ region. (piece_range region.now).high ≤ 0xFFFF_0000) }
@@ -82,7 +82,7 @@ fn region_at(image: &Image, address: u32) -> Option<&Piece>
     piece_at(image.pieces.as_slice(), u64::from(address))
 }
 
-// The end of a region, or the address of the next symbol where that is lower.
+/// The end of a region, or the address of the next symbol where that is lower.
 fn end_within(region: &Piece, next: Option<u32>) -> u32
     requires { (piece_range region.now).high ≤ 0xFFFF_0000 }
     ensures { result ≡ end_within (Some region.now) next }

@@ -9,7 +9,7 @@ use std::io::{self, ErrorKind};
 use std::process::ExitCode;
 use std::{env, fs};
 
-// What the words ask for: a file's name, and how many times it is decoded.
+/// What the words ask for: a file's name, and how many times it is decoded.
 fn read_words(words: &[String]) -> Option<(&String, u32)> {
     match words {
         [name, times] => Some((name, times.parse::<u32>().ok()?)),
@@ -17,7 +17,7 @@ fn read_words(words: &[String]) -> Option<(&String, u32)> {
     }
 }
 
-// The tally of a file of less than 4 GiB.
+/// The tally of a file of less than 4 GiB.
 fn tally_of(rt: &HostRuntime, name: &str, times: u32) -> io::Result<Tally> {
     let bytes = fs::read(rt, name)?;
     if bytes.len() > u32::MAX as usize {

@@ -31,7 +31,7 @@ fn backward_edge(link: &Link) -> Option<Edge>
     })
 }
 
-// Puts an edge at the end, where there is one.
+/// Puts an edge at the end, where there is one.
 fn add_edge(edges: &mut Vec<Edge>, edge: Option<Edge>) -> Result<(), AllocError>
     ensures { OnOk result (edges.new.items ≡ edges.old.items ++ option_to_list edge) }
 {

@@ -37,7 +37,7 @@ pub(crate) fn first_broken(
     Ok(first_break(post, &old, &new, &changed, &stays))
 }
 
-// Which sections are marked ones of data, or read-only data that a marked one reaches.
+/// Which sections are marked ones of data, or read-only data that a marked one reaches.
 fn data_of(
     alloc: Global,
     post: &Normal<'_>,
@@ -53,8 +53,8 @@ fn data_of(
     Ok(reached(alloc, post, links, starts)?.and(&wanted))
 }
 
-// What the references of a section are tried by: whether the section is old data and whether it is new, and which
-// sections are changed and which stay.
+/// What the references of a section are tried by: whether the section is old data and whether it is new, and which
+/// sections are changed and which stay.
 #[derive(Clone, Copy)]
 struct Trial<'m> {
     from_old: bool,
@@ -64,8 +64,8 @@ struct Trial<'m> {
 }
 
 impl<'m> Trial<'m> {
-    // Whether a reference to the interior of the section at a place breaks: from old data to a changed section, or from
-    // new data to one that stays.
+    /// Whether a reference to the interior of the section at a place breaks: from old data to a changed section, or
+    /// from new data to one that stays.
     fn breaks_at(&self, place: Option<usize>) -> bool
         ensures { result ≡ breaks_at self.now.from_old self.now.from_new self.now.changed.now self.now.stays.now place }
     {
@@ -77,7 +77,7 @@ impl<'m> Trial<'m> {
     }
 }
 
-// Whether a reference goes to an interior and breaks: the reference `k` of the section at a place.
+/// Whether a reference goes to an interior and breaks: the reference `k` of the section at a place.
 fn breaks(post: &Normal<'_>, trial: &Trial<'_>, place: usize, k: usize, r: &Ref<'_>) -> bool
     requires { reference_at post.now place k ≡ Some r.now }
     ensures { result ≡ breaks post.now trial.now.from_old trial.now.from_new trial.now.changed.now trial.now.stays.now
@@ -86,7 +86,7 @@ fn breaks(post: &Normal<'_>, trial: &Trial<'_>, place: usize, k: usize, r: &Ref<
     r.is_interior() && trial.breaks_at(place_of_target(post, place, k, r))
 }
 
-// The first reference of the section at a place that breaks, as its place among them.
+/// The first reference of the section at a place that breaks, as its place among them.
 #[tactic(auto, using(crate::proofs::Targets::reference_here))]
 fn first_in(
     post: &Normal<'_>,
@@ -107,7 +107,7 @@ fn first_in(
     None
 }
 
-// The first reference that breaks, as the places of its section and of itself in it.
+/// The first reference that breaks, as the places of its section and of itself in it.
 fn first_break(
     post: &Normal<'_>,
     old: &Marks,

@@ -24,7 +24,7 @@ pub(crate) fn place_of_target(
     normal.target_place(place, k)
 }
 
-// The link of the reference `k` of the section of a class at a place.
+/// The link of the reference `k` of the section of a class at a place.
 #[tactic(auto, using(std::proofs::lemmas::Option::slice_get_within))]
 fn link_to(normal: &Normal<'_>, from: u32, k: usize, from_class: Class, r: &Ref<'_>) -> Option<Link>
     requires few { length normal.now < 2 ^ 32 }
@@ -43,7 +43,7 @@ fn link_to(normal: &Normal<'_>, from: u32, k: usize, from_class: Class, r: &Ref<
     })
 }
 
-// Puts a link at the end, where there is one.
+/// Puts a link at the end, where there is one.
 fn add_link(links: &mut Vec<Link>, link: Option<Link>) -> Result<(), AllocError>
     ensures { OnOk result (links.new.items ≡ links.old.items ++ option_to_list link) }
 {
@@ -53,7 +53,7 @@ fn add_link(links: &mut Vec<Link>, link: Option<Link>) -> Result<(), AllocError>
     Ok(())
 }
 
-// Puts the links of a section's references at the end.
+/// Puts the links of a section's references at the end.
 #[tactic(auto, using(crate::proofs::Targets::reference_here))]
 fn add_links(
     links: &mut Vec<Link>,

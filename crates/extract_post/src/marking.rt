@@ -150,7 +150,7 @@ impl Marks {
     }
 }
 
-// The opposite of each mark.
+/// The opposite of each mark.
 fn opposite(alloc: Global, marks: &[bool]) -> Result<Vec<bool>, AllocError>
     ensures { IfOk result (λ others. others.items ≡ map not marks.now) }
 {
@@ -164,7 +164,7 @@ pub(crate) fn name_of(alloc: Global, section: &NormalSection<'_>) -> Result<Name
     Name::from_slice(alloc, section.name.as_slice())
 }
 
-// Puts a section's name at the end, where it is marked.
+/// Puts a section's name at the end, where it is marked.
 fn add_name(
     alloc: Global,
     names: &mut Names,

@@ -12,7 +12,7 @@ use i386_reloc::{Normal, NormalSection};
 use reachability::Edge;
 use std::alloc::{AllocError, Global};
 
-// The nodes of a section: for being a member, for being reached from one, and for leading into one.
+/// The nodes of a section: for being a member, for being reached from one, and for leading into one.
 fn member_node(numbers: Numbers, place: u32) -> u32
     requires { into_node numbers place < 2 ^ 32 }
     ensures { result ≡ member_node numbers place }
@@ -34,7 +34,7 @@ fn into_node(numbers: Numbers, place: u32) -> u32
     numbers.total + (numbers.total + (numbers.base + place))
 }
 
-// Two edges, by the nodes that each leaves and goes to.
+/// Two edges, by the nodes that each leaves and goes to.
 fn two(from: u32, to: u32, other_from: u32, other_to: u32) -> Option<(Edge, Edge)>
     ensures { two_edges result ≡ edge from to ∷ edge other_from other_to ∷ [] }
 {
@@ -47,7 +47,7 @@ fn two(from: u32, to: u32, other_from: u32, other_to: u32) -> Option<(Edge, Edge
     ))
 }
 
-// The edges of a link to the interior of code.
+/// The edges of a link to the interior of code.
 fn joins_interior(n: Numbers, link: &Link) -> Option<(Edge, Edge)>
     requires fits { IsNumbered n link.now }
     requires code { is_code_class link.now.to_class ≡ true }
@@ -65,7 +65,7 @@ fn joins_interior(n: Numbers, link: &Link) -> Option<(Edge, Edge)>
     None
 }
 
-// The edges of a link to read-only data or texts.
+/// The edges of a link to read-only data or texts.
 fn joins_constant(n: Numbers, link: &Link) -> Option<(Edge, Edge)>
     requires fits { IsNumbered n link.now }
     requires code { is_code_class link.now.to_class ≡ false }
@@ -88,7 +88,7 @@ fn joins_constant(n: Numbers, link: &Link) -> Option<(Edge, Edge)>
     None
 }
 
-// The edges of a link.
+/// The edges of a link.
 fn joins(n: Numbers, link: &Link) -> Option<(Edge, Edge)>
     requires { IsNumbered n link.now }
     ensures { two_edges result ≡ joins n link.now }
@@ -105,7 +105,7 @@ fn joins(n: Numbers, link: &Link) -> Option<(Edge, Edge)>
     None
 }
 
-// Puts two edges at the end, where there are any.
+/// Puts two edges at the end, where there are any.
 fn add_two(edges: &mut Vec<Edge>, two: Option<(Edge, Edge)>) -> Result<(), AllocError>
     ensures { OnOk result (edges.new.items ≡ edges.old.items ++ two_edges two) }
 {
@@ -116,7 +116,7 @@ fn add_two(edges: &mut Vec<Edge>, two: Option<(Edge, Edge)>) -> Result<(), Alloc
     Ok(())
 }
 
-// Puts the edges of links at the end.
+/// Puts the edges of links at the end.
 fn add_joins(edges: &mut Vec<Edge>, n: Numbers, links: &[Link]) -> Result<(), AllocError>
     requires { All (IsNumbered n) links.now }
     ensures { OnOk result (edges.new.items ≡ edges.old.items ++ flat_map (joins n) links.now) }
@@ -127,7 +127,7 @@ fn add_joins(edges: &mut Vec<Edge>, n: Numbers, links: &[Link]) -> Result<(), Al
     Ok(())
 }
 
-// The edges between a section of the first object and the one of its name in the second.
+/// The edges between a section of the first object and the one of its name in the second.
 #[tactic(auto, using(crate::proofs::Numbered::place_within))]
 fn twins(
     p: Numbers,
@@ -145,7 +145,7 @@ fn twins(
     two(here, there, there, here)
 }
 
-// Puts the edges between sections of one name in both objects at the end.
+/// Puts the edges between sections of one name in both objects at the end.
 fn add_twins(
     edges: &mut Vec<Edge>,
     p: Numbers,

@@ -15,7 +15,7 @@ use reachability::reached_along;
 use section_equal::same_sections;
 use std::alloc::{AllocError, Global};
 
-// Which sections are marked or reach a marked one, by the links of their references.
+/// Which sections are marked or reach a marked one, by the links of their references.
 #[tactic(auto, using(crate::proofs::Walks::backward_within))]
 fn reaching(
     alloc: Global,
@@ -51,7 +51,7 @@ pub(crate) fn reached(
     Ok(Marks::new(marks))
 }
 
-// The marks of the first object's sections, at the sections of the second that have their names.
+/// The marks of the first object's sections, at the sections of the second that have their names.
 fn at_names(
     alloc: Global,
     pre: &Normal<'_>,
@@ -67,7 +67,7 @@ fn at_names(
     Ok(Marks::new(moved))
 }
 
-// Which sections of an object are read-only data and marked, or reach such a one in it.
+/// Which sections of an object are read-only data and marked, or reach such a one in it.
 fn reaching_read_only(
     alloc: Global,
     of: &Normal<'_>,

@@ -125,7 +125,7 @@ impl Watch {
     }
 }
 
-// A started thread's stack was written up to the address to which it returns at last.
+/// A started thread's stack was written up to the address to which it returns at last.
 fn first_store(thread: &Thread) -> Store
     ensures { result ≡ inside.first_store thread.now }
 {

@@ -24,7 +24,7 @@ use ks_base::Range;
 use std::alloc::{AllocError, Global};
 use std::marker::Model;
 
-// The threads by the addresses of their stacks, which don't meet. Each has a number of its own.
+/// The threads by the addresses of their stacks, which don't meet. Each has a number of its own.
 #[derive(Drop)]
 pub(crate) struct ThreadList {
     threads: Vec<ThreadFrames>,
@@ -44,7 +44,7 @@ impl Model for ThreadList {
 }
 
 impl ThreadList {
-    // No thread. It takes no memory.
+    /// No thread. It takes no memory.
     pub(crate) fn new(alloc: Global) -> Self
         ensures { result ≡ [] }
     {
@@ -53,14 +53,14 @@ impl ThreadList {
         }
     }
 
-    // Drops all threads.
+    /// Drops all threads.
     pub(crate) fn clear(&mut self)
         ensures { self.new ≡ [] }
     {
         self.threads.clear();
     }
 
-    // How many stacks begin at or below an address.
+    /// How many stacks begin at or below an address.
     fn begun(&self, address: u64) -> usize
         ensures bound { result ≤ length self.now }
         ensures below { AllWithin (λ watched. watched.stack.low ≤ address) self.now 0 result }
@@ -70,7 +70,7 @@ impl ThreadList {
             .partition_point(|thread| u64::from(thread.low()) <= address)
     }
 
-    // The thread whose stack has an address. It is found by halving.
+    /// The thread whose stack has an address. It is found by halving.
     fn stacked_at(&self, address: u64) -> Option<&ThreadFrames>
         ensures { option_copied result ≡ stacked_at self.now address }
     {
@@ -86,7 +86,7 @@ impl ThreadList {
         }
     }
 
-    // The place of the thread of a number, whose stack is known where it is watched. It is found by halving.
+    /// The place of the thread of a number, whose stack is known where it is watched. It is found by halving.
     fn place_of(&self, number: u32, stack: Range) -> Option<usize>
         requires { HasStack number stack self.now }
         ensures place { IsPlace number self.now result }
@@ -105,14 +105,14 @@ impl ThreadList {
         }
     }
 
-    // The thread at a place.
+    /// The thread at a place.
     fn placed(&self, at: Option<usize>) -> Option<&ThreadFrames>
         ensures { option_copied result ≡ placed self.now at }
     {
         self.threads.get(at?)
     }
 
-    // A thread is started. For want of memory all is as before.
+    /// A thread is started. For want of memory all is as before.
     pub(crate) fn start(&mut self, alloc: Global, thread: &Thread) -> Result<(), AllocError>
         requires start { IsStart self.old thread.now }
         requires in_place { AreInPlace self.old }
@@ -127,7 +127,7 @@ impl ThreadList {
         Ok(())
     }
 
-    // Whether a return of the thread at a place pops its last frame.
+    /// Whether a return of the thread at a place pops its last frame.
     fn pops(&self, at: Option<usize>, before: &Thread, after: &Thread) -> bool
         ensures { result ≡ discipline.pops (threads.esp_of before.now) after.now.pc
             (last_or None (frames_in (placed self.now at))) }
@@ -141,7 +141,7 @@ impl ThreadList {
         }
     }
 
-    // The first of the rules but the slot rule that a step of the thread at a place breaks.
+    /// The first of the rules but the slot rule that a step of the thread at a place breaks.
     fn step_rule<S: Space>(
         &self,
         at: Option<usize>,
@@ -166,8 +166,8 @@ impl ThreadList {
         }
     }
 
-    // The thread at a place has made a step. Its number is answered where it goes on and one of its slots is outside
-    // the bounds of the slot rule.
+    /// The thread at a place has made a step. Its number is answered where it goes on and one of its slots is outside
+    /// the bounds of the slot rule.
     fn go<S: Space>(
         &mut self,
         at: Option<usize>,
@@ -195,9 +195,9 @@ impl ThreadList {
         }
     }
 
-    // A thread has made a step. The first of the rules but the slot rule that it breaks is answered; or its number,
-    // where it is watched after the step and one of its slots is outside the bounds of the slot rule. No thread is
-    // looked up where none can change.
+    /// A thread has made a step. The first of the rules but the slot rule that it breaks is answered; or its number,
+    /// where it is watched after the step and one of its slots is outside the bounds of the slot rule. No thread is
+    /// looked up where none can change.
     pub(crate) fn step<S: Space>(
         &mut self,
         before: &Thread,
@@ -231,7 +231,7 @@ impl ThreadList {
         }
     }
 
-    // The least-numbered thread that has a broken frame, by a look at all.
+    /// The least-numbered thread that has a broken frame, by a look at all.
     pub(crate) fn least_broken<S: Space>(&self, space: &S) -> Option<u32>
         ensures { result ≡ least (breaking (S.contents space.now).pieces self.now) }
     {
@@ -242,7 +242,7 @@ impl ThreadList {
         found
     }
 
-    // The number of the thread whose stack has a slot, unless the frame there finds its address.
+    /// The number of the thread whose stack has a slot, unless the frame there finds its address.
     fn overwritten<S: Space>(&self, slot: u64, space: &S) -> Option<u32>
         ensures { result ≡ number_unless (keeps_address (S.contents space.now).pieces slot) (stacked_at self.now slot) }
     {
@@ -250,8 +250,8 @@ impl ThreadList {
         number_unless(thread.keeps_address(slot, space), thread.number())
     }
 
-    // The least-numbered thread that has a broken frame, where only one thread, which may be displaced, and what was
-    // written can have broken one.
+    /// The least-numbered thread that has a broken frame, where only one thread, which may be displaced, and what was
+    /// written can have broken one.
     pub(crate) fn least_touched<S: Space>(
         &self,
         displaced: Option<u32>,
@@ -269,7 +269,7 @@ impl ThreadList {
         }
     }
 
-    // The same where something was written. A slot is a multiple of 4, so at most four bytes touch at most two.
+    /// The same where something was written. A slot is a multiple of 4, so at most four bytes touch at most two.
     pub(crate) fn least_written<S: Space>(
         &self,
         displaced: Option<u32>,
@@ -291,7 +291,7 @@ impl ThreadList {
     }
 }
 
-// Whether a step goes on in the bytes that it fetched, and leaves ESP as it is.
+/// Whether a step goes on in the bytes that it fetched, and leaves ESP as it is.
 fn goes_on(before: &Thread, after: &Thread, outcome: Outcome, fetched: u32) -> bool
     ensures { result ≡ true → GoesOn before.now after.now outcome fetched }
 {
@@ -301,21 +301,21 @@ fn goes_on(before: &Thread, after: &Thread, outcome: Outcome, fetched: u32) -> b
     esp_of(after) == esp_of(before) && was_fetched(before.pc, fetched, after.pc)
 }
 
-// The rule, unless it is kept.
+/// The rule, unless it is kept.
 pub(crate) fn broken_unless(kept: bool, rule: Rule) -> Option<Rule>
     ensures { result ≡ inside.broken_unless kept rule }
 {
     if kept { None } else { Some(rule) }
 }
 
-// The number, unless the test was passed.
+/// The number, unless the test was passed.
 fn number_unless(passed: bool, number: u32) -> Option<u32>
     ensures { result ≡ (if passed then None else Some number) }
 {
     if passed { None } else { Some(number) }
 }
 
-// The lesser of a number and one that may have been found before, unless a test was passed.
+/// The lesser of a number and one that may have been found before, unless a test was passed.
 fn lesser_unless(passed: bool, found: Option<u32>, number: u32) -> Option<u32>
     ensures { result ≡ (if passed then found else discipline.lesser found number) }
 {
@@ -328,7 +328,7 @@ fn lesser_unless(passed: bool, found: Option<u32>, number: u32) -> Option<u32>
     }
 }
 
-// The lesser of two numbers, each of which may be missing.
+/// The lesser of two numbers, each of which may be missing.
 fn lesser_of(found: Option<u32>, other: Option<u32>) -> Option<u32>
     ensures { result ≡ inside.lesser_of found other }
 {

@@ -16,7 +16,7 @@ use image_memory::Space;
 use std::alloc::{AllocError, Global};
 use std::marker::Model;
 
-// How many events there were, the running threads, and the verdict. Once a rule was broken no threads are kept.
+/// How many events there were, the running threads, and the verdict. Once a rule was broken no threads are kept.
 #[derive(Drop)]
 pub(crate) struct Notes {
     events: u64,
@@ -36,7 +36,7 @@ impl Model for Notes {
 }
 
 impl Notes {
-    // Before the first event.
+    /// Before the first event.
     pub(crate) fn new(alloc: Global) -> Self
         ensures { result ≡ first_watching }
     {
@@ -47,21 +47,21 @@ impl Notes {
         }
     }
 
-    // The verdict.
+    /// The verdict.
     pub(crate) fn verdict(&self) -> Verdict
         ensures { result ≡ self.now.verdict }
     {
         self.verdict
     }
 
-    // One event more.
+    /// One event more.
     pub(crate) fn count(&mut self)
         ensures { self.new ≡ counted self.old }
     {
         self.events = self.events.saturating_add(1);
     }
 
-    // The event broke a rule.
+    /// The event broke a rule.
     #[cold]
     fn end(&mut self, thread: u32, rule: Rule)
         ensures { self.new ≡ broken self.old thread rule }
@@ -74,8 +74,8 @@ impl Notes {
         };
     }
 
-    // What a step comes to by all rules but the slot rule, where so many bytes were fetched. The thread's number is
-    // answered where it is watched after the step and one of its slots is outside the bounds of the slot rule.
+    /// What a step comes to by all rules but the slot rule, where so many bytes were fetched. The thread's number is
+    /// answered where it is watched after the step and one of its slots is outside the bounds of the slot rule.
     #[tactic(auto, unfolding(crate::specs::inside::Events::advanced))]
     pub(crate) fn advance<S: Space>(
         &mut self,
@@ -106,7 +106,7 @@ impl Notes {
         }
     }
 
-    // What the start of a thread comes to by all rules but the slot rule.
+    /// What the start of a thread comes to by all rules but the slot rule.
     #[tactic(auto, unfolding(crate::specs::inside::Events::begun))]
     pub(crate) fn begin<S: Space>(
         &mut self,
@@ -139,7 +139,7 @@ impl Notes {
         Ok(())
     }
 
-    // The slot rule was broken by a thread, if any.
+    /// The slot rule was broken by a thread, if any.
     fn end_at(&mut self, found: Option<u32>)
         ensures { self.new ≡ slot_broken self.old found }
     {
@@ -148,7 +148,7 @@ impl Notes {
         }
     }
 
-    // Tests the slot rule at all frames.
+    /// Tests the slot rule at all frames.
     #[tactic(auto, unfolding(crate::specs::Discipline::slots_tested))]
     pub(crate) fn test_all<S: Space>(&mut self, space: &S)
         ensures { self.new ≡ slots_tested (sight_of (S.contents space.now)) self.old }
@@ -157,7 +157,7 @@ impl Notes {
         self.end_at(found);
     }
 
-    // Tests the slot rule where only one thread, which may be displaced, and what was written can have broken it.
+    /// Tests the slot rule where only one thread, which may be displaced, and what was written can have broken it.
     #[tactic(auto, unfolding(crate::specs::Discipline::slots_tested))]
     pub(crate) fn test_touched<S: Space>(
         &mut self,
@@ -172,7 +172,7 @@ impl Notes {
         self.end_at(found);
     }
 
-    // The same where something was written.
+    /// The same where something was written.
     #[tactic(auto, unfolding(crate::specs::Discipline::slots_tested))]
     pub(crate) fn test_written<S: Space>(
         &mut self,

@@ -17,8 +17,8 @@ use ks_base::Range;
 use std::alloc::{AllocError, Global};
 use std::marker::Model;
 
-// A running thread: its number, its stack, where its ESP points, and its open frames, the newest last. There is room
-// for all frames that the stack can hold, and one more, since a frame is tested after it is opened.
+/// A running thread: its number, its stack, where its ESP points, and its open frames, the newest last. There is room
+/// for all frames that the stack can hold, and one more, since a frame is tested after it is opened.
 #[derive(Drop)]
 pub(crate) struct ThreadFrames {
     thread: u32,
@@ -40,7 +40,7 @@ impl Model for ThreadFrames {
 }
 
 impl ThreadFrames {
-    // A thread that is started: the address to which it returns at last stands where its ESP points.
+    /// A thread that is started: the address to which it returns at last stands where its ESP points.
     pub(crate) fn start(alloc: Global, thread: &Thread) -> Result<Self, AllocError>
         ensures { IfOk result (λ kept. kept ≡ started thread.now) }
     {
@@ -60,35 +60,35 @@ impl ThreadFrames {
         })
     }
 
-    // Its number.
+    /// Its number.
     pub(crate) fn number(&self) -> u32
         ensures { result ≡ self.now.thread }
     {
         self.thread
     }
 
-    // The first address of its stack.
+    /// The first address of its stack.
     pub(crate) fn low(&self) -> u32
         ensures { result ≡ self.now.stack.low }
     {
         self.stack.low
     }
 
-    // Whether its stack has an address.
+    /// Whether its stack has an address.
     pub(crate) fn stacks(&self, address: u64) -> bool
         ensures { result ≡ lies_in address self.now.stack }
     {
         u64::from(self.stack.low) <= address && address < u64::from(self.stack.high)
     }
 
-    // Its last frame.
+    /// Its last frame.
     pub(crate) fn last(&self) -> Option<Frame>
         ensures { result ≡ last_or None self.now.frames }
     {
         self.frames.last().copied()
     }
 
-    // It has made a step.
+    /// It has made a step.
     pub(crate) fn go<S: Space>(&mut self, after: &Thread, flow: Flow, space: &S)
         requires in_place { is_in_place self.old ≡ true }
         requires lower { flow ≡ Call → esp_of after.now + 4 ≡ self.old.esp }
@@ -112,7 +112,7 @@ impl ThreadFrames {
         }
     }
 
-    // Whether each frame keeps the slot rule.
+    /// Whether each frame keeps the slot rule.
     pub(crate) fn keeps_slots<S: Space>(&self, space: &S) -> bool
         ensures { result ≡ keeps_slots (S.contents space.now).pieces self.now }
     {
@@ -122,8 +122,8 @@ impl ThreadFrames {
             .all(|frame| keeps_slot(stack, esp, *frame, space))
     }
 
-    // Whether each slot is a multiple of 4 at or above ESP and inside the stack, where all but the last are multiples
-    // of 4 inside it: then the last, which is the least, tells.
+    /// Whether each slot is a multiple of 4 at or above ESP and inside the stack, where all but the last are multiples
+    /// of 4 inside it: then the last, which is the least, tells.
     pub(crate) fn is_in_place(&self) -> bool
         requires { is_based self.now ≡ true }
         ensures { result ≡ is_in_place self.now }
@@ -134,7 +134,7 @@ impl ThreadFrames {
         }
     }
 
-    // How many frames have slots above one.
+    /// How many frames have slots above one.
     fn above(&self, slot: u64) -> usize
         ensures bound { result ≤ length self.now.frames }
         ensures above { AllWithin (λ frame. slot < frame.slot) self.now.frames 0 result }
@@ -144,7 +144,7 @@ impl ThreadFrames {
             .partition_point(|frame| slot < u64::from(frame.slot))
     }
 
-    // Whether the frame that has a slot, if any, finds its address there.
+    /// Whether the frame that has a slot, if any, finds its address there.
     pub(crate) fn keeps_address<S: Space>(&self, slot: u64, space: &S) -> bool
         ensures { result ≡ keeps_address (S.contents space.now).pieces slot self.now }
     {
@@ -155,14 +155,14 @@ impl ThreadFrames {
     }
 }
 
-// The frame at a place.
+/// The frame at a place.
 fn frame_at(frames: &[Frame], place: usize) -> Option<Frame>
     ensures { result ≡ slice_get frames.now place }
 {
     frames.get(place).copied()
 }
 
-// Whether a frame keeps the slot rule.
+/// Whether a frame keeps the slot rule.
 #[tactic(auto, unfolding(ia32_step::specs::Frames::keeps_slot))]
 fn keeps_slot<S: Space>(stack: Range, esp: u32, frame: Frame, space: &S) -> bool
     ensures { result ≡ frames.keeps_slot (S.contents space.now).pieces stack esp frame }

@@ -10,37 +10,37 @@ use crate::bounds::{MAGIC, MEMORY_LIMIT, is_aligned, is_arena_placed};
 use crate::numbers::{count_of, number_of};
 use ks_base::{ImageFault, Range, Refusal};
 
-// The offset of the magic bytes.
+/// The offset of the magic bytes.
 const MAGIC_OFFSET: u32 = 0;
 
-// The offset of the number of regions.
+/// The offset of the number of regions.
 const REGIONS_OFFSET: u32 = 4;
 
-// The offset of the number of symbols.
+/// The offset of the number of symbols.
 const SYMBOLS_OFFSET: u32 = 8;
 
-// The offset of the number of stacks.
+/// The offset of the number of stacks.
 const STACKS_OFFSET: u32 = 12;
 
-// The offset of the arena's low bound.
+/// The offset of the arena's low bound.
 const ARENA_LOW_OFFSET: u32 = 16;
 
-// The offset of the arena's high bound.
+/// The offset of the arena's high bound.
 const ARENA_HIGH_OFFSET: u32 = 20;
 
-// The header has so many bytes.
+/// The header has so many bytes.
 pub(crate) const HEADER_LENGTH: u32 = 24;
 
-// A file has at most so many regions.
+/// A file has at most so many regions.
 const REGIONS_LIMIT: u32 = 1024;
 
-// A file has at most so many symbols.
+/// A file has at most so many symbols.
 const SYMBOLS_LIMIT: u32 = 65_536;
 
-// A file has at most so many stacks.
+/// A file has at most so many stacks.
 const STACKS_LIMIT: u32 = 64;
 
-// What stands before the regions.
+/// What stands before the regions.
 #[derive(Clone, Copy)]
 pub(crate) struct Header {
     pub(crate) regions: u32,
@@ -49,7 +49,7 @@ pub(crate) struct Header {
     pub(crate) arena: Range,
 }
 
-// The header of a file.
+/// The header of a file.
 #[tactic(auto, unfolding(crate::specs::Reading::header_at))]
 pub(crate) fn header_of(bytes: &[u8]) -> Result<Header, Refusal>
     ensures exact { Gives (λ header. header) result (header_at bytes.now) }

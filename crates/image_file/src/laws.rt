@@ -31,7 +31,7 @@ pub fn image_keeps_rules(image: &Image)
     fits(image.arena.high);
 }
 
-// A number of 32 bits is below 2^32.
+/// A number of 32 bits is below 2^32.
 fn fits(number: u32)
     ensures { number < 2 ^ 32 }
 {}

@@ -6,7 +6,7 @@ ghost use Rattle.image_file.specs.Rules.{no_rules, count_rules};
 
 use ks_base::{ImageFault, Refusal};
 
-// The bytes at an offset, so many.
+/// The bytes at an offset, so many.
 #[tactic(auto, unfolding(crate::specs::Fields::content_at))]
 pub(crate) fn content_of(bytes: &[u8], offset: u32, count: u32) -> Result<&[u8], Refusal>
     requires { offset + count < 2 ^ 32 }
@@ -21,7 +21,7 @@ pub(crate) fn content_of(bytes: &[u8], offset: u32, count: u32) -> Result<&[u8],
     Ok(&bytes[start..end])
 }
 
-// The number at an offset.
+/// The number at an offset.
 #[tactic(auto, unfolding(crate::specs::Fields::number_at))]
 pub(crate) fn number_of(bytes: &[u8], offset: u32) -> Result<u32, Refusal>
     requires { offset < 2 ^ 31 }
@@ -31,7 +31,7 @@ pub(crate) fn number_of(bytes: &[u8], offset: u32) -> Result<u32, Refusal>
     Ok(u32::from_le_bytes([four[0], four[1], four[2], four[3]]))
 }
 
-// The number at an offset, which has no rules.
+/// The number at an offset, which has no rules.
 pub(crate) fn plain_of(bytes: &[u8], offset: u32) -> Result<u32, Refusal>
     requires { offset < 2 ^ 31 }
     ensures { Gives (λ n. n) result (field bytes.now offset no_rules) }
@@ -39,7 +39,7 @@ pub(crate) fn plain_of(bytes: &[u8], offset: u32) -> Result<u32, Refusal>
     number_of(bytes, offset)
 }
 
-// The count at an offset, which is at most a limit.
+/// The count at an offset, which is at most a limit.
 pub(crate) fn count_of(bytes: &[u8], offset: u32, limit: u32) -> Result<u32, Refusal>
     requires { offset < 2 ^ 31 }
     ensures exact { Gives (λ n. n) result (field bytes.now offset (count_rules limit)) }

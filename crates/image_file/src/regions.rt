@@ -15,16 +15,16 @@ use image_memory::{Kind, Piece, Pieces};
 use ks_base::{Bytes, ImageFault, Range, Refusal};
 use std::alloc::Global;
 
-// The offset of a region's base, behind its kind.
+/// The offset of a region's base, behind its kind.
 const BASE_OFFSET: u32 = 4;
 
-// The offset of the number of its bytes.
+/// The offset of the number of its bytes.
 const LENGTH_OFFSET: u32 = 8;
 
-// The offset of its bytes.
+/// The offset of its bytes.
 const BYTES_OFFSET: u32 = 12;
 
-// The regions of a file, and the offset behind them.
+/// The regions of a file, and the offset behind them.
 pub(crate) fn regions_of(
     alloc: Global,
     bytes: &[u8],
@@ -55,7 +55,7 @@ pub(crate) fn regions_of(
     Ok((pieces, offset))
 }
 
-// The region at an offset, where those before it end at `floor` and have `total` bytes.
+/// The region at an offset, where those before it end at `floor` and have `total` bytes.
 #[tactic(auto, unfolding(crate::specs::Reading::region_after))]
 fn region_of(
     alloc: Global,

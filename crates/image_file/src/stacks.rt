@@ -15,10 +15,10 @@ use image_memory::Piece;
 use ks_base::{ImageFault, Range, Ranges, Refusal};
 use std::alloc::Global;
 
-// A stack has at least so many bytes.
+/// A stack has at least so many bytes.
 const LEAST_STACK: u32 = 32;
 
-// The stacks of a file from an offset on, and the offset behind them.
+/// The stacks of a file from an offset on, and the offset behind them.
 pub(crate) fn stacks_of(
     alloc: Global,
     bytes: &[u8],
@@ -52,7 +52,7 @@ pub(crate) fn stacks_of(
     Ok((stacks, offset))
 }
 
-// The stack at an offset, where those before it end at `floor` and have `total` bytes.
+/// The stack at an offset, where those before it end at `floor` and have `total` bytes.
 #[tactic(auto, unfolding(crate::specs::Reading::stack_after))]
 fn stack_of(
     bytes: &[u8],

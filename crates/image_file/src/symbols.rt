@@ -17,22 +17,22 @@ use ks_base::{ImageFault, Name, Refusal};
 use std::alloc::Global;
 use symbol_table::{Symbol, SymbolTable};
 
-// A name has at most so many bytes.
+/// A name has at most so many bytes.
 const NAME_LIMIT: u32 = 4096;
 
-// The number of a function symbol.
+/// The number of a function symbol.
 pub(crate) const FUNCTION: u32 = 1;
 
-// The number of a data symbol.
+/// The number of a data symbol.
 pub(crate) const DATA: u32 = 2;
 
-// The number of a local symbol.
+/// The number of a local symbol.
 pub(crate) const LOCAL: u32 = 0;
 
-// The number of a global symbol.
+/// The number of a global symbol.
 pub(crate) const GLOBAL: u32 = 1;
 
-// The symbols of a file from an offset on, and the offset behind them.
+/// The symbols of a file from an offset on, and the offset behind them.
 pub(crate) fn symbols_of(
     alloc: Global,
     bytes: &[u8],
@@ -60,7 +60,7 @@ pub(crate) fn symbols_of(
     Ok((SymbolTable::from_symbols(alloc, symbols)?, offset))
 }
 
-// The symbol at an offset.
+/// The symbol at an offset.
 #[tactic(auto, unfolding(crate::specs::Reading::symbol_among))]
 fn symbol_of(alloc: Global, bytes: &[u8], pieces: &[Piece], offset: u32) -> Result<Symbol, Refusal>
     requires place { offset ≤ 300000000 }
@@ -99,7 +99,7 @@ fn kind_number_of(bytes: &[u8], offset: u32, pieces: &[Piece], address: u32) -> 
     Ok(number)
 }
 
-// Whether a symbol of a kind may lie in a region of a kind, or in none.
+/// Whether a symbol of a kind may lie in a region of a kind, or in none.
 fn fits_region(number: u32, region: Option<Kind>) -> bool
     ensures { result ≡ fits_region number region }
 {
@@ -110,7 +110,7 @@ fn fits_region(number: u32, region: Option<Kind>) -> bool
     }
 }
 
-// The kind of the piece that has a byte at an address.
+/// The kind of the piece that has a byte at an address.
 fn kind_at(pieces: &[Piece], address: u32) -> Option<Kind>
     requires { ArePlaced pieces.now }
     ensures { result ≡ option_map kind_of (holding pieces.now address) }

@@ -2,7 +2,7 @@
 ghost use Rattle.std.specs.Prelude.{◌≡◌, ◌<◌, ◌^◌, ◌++◌, length, take, drop, min};
 ghost use Rattle.image_memory.specs.Access.{overlaid};
 
-// The first bytes, at most so many.
+/// The first bytes, at most so many.
 pub(crate) fn front(bytes: &[u8], count: usize) -> &[u8]
     ensures { result.now ≡ take count bytes.now }
 {
@@ -13,7 +13,7 @@ pub(crate) fn front(bytes: &[u8], count: usize) -> &[u8]
     }
 }
 
-// Copies as many bytes as fit to the front, and answers how many.
+/// Copies as many bytes as fit to the front, and answers how many.
 pub(crate) fn copy_front(into: &mut [u8], from: &[u8]) -> usize
     ensures count { result ≡ min (length into.old) (length from.now) }
     ensures copied { into.new ≡ take result from.now ++ drop result into.old }
@@ -23,8 +23,8 @@ pub(crate) fn copy_front(into: &mut [u8], from: &[u8]) -> usize
     count
 }
 
-// Puts the bytes of `from`, whose first one has the address `start`, over those of `target`, whose first
-// one has the address `at`.
+/// Puts the bytes of `from`, whose first one has the address `start`, over those of `target`, whose first
+/// one has the address `at`.
 pub(crate) fn overlay(target: &mut [u8], at: u64, start: u64, from: &[u8])
     requires target_low { at < 2 ^ 32 }
     requires from_low { start < 2 ^ 32 }

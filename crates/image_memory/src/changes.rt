@@ -21,7 +21,7 @@ pub fn put_piece(pieces: &mut Vec<Piece>, piece: Piece) -> Result<(), AllocError
     Ok(())
 }
 
-// Puts a piece where there is room for it.
+/// Puts a piece where there is room for it.
 pub(crate) fn put_spare(pieces: &mut Vec<Piece>, piece: Piece)
     requires ascend { Ascends piece_range 0 pieces.old.items }
     requires room { vec_len pieces.old < vec_capacity pieces.old }
@@ -33,7 +33,7 @@ pub(crate) fn put_spare(pieces: &mut Vec<Piece>, piece: Piece)
     insert_spare(pieces, at, piece);
 }
 
-// Puts an item at a place where there is room for it.
+/// Puts an item at a place where there is room for it.
 pub(crate) fn insert_spare<T: Drop>(items: &mut Vec<T>, at: usize, item: T)
     requires within { at ≤ vec_len items.old }
     requires room { vec_len items.old < vec_capacity items.old }
@@ -45,7 +45,7 @@ pub(crate) fn insert_spare<T: Drop>(items: &mut Vec<T>, at: usize, item: T)
     let _ = items.insert(at, item);
 }
 
-// The pieces' ranges in order.
+/// The pieces' ranges in order.
 pub(crate) fn ranges_of(alloc: Global, pieces: &Pieces) -> Result<Vec<Range>, AllocError>
     requires { ArePlaceable pieces.now }
     ensures { IfOk result (λ ranges. ranges.items ≡ map piece_range pieces.now) }

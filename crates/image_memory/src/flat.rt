@@ -57,7 +57,7 @@ impl FlatSpace {
         })
     }
 
-    // How many pieces begin at or below an address.
+    /// How many pieces begin at or below an address.
     fn begun(&self, address: u64) -> usize
         ensures bound { result ≤ vec_len self.now.pieces }
         ensures below { AllWithin (λ piece. piece.base ≤ address) self.now.pieces.items 0 result }
@@ -67,7 +67,7 @@ impl FlatSpace {
         begun(self.pieces.as_slice(), address)
     }
 
-    // The place of the piece that begins at a base.
+    /// The place of the piece that begins at a base.
     fn place_of_piece(&self, base: u32) -> usize
         requires { Any (λ piece. piece.base ≡ base) self.now.pieces.items }
         ensures within { result < vec_len self.now.pieces }
@@ -76,7 +76,7 @@ impl FlatSpace {
         self.begun(u64::from(base)) - 1
     }
 
-    // The piece that has a byte at an address.
+    /// The piece that has a byte at an address.
     fn piece_at(&self, address: u64) -> Option<&Piece>
         ensures piece { option_copied result ≡ holding self.now.pieces.items address }
         ensures holds { IfSome result (λ piece. IsTrue (lies_in address (piece_range piece.now))) }
@@ -84,7 +84,7 @@ impl FlatSpace {
         piece_at(self.pieces.as_slice(), address)
     }
 
-    // Why the first bad byte of so many from an address on can't be used.
+    /// Why the first bad byte of so many from an address on can't be used.
     fn first_fault(&self, access: Access, address: u64, count: usize) -> Option<Fault>
         requires { address + count < 2 ^ 64 }
         ensures { result ≡ first_fault
@@ -104,7 +104,7 @@ impl FlatSpace {
         None
     }
 
-    // Copies the bytes from an address on, each of which a piece holds.
+    /// Copies the bytes from an address on, each of which a piece holds.
     fn copy_out(&self, address: u64, into: &mut [u8])
         requires fits { address + length into.old < 2 ^ 64 }
         requires readable { first_fault (read_fault self.now.pieces.items) address (length into.old) ≡ None }
@@ -120,7 +120,7 @@ impl FlatSpace {
         }
     }
 
-    // How many retired ranges begin at or below an address: the place of one that begins there.
+    /// How many retired ranges begin at or below an address: the place of one that begins there.
     fn fences_begun(&self, address: u32) -> usize
         ensures bound { result ≤ vec_len self.now.fences }
         ensures below { AllWithin (λ fence. fence.range.low ≤ address) self.now.fences.items 0 result }
@@ -134,7 +134,7 @@ impl FlatSpace {
             .partition_point(|fence| fence.range.low <= address)
     }
 
-    // The place of a retired range.
+    /// The place of a retired range.
     fn place_of_fence(&self, range: Range) -> usize
         requires { Contains (map fence_range self.now.fences.items) range }
         ensures within { result < vec_len self.now.fences }
@@ -143,7 +143,7 @@ impl FlatSpace {
         self.fences_begun(range.low) - 1
     }
 
-    // The retired range that holds an address.
+    /// The retired range that holds an address.
     fn fence_at(&self, address: u32) -> Option<&Fence>
         ensures { option_copied result
             ≡ find (λ fence. lies_in address (fence_range fence)) self.now.fences.items }
@@ -160,7 +160,7 @@ impl FlatSpace {
         }
     }
 
-    // The first retired range that begins above an address.
+    /// The first retired range that begins above an address.
     fn fence_after(&self, address: u32) -> Option<&Fence>
         ensures next { option_copied result ≡ find (λ fence. nat_lt address fence.range.low) self.now.fences.items }
         ensures above { IfSome result (λ fence. address < fence.now.range.low) }
@@ -168,7 +168,7 @@ impl FlatSpace {
         nth_fence(self.fences.as_slice(), self.fences_begun(address))
     }
 
-    // How many bytes are fetched at most at an address outside the retired ranges.
+    /// How many bytes are fetched at most at an address outside the retired ranges.
     fn open_length(&self, pc: u32) -> usize
         ensures within { result ≤ 15 }
         ensures cut { (code : List ℕ) → window_of (map fence_range self.now.fences.items) pc code ≡ take result code }
@@ -179,7 +179,7 @@ impl FlatSpace {
         }
     }
 
-    // Puts bytes over those that pieces have from an address on.
+    /// Puts bytes over those that pieces have from an address on.
     fn put_bytes(&mut self, address: u64, from: &[u8])
         requires { address < 2 ^ 32 }
         ensures contents { ⟦<FlatSpace as Space>⟧.contents self.new
@@ -191,7 +191,7 @@ impl FlatSpace {
         overlay_pieces(alloc, self.pieces.as_mut_slice(), first, address, from);
     }
 
-    // The bytes from an address to the end of the code piece that holds it.
+    /// The bytes from an address to the end of the code piece that holds it.
     fn code_from(&self, pc: u32) -> Option<&[u8]>
         ensures { option_copied result ≡ code_from self.now.pieces.items pc }
     {
@@ -212,8 +212,8 @@ fn at_most_15(count: usize) -> usize
     count.min(WINDOW_LENGTH)
 }
 
-// Puts bytes over those that pieces have from an address on. The pieces before `first` end at or below
-// it.
+/// Puts bytes over those that pieces have from an address on. The pieces before `first` end at or below
+/// it.
 fn overlay_pieces(alloc: Global, pieces: &mut [Piece], first: usize, start: u64, from: &[u8])
     requires low { start < 2 ^ 32 }
     requires first { first ≤ length pieces.old }

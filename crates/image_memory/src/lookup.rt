@@ -7,7 +7,7 @@ ghost use Rattle.image_memory.specs.Contents.{piece_range, holding};
 
 use crate::types::Piece;
 
-// How many pieces begin at or below an address.
+/// How many pieces begin at or below an address.
 pub(crate) fn begun(pieces: &[Piece], address: u64) -> usize
     requires { Ascends piece_range 0 pieces.now }
     ensures bound { result ≤ length pieces.now }

@@ -14,7 +14,7 @@ use std::alloc::Global;
 use std::mem;
 
 impl Access {
-    // Why data of a piece of a kind, or of no piece, can't be used so.
+    /// Why data of a piece of a kind, or of no piece, can't be used so.
     pub(crate) fn fault(self, kind: Option<Kind>) -> Option<Fault>
         ensures { result ≡ access_fault self kind }
     {
@@ -29,7 +29,7 @@ impl Access {
 }
 
 impl Piece {
-    // The addresses of its bytes.
+    /// The addresses of its bytes.
     pub(crate) fn range(&self) -> Range
         requires { (piece_range self.now).high < 2 ^ 32 }
         ensures { result ≡ piece_range self.now }
@@ -40,7 +40,7 @@ impl Piece {
         }
     }
 
-    // Whether the piece has a byte at an address.
+    /// Whether the piece has a byte at an address.
     pub(crate) fn holds(&self, address: u64) -> bool
         ensures { result ≡ lies_in address (piece_range self.now) }
     {
@@ -48,7 +48,7 @@ impl Piece {
         base <= address && address - base < self.bytes.len() as u64
     }
 
-    // The bytes from an address of the piece to its end.
+    /// The bytes from an address of the piece to its end.
     pub(crate) fn rest_from(&self, address: u64) -> &[u8]
         requires { IsTrue (lies_in address (piece_range self.now)) }
         ensures rest { result.now ≡ drop (address - self.now.base) self.now.bytes }
@@ -59,7 +59,7 @@ impl Piece {
         &self.bytes.as_slice()[offset..]
     }
 
-    // The bytes from an address of the piece to its end, where it is code.
+    /// The bytes from an address of the piece to its end, where it is code.
     pub(crate) fn code_from(&self, pc: u32) -> Option<&[u8]>
         requires { IsTrue (lies_in pc (piece_range self.now)) }
         ensures { option_copied result ≡ code_in pc (Some self.now) }
@@ -71,7 +71,7 @@ impl Piece {
         }
     }
 
-    // Puts bytes over those that the piece has from an address on.
+    /// Puts bytes over those that the piece has from an address on.
     pub(crate) fn overlay(&mut self, alloc: Global, start: u64, from: &[u8])
         requires { start < 2 ^ 32 }
         ensures { self.new ≡ overlaid_piece start from.now self.old }
@@ -83,14 +83,14 @@ impl Piece {
 }
 
 impl Fence {
-    // Whether a jump stands at the address, at the range's low.
+    /// Whether a jump stands at the address, at the range's low.
     pub(crate) fn is_home(&self, pc: u32) -> bool
         ensures { result ≡ (self.now.jump && (self.now.range.low == pc)) }
     {
         self.jump && self.range.low == pc
     }
 
-    // What is fetched at an address of the range, where these code bytes stand from it on.
+    /// What is fetched at an address of the range, where these code bytes stand from it on.
     pub(crate) fn window(&self, pc: u32, bytes: &[u8]) -> Result<Window, Fault>
         ensures { result ≡ window_for (if self.now.jump && (self.now.range.low == pc) then AtHome else Stray)
             (take 5 bytes.now) }
@@ -104,7 +104,7 @@ impl Fence {
 }
 
 impl Window {
-    // At most 15 bytes as a window.
+    /// At most 15 bytes as a window.
     pub(crate) fn of(bytes: &[u8]) -> Self
         requires { length bytes.now ≤ 15 }
         ensures { result ≡ shown bytes.now }
@@ -120,7 +120,7 @@ impl Window {
         }
     }
 
-    // Fifteen bytes as a window, as nearly all are: a copy of a length that is known is a quick one.
+    /// Fifteen bytes as a window, as nearly all are: a copy of a length that is known is a quick one.
     fn whole(bytes: &[u8]) -> Self
         requires { length bytes.now ≡ 15 }
         ensures { result ≡ shown bytes.now }

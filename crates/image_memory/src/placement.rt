@@ -4,7 +4,7 @@ ghost use Rattle.image_memory.specs.Contents.{ArePlaced, piece_range};
 
 use crate::types::{Piece, Pieces};
 
-// No piece ends above this address.
+/// No piece ends above this address.
 const END_LIMIT: u64 = 0xFFFF_0000;
 
 /// Whether no piece is empty, none ends above 0xFFFF0000, and they ascend by base without meeting.
@@ -21,7 +21,7 @@ pub fn are_placed(pieces: &Pieces) -> bool
     true
 }
 
-// Whether a piece begins at or above an address, isn't empty, and doesn't end above the limit.
+/// Whether a piece begins at or above an address, isn't empty, and doesn't end above the limit.
 fn fits_from(piece: &Piece, floor: u64) -> bool
     ensures { IsTrue result ↔ ((floor ≤ piece.now.base) × (0 < length piece.now.bytes)
         × ((piece_range piece.now).high ≤ 0xFFFF_0000)) }

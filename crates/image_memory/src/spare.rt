@@ -8,8 +8,8 @@ use ks_base::Range;
 use std::alloc::Global;
 use std::marker::Model;
 
-// Ranges in order, of which the first ones were taken. A clause sees those that are left, so that taking them in order
-// moves none of them.
+/// Ranges in order, of which the first ones were taken. A clause sees those that are left, so that taking them in order
+/// moves none of them.
 #[derive(Drop)]
 pub(crate) struct SpareRanges {
     ranges: Vec<Range>,
@@ -28,28 +28,28 @@ impl Model for SpareRanges {
 }
 
 impl SpareRanges {
-    // No range.
+    /// No range.
     pub(crate) fn new(alloc: Global) -> Self
         ensures { result ≡ [] }
     {
         SpareRanges::from_vec(Vec::new(alloc))
     }
 
-    // All of these ranges.
+    /// All of these ranges.
     pub(crate) fn from_vec(ranges: Vec<Range>) -> Self
         ensures { result ≡ ranges.items }
     {
         SpareRanges { ranges, taken: 0 }
     }
 
-    // The ranges that are left.
+    /// The ranges that are left.
     fn left(&self) -> &[Range]
         ensures { result.now ≡ self.now }
     {
         &self.ranges[self.taken..]
     }
 
-    // Leaves no range.
+    /// Leaves no range.
     pub(crate) fn clear(&mut self)
         ensures { self.new ≡ [] }
     {
@@ -57,7 +57,7 @@ impl SpareRanges {
         self.taken = 0;
     }
 
-    // Takes the first range that is this one. It is found at once where ranges are taken in their order.
+    /// Takes the first range that is this one. It is found at once where ranges are taken in their order.
     pub(crate) fn take_first(&mut self, range: Range)
         requires { Contains self.old range }
         ensures left { self.new ≡ without_first range self.old }
@@ -74,7 +74,7 @@ impl SpareRanges {
     }
 }
 
-// The first place at which a range stands.
+/// The first place at which a range stands.
 fn place_of(ranges: &[Range], range: Range) -> Option<usize>
     ensures { result ≡ position (λ other. are_same other range) ranges.now }
 {

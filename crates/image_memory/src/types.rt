@@ -47,7 +47,7 @@ pub struct Fence {
 /// How many bytes the jump at a spliced home has.
 pub const JUMP_LENGTH: usize = 5;
 
-// A window has at most so many bytes.
+/// A window has at most so many bytes.
 pub(crate) const WINDOW_LENGTH: usize = 15;
 
 /// What is fetched at an address.

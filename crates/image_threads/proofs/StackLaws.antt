@@ -117,7 +117,8 @@ stacks_after_write start bytes pieces ranges h =
 abbrev has_shape : Range → Kind × Range → Bool
 has_shape range s = is_writable s.0 && are_same s.1 range
 
-by_shape : (pieces : List Piece) (range : Range) → is_stack pieces range ≡ list_any (has_shape range) (map shape_of pieces)
+by_shape : (pieces : List Piece) (range : Range) → is_stack pieces range ≡ list_any (has_shape range)
+    (map shape_of pieces)
 by_shape [] range = refl
 by_shape (p ∷ ps) range = ap (λ (b : Bool). has_shape range (shape_of p) || b) (by_shape ps range)
 

@@ -21,7 +21,7 @@ const MOST_THREADS: usize = 4_096;
 #[derive(Drop)]
 pub(crate) struct ThreadList {
     threads: Threads,
-    // the numbers of the threads that run, ascending: no more than there are stacks
+    /// the numbers of the threads that run, ascending: no more than there are stacks
     running: Vec<u32>,
 }
 

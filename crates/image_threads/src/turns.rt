@@ -13,9 +13,9 @@ use std::marker::Model;
 /// Whose turn it is.
 #[derive(Clone, Copy)]
 struct Turn {
-    // the thread's number
+    /// the thread's number
     thread: u32,
-    // how many steps of the turn it has had
+    /// how many steps of the turn it has had
     had: u32,
 }
 

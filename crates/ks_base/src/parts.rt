@@ -6,7 +6,7 @@ use crate::places::Name;
 use crate::reply::Line;
 use std::alloc::AllocError;
 
-// A part of a line: words as they stand, a number in decimal, a name, an address, an offset.
+/// A part of a line: words as they stand, a number in decimal, a name, an address, an offset.
 #[derive(Clone, Copy)]
 pub(crate) enum Part<'a> {
     Words(&'a str),
@@ -16,7 +16,7 @@ pub(crate) enum Part<'a> {
     Offset(u32),
 }
 
-// Appends a part.
+/// Appends a part.
 fn put_part(line: &mut Line, part: Part<'_>) -> Result<(), AllocError>
     ensures { OnOk result (line.new ≡ line.old ++ part_text part.entry) }
 {
@@ -29,7 +29,7 @@ fn put_part(line: &mut Line, part: Part<'_>) -> Result<(), AllocError>
     }
 }
 
-// Appends parts one after another.
+/// Appends parts one after another.
 pub(crate) fn put_parts(line: &mut Line, parts: &[Part<'_>]) -> Result<(), AllocError>
     ensures { OnOk result (line.new ≡ line.old ++ parts_text parts.now) }
 {

@@ -77,7 +77,7 @@ fn name_of_register(number: u8) -> &'static str
     }
 }
 
-// The text of a thread that stands in a range: where it has which address of it.
+/// The text of a thread that stands in a range: where it has which address of it.
 fn put_busy(line: &mut Line, standing: Standing) -> Result<(), AllocError>
     ensures { OnOk result (line.new ≡ line.old ++ busy_text standing.thread standing.place standing.value) }
 {
@@ -121,7 +121,7 @@ fn put_busy(line: &mut Line, standing: Standing) -> Result<(), AllocError>
     }
 }
 
-// The text of what two candidates give two values, before these values.
+/// The text of what two candidates give two values, before these values.
 fn put_conflict_name(line: &mut Line, unknown: &ConflictName) -> Result<(), AllocError>
     ensures { OnOk result (line.new ≡ line.old ++ conflict_name_text unknown.now) }
 {
@@ -139,7 +139,7 @@ fn put_conflict_name(line: &mut Line, unknown: &ConflictName) -> Result<(), Allo
     }
 }
 
-// The text of a value and of the place where it stands.
+/// The text of a value and of the place where it stands.
 fn put_value_at(line: &mut Line, value: u32, at: &Spot) -> Result<(), AllocError>
     ensures { OnOk result (line.new ≡ line.old ++ value_at_text value at.now) }
 {
@@ -191,7 +191,7 @@ fn put_mismatch(line: &mut Line, section: &Name, difference: Difference) -> Resu
     )
 }
 
-// The text of a refusal; nothing for want of memory.
+/// The text of a refusal; nothing for want of memory.
 #[tactic(auto, unfolding(crate::specs::Refusals::refusal_text))]
 fn put_refusal_text(line: &mut Line, refusal: &Refusal) -> Result<(), AllocError>
     ensures { OnOk result (line.new ≡ line.old ++ refusal_text refusal.now) }

@@ -108,7 +108,7 @@ impl Line {
     }
 }
 
-// The character of a number's lowest hexadecimal digit.
+/// The character of a number's lowest hexadecimal digit.
 fn low_digit(n: u32) -> u8
     ensures { result ≡ hex_digit (n % 16) }
 {
@@ -146,7 +146,7 @@ fn byte_characters(byte: u8) -> [u8; 2]
     [low_digit(n / 0x10), low_digit(n)]
 }
 
-// Appends the digits of a number in a base, the highest first, and none for zero.
+/// Appends the digits of a number in a base, the highest first, and none for zero.
 #[tactic(auto, using(crate::proofs::TextLaws::digit_laws))]
 fn push_digits(digits: &mut Vec<u8>, base: u64, n: u64) -> Result<(), AllocError>
     requires low { 2 ≤ base }
@@ -161,7 +161,7 @@ fn push_digits(digits: &mut Vec<u8>, base: u64, n: u64) -> Result<(), AllocError
     Ok(())
 }
 
-// Appends a number in a base.
+/// Appends a number in a base.
 #[tactic(auto, unfolding(crate::specs::Text::digits_text))]
 fn push_number(digits: &mut Vec<u8>, base: u64, n: u64) -> Result<(), AllocError>
     requires low { 2 ≤ base }
@@ -199,7 +199,7 @@ fn stands_for_itself(byte: u8) -> bool
     (0x21..=0x7e).contains(&byte) && byte != b'\\'
 }
 
-// Appends one byte of a name.
+/// Appends one byte of a name.
 #[tactic(auto, using(crate::proofs::TextLaws::append_laws), unfolding(crate::specs::Text::shown_byte))]
 fn push_shown(characters: &mut Vec<u8>, byte: u8) -> Result<(), AllocError>
     ensures { OnOk result (characters.new.items ≡ characters.old.items ++ shown_byte byte) }

@@ -37,7 +37,7 @@ pub fn load_all<F: Files>(
     Ok(held)
 }
 
-// The bytes of a file, in no more room than they need.
+/// The bytes of a file, in no more room than they need.
 fn load_one<F: Files>(alloc: Global, files: &mut F, file: &Wanted<'_>) -> Result<Vec<u8>, FileFault>
     ensures held { IfOk result (λ bytes. CameTo (F.told files.old)
         (needed_by file.now ∷ []) (bytes.items ∷ []) None (F.counts files.old) (F.counts files.new)) }

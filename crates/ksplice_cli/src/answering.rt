@@ -61,7 +61,7 @@ pub fn ksplice<F: Files, O: Sink>(
     }
 }
 
-// Carries out what the words ask for.
+/// Carries out what the words ask for.
 fn carry_out<F: Files, O: Sink>(
     alloc: Global,
     command: Command<'_>,

@@ -21,7 +21,7 @@ pub fn compare<'a>(alloc: Global, pre: &'a [u8], post: &'a [u8]) -> Result<Line,
     difference(alloc, &both.0, &both.1)
 }
 
-// The sections of both objects, the first one's read first.
+/// The sections of both objects, the first one's read first.
 #[tactic(auto, unfolding(crate::specs::Reply::both_sections))]
 fn read_both<'a>(
     alloc: Global,

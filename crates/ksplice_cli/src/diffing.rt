@@ -40,7 +40,7 @@ pub fn diff<F: Files, O: Sink>(
     }
 }
 
-// Writes the reply of a comparison, or its refusal.
+/// Writes the reply of a comparison, or its refusal.
 #[tactic(auto, using(ks_io::specs::Fronts::nothing_taken))]
 fn print_difference<O: Sink>(alloc: Global, pre: &[u8], post: &[u8], out: &mut O) -> Status
     ensures answer { OneComesOut (IsReply pre.now post.now) (O.taken out.old) (O.taken out.new) result.code }

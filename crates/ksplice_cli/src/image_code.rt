@@ -45,7 +45,7 @@ pub fn code<F: Files, O: Sink>(
     }
 }
 
-// Writes the instructions of a function of an image, or why there are none.
+/// Writes the instructions of a function of an image, or why there are none.
 #[tactic(auto, using(ks_io::specs::Fronts::nothing_taken))]
 fn print_code<O: Sink>(alloc: Global, bytes: &[u8], name: &str, out: &mut O) -> Status
     ensures status { is_carried_out result.code ≡ true }
@@ -62,7 +62,7 @@ fn print_code<O: Sink>(alloc: Global, bytes: &[u8], name: &str, out: &mut O) -> 
     }
 }
 
-// The instructions of a function of an image file.
+/// The instructions of a function of an image file.
 #[tactic(auto, unfolding(crate::specs::Reply::code_reply))]
 fn read_code(alloc: Global, bytes: &[u8], name: &str) -> Result<Listing, Refusal>
     ensures { Gives (λ lines. lines) result (code_reply bytes.now name.now) }
@@ -72,7 +72,7 @@ fn read_code(alloc: Global, bytes: &[u8], name: &str) -> Result<Listing, Refusal
     list_code(alloc, image, &name)
 }
 
-// Writes the pages of a listing, one after another.
+/// Writes the pages of a listing, one after another.
 fn print_listing<O: Sink>(alloc: Global, listing: &mut Listing, out: &mut O) -> Status
     ensures status { is_carried_out result.code ≡ true }
     ensures answer { ComesOut (answer_of listing.old 0) (O.taken out.old) (O.taken out.new) result.code }
@@ -88,7 +88,7 @@ fn print_listing<O: Sink>(alloc: Global, listing: &mut Listing, out: &mut O) -> 
     }
 }
 
-// Writes the next page of a listing; the status, where the listing ends with it.
+/// Writes the next page of a listing; the status, where the listing ends with it.
 #[tactic(auto, using(ks_io::specs::Fronts::nothing_taken, ks_io::specs::Fronts::front_of_part, crate::proofs::Pages::page_came_out))]
 fn print_page<O: Sink>(alloc: Global, listing: &mut Listing, out: &mut O) -> Option<Status>
     ensures status { IfSome result (λ status. is_carried_out status.code ≡ true) }

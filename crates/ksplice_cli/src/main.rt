@@ -28,7 +28,7 @@ use std::env;
 use std::io::{self, ErrorKind};
 use std::process::ExitCode;
 
-// The words after the program's name.
+/// The words after the program's name.
 fn words_of(rt: &HostRuntime) -> io::Result<Vec<String>> {
     let mut words = Vec::new(rt.alloc());
     for word in env::args(rt)?.skip(1) {
@@ -37,7 +37,7 @@ fn words_of(rt: &HostRuntime) -> io::Result<Vec<String>> {
     Ok(words)
 }
 
-// Carries out the call that the words ask for.
+/// Carries out the call that the words ask for.
 fn run(rt: &HostRuntime) -> Status
     ensures { is_status result.code ≡ true }
 {

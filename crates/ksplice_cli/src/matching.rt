@@ -52,7 +52,7 @@ pub fn match_object<F: Files, O: Sink>(
     }
 }
 
-// Writes the values of an object in an image, or why there are none.
+/// Writes the values of an object in an image, or why there are none.
 #[tactic(auto, using(ks_io::specs::Fronts::nothing_taken))]
 fn print_solution<O: Sink>(alloc: Global, image: Vec<u8>, pre: &[u8], out: &mut O) -> Status
     ensures answer { OneComesOut

@@ -60,7 +60,7 @@ impl<R: rt::Files> Files for RealFiles<'_, R> {
     }
 }
 
-// Opens a file and reads it whole.
+/// Opens a file and reads it whole.
 fn read_file<R: rt::Files>(
     rt: &R,
     name: &str,
@@ -74,8 +74,8 @@ fn read_file<R: rt::Files>(
     read_at_most(file, limit, into)
 }
 
-// Reads all that a reader has left, where that is no more than `limit` bytes: it is never cut. Of a longer one `limit`
-// and one bytes are read, and it is too long.
+/// Reads all that a reader has left, where that is no more than `limit` bytes: it is never cut. Of a longer one `limit`
+/// and one bytes are read, and it is too long.
 fn read_at_most<S: Read + Drop>(source: S, limit: u32, into: &mut Vec<u8>) -> Result<(), FileFault>
     requires { into.old.items ≡ [] }
     ensures at_most { OnOk result (length into.new.items ≤ limit) }
@@ -90,7 +90,7 @@ fn read_at_most<S: Read + Drop>(source: S, limit: u32, into: &mut Vec<u8>) -> Re
     }
 }
 
-// The fault of a file by the error that came of it. A folder isn't missing, nor is a file that can't be read.
+/// The fault of a file by the error that came of it. A folder isn't missing, nor is a file that can't be read.
 fn fault_of(error: &Error) -> FileFault
     ensures missing { (result ≡ FileFault.Missing) ↔ (error_kind error.now ≡ ErrorKind.NotFound) }
     ensures memory { (result ≡ FileFault.Memory) ↔ (error_kind error.now ≡ ErrorKind.OutOfMemory) }
@@ -139,7 +139,7 @@ impl<R: Print> Sink for RealSink<'_, R> {
     }
 }
 
-// Writes a front of the piece and flushes it; answers how many bytes that is.
+/// Writes a front of the piece and flushes it; answers how many bytes that is.
 fn write_through<W: Write>(output: &mut W, piece: &[u8]) -> io::Result<usize>
     ensures within { IfOk result (λ count. count ≤ length piece.now) }
     ensures front { IfOk result

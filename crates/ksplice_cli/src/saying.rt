@@ -52,7 +52,7 @@ pub fn refuse<O: Sink>(alloc: Global, refusal: &Refusal, out: &mut O) -> Status
     }
 }
 
-// The status of a refusal.
+/// The status of a refusal.
 fn status_of(refusal: &Refusal) -> Status
     ensures { result.code ≡ refused_status refusal.now }
 {

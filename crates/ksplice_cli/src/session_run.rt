@@ -57,7 +57,7 @@ pub fn run<F: Files, O: Sink>(
     }
 }
 
-// Runs the session of an image file and a script file, or writes why there is none.
+/// Runs the session of an image file and a script file, or writes why there is none.
 #[tactic(auto, using(ks_io::specs::Fronts::nothing_taken))]
 fn print_session<F: Files, O: Sink>(
     alloc: Global,
@@ -87,7 +87,7 @@ fn print_session<F: Files, O: Sink>(
     }
 }
 
-// The session of an image file, and the lines of a script file. The image is read first. Their bytes are gone then.
+/// The session of an image file, and the lines of a script file. The image is read first. Their bytes are gone then.
 #[tactic(auto, unfolding(crate::specs::Reply::session_of))]
 fn read_session(
     alloc: Global,
@@ -103,7 +103,7 @@ fn read_session(
     Ok((session, script))
 }
 
-// The status of a session's end.
+/// The status of a session's end.
 fn status_of(end: SessionEnd) -> Status
     ensures { result.code ≡ end_status end }
 {

@@ -30,14 +30,14 @@ pub fn list_solution(alloc: Global, image: Vec<u8>, pre: &[u8]) -> Result<Line, 
     list_matched(alloc, image, &object)
 }
 
-// The image that a file holds, whose bytes are gone then.
+/// The image that a file holds, whose bytes are gone then.
 fn image_of(alloc: Global, bytes: Vec<u8>) -> Result<Image, Refusal>
     ensures { Gives contents_of result (image_of bytes.items) }
 {
     read_image(alloc, &bytes)
 }
 
-// The lines of an object in an image in which nothing was replaced.
+/// The lines of an object in an image in which nothing was replaced.
 fn list_matched(alloc: Global, image: Image, object: &Normal<'_>) -> Result<Line, Refusal>
     ensures { Gives (λ lines. lines) result
         (matched_in (contents_of image) (Ok object.now)) }
@@ -47,14 +47,14 @@ fn list_matched(alloc: Global, image: Image, object: &Normal<'_>) -> Result<Line
     Ok(list_values(alloc, object, &values)?)
 }
 
-// The newest bases where nothing was replaced.
+/// The newest bases where nothing was replaced.
 fn no_bodies(alloc: Global) -> Bodies
     ensures { result ≡ [] }
 {
     Bodies::new(Vec::new(alloc))
 }
 
-// The lines of an object's values, in their order.
+/// The lines of an object's values, in their order.
 #[tactic(auto, unfolding(crate::specs::Solution::value_lines))]
 fn list_values(alloc: Global, object: &Normal<'_>, values: &Values) -> Result<Line, AllocError>
     ensures { IfOk result (λ lines. lines ≡ value_lines object.now values.now.entries) }
@@ -107,7 +107,7 @@ fn put_named(lines: &mut Line, kind: &str, name: &Name) -> Result<(), AllocError
     lines.put_name(name)
 }
 
-// Where a function has its home, or where a section or name is.
+/// Where a function has its home, or where a section or name is.
 fn address_in(solved: Solved) -> u32
     ensures { result ≡ address_in solved }
 {

@@ -27,8 +27,8 @@ rr 3
 0x00100000: b8 01
 ";
 
-// The sink's bytes and the status of a call, over files of which the numbered loads fail and a sink whose numbered
-// writes fail and that takes at most so many bytes a write.
+/// The sink's bytes and the status of a call, over files of which the numbered loads fail and a sink whose numbered
+/// writes fail and that takes at most so many bytes a write.
 fn answer(
     alloc: Global,
     words: &[&str],
@@ -68,7 +68,7 @@ fn answer(
     Ok((Vec::from_slice(alloc, out.taken())?, status.code))
 }
 
-// The scripts.
+/// The scripts.
 fn put_scripts(files: &mut MemoryFiles) -> Result<(), Fail> {
     files.put("script", SCRIPT.as_bytes())?;
     files.put("refused", b"spawn nope 0\nstep 7 1\nspawn f 0\nspawn f 0")?;
@@ -306,7 +306,7 @@ fn sessions(rt: HostRuntime) -> Result<(), Fail> {
     compare_answers(&rt, rt.alloc(), &calls)
 }
 
-// Makes each call over files and a sink that don't fail, and compares its output and status with these.
+/// Makes each call over files and a sink that don't fail, and compares its output and status with these.
 fn compare_answers(
     rt: &impl Abort,
     alloc: Global,
@@ -327,8 +327,8 @@ fn faults_of_the_outside(rt: HostRuntime) -> Result<(), Fail> {
     let code: [&str; 3] = ["code", "program", "f"];
     let matches: [&str; 3] = ["match", "pair", "start"];
     let run: [&str; 3] = ["run", "program", "script"];
-    // the words, the numbers of the loads and of the writes that fail, the most bytes that a write takes, the output and
-    // the status
+    // the words, the numbers of the loads and of the writes that fail, the most bytes that a write takes, the output
+    // and the status
     let calls: [(&[&str], &[u64], &[u64], usize, &str, u8); 19] = [
         (&diff, &[1], &[], 100, "file one failed\n", 4),
         (&diff, &[2], &[], 100, "file two failed\n", 4),
@@ -366,8 +366,8 @@ fn faults_of_the_outside(rt: HostRuntime) -> Result<(), Fail> {
     Ok(())
 }
 
-// A call that memory is wanting for ends with 6 and a front of its output. `rt try --test --fail-alloc N` makes the
-// allocation of this number fail; where that is one for the files, no call is made, and the test ends with that.
+/// A call that memory is wanting for ends with 6 and a front of its output. `rt try --test --fail-alloc N` makes the
+/// allocation of this number fail; where that is one for the files, no call is made, and the test ends with that.
 #[test]
 fn want_of_memory(rt: HostRuntime) -> Result<(), Fail> {
     let alloc = rt.alloc();

@@ -18,7 +18,7 @@ pub fn read_words(words: &[String]) -> Option<Command<'_>>
     command_in(words)
 }
 
-// Whether some word is an option.
+/// Whether some word is an option.
 fn has_option(words: &[String]) -> bool
     ensures { result ≡ list_any begins_with_dash (map string_bytes words.now) }
 {
@@ -30,7 +30,7 @@ fn has_option(words: &[String]) -> bool
     false
 }
 
-// Whether a word is an option: there are none that a command takes.
+/// Whether a word is an option: there are none that a command takes.
 fn is_option(word: &[u8]) -> bool
     ensures { result ≡ begins_with_dash word.now }
 {
@@ -40,7 +40,7 @@ fn is_option(word: &[u8]) -> bool
     }
 }
 
-// The command of words that are no options.
+/// The command of words that are no options.
 fn command_in(words: &[String]) -> Option<Command<'_>>
     ensures { option_map asked_by result ≡ command_of (map string_bytes words.now) }
 {

@@ -159,7 +159,7 @@ fn answer_apply(
     answer_trial(alloc, session, &trial, tries, gap)
 }
 
-// Tries an update, and again, with steps of the threads in turn between two tries, while a thread stands in its way.
+/// Tries an update, and again, with steps of the threads in turn between two tries, while a thread stands in its way.
 fn answer_trial(
     alloc: Global,
     session: &mut Session,
@@ -182,14 +182,14 @@ fn answer_trial(
     answer_outcome(alloc, trial.name, tries, outcome)
 }
 
-// Whether a thread stood in the way.
+/// Whether a thread stood in the way.
 fn is_busy(outcome: &Result<Report, Refusal>) -> bool
     ensures { result ≡ is_busy outcome.now }
 {
     matches!(outcome, Err(Refusal::Busy(_)))
 }
 
-// The answer to a try of a number, by what came of it.
+/// The answer to a try of a number, by what came of it.
 fn answer_outcome(
     alloc: Global,
     name: &Name,
@@ -204,7 +204,7 @@ fn answer_outcome(
     }
 }
 
-// The answer to a line that isn't refused.
+/// The answer to a line that isn't refused.
 fn told(line: Result<Line, AllocError>) -> Result<Answer, AllocError>
     ensures { IfOk result (λ answer. (line ≡ Ok answer.line) × (answer.refused ≡ false)) }
 {
@@ -215,7 +215,7 @@ fn told(line: Result<Line, AllocError>) -> Result<Answer, AllocError>
     })
 }
 
-// The answer to a line that is refused. Want of memory has none.
+/// The answer to a line that is refused. Want of memory has none.
 fn refused(alloc: Global, refusal: &Refusal) -> Result<Answer, AllocError>
     ensures { IfOk result (λ answer. (answer ≡ record { line = refusal_line refusal.now; refused = true })
         × (refusal.now ≢ Memory)) }

@@ -56,7 +56,7 @@ fn no_files() -> Loads<'static>
     }
 }
 
-// Two object files of names that a line writes.
+/// Two object files of names that a line writes.
 fn object_files<'a>(pre: &'a Name, post: &'a Name) -> Loads<'a>
     requires pre { IsPrintable pre.now }
     requires post { IsPrintable post.now }
@@ -68,7 +68,7 @@ fn object_files<'a>(pre: &'a Name, post: &'a Name) -> Loads<'a>
     }
 }
 
-// An object file of a name that a line writes.
+/// An object file of a name that a line writes.
 fn object_file(name: &Name) -> Wanted<'_>
     requires { IsPrintable name.now }
     ensures { needed_by result ≡ object_file name.now }
@@ -111,7 +111,7 @@ fn file_line(alloc: Global, name: &str, fault: FileFault) -> Result<Line, AllocE
     Ok(line)
 }
 
-// Why a file was not loaded. Want of memory has no word.
+/// Why a file was not loaded. Want of memory has no word.
 fn fault_word(fault: FileFault) -> &'static str
     ensures { result.now ≡ fault_text fault }
 {

@@ -24,7 +24,7 @@ pub(crate) fn all_pieces(
     Ok(Pieces::from_vec(pieces))
 }
 
-// Puts the pieces of stacks among pieces, the last stack first.
+/// Puts the pieces of stacks among pieces, the last stack first.
 fn put_stacks(alloc: Global, pieces: &mut Vec<Piece>, stacks: &[Range]) -> Result<(), AllocError>
     requires placed { ArePlaced pieces.old.items }
     requires stacks { FitAmong pieces.old.items stacks.now }
@@ -41,7 +41,7 @@ fn put_stacks(alloc: Global, pieces: &mut Vec<Piece>, stacks: &[Range]) -> Resul
     }
 }
 
-// A stack at first.
+/// A stack at first.
 fn stack_piece(alloc: Global, stack: Range) -> Result<Piece, AllocError>
     ensures { IfOk result (λ piece. piece ≡ stack_piece stack) }
 {

@@ -57,7 +57,7 @@ pub fn run_session<F: Files, O: Sink>(
     run_script(alloc, session, script, files, out)
 }
 
-// The same, by the lines that are run.
+/// The same, by the lines that are run.
 fn run_script<F: Files, O: Sink>(
     alloc: Global,
     session: &mut Session,
@@ -105,7 +105,7 @@ fn run_lines<F: Files, O: Sink>(
     Ok(refused)
 }
 
-// Runs a line when its files were loaded, and answers whether its reply is a refusal.
+/// Runs a line when its files were loaded, and answers whether its reply is a refusal.
 fn run_line<F: Files, O: Sink>(
     alloc: Global,
     session: &mut Session,
@@ -130,7 +130,7 @@ fn run_line<F: Files, O: Sink>(
     }
 }
 
-// Runs a line that has its files, and writes its reply.
+/// Runs a line that has its files, and writes its reply.
 fn reply<O: Sink>(
     alloc: Global,
     session: &mut Session,
@@ -152,7 +152,7 @@ fn reply<O: Sink>(
     }
 }
 
-// What a line ends with whose reply was written, or not.
+/// What a line ends with whose reply was written, or not.
 fn written_end(written: Result<(), SinkFault>, refused: bool) -> Result<bool, SessionEnd>
     ensures { result ≡ written_end written refused }
 {
@@ -163,7 +163,7 @@ fn written_end(written: Result<(), SinkFault>, refused: bool) -> Result<bool, Se
     }
 }
 
-// How the session ends at a file that was not loaded, when its line was written.
+/// How the session ends at a file that was not loaded, when its line was written.
 fn end_at_file<O: Sink>(
     alloc: Global,
     file: &Wanted<'_>,
@@ -182,7 +182,7 @@ fn end_at_file<O: Sink>(
     file_end(write_file_line(alloc, file.name, fault, out))
 }
 
-// What the session ends with when the line of a file was written, or not.
+/// What the session ends with when the line of a file was written, or not.
 fn file_end(written: Result<(), SinkFault>) -> SessionEnd
     ensures { result ≡ file_end written }
 {

@@ -14,11 +14,11 @@ use image_threads::Turns;
 use splice_jump::{homes_stay_spliced, jumps_change_their_bytes_alone, jumps_leave_views};
 use update_stack::steps_stand;
 
-// The number of the register ESP.
+/// The number of the register ESP.
 const ESP: usize = 4;
 
 impl Session {
-    // A step of the running thread of a number, and whether there is one. It takes no memory.
+    /// A step of the running thread of a number, and whether there is one. It takes no memory.
     fn step(&mut self, thread: u32) -> bool
         ensures runs { result ≡ is_some (running_at self.old.machine.threads thread) }
         ensures after { self.new ≡ watched_after self.old (Step thread) }
@@ -61,7 +61,7 @@ impl Session {
         count
     }
 
-    // A step of the thread whose turn it is, and whether there is one. It takes no memory.
+    /// A step of the thread whose turn it is, and whether there is one. It takes no memory.
     fn turn(&mut self, turns: &mut Turns) -> bool
         ensures runs { result ≡ is_some (next_turn turns.old self.old.machine.threads) }
         ensures after { self.new ≡ watched_taken self.old (next_turn turns.old self.old.machine.threads) }
@@ -92,7 +92,7 @@ impl Session {
     }
 }
 
-// The registers of a thread are eight numbers of 32 bits.
+/// The registers of a thread are eight numbers of 32 bits.
 fn registers_fit(registers: &[u32; 8])
     ensures count { length registers.now ≡ 8 }
     ensures esp { slice_index registers.now 4 < 2 ^ 32 }

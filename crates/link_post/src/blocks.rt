@@ -7,10 +7,10 @@ use crate::types::SectionSize;
 use ks_base::Range;
 use std::alloc::{AllocError, Global};
 
-// The boundaries that sections have.
+/// The boundaries that sections have.
 const BOUNDARIES: [u32; 9] = [16, 32, 64, 128, 256, 512, 1_024, 2_048, 4_096];
 
-// Ranges that follow one another, and for each boundary the most room at a multiple of it that one of them has.
+/// Ranges that follow one another, and for each boundary the most room at a multiple of it that one of them has.
 #[derive(Drop)]
 pub(crate) struct Block {
     ranges: Vec<Range>,
@@ -35,7 +35,7 @@ impl Block {
         self.ranges
     }
 
-    // The most room at a boundary, `None` where it isn't kept.
+    /// The most room at a boundary, `None` where it isn't kept.
     fn limit(&self, unit: u32) -> Option<u32>
         ensures { IfSome result (λ limit. limit ≡ most_room self.now.ranges.items unit) }
     {
@@ -43,7 +43,7 @@ impl Block {
         self.limits.as_slice().get(k).copied()
     }
 
-    // Whether a section fits in one of the ranges.
+    /// Whether a section fits in one of the ranges.
     pub(crate) fn has_fit(&self, section: &SectionSize) -> bool
         ensures { result ≡ has_fit section.now self.now.ranges.items }
     {
@@ -56,7 +56,7 @@ impl Block {
     }
 }
 
-// How many bytes of a range lie at or above its first multiple of a boundary.
+/// How many bytes of a range lie at or above its first multiple of a boundary.
 #[tactic(auto, unfolding(crate::specs::inside::Blocks::room_in))]
 fn room_in(unit: u32, range: &Range) -> u32
     requires { 0 < unit }
@@ -65,7 +65,7 @@ fn room_in(unit: u32, range: &Range) -> u32
     u64::from(range.high).saturating_sub(round_up(range.low, unit)) as u32
 }
 
-// The most of some ranges.
+/// The most of some ranges.
 fn most_room(ranges: &[Range], unit: u32) -> u32
     requires { 0 < unit }
     ensures { result ≡ most_room ranges.now unit }

@@ -9,13 +9,13 @@ use crate::types::SectionSize;
 use ks_base::Range;
 use std::alloc::{AllocError, Global};
 
-// How many ranges a block is made with, where there are more.
+/// How many ranges a block is made with, where there are more.
 const NEW_BLOCK_LENGTH: usize = 256;
 
-// How many ranges a block may come to have: one with more becomes two.
+/// How many ranges a block may come to have: one with more becomes two.
 const MOST_BLOCK_LENGTH: usize = 512;
 
-// Ranges in blocks.
+/// Ranges in blocks.
 pub(crate) fn blocks_of(alloc: Global, ranges: &[Range]) -> Result<Vec<Block>, AllocError>
     ensures { IfOk result (λ blocks. ranges_of blocks.items ≡ ranges.now) }
 {
@@ -29,7 +29,7 @@ pub(crate) fn blocks_of(alloc: Global, ranges: &[Range]) -> Result<Vec<Block>, A
     Ok(blocks)
 }
 
-// Puts a block at the end.
+/// Puts a block at the end.
 #[tactic(auto, using(std::proofs::lemmas::Grind::common_steps))]
 fn add_block(alloc: Global, blocks: &mut Vec<Block>, ranges: &[Range]) -> Result<(), AllocError>
     ensures { OnOk result (ranges_of blocks.new.items ≡ ranges_of blocks.old.items ++ ranges.now) }
@@ -39,7 +39,7 @@ fn add_block(alloc: Global, blocks: &mut Vec<Block>, ranges: &[Range]) -> Result
     Ok(())
 }
 
-// Takes the room of a section from the first range in which it fits; `None` where there is none.
+/// Takes the room of a section from the first range in which it fits; `None` where there is none.
 #[tactic(auto, using(crate::proofs::BlockLaws::no_block_start, crate::proofs::BlockLaws::no_block_left))]
 pub(crate) fn take_from(
     alloc: Global,
@@ -55,14 +55,14 @@ pub(crate) fn take_from(
     }
 }
 
-// Which block is the first in which a section fits.
+/// Which block is the first in which a section fits.
 fn first_block(blocks: &[Block], section: &SectionSize) -> Option<usize>
     ensures { result ≡ position (block_fits section.now) blocks.now }
 {
     blocks.iter().position(|block| block.has_fit(section))
 }
 
-// Takes the room of a section from block `i`, the first in which it fits.
+/// Takes the room of a section from block `i`, the first in which it fits.
 fn take_in_block(
     alloc: Global,
     blocks: &mut Vec<Block>,
@@ -79,7 +79,7 @@ fn take_in_block(
     Ok(base)
 }
 
-// Puts ranges at an index, in one block or in two.
+/// Puts ranges at an index, in one block or in two.
 fn put_ranges(
     alloc: Global,
     blocks: &mut Vec<Block>,

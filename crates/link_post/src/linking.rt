@@ -55,7 +55,7 @@ pub fn linked(
     Ok(Bytes::from_vec(bytes))
 }
 
-// What the fields of new sections are filled from.
+/// What the fields of new sections are filled from.
 #[derive(Drop)]
 struct Linking<'a, 'b> {
     post: &'a Normal<'b>,
@@ -64,7 +64,7 @@ struct Linking<'a, 'b> {
 }
 
 impl<'a, 'b> Linking<'a, 'b> {
-    // The bytes of a section at its place.
+    /// The bytes of a section at its place.
     fn filled_bytes(
         &self,
         alloc: Global,
@@ -84,7 +84,7 @@ impl<'a, 'b> Linking<'a, 'b> {
         Ok(bytes)
     }
 
-    // Fills the field of a reference.
+    /// Fills the field of a reference.
     #[tactic(auto, unfolding(crate::specs::Linked::filled))]
     fn fill_field(
         &self,
@@ -107,7 +107,7 @@ impl<'a, 'b> Linking<'a, 'b> {
         Ok(())
     }
 
-    // The address of what a reference goes to, 0 where there is none.
+    /// The address of what a reference goes to, 0 where there is none.
     #[tactic(auto, unfolding(crate::specs::Linked::address_of))]
     fn address_of(&self, alloc: Global, r: &Ref<'_>) -> Result<u32, AllocError>
         requires { AreInOrder self.now.post.now self.now.placement.now }
@@ -117,7 +117,7 @@ impl<'a, 'b> Linking<'a, 'b> {
         Ok(self.target_address(alloc, r)?.unwrap_or(0))
     }
 
-    // The address of what a reference goes to.
+    /// The address of what a reference goes to.
     fn target_address(&self, alloc: Global, r: &Ref<'_>) -> Result<Option<u32>, AllocError>
         requires { AreInOrder self.now.post.now self.now.placement.now }
         ensures { IfOk result (λ address. address
@@ -140,7 +140,7 @@ impl<'a, 'b> Linking<'a, 'b> {
         }
     }
 
-    // Where a section is for a reference.
+    /// Where a section is for a reference.
     #[tactic(auto, unfolding(crate::specs::Linked::section_address))]
     fn section_address(
         &self,
@@ -164,7 +164,7 @@ impl<'a, 'b> Linking<'a, 'b> {
         Ok(base_in(self.post, self.placement, name))
     }
 
-    // Where a function is for a reference.
+    /// Where a function is for a reference.
     fn function_address(
         &self,
         alloc: Global,
@@ -185,7 +185,7 @@ impl<'a, 'b> Linking<'a, 'b> {
     }
 }
 
-// Whether the section of a name is a function.
+/// Whether the section of a name is a function.
 fn is_code(post: &Normal<'_>, name: &[u8]) -> bool
     ensures { result ≡ is_in is_code_class post.now name.now }
 {
@@ -195,7 +195,7 @@ fn is_code(post: &Normal<'_>, name: &[u8]) -> bool
     }
 }
 
-// Whether the section of a name holds data that the program may change.
+/// Whether the section of a name holds data that the program may change.
 pub(crate) fn is_data(post: &Normal<'_>, name: &[u8]) -> bool
     ensures { result ≡ is_in is_data_class post.now name.now }
 {
@@ -205,7 +205,7 @@ pub(crate) fn is_data(post: &Normal<'_>, name: &[u8]) -> bool
     }
 }
 
-// Puts a word into the field at an offset, where the field lies in the bytes.
+/// Puts a word into the field at an offset, where the field lies in the bytes.
 fn put_word(bytes: &mut [u8], offset: usize, word: u32)
     requires { offset < 2 ^ 32 }
     ensures { bytes.new ≡ with_word bytes.old offset word }

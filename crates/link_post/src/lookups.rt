@@ -11,7 +11,7 @@ use i386_reloc::Normal;
 use std::alloc::Global;
 use symbol_table::{Solved, Unknown, Values};
 
-// Where the section of a name stands among those of an object, or how many these are.
+/// Where the section of a name stands among those of an object, or how many these are.
 fn place_in(post: &Normal<'_>, name: &[u8]) -> usize
     ensures place { result ≡ place_in post.now name.now }
     ensures bound { result ≤ length post.now }
@@ -39,7 +39,7 @@ pub fn in_order(post: &Normal<'_>, placement: &Placement) -> bool
     true
 }
 
-// How many of the placed sections stand before a place in the object.
+/// How many of the placed sections stand before a place in the object.
 fn begun(post: &Normal<'_>, placement: &[Placed], place: usize) -> usize
     requires { AreInOrder post.now placement.now }
     ensures bound { result ≤ length placement.now }
@@ -49,7 +49,7 @@ fn begun(post: &Normal<'_>, placement: &[Placed], place: usize) -> usize
     placement.partition_point(|placed| place_in(post, placed.section.as_slice()) < place)
 }
 
-// Where the section of a name was placed, found by halving.
+/// Where the section of a name was placed, found by halving.
 pub(crate) fn base_in(post: &Normal<'_>, placement: &[Placed], name: &[u8]) -> Option<u32>
     requires { AreInOrder post.now placement.now }
     ensures { result ≡ base_in placement.now name.now }
@@ -66,14 +66,14 @@ pub(crate) fn base_in(post: &Normal<'_>, placement: &[Placed], name: &[u8]) -> O
     }
 }
 
-// What an unknown came to.
+/// What an unknown came to.
 pub(crate) fn solved_as(values: &Values, which: &Unknown) -> Option<Solved>
     ensures { result ≡ solved_as values.now.entries which.now }
 {
     values.get(which).copied()
 }
 
-// The address that stands for an unknown: of a function its home.
+/// The address that stands for an unknown: of a function its home.
 pub(crate) fn value_in(values: &Values, which: &Unknown) -> Option<u32>
     ensures { result ≡ value_in values.now.entries which.now }
 {

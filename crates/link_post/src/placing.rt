@@ -44,7 +44,7 @@ pub fn place(alloc: Global, sizes: &[SectionSize], gaps: &Ranges) -> Result<Plac
     Ok(placement)
 }
 
-// Gives a section its place.
+/// Gives a section its place.
 #[tactic(auto, using(crate::proofs::Lowest::after_ascends, crate::proofs::Lowest::lowest_is_first, crate::proofs::Lowest::without_is_after))]
 fn place_section(
     alloc: Global,

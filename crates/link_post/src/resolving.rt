@@ -42,14 +42,14 @@ pub fn resolve_post(
     Ok(values)
 }
 
-// A copy of the values.
+/// A copy of the values.
 fn copied(values: &Values) -> Result<Values, AllocError>
     ensures { IfOk result (λ copy. copy.entries ≡ values.now.entries) }
 {
     values.clone()
 }
 
-// Adds the values that the references of a section need.
+/// Adds the values that the references of a section need.
 #[tactic(auto, unfolding(crate::specs::Values::resolved_by))]
 fn resolve_section(
     alloc: Global,
@@ -68,7 +68,7 @@ fn resolve_section(
     }
 }
 
-// Adds the values that references need.
+/// Adds the values that references need.
 #[tactic(auto, unfolding(crate::specs::Values::resolved_by))]
 fn resolve_all(
     alloc: Global,
@@ -87,7 +87,7 @@ fn resolve_all(
     Ok(())
 }
 
-// Adds the value that a reference to a target needs.
+/// Adds the value that a reference to a target needs.
 fn resolve_target(
     alloc: Global,
     pre: &Normal<'_>,
@@ -105,7 +105,7 @@ fn resolve_target(
     }
 }
 
-// What a reference to a target needs a value of.
+/// What a reference to a target needs a value of.
 fn needed_by(
     alloc: Global,
     pre: &Normal<'_>,
@@ -130,14 +130,14 @@ fn needed_by(
     }
 }
 
-// Whether a section of data is one of both objects.
+/// Whether a section of data is one of both objects.
 fn is_kept_data(pre: &Normal<'_>, post: &Normal<'_>, name: &[u8]) -> bool
     ensures { result ≡ is_kept_data pre.now post.now name.now }
 {
     is_data(post, name) && pre.find(name).is_some()
 }
 
-// Adds the value of an unknown, which is looked up where it has none yet.
+/// Adds the value of an unknown, which is looked up where it has none yet.
 #[tactic(auto, unfolding(crate::specs::Values::with_value))]
 fn resolve(
     alloc: Global,
@@ -157,7 +157,7 @@ fn resolve(
     Ok(())
 }
 
-// Puts the address of an unknown that has no value yet at the end.
+/// Puts the address of an unknown that has no value yet at the end.
 fn add_address(values: &mut Values, which: Unknown, address: u32) -> Result<(), AllocError>
     requires { solved_as values.old.entries which ≡ None }
     ensures { OnOk result (values.new.entries ≡ values.old.entries ++ (which, Solved.Address address) ∷ []) }
@@ -166,7 +166,7 @@ fn add_address(values: &mut Values, which: Unknown, address: u32) -> Result<(), 
     Ok(())
 }
 
-// The address that the running program lists for an unknown.
+/// The address that the running program lists for an unknown.
 fn listed_as(
     alloc: Global,
     post: &Normal<'_>,
@@ -188,7 +188,7 @@ fn listed_as(
     }
 }
 
-// The first variable of the section of a name.
+/// The first variable of the section of a name.
 fn first_object<'a, 'b>(post: &'a Normal<'b>, name: &[u8]) -> Option<&'a ObjectSymbol<'b>>
     ensures { option_copied result ≡ first_object (section_named post.now name.now) }
 {
@@ -196,7 +196,7 @@ fn first_object<'a, 'b>(post: &'a Normal<'b>, name: &[u8]) -> Option<&'a ObjectS
     section.objects.get(0)
 }
 
-// Where the section begins that has a variable, by the variable's one address.
+/// Where the section begins that has a variable, by the variable's one address.
 fn address_by(alloc: Global, table: &SymbolTable, object: &ObjectSymbol<'_>) -> Result<u32, Refusal>
     ensures { Gives (λ address. address) result
         (less object.now.value (one_of object.now.name (data_addresses table.now.symbols object.now.name))) }
@@ -207,7 +207,7 @@ fn address_by(alloc: Global, table: &SymbolTable, object: &ObjectSymbol<'_>) -> 
     Ok(address.wrapping_sub(object.value))
 }
 
-// The one address of a name.
+/// The one address of a name.
 fn one_of(alloc: Global, name: &[u8], addresses: &[u32]) -> Result<u32, Refusal>
     ensures { Gives (λ address. address) result (one_of name.now addresses.now) }
 {

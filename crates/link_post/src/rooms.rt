@@ -9,10 +9,10 @@ use crate::types::SectionSize;
 use ks_base::Range;
 use std::alloc::AllocError;
 
-// No section begins at an address that isn't a multiple of this.
+/// No section begins at an address that isn't a multiple of this.
 pub(crate) const LEAST_BOUNDARY: u32 = 16;
 
-// The lowest multiple of a unit at or above an address.
+/// The lowest multiple of a unit at or above an address.
 #[tactic(auto, using(crate::proofs::Rounding::rounded))]
 pub(crate) fn round_up(address: u32, unit: u32) -> u64
     requires { 0 < unit }
@@ -23,7 +23,7 @@ pub(crate) fn round_up(address: u32, unit: u32) -> u64
     (u64::from(address) + (unit - 1)) / unit * unit
 }
 
-// The lowest address of a range at which a section may begin, or one above the range.
+/// The lowest address of a range at which a section may begin, or one above the range.
 fn start_in(section: &SectionSize, range: &Range) -> u64
     ensures start { result ≡ start_in section.now range.now }
     ensures bound { result < 2 ^ 34 }
@@ -31,21 +31,21 @@ fn start_in(section: &SectionSize, range: &Range) -> u64
     round_up(range.low, section.align.max(LEAST_BOUNDARY))
 }
 
-// Whether a section fits in a range.
+/// Whether a section fits in a range.
 pub(crate) fn fits(section: &SectionSize, range: &Range) -> bool
     ensures { result ≡ fits section.now range.now }
 {
     start_in(section, range) + u64::from(section.size) <= u64::from(range.high)
 }
 
-// Which of the ranges is the first in which a section fits.
+/// Which of the ranges is the first in which a section fits.
 fn first_fitting(free: &[Range], section: &SectionSize) -> Option<usize>
     ensures { result ≡ position (fits section.now) free.now }
 {
     free.iter().position(|range| fits(section, range))
 }
 
-// Puts a range at an index, where it isn't empty.
+/// Puts a range at an index, where it isn't empty.
 fn put_at(free: &mut Vec<Range>, i: usize, low: u32, high: u32) -> Result<(), AllocError>
     requires { i ≤ length free.old.items }
     ensures { OnOk result (free.new.items
@@ -57,7 +57,7 @@ fn put_at(free: &mut Vec<Range>, i: usize, low: u32, high: u32) -> Result<(), Al
     Ok(())
 }
 
-// Where a section begins in a range in which it fits.
+/// Where a section begins in a range in which it fits.
 fn base_in(section: &SectionSize, range: Range) -> u32
     requires { fits section.now range ≡ true }
     ensures start { result ≡ start_in section.now range }
@@ -66,7 +66,7 @@ fn base_in(section: &SectionSize, range: Range) -> u32
     start_in(section, &range) as u32
 }
 
-// Takes the room of a section from range `i`, the first in which it fits. What is left of the range takes its place.
+/// Takes the room of a section from range `i`, the first in which it fits. What is left of the range takes its place.
 fn take_at(free: &mut Vec<Range>, i: usize, section: &SectionSize) -> Result<u32, AllocError>
     requires { position (fits section.now) free.old.items ≡ Some i }
     ensures start { IfOk result (λ base. first_start section.now free.old.items ≡ Some base) }
@@ -82,7 +82,7 @@ fn take_at(free: &mut Vec<Range>, i: usize, section: &SectionSize) -> Result<u32
     Ok(base)
 }
 
-// Takes the room of a section from the first range in which it fits; `None` where there is none.
+/// Takes the room of a section from the first range in which it fits; `None` where there is none.
 #[tactic(auto, using(crate::proofs::Fitting::nowhere_start, crate::proofs::Fitting::nowhere_left))]
 pub(crate) fn take_room(
     free: &mut Vec<Range>,

@@ -11,7 +11,7 @@ use object_sections::read_sections;
 use run_pre_match::{MatchFault, Matched, match_body};
 use std::alloc::{AllocError, Global};
 
-// A stack as it is at first.
+/// A stack as it is at first.
 fn stack_piece(alloc: Global, stack: Range) -> Result<Piece, AllocError> {
     let mut bytes = Vec::new(alloc);
     bytes.resize(stack.high.saturating_sub(stack.low) as usize, 0)?;
@@ -22,7 +22,7 @@ fn stack_piece(alloc: Global, stack: Range) -> Result<Piece, AllocError> {
     })
 }
 
-// Regions with the pieces of stacks among them, by their bases.
+/// Regions with the pieces of stacks among them, by their bases.
 fn all_pieces(alloc: Global, regions: Pieces, stacks: &[Range]) -> Result<Pieces, AllocError> {
     let mut pieces = regions.into_vec();
     for stack in stacks {
@@ -34,7 +34,7 @@ fn all_pieces(alloc: Global, regions: Pieces, stacks: &[Range]) -> Result<Pieces
     Ok(Pieces::from_vec(pieces))
 }
 
-// Whether there is a code section of a name.
+/// Whether there is a code section of a name.
 fn has_code(normal: &Normal<'_>, name: &Name) -> bool
     ensures { result ≡ is_in is_code_class normal.now name.now }
 {
@@ -44,7 +44,7 @@ fn has_code(normal: &Normal<'_>, name: &Name) -> bool
     }
 }
 
-// A fault as what is refused of a section.
+/// A fault as what is refused of a section.
 fn refusal_of(alloc: Global, section: &Name, fault: MatchFault) -> Refusal {
     let Ok(name) = Name::from_slice(alloc, section.as_slice()) else {
         return Refusal::Memory;
@@ -56,7 +56,7 @@ fn refusal_of(alloc: Global, section: &Name, fault: MatchFault) -> Refusal {
     }
 }
 
-// What comes of a code section whose home and base is an address; `None` where no code section has the name.
+/// What comes of a code section whose home and base is an address; `None` where no code section has the name.
 fn compared<'a>(
     alloc: Global,
     object: &'a [u8],

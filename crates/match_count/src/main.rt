@@ -11,7 +11,7 @@ use ks_base::Line;
 use std::process::ExitCode;
 use std::{env, fs, io};
 
-// The line that the words ask for; `None` where they have no reading.
+/// The line that the words ask for; `None` where they have no reading.
 fn answer(rt: &HostRuntime, words: &[String]) -> io::Result<Option<Line>> {
     let [object, image, section, address] = words else {
         return Ok(None);

@@ -8,7 +8,7 @@ use retired_code::OldFunction;
 use std::alloc::{AllocError, Global};
 use std::collections::BTreeMap;
 
-// The first function of each section's name.
+/// The first function of each section's name.
 #[tactic(auto, using(crate::proofs::OldNames::first_more, crate::proofs::OldNames::first_all))]
 pub(crate) fn olds_by_section<'o>(
     alloc: Global,
@@ -23,7 +23,7 @@ pub(crate) fn olds_by_section<'o>(
     Ok(by_section)
 }
 
-// Gives a section's name the function, where it has none.
+/// Gives a section's name the function, where it has none.
 fn put_first<'o>(
     by_section: &mut BTreeMap<&'o [u8], &'o OldFunction>,
     old: &'o OldFunction,
@@ -38,7 +38,7 @@ fn put_first<'o>(
     put_old(by_section, name, old)
 }
 
-// Gives a name the function, in place of the one that it had.
+/// Gives a name the function, in place of the one that it had.
 fn put_old<'o>(
     by_section: &mut BTreeMap<&'o [u8], &'o OldFunction>,
     name: &'o [u8],

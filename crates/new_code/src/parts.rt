@@ -71,7 +71,7 @@ fn size_of(alloc: Global, part: &Part<'_, '_>) -> Result<SectionSize, AllocError
     })
 }
 
-// A section at its place.
+/// A section at its place.
 #[derive(Drop)]
 pub(crate) struct PlacedPart<'p, 'a> {
     section: &'p NormalSection<'a>,
@@ -110,7 +110,7 @@ impl<'p, 'a> PlacedPart<'p, 'a> {
         self.role
     }
 
-    // The address of its first byte.
+    /// The address of its first byte.
     pub(crate) fn base(&self) -> u32
         ensures { result ≡ self.now.base }
     {
@@ -118,7 +118,7 @@ impl<'p, 'a> PlacedPart<'p, 'a> {
     }
 }
 
-// Each section at the place that it was given: the first has the first place.
+/// Each section at the place that it was given: the first has the first place.
 #[tactic(auto, using(crate::proofs::Zips::placed_more, crate::proofs::Zips::placed_all))]
 pub(crate) fn at_places<'p, 'a>(
     alloc: Global,

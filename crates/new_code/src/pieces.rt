@@ -53,7 +53,7 @@ fn new_piece(
     })
 }
 
-// What the piece of a section may be used for.
+/// What the piece of a section may be used for.
 fn kind_of_class(class: Class) -> Kind
     ensures { result ≡ kind_of_class class }
 {

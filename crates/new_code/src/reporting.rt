@@ -38,7 +38,7 @@ pub fn report_of(
     })
 }
 
-// The functions that are replaced, each found by its section.
+/// The functions that are replaced, each found by its section.
 fn replaced_functions(
     alloc: Global,
     placed: &[PlacedPart<'_, '_>],
@@ -54,7 +54,7 @@ fn replaced_functions(
     Ok(replaced)
 }
 
-// Adds the function that a part replaces, where it replaces one.
+/// Adds the function that a part replaces, where it replaces one.
 fn add_replaced(
     alloc: Global,
     replaced: &mut ReplacedList,
@@ -70,7 +70,7 @@ fn add_replaced(
     Ok(())
 }
 
-// The old function that a part replaces.
+/// The old function that a part replaces.
 fn replaced_old<'o>(
     by_section: &BTreeMap<&[u8], &'o OldFunction>,
     part: &PlacedPart<'_, '_>,
@@ -86,7 +86,7 @@ fn replaced_old<'o>(
     }
 }
 
-// A replaced function in the report.
+/// A replaced function in the report.
 fn replaced_as(alloc: Global, base: u32, old: &OldFunction) -> Result<Replaced, AllocError>
     ensures { IfOk result (λ replaced. replaced ≡ replaced_as base old.now) }
 {
@@ -98,7 +98,7 @@ fn replaced_as(alloc: Global, base: u32, old: &OldFunction) -> Result<Replaced, 
     })
 }
 
-// The functions that are added.
+/// The functions that are added.
 fn added_functions(alloc: Global, placed: &[PlacedPart<'_, '_>]) -> Result<AddedList, AllocError>
     ensures { IfOk result (λ added. added ≡ filter_map added_of placed.now) }
 {
@@ -109,7 +109,7 @@ fn added_functions(alloc: Global, placed: &[PlacedPart<'_, '_>]) -> Result<Added
     Ok(added)
 }
 
-// Adds the function that a part is, where it is added.
+/// Adds the function that a part is, where it is added.
 fn add_added(
     alloc: Global,
     added: &mut AddedList,
@@ -128,7 +128,7 @@ fn add_added(
     }
 }
 
-// The names of the functions that are dropped.
+/// The names of the functions that are dropped.
 fn dropped_functions(alloc: Global, olds: &[OldFunction]) -> Result<Names, AllocError>
     ensures { IfOk result (λ names. names ≡ dropped_in olds.now) }
 {

@@ -31,7 +31,7 @@ pub fn new_symbols(
     Ok(symbols)
 }
 
-// Adds the symbols of one section.
+/// Adds the symbols of one section.
 fn add_symbols(
     alloc: Global,
     symbols: &mut NewSymbols,
@@ -48,7 +48,7 @@ fn add_symbols(
     }
 }
 
-// The symbol of the function that a section is.
+/// The symbol of the function that a section is.
 fn function_symbol(
     alloc: Global,
     section: &NormalSection<'_>,
@@ -64,7 +64,7 @@ fn function_symbol(
     })
 }
 
-// Adds the symbols of the variables of a section.
+/// Adds the symbols of the variables of a section.
 fn add_variables(
     alloc: Global,
     symbols: &mut NewSymbols,
@@ -79,7 +79,7 @@ fn add_variables(
     Ok(())
 }
 
-// The symbol of a variable of a section.
+/// The symbol of a variable of a section.
 fn variable_symbol(
     alloc: Global,
     object: &ObjectSymbol<'_>,

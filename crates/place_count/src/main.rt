@@ -10,7 +10,7 @@ use std::alloc::{AllocError, Global};
 use std::process::ExitCode;
 use std::{env, io};
 
-// The number that the words ask for; `None` where they have no reading, or so much has no addresses of 32 bits.
+/// The number that the words ask for; `None` where they have no reading, or so much has no addresses of 32 bits.
 fn number_for(alloc: Global, words: &[String]) -> Result<Option<u64>, AllocError> {
     let [what, many, among] = words else {
         return Ok(None);

@@ -3,7 +3,7 @@ use ks_base::{Name, Range, Ranges};
 use link_post::{SectionSize, ascend, place};
 use std::alloc::{AllocError, Global};
 
-// So many gaps of 16 bytes, one every 64 bytes, and a large one behind them.
+/// So many gaps of 16 bytes, one every 64 bytes, and a large one behind them.
 fn gaps_of(alloc: Global, count: u32) -> Result<Ranges, AllocError> {
     let mut gaps = Ranges::new(alloc);
     for k in 0..count {
@@ -20,7 +20,7 @@ fn gaps_of(alloc: Global, count: u32) -> Result<Ranges, AllocError> {
     Ok(gaps)
 }
 
-// So many sections, by turns one that fits in a small gap, and one that fits in the large gap alone.
+/// So many sections, by turns one that fits in a small gap, and one that fits in the large gap alone.
 fn sections_of(alloc: Global, count: u32) -> Result<Vec<SectionSize>, AllocError> {
     let mut sections = Vec::new(alloc);
     for k in 0..count {

@@ -8,10 +8,10 @@ use ks_base::{Bytes, Place, Range, Ranges, Standing};
 use stack_scan::{is_stack, stands};
 use std::alloc::{AllocError, Global};
 
-// Where the stack begins.
+/// Where the stack begins.
 const LOW: u32 = 0x8000_0000;
 
-// So many ranges of 32 bytes, one every 64 bytes.
+/// So many ranges of 32 bytes, one every 64 bytes.
 fn ranges_of(alloc: Global, count: u32) -> Result<Ranges, AllocError> {
     let mut ranges = Ranges::new(alloc);
     for k in 0..count {
@@ -24,7 +24,7 @@ fn ranges_of(alloc: Global, count: u32) -> Result<Ranges, AllocError> {
     Ok(ranges)
 }
 
-// So many dwords, spread over the ranges: each lies behind one of them, and the last in one.
+/// So many dwords, spread over the ranges: each lies behind one of them, and the last in one.
 fn stack_of(alloc: Global, count: u32, ranges: u32) -> Result<Bytes, AllocError> {
     let mut bytes = Vec::new(alloc);
     for k in 1..count {
@@ -35,7 +35,7 @@ fn stack_of(alloc: Global, count: u32, ranges: u32) -> Result<Bytes, AllocError>
     Ok(Bytes::from_vec(bytes))
 }
 
-// A thread whose registers hold no address of a range, at the foot of its stack.
+/// A thread whose registers hold no address of a range, at the foot of its stack.
 fn thread_on(stack: Range) -> Thread
     ensures { result.stack ≡ stack }
 {

@@ -10,7 +10,7 @@ use crate::choice::{Choice, Claim, Demand};
 use crate::tables::{Entry, Known, Table};
 use std::alloc::{AllocError, Global};
 
-// A number above that of each choice's section.
+/// A number above that of each choice's section.
 pub(crate) fn section_count(choices: &[Choice]) -> usize
     ensures { All (λ c. c.section < result) choices.now }
 {
@@ -21,7 +21,7 @@ pub(crate) fn section_count(choices: &[Choice]) -> usize
     count
 }
 
-// Puts the claims of the choice at a place into a table by unknown.
+/// Puts the claims of the choice at a place into a table by unknown.
 fn put_claims(
     alloc: Global,
     table: &mut Table<Entry>,
@@ -41,7 +41,7 @@ fn put_claims(
     Ok(())
 }
 
-// By unknown, the choices that claim a value of it.
+/// By unknown, the choices that claim a value of it.
 pub(crate) fn claims_by_unknown(
     alloc: Global,
     choices: &[Choice],
@@ -56,7 +56,7 @@ pub(crate) fn claims_by_unknown(
     Ok(table)
 }
 
-// Puts the place of a choice into a table by section.
+/// Puts the place of a choice into a table by section.
 fn put_member(
     alloc: Global,
     table: &mut Table<usize>,
@@ -69,7 +69,7 @@ fn put_member(
     table.push(alloc, own as usize, place)
 }
 
-// By section, its choices.
+/// By section, its choices.
 pub(crate) fn members_by_section(
     alloc: Global,
     choices: &[Choice],
@@ -84,7 +84,7 @@ pub(crate) fn members_by_section(
     Ok(table)
 }
 
-// Puts the demands that the choice at a place makes on other sections into a table by their numbers.
+/// Puts the demands that the choice at a place makes on other sections into a table by their numbers.
 fn put_demands(
     alloc: Global,
     table: &mut Table<Entry>,
@@ -101,7 +101,7 @@ fn put_demands(
     Ok(())
 }
 
-// The same for one demand.
+/// The same for one demand.
 fn put_demand(
     alloc: Global,
     table: &mut Table<Entry>,
@@ -122,7 +122,7 @@ fn put_demand(
     table.push(alloc, demand.number as usize, entry)
 }
 
-// By the number of a demand, the choices that make it on another section than their own.
+/// By the number of a demand, the choices that make it on another section than their own.
 pub(crate) fn demands_by_number(
     alloc: Global,
     choices: &[Choice],
@@ -143,7 +143,7 @@ pub(crate) fn demands_by_number(
     Ok(table)
 }
 
-// Puts the number of a demand on another section than its own into a table by section, where it wasn't put last.
+/// Puts the number of a demand on another section than its own into a table by section, where it wasn't put last.
 fn put_number(
     alloc: Global,
     table: &mut Table<u32>,
@@ -164,7 +164,7 @@ fn put_number(
     Ok(())
 }
 
-// The same for each of some demands.
+/// The same for each of some demands.
 fn put_numbers(
     alloc: Global,
     table: &mut Table<u32>,
@@ -183,8 +183,8 @@ fn put_numbers(
     Ok(())
 }
 
-// By section, the numbers of the demands that choices of other sections make on it, each once where a number stands
-// for demands on one section alone. There is room to tell so many numbers.
+/// By section, the numbers of the demands that choices of other sections make on it, each once where a number stands
+/// for demands on one section alone. There is room to tell so many numbers.
 pub(crate) fn numbers_by_section(
     alloc: Global,
     choices: &[Choice],

@@ -51,14 +51,14 @@ pub fn first_conflict(
     )
 }
 
-// Whether one of some choices is left.
+/// Whether one of some choices is left.
 fn has_left(left: &[bool], places: &[usize]) -> bool
     ensures { result ≡ list_any (is_left left.now) places.now }
 {
     places.iter().any(|place| mark_at(left, *place))
 }
 
-// Of which sections something is left.
+/// Of which sections something is left.
 fn alive_sections(
     alloc: Global,
     left: &[bool],
@@ -76,14 +76,14 @@ fn alive_sections(
     Ok(alive)
 }
 
-// Whether a choice can be chosen, and nothing is left of its section.
+/// Whether a choice can be chosen, and nothing is left of its section.
 fn stuck(alive: &[bool], choice: &Choice) -> bool
     ensures { result ≡ is_stuck alive.now choice.now }
 {
     choice.matches && !mark_at(alive, choice.section as usize)
 }
 
-// The first choice that can be chosen and of whose section nothing is left.
+/// The first choice that can be chosen and of whose section nothing is left.
 fn first_stuck(choices: &[Choice], alive: &[bool]) -> Option<usize>
     ensures none { IfNone result ((place : ℕ) (c : Choice) → At choices.now place c → is_stuck alive.now c ≡ false) }
     ensures within { IfSome result (λ place. place < length choices.now) }
@@ -99,7 +99,7 @@ fn first_stuck(choices: &[Choice], alive: &[bool]) -> Option<usize>
     None
 }
 
-// Marks of the choices of a section that can be chosen, where nothing is left of the section.
+/// Marks of the choices of a section that can be chosen, where nothing is left of the section.
 fn stuck_in(
     alloc: Global,
     choices: &[Choice],
@@ -114,7 +114,7 @@ fn stuck_in(
         .collect(alloc)
 }
 
-// Marks of the choices that can be chosen, of other sections of which nothing is left.
+/// Marks of the choices that can be chosen, of other sections of which nothing is left.
 fn stuck_out(
     alloc: Global,
     choices: &[Choice],
@@ -129,8 +129,8 @@ fn stuck_out(
         .collect(alloc)
 }
 
-// Of two sections of which nothing is left: the first choice of one that clashes with one of the other, and the first
-// of the other with which it does.
+/// Of two sections of which nothing is left: the first choice of one that clashes with one of the other, and the first
+/// of the other with which it does.
 fn conflict_between(
     alloc: Global,
     choices: &[Choice],
@@ -158,8 +158,8 @@ fn conflict_between(
     }
 }
 
-// The same for a section and the first choice, of another section, that clashes with one of it: the section of this
-// choice is the other.
+/// The same for a section and the first choice, of another section, that clashes with one of it: the section of this
+/// choice is the other.
 fn conflict_around(
     alloc: Global,
     choices: &[Choice],

@@ -16,8 +16,8 @@ use crate::tables::{Entry, Known, Table};
 use std::alloc::{AllocError, Global};
 use std::marker::Model;
 
-// Which choices are left, and what the choices say. A list that was walked through keeps only what is left and agrees;
-// each value and each demand is carried out once. So all walks together are about as long as all that the choices say.
+/// Which choices are left, and what the choices say. A list that was walked through keeps only what is left and agrees;
+/// each value and each demand is carried out once. So all walks together are about as long as all that the choices say.
 #[derive(Drop)]
 pub(crate) struct Engine {
     marks: Marks,
@@ -45,7 +45,7 @@ impl Model for Engine {
     } };
 }
 
-// Whether a choice meets a demand.
+/// Whether a choice meets a demand.
 fn is_met(choice: &Choice, number: u32) -> bool
     requires { Ascends choice.now }
     ensures { result ≡ meets choice.now number }
@@ -53,7 +53,7 @@ fn is_met(choice: &Choice, number: u32) -> bool
     choice.met.as_slice().binary_search(&number).is_ok()
 }
 
-// Whether the choice at a place doesn't meet a demand.
+/// Whether the choice at a place doesn't meet a demand.
 fn is_failed(choices: &[Choice], choice: usize, number: u32) -> bool
     requires { All Ascends choices.now }
     ensures { result ≡ fails number (slice_get choices.now choice) }
@@ -64,7 +64,7 @@ fn is_failed(choices: &[Choice], choice: usize, number: u32) -> bool
     }
 }
 
-// The choices that say another value.
+/// The choices that say another value.
 fn others(alloc: Global, entries: &[Entry], value: u32) -> Result<Vec<usize>, AllocError>
     ensures { IfOk result (λ places. places.items ≡ saying_other value entries.now) }
 {
@@ -75,7 +75,7 @@ fn others(alloc: Global, entries: &[Entry], value: u32) -> Result<Vec<usize>, Al
         .collect(alloc)
 }
 
-// The choices that say this value.
+/// The choices that say this value.
 fn agreeing(alloc: Global, entries: &[Entry], value: u32) -> Result<Vec<usize>, AllocError>
     ensures { IfOk result (λ places. places.items ≡ saying value entries.now) }
 {
@@ -86,7 +86,7 @@ fn agreeing(alloc: Global, entries: &[Entry], value: u32) -> Result<Vec<usize>, 
         .collect(alloc)
 }
 
-// Those of some choices that don't meet a demand.
+/// Those of some choices that don't meet a demand.
 fn failing(
     alloc: Global,
     choices: &[Choice],
@@ -104,7 +104,7 @@ fn failing(
         .collect(alloc)
 }
 
-// Those of some demands that a choice meets.
+/// Those of some demands that a choice meets.
 fn those_met(alloc: Global, choice: &Choice, numbers: &[u32]) -> Result<Vec<u32>, AllocError>
     requires { Ascends choice.now }
     ensures { IfOk result (λ kept. kept.items ≡ filter (meets choice.now) numbers.now) }
@@ -116,7 +116,7 @@ fn those_met(alloc: Global, choice: &Choice, numbers: &[u32]) -> Result<Vec<u32>
         .collect(alloc)
 }
 
-// Those of some demands that a choice doesn't meet.
+/// Those of some demands that a choice doesn't meet.
 fn those_unmet(alloc: Global, choice: &Choice, numbers: &[u32]) -> Result<Vec<u32>, AllocError>
     requires { Ascends choice.now }
     ensures { IfOk result (λ kept. kept.items ≡ filter (λ number. not (meets choice.now number)) numbers.now) }
@@ -129,7 +129,7 @@ fn those_unmet(alloc: Global, choice: &Choice, numbers: &[u32]) -> Result<Vec<u3
 }
 
 impl Engine {
-    // The state of choices of which some are left. Each section waits.
+    /// The state of choices of which some are left. Each section waits.
     pub(crate) fn of(alloc: Global, choices: &[Choice], left: Vec<bool>) -> Result<Self, AllocError>
         requires { length left.items ≡ length choices.now }
         ensures keeps { IfOk result (λ engine. Keeps choices.now engine) }
@@ -149,7 +149,7 @@ impl Engine {
         })
     }
 
-    // The state of choices of which all that can be chosen are left.
+    /// The state of choices of which all that can be chosen are left.
     pub(crate) fn new(alloc: Global, choices: &[Choice]) -> Result<Self, AllocError>
         requires { AreChoices choices.now }
         ensures { IfOk result (λ engine. State choices.now engine) }
@@ -158,7 +158,7 @@ impl Engine {
         Engine::of(alloc, choices, left)
     }
 
-    // Excludes the choices that claim another value of a claim's unknown.
+    /// Excludes the choices that claim another value of a claim's unknown.
     #[tactic(auto, unfolding(crate::specs::inside::Engine::fixing))]
     fn fix(&mut self, alloc: Global, choices: &[Choice], claim: Claim) -> Result<(), AllocError>
         ensures { OnOk result (self.new ≡ fixing choices.now self.old claim) }
@@ -172,7 +172,7 @@ impl Engine {
         Ok(())
     }
 
-    // The same, where the unknown doesn't have this value already.
+    /// The same, where the unknown doesn't have this value already.
     #[tactic(auto, unfolding(crate::specs::inside::Engine::claimed))]
     fn claim(&mut self, alloc: Global, choices: &[Choice], claim: Claim) -> Result<(), AllocError>
         ensures { OnOk result (self.new ≡ claimed choices.now self.old claim) }
@@ -183,7 +183,7 @@ impl Engine {
         self.fix(alloc, choices, claim)
     }
 
-    // Carries out each of some claims.
+    /// Carries out each of some claims.
     fn claim_each(
         &mut self,
         alloc: Global,
@@ -198,7 +198,7 @@ impl Engine {
         Ok(())
     }
 
-    // Excludes the choices of a demand's section that don't meet it.
+    /// Excludes the choices of a demand's section that don't meet it.
     #[tactic(auto, unfolding(crate::specs::inside::Engine::asking))]
     fn ask(&mut self, alloc: Global, choices: &[Choice], demand: Demand) -> Result<(), AllocError>
         requires { All Ascends choices.now }
@@ -213,7 +213,7 @@ impl Engine {
         Ok(())
     }
 
-    // The same, where the demand isn't made on its own section, and wasn't carried out already.
+    /// The same, where the demand isn't made on its own section, and wasn't carried out already.
     #[tactic(auto, unfolding(crate::specs::inside::Engine::asked_by))]
     fn ask_by(
         &mut self,
@@ -231,7 +231,7 @@ impl Engine {
         self.ask(alloc, choices, demand)
     }
 
-    // Carries out each of some demands.
+    /// Carries out each of some demands.
     fn ask_each(
         &mut self,
         alloc: Global,
@@ -248,7 +248,7 @@ impl Engine {
         Ok(())
     }
 
-    // Excludes the choices that make a demand on a section.
+    /// Excludes the choices that make a demand on a section.
     fn refuse(
         &mut self,
         alloc: Global,
@@ -262,7 +262,7 @@ impl Engine {
         self.marks.exclude_each(choices, victims.as_slice())
     }
 
-    // Excludes the choices that make one of some demands on a section.
+    /// Excludes the choices that make one of some demands on a section.
     fn refuse_each(
         &mut self,
         alloc: Global,
@@ -278,7 +278,7 @@ impl Engine {
         Ok(())
     }
 
-    // Excludes the choices that make a demand on a choice's section which it doesn't meet.
+    /// Excludes the choices that make a demand on a choice's section which it doesn't meet.
     #[tactic(auto, unfolding(crate::specs::inside::Engine::meeting))]
     fn meet(&mut self, alloc: Global, choices: &[Choice], choice: &Choice) -> Result<(), AllocError>
         requires { Ascends choice.now }
@@ -292,7 +292,7 @@ impl Engine {
         Ok(())
     }
 
-    // Excludes the choices that clash with one that must be chosen.
+    /// Excludes the choices that clash with one that must be chosen.
     #[tactic(auto, unfolding(crate::specs::inside::Engine::carried_out))]
     fn carry_out(
         &mut self,
@@ -309,7 +309,7 @@ impl Engine {
         self.meet(alloc, choices, choice)
     }
 
-    // The same for the choice at a place, where it can be chosen at all.
+    /// The same for the choice at a place, where it can be chosen at all.
     #[tactic(auto, unfolding(crate::specs::inside::Engine::carried_at))]
     pub(crate) fn carry_out_at(
         &mut self,
@@ -326,7 +326,7 @@ impl Engine {
         }
     }
 
-    // The same for each of some places.
+    /// The same for each of some places.
     pub(crate) fn carry_out_each(
         &mut self,
         alloc: Global,
@@ -342,7 +342,7 @@ impl Engine {
         Ok(())
     }
 
-    // Carries out what must be chosen of a section: all of its choices where none is left, or the only one that is.
+    /// Carries out what must be chosen of a section: all of its choices where none is left, or the only one that is.
     fn settle(
         &mut self,
         alloc: Global,
@@ -359,8 +359,8 @@ impl Engine {
         self.carry_out_each(alloc, choices, places.as_slice())
     }
 
-    // Looks at a section that waits. `whole` has each choice at its section. The answer is false exactly where none
-    // waits.
+    /// Looks at a section that waits. `whole` has each choice at its section. The answer is false exactly where none
+    /// waits.
     pub(crate) fn step(
         &mut self,
         alloc: Global,
@@ -383,7 +383,7 @@ impl Engine {
         }
     }
 
-    // Which choices are left.
+    /// Which choices are left.
     pub(crate) fn into_left(self) -> Vec<bool>
         ensures { result.items ≡ self.marking.left }
     {
@@ -391,7 +391,7 @@ impl Engine {
     }
 }
 
-// What is carried out of a section with these choices, by those that are left.
+/// What is carried out of a section with these choices, by those that are left.
 fn places_of(alloc: Global, whole: &[usize], list: &[usize]) -> Result<Vec<usize>, AllocError>
     ensures { IfOk result (λ places. places.items ≡ carried_of whole.now list.now) }
 {

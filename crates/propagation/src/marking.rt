@@ -12,14 +12,14 @@ use crate::tables::Entry;
 use std::alloc::{AllocError, Global};
 use std::marker::Model;
 
-// Which choices are left, and which sections are to be looked at, since the number of those of their choices that are
-// left fell.
+/// Which choices are left, and which sections are to be looked at, since the number of those of their choices that are
+/// left fell.
 #[derive(Drop)]
 pub(crate) struct Marks {
     left: Vec<bool>,
-    // the sections that wait, each once
+    /// the sections that wait, each once
     queue: Vec<usize>,
-    // which sections wait
+    /// which sections wait
     queued: Vec<bool>,
 }
 
@@ -31,7 +31,7 @@ impl Model for Marks {
     ghost view = { λ m. record { left = m.left.items; queue = m.queue.items; queued = m.queued.items } };
 }
 
-// The mark at a place, false past the end.
+/// The mark at a place, false past the end.
 pub(crate) fn mark_at(marks: &[bool], place: usize) -> bool
     ensures { result ≡ slice_index_or marks.now place false }
 {
@@ -41,7 +41,7 @@ pub(crate) fn mark_at(marks: &[bool], place: usize) -> bool
     }
 }
 
-// Puts a mark at a place, where that isn't past the end.
+/// Puts a mark at a place, where that isn't past the end.
 fn put_mark(marks: &mut [bool], place: usize, mark: bool)
     ensures { marks.new ≡ slice_set marks.old place mark }
 {
@@ -50,14 +50,14 @@ fn put_mark(marks: &mut [bool], place: usize, mark: bool)
     }
 }
 
-// Which choices can be chosen at all.
+/// Which choices can be chosen at all.
 pub(crate) fn possible(alloc: Global, choices: &[Choice]) -> Result<Vec<bool>, AllocError>
     ensures { IfOk result (λ marks. marks.items ≡ map can_be_chosen choices.now) }
 {
     choices.iter().map(|choice| choice.matches).collect(alloc)
 }
 
-// The numbers below one, ascending.
+/// The numbers below one, ascending.
 fn numbers_below(alloc: Global, end: usize) -> Result<Vec<usize>, AllocError>
     ensures len { IfOk result (λ numbers. length numbers.items ≡ end) }
     ensures each { IfOk result (λ numbers. (k : ℕ) → k < end → slice_index numbers.items k ≡ k) }
@@ -70,7 +70,7 @@ fn numbers_below(alloc: Global, end: usize) -> Result<Vec<usize>, AllocError>
 }
 
 impl Marks {
-    // Marks of which choices are left. Each of so many sections waits.
+    /// Marks of which choices are left. Each of so many sections waits.
     pub(crate) fn new(alloc: Global, left: Vec<bool>, sections: usize) -> Result<Self, AllocError>
         ensures left { IfOk result (λ m. m.left ≡ left.items) }
         ensures len { IfOk result (λ m. length m.queue ≡ sections) }
@@ -84,14 +84,14 @@ impl Marks {
         })
     }
 
-    // Whether a choice is left.
+    /// Whether a choice is left.
     pub(crate) fn is_left(&self, choice: usize) -> bool
         ensures { result ≡ is_left self.now.left choice }
     {
         mark_at(self.left.as_slice(), choice)
     }
 
-    // Makes a section wait.
+    /// Makes a section wait.
     fn wait(&mut self, section: usize) -> Result<(), AllocError>
         ensures { OnOk result (self.new ≡ waiting self.old section) }
     {
@@ -103,7 +103,7 @@ impl Marks {
         Ok(())
     }
 
-    // Excludes a choice, by its place.
+    /// Excludes a choice, by its place.
     fn exclude(&mut self, choices: &[Choice], choice: usize) -> Result<(), AllocError>
         ensures { OnOk result (self.new ≡ excluded choices.now self.old choice) }
     {
@@ -113,7 +113,7 @@ impl Marks {
         }
     }
 
-    // Excludes a choice of a section.
+    /// Excludes a choice of a section.
     fn exclude_of(&mut self, choice: usize, section: usize) -> Result<(), AllocError>
         ensures { OnOk result (self.new ≡ excluded_of self.old choice section) }
     {
@@ -124,7 +124,7 @@ impl Marks {
         self.wait(section)
     }
 
-    // Excludes each of some choices.
+    /// Excludes each of some choices.
     pub(crate) fn exclude_each(
         &mut self,
         choices: &[Choice],
@@ -138,7 +138,7 @@ impl Marks {
         Ok(())
     }
 
-    // The entries whose choices are left.
+    /// The entries whose choices are left.
     pub(crate) fn entries_left(
         &self,
         alloc: Global,
@@ -153,7 +153,7 @@ impl Marks {
             .collect(alloc)
     }
 
-    // Those of some choices that are left.
+    /// Those of some choices that are left.
     pub(crate) fn those_left(
         &self,
         alloc: Global,
@@ -168,15 +168,15 @@ impl Marks {
             .collect(alloc)
     }
 
-    // Whether a choice is left and isn't at a place.
+    /// Whether a choice is left and isn't at a place.
     fn is_other(&self, except: usize, choice: usize) -> bool
         ensures { result ≡ is_other self.now.left except choice }
     {
         self.is_left(choice) && choice != except
     }
 
-    // Of the first `end` choices of a list, where the last stands that is left and isn't `except`: the length of the
-    // front that ends with it, 0 where there is none.
+    /// Of the first `end` choices of a list, where the last stands that is left and isn't `except`: the length of the
+    /// front that ends with it, 0 where there is none.
     fn end_of_left(&self, list: &[usize], end: usize, except: usize) -> usize
         requires { end ≤ length list.now }
         ensures { IsEnd self.now.left list.now end except result }
@@ -191,15 +191,15 @@ impl Marks {
         0
     }
 
-    // How many choices are marked.
+    /// How many choices are marked.
     fn len(&self) -> usize
         ensures { result ≡ length self.now.left }
     {
         self.left.len()
     }
 
-    // A list without choices at its end that aren't left, and without those before its last one. What is dropped is
-    // dropped once, so this takes constant time beside it.
+    /// A list without choices at its end that aren't left, and without those before its last one. What is dropped is
+    /// dropped once, so this takes constant time beside it.
     pub(crate) fn narrowed(&self, mut list: Vec<usize>) -> Vec<usize>
         ensures { IsNarrowed self.now.left list.items result.items }
     {
@@ -215,7 +215,7 @@ impl Marks {
         list
     }
 
-    // Takes a section that waits.
+    /// Takes a section that waits.
     pub(crate) fn pop(&mut self) -> Option<usize>
         ensures empty { IfNone result (self.old.queue ≡ []) }
         ensures same { IfNone result (self.new ≡ self.old) }
@@ -226,7 +226,7 @@ impl Marks {
         Some(section)
     }
 
-    // Which choices are left.
+    /// Which choices are left.
     pub(crate) fn into_left(self) -> Vec<bool>
         ensures { result.items ≡ self.left }
     {

@@ -11,8 +11,8 @@ use crate::engine::Engine;
 use crate::marking::mark_at;
 use std::alloc::{AllocError, Global};
 
-// Marks without those of choices that clash with one of those at some places. The work grows with the number of
-// choices, claims and demands, and not with the number of pairs.
+/// Marks without those of choices that clash with one of those at some places. The work grows with the number of
+/// choices, claims and demands, and not with the number of pairs.
 fn without_struck(
     alloc: Global,
     choices: &[Choice],
@@ -31,7 +31,7 @@ fn without_struck(
     Ok(engine.into_left())
 }
 
-// The first place at which one list has a mark and another has none.
+/// The first place at which one list has a mark and another has none.
 fn first_lost(marks: &[bool], rest: &[bool]) -> Option<usize>
     ensures none { IfNone result ((place : ℕ) → is_left marks.now place ≡ true → is_left rest.now place ≡ true) }
     ensures lost { IfSome result (λ place. is_left marks.now place ≡ true) }
@@ -47,7 +47,7 @@ fn first_lost(marks: &[bool], rest: &[bool]) -> Option<usize>
     None
 }
 
-// The first marked choice that clashes with one of those at some places.
+/// The first marked choice that clashes with one of those at some places.
 pub(crate) fn first_struck(
     alloc: Global,
     choices: &[Choice],

@@ -8,14 +8,14 @@ use std::alloc::{AllocError, Global};
 use std::marker::Model;
 use std::mem;
 
-// A choice by its place, and what it says: the value of an unknown, or the section of which something is asked.
+/// A choice by its place, and what it says: the value of an unknown, or the section of which something is asked.
 #[derive(Clone, Copy)]
 pub(crate) struct Entry {
     pub choice: usize,
     pub value: u32,
 }
 
-// A list for each number, empty where nothing was put. A clause sees those up to the greatest number that was used.
+/// A list for each number, empty where nothing was put. A clause sees those up to the greatest number that was used.
 #[derive(Drop)]
 pub(crate) struct Table<T> {
     lists: Vec<ListOf<T>>,
@@ -30,7 +30,7 @@ impl<T> Model for Table<T> {
 }
 
 impl<T: Drop> Table<T> {
-    // The table of empty lists.
+    /// The table of empty lists.
     pub(crate) fn new(alloc: Global) -> Self
         ensures { result ≡ [] }
     {
@@ -39,14 +39,14 @@ impl<T: Drop> Table<T> {
         }
     }
 
-    // The first number after those that were used.
+    /// The first number after those that were used.
     pub(crate) fn len(&self) -> usize
         ensures { result ≡ length self.now }
     {
         self.lists.len()
     }
 
-    // Makes room for a number.
+    /// Makes room for a number.
     fn grow(&mut self, alloc: Global, key: usize) -> Result<(), AllocError>
         ensures room { OnOk result (key < length self.new) }
         ensures lists { OnOk result ((k : ℕ) → list_at self.new k ≡ list_at self.old k) }
@@ -57,7 +57,7 @@ impl<T: Drop> Table<T> {
         Ok(())
     }
 
-    // Puts an item at the end of a number's list.
+    /// Puts an item at the end of a number's list.
     pub(crate) fn push(&mut self, alloc: Global, key: usize, item: T) -> Result<(), AllocError>
         ensures { OnOk result ((k : ℕ) →
             list_at self.new k ≡ (if k == key then list_at self.old k ++ item ∷ [] else list_at self.old k)) }
@@ -67,7 +67,7 @@ impl<T: Drop> Table<T> {
         list.push(item)
     }
 
-    // A number's list.
+    /// A number's list.
     pub(crate) fn get(&self, key: usize) -> &[T]
         ensures { result.now ≡ list_at self.now key }
     {
@@ -77,7 +77,7 @@ impl<T: Drop> Table<T> {
         }
     }
 
-    // Takes a number's list out, which leaves an empty one.
+    /// Takes a number's list out, which leaves an empty one.
     pub(crate) fn take(&mut self, alloc: Global, key: usize) -> Vec<T>
         ensures items { result.items ≡ list_at self.old key }
         ensures after { self.new ≡ slice_set self.old key [] }
@@ -89,7 +89,7 @@ impl<T: Drop> Table<T> {
         }
     }
 
-    // Puts a list in the place of a number's list, where that isn't past the table's end.
+    /// Puts a list in the place of a number's list, where that isn't past the table's end.
     pub(crate) fn put(&mut self, key: usize, list: Vec<T>)
         ensures { self.new ≡ slice_set self.old key list.items }
     {
@@ -99,7 +99,7 @@ impl<T: Drop> Table<T> {
     }
 }
 
-// A value for each of the first numbers, or none.
+/// A value for each of the first numbers, or none.
 #[derive(Drop)]
 pub(crate) struct Known {
     values: Vec<Option<u32>>,
@@ -113,7 +113,7 @@ impl Model for Known {
     ghost view = { λ k. k.values.items };
 }
 
-// Whether there is a value, and it is this one.
+/// Whether there is a value, and it is this one.
 fn is_wanted(value: Option<u32>, wanted: u32) -> bool
     ensures { result ≡ is_value value wanted }
 {
@@ -124,7 +124,7 @@ fn is_wanted(value: Option<u32>, wanted: u32) -> bool
 }
 
 impl Known {
-    // Room for a value for each number below one, with no value.
+    /// Room for a value for each number below one, with no value.
     pub(crate) fn new(alloc: Global, room: usize) -> Result<Self, AllocError>
         ensures { IfOk result (λ known. known ≡ replicate room None) }
     {
@@ -133,7 +133,7 @@ impl Known {
         })
     }
 
-    // Whether a number has this value.
+    /// Whether a number has this value.
     pub(crate) fn is(&self, key: usize, wanted: u32) -> bool
         ensures { result ≡ is_known self.now key wanted }
     {
@@ -143,7 +143,7 @@ impl Known {
         }
     }
 
-    // Gives a number a value, where it is one of the first numbers.
+    /// Gives a number a value, where it is one of the first numbers.
     pub(crate) fn set(&mut self, key: usize, value: u32)
         ensures { self.new ≡ slice_set self.old key (Some value) }
     {

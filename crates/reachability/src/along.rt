@@ -26,7 +26,7 @@ pub fn reached_along(
     graph_of(alloc, nodes, edges)?.reached(alloc, seeds)
 }
 
-// The graph of so many nodes with these edges.
+/// The graph of so many nodes with these edges.
 fn graph_of(alloc: Global, nodes: usize, edges: &[Edge]) -> Result<Graph, AllocError>
     requires few { nodes < 2 ^ 32 }
     requires within { All (IsWithin nodes) edges.now }

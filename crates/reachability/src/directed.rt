@@ -7,8 +7,8 @@ use crate::walk::{Successors, reached_of};
 use std::alloc::{AllocError, Global};
 use std::marker::Model;
 
-// A directed graph of nodes 0, 1, .., fewer than 2 to the power 32. A clause sees it as the list of its
-// nodes' successors.
+/// A directed graph of nodes 0, 1, .., fewer than 2 to the power 32. A clause sees it as the list of its
+/// nodes' successors.
 #[derive(Drop)]
 pub(crate) struct Graph {
     successors: Vec<Successors>,
@@ -27,7 +27,7 @@ impl Model for Graph {
 }
 
 impl Graph {
-    // The graph of so many nodes without edges.
+    /// The graph of so many nodes without edges.
     pub(crate) fn new(alloc: Global, nodes: usize) -> Result<Self, AllocError>
         requires { nodes < 2 ^ 32 }
         ensures nodes { IfOk result (λ graph. length graph ≡ nodes) }
@@ -40,7 +40,7 @@ impl Graph {
         Ok(Graph { successors })
     }
 
-    // Adds the edge from one node to another. For want of memory the graph is as before.
+    /// Adds the edge from one node to another. For want of memory the graph is as before.
     pub(crate) fn add(&mut self, from: usize, to: usize) -> Result<(), AllocError>
         requires from { from < length self.old }
         requires to { to < length self.old }
@@ -53,8 +53,8 @@ impl Graph {
         successors.push(to as u32)
     }
 
-    // Which nodes are reached from the seeds, each a node whose mark is true, along edges: a mark for
-    // each node. The work grows with the number of nodes and edges.
+    /// Which nodes are reached from the seeds, each a node whose mark is true, along edges: a mark for
+    /// each node. The work grows with the number of nodes and edges.
     pub(crate) fn reached(&self, alloc: Global, seeds: &[bool]) -> Result<Vec<bool>, AllocError>
         requires { length seeds.now ≡ length self.now }
         ensures nodes { IfOk result (λ marks. length marks.items ≡ length self.now) }

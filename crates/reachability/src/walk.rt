@@ -8,14 +8,14 @@ use ks_base::ListOf;
 use std::alloc::{AllocError, Global};
 use std::marker::Model;
 
-// The successors of one node.
+/// The successors of one node.
 pub(crate) type Successors = ListOf<u32>;
 
-// How far a walk has come.
+/// How far a walk has come.
 #[derive(Drop)]
 struct Reaching {
     marks: Vec<bool>,
-    // the marked nodes in the order in which they were marked
+    /// the marked nodes in the order in which they were marked
     queue: Vec<usize>,
 }
 
@@ -28,7 +28,7 @@ impl Model for Reaching {
 }
 
 impl Reaching {
-    // A walk that has marked none of so many nodes.
+    /// A walk that has marked none of so many nodes.
     fn new(alloc: Global, nodes: usize) -> Result<Self, AllocError>
         ensures { IfOk result (λ walk. walk ≡ unmarked nodes) }
     {
@@ -38,14 +38,14 @@ impl Reaching {
         })
     }
 
-    // How many nodes are marked.
+    /// How many nodes are marked.
     fn len(&self) -> usize
         ensures { result ≡ length self.now.queue }
     {
         self.queue.len()
     }
 
-    // The node that was marked as the one of a number, counted from 0.
+    /// The node that was marked as the one of a number, counted from 0.
     fn node_at(&self, turn: usize) -> usize
         requires { turn < length self.now.queue }
         ensures { result ≡ slice_index self.now.queue turn }
@@ -53,14 +53,14 @@ impl Reaching {
         self.queue[turn]
     }
 
-    // Which nodes are marked.
+    /// Which nodes are marked.
     fn into_marks(self) -> Vec<bool>
         ensures { result.items ≡ self.marks }
     {
         self.marks
     }
 
-    // Marks a node.
+    /// Marks a node.
     fn mark(&mut self, node: usize) -> Result<(), AllocError>
         requires { node < length self.old.marks }
         ensures nodes { length self.new.marks ≡ length self.old.marks }
@@ -74,7 +74,7 @@ impl Reaching {
         Ok(())
     }
 
-    // Marks a node where that is wanted.
+    /// Marks a node where that is wanted.
     fn mark_if(&mut self, wanted: bool, node: usize) -> Result<(), AllocError>
         requires { node < length self.old.marks }
         ensures nodes { length self.new.marks ≡ length self.old.marks }
@@ -83,7 +83,7 @@ impl Reaching {
         if wanted { self.mark(node) } else { Ok(()) }
     }
 
-    // Marks the seeds.
+    /// Marks the seeds.
     fn mark_seeds(&mut self, seeds: &[bool]) -> Result<(), AllocError>
         requires { length seeds.now ≡ length self.old.marks }
         ensures { OnOk result (self.new ≡ seeded self.old seeds.now (length seeds.now)) }
@@ -94,7 +94,7 @@ impl Reaching {
         Ok(())
     }
 
-    // Marks each node of a list.
+    /// Marks each node of a list.
     fn mark_all(&mut self, nodes: &[u32]) -> Result<(), AllocError>
         requires { All (λ node. node < length self.old.marks) nodes.now }
         ensures { OnOk result (self.new ≡ fold marked self.old nodes.now) }
@@ -105,7 +105,7 @@ impl Reaching {
         Ok(())
     }
 
-    // Marks the successors of the node that was marked as the one of a number.
+    /// Marks the successors of the node that was marked as the one of a number.
     fn visit(&mut self, graph: &[Successors], turn: usize) -> Result<(), AllocError>
         requires queued { turn < length self.old.queue }
         requires node { slice_index self.old.queue turn < length graph.now }
@@ -118,7 +118,7 @@ impl Reaching {
     }
 }
 
-// Which nodes of a graph are reached from the seeds.
+/// Which nodes of a graph are reached from the seeds.
 #[tactic(auto, using(crate::proofs::WalkLaws::walk_begins, crate::proofs::WalkLaws::walk_ends))]
 pub(crate) fn reached_of(
     alloc: Global,

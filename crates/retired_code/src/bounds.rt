@@ -54,7 +54,7 @@ impl<'a> Bounds<'a> {
     }
 }
 
-// The lows of the ranges that aren't empty.
+/// The lows of the ranges that aren't empty.
 fn lows_of(alloc: Global, ranges: &[Range]) -> Result<Vec<u32>, AllocError>
     ensures { IfOk result (λ lows. lows.items ≡ lows_of ranges.now) }
 {
@@ -65,7 +65,7 @@ fn lows_of(alloc: Global, ranges: &[Range]) -> Result<Vec<u32>, AllocError>
         .collect(alloc)
 }
 
-// Their highs.
+/// Their highs.
 fn highs_of(alloc: Global, ranges: &[Range]) -> Result<Vec<u32>, AllocError>
     ensures { IfOk result (λ highs. highs.items ≡ highs_of ranges.now) }
 {
@@ -76,7 +76,7 @@ fn highs_of(alloc: Global, ranges: &[Range]) -> Result<Vec<u32>, AllocError>
         .collect(alloc)
 }
 
-// Numbers in ascending order.
+/// Numbers in ascending order.
 fn ascending(mut numbers: Vec<u32>) -> Vec<u32>
     ensures rise { IsSorted nat_cmp result.items }
     ensures same { IsPermutation numbers.items result.items }
@@ -85,7 +85,7 @@ fn ascending(mut numbers: Vec<u32>) -> Vec<u32>
     numbers
 }
 
-// How many of ascending numbers are below a bound.
+/// How many of ascending numbers are below a bound.
 fn below(numbers: &[u32], bound: u64) -> usize
     requires { IsNonDecreasing numbers.now }
     ensures { result ≡ how_many (λ n. nat_lt n bound) numbers.now }

@@ -17,7 +17,7 @@ const NOTHING: Window = Window {
     length: 0,
 };
 
-// The code that is met at an address, of which there is none at a spliced home and in a retired range.
+/// The code that is met at an address, of which there is none at a spliced home and in a retired range.
 fn window_met<S: Space>(space: &S, address: u32) -> Window
     ensures met { fetched result ≡ code_met (view_at (S.contents space.now) address) }
     ensures long { length (fetched result) ≡ result.length }
@@ -33,7 +33,7 @@ fn window_met<S: Space>(space: &S, address: u32) -> Window
     window
 }
 
-// The length of the instruction that is met at an address, where it is padding.
+/// The length of the instruction that is met at an address, where it is padding.
 fn padding_at<S: Space>(space: &S, address: u32) -> Option<u32>
     ensures length { result ≡ padding_length (view_at (S.contents space.now) address) }
     ensures some { IfSome result (λ n. 0 < n) }
@@ -50,7 +50,7 @@ fn padding_at<S: Space>(space: &S, address: u32) -> Option<u32>
     }
 }
 
-// Where the padding ends that begins at an address, or the limit where it goes that far.
+/// Where the padding ends that begins at an address, or the limit where it goes that far.
 fn padding_end<S: Space>(space: &S, begin: u32, limit: u32) -> u32
     ensures { result ≡ min (padding_end (S.contents space.now) (limit - begin) begin) limit }
 {
@@ -66,7 +66,7 @@ fn padding_end<S: Space>(space: &S, begin: u32, limit: u32) -> u32
     limit
 }
 
-// The least of an end and of the next symbol's address.
+/// The least of an end and of the next symbol's address.
 fn up_to_symbol(end: u32, next: Option<u32>) -> u32
     ensures { result ≡ up_to_symbol end next }
 {

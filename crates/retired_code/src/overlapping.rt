@@ -13,21 +13,21 @@ use crate::types::OldFunction;
 use ks_base::{Range, Ranges, Refusal};
 use std::alloc::{AllocError, Global};
 
-// Whether two ranges share an address.
+/// Whether two ranges share an address.
 fn meet(range: Range, other: Range) -> bool
     ensures { result ≡ meets range other }
 {
     range.low.max(other.low) < range.high.min(other.high)
 }
 
-// Whether a function is that of another section.
+/// Whether a function is that of another section.
 fn is_other(old: &OldFunction, other: &OldFunction) -> bool
     ensures { result ≡ is_other old.now other.now }
 {
     other.section != old.section
 }
 
-// Whether a range meets the body of a function, which is that of another section.
+/// Whether a range meets the body of a function, which is that of another section.
 fn meets_other(range: Range, old: &OldFunction, other: &OldFunction) -> bool
     requires { IsBody other.now }
     ensures { result ≡ (is_other old.now other.now && meets range (body_range other.now)) }
@@ -35,7 +35,7 @@ fn meets_other(range: Range, old: &OldFunction, other: &OldFunction) -> bool
     is_other(old, other) && meet(range, other.body_range())
 }
 
-// The first body of another function that a range meets.
+/// The first body of another function that a range meets.
 fn body_met(range: Range, old: &OldFunction, olds: &[OldFunction]) -> Option<Range>
     requires { AreBodies olds.now }
     ensures { result ≡ find (meets range) (other_bodies old.now olds.now) }
@@ -48,14 +48,14 @@ fn body_met(range: Range, old: &OldFunction, olds: &[OldFunction]) -> Option<Ran
     None
 }
 
-// The first of some ranges that a range meets.
+/// The first of some ranges that a range meets.
 fn range_met(range: Range, others: &[Range]) -> Option<Range>
     ensures { result ≡ find (meets range) others.now }
 {
     others.iter().copied().find(|other| meet(range, *other))
 }
 
-// The first that a range meets, of the bodies of other functions and then of the retired ranges.
+/// The first that a range meets, of the bodies of other functions and then of the retired ranges.
 #[tactic(auto, using(crate::proofs::OverlapLaws::find_laws))]
 fn first_met(
     range: Range,
@@ -72,7 +72,7 @@ fn first_met(
     }
 }
 
-// The overlap of a range with the first that it meets.
+/// The overlap of a range with the first that it meets.
 fn overlap_with(
     range: Range,
     old: &OldFunction,
@@ -88,14 +88,14 @@ fn overlap_with(
     }
 }
 
-// How many of the bodies meet what is retired of a function for its own sake: its own, where it isn't empty.
+/// How many of the bodies meet what is retired of a function for its own sake: its own, where it isn't empty.
 fn own_count(old: &OldFunction) -> usize
     ensures { result ≡ own_count old.now }
 {
     usize::from(old.length > 0)
 }
 
-// Why what is retired of one of the functions stands in the way.
+/// Why what is retired of one of the functions stands in the way.
 fn overlap(
     bounds: &Bounds<'_>,
     old: &OldFunction,
@@ -117,7 +117,7 @@ fn overlap(
     overlap_with(range, old, olds, retired)
 }
 
-// The bodies of functions.
+/// The bodies of functions.
 fn body_ranges(alloc: Global, olds: &[OldFunction]) -> Result<Ranges, AllocError>
     requires { AreBodies olds.now }
     ensures { IfOk result (λ ranges. ranges ≡ map body_range olds.now) }
@@ -129,7 +129,7 @@ fn body_ranges(alloc: Global, olds: &[OldFunction]) -> Result<Ranges, AllocError
     Ok(ranges)
 }
 
-// What is retired of a function may meet: the bodies, and the retired ranges.
+/// What is retired of a function may meet: the bodies, and the retired ranges.
 fn all_ranges(alloc: Global, olds: &[OldFunction], retired: &[Range]) -> Result<Ranges, AllocError>
     requires { AreBodies olds.now }
     ensures { IfOk result (λ ranges. ranges ≡ all_ranges olds.now retired.now) }

@@ -14,7 +14,7 @@ use ks_base::{Name, Ranges, Refusal};
 use std::alloc::Global;
 use symbol_table::SymbolTable;
 
-// Whether a function that takes the jump has room for it.
+/// Whether a function that takes the jump has room for it.
 fn check_room<S: Space>(
     alloc: Global,
     space: &S,
@@ -36,7 +36,7 @@ fn check_room<S: Space>(
     Ok(())
 }
 
-// Whether each function that takes the jump has room for it.
+/// Whether each function that takes the jump has room for it.
 fn check_rooms<S: Space>(
     alloc: Global,
     space: &S,

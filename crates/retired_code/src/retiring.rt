@@ -128,14 +128,14 @@ pub fn are_bodies(olds: &[OldFunction]) -> bool
     olds.iter().all(is_body)
 }
 
-// The same of one function.
+/// The same of one function.
 fn is_body(old: &OldFunction) -> bool
     ensures { IsTrue result ↔ IsBody old.now }
 {
     ends_low(old.base, old.length) && ends_low(old.home, JUMP_LENGTH)
 }
 
-// Whether so many bytes from an address on end at one of 32 bits.
+/// Whether so many bytes from an address on end at one of 32 bits.
 fn ends_low(begin: u32, length: u32) -> bool
     ensures { IsTrue result ↔ (begin + length < 2 ^ 32) }
 {

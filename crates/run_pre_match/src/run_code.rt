@@ -18,7 +18,7 @@ pub(crate) struct RunList {
 }
 
 impl RunList {
-    // Puts the instruction at the end of the list behind the others.
+    /// Puts the instruction at the end of the list behind the others.
     fn push(&mut self, instruction: &RunInstruction) -> Result<(), AllocError>
         requires below { AreBelow self.old.end self.old.places }
         requires place { instruction.now.place ≡ self.old.end }

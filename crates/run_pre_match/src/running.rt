@@ -43,7 +43,7 @@ impl Model for RunInstruction {
 }
 
 impl RunInstruction {
-    // The instruction at the front of what is met at an address.
+    /// The instruction at the front of what is met at an address.
     fn at_front(place: u32, window: Window) -> Option<Self>
         requires low { place < 0xFFFF_0000 }
         requires short { window.length ≤ 15 }

@@ -10,20 +10,20 @@ use crate::types::Command;
 use ks_base::Name;
 use std::alloc::{AllocError, Global};
 
-// A command runs at most so many instructions.
+/// A command runs at most so many instructions.
 const MOST_STEPS: u32 = 16_777_216;
 
-// An update is tried at most so often.
+/// An update is tried at most so often.
 const MOST_TRIES: u32 = 1000;
 
-// A command shows at most so many bytes.
+/// A command shows at most so many bytes.
 const MOST_BYTES: u32 = 4096;
 
-// How many addresses there are.
+/// How many addresses there are.
 const ADDRESSES: u64 = 1 << 32;
 
-// What a line asks for: a command, or `Some(None)` for a blank or a comment. `None` where it isn't in
-// the grammar.
+/// What a line asks for: a command, or `Some(None)` for a blank or a comment. `None` where it isn't in
+/// the grammar.
 pub(crate) fn asked_in(alloc: Global, line: &[u8]) -> Result<Option<Option<Command>>, AllocError>
     ensures { IfOk result (λ asked. asked ≡ asked_in line.now) }
 {
@@ -39,7 +39,7 @@ pub(crate) fn asked_in(alloc: Global, line: &[u8]) -> Result<Option<Option<Comma
     Ok(command_of(alloc, word, text)?.map(Some))
 }
 
-// Whether a word begins a comment.
+/// Whether a word begins a comment.
 fn is_comment(word: &[u8]) -> bool
     ensures { result ≡ is_comment word.now }
 {
@@ -49,7 +49,7 @@ fn is_comment(word: &[u8]) -> bool
     }
 }
 
-// The command of a first word and the text behind it.
+/// The command of a first word and the text behind it.
 fn command_of(alloc: Global, word: &[u8], text: &[u8]) -> Result<Option<Command>, AllocError>
     ensures { IfOk result (λ command. command ≡ command_of word.now (words_of text.now)) }
 {
@@ -89,7 +89,7 @@ fn is(word: &[u8], name: &[u8]) -> bool
     word == name
 }
 
-// `spawn NAME ARG`
+/// `spawn NAME ARG`
 fn spawn_of(alloc: Global, text: &[u8]) -> Result<Option<Command>, AllocError>
     ensures { IfOk result (λ command. command ≡ spawn_of (words_of text.now)) }
 {
@@ -103,7 +103,7 @@ fn spawn_of(alloc: Global, text: &[u8]) -> Result<Option<Command>, AllocError>
     Ok(Some(Command::Spawn { name, argument }))
 }
 
-// `step T N`
+/// `step T N`
 fn step_of(text: &[u8]) -> Option<Command>
     ensures { result ≡ step_of (words_of text.now) }
 {
@@ -113,7 +113,7 @@ fn step_of(text: &[u8]) -> Option<Command>
     Some(Command::Step { thread, steps })
 }
 
-// `rr Q N`
+/// `rr Q N`
 fn round_robin_of(text: &[u8]) -> Option<Command>
     ensures { result ≡ round_robin_of (words_of text.now) }
 {
@@ -123,7 +123,7 @@ fn round_robin_of(text: &[u8]) -> Option<Command>
     Some(Command::RoundRobin { quantum, steps })
 }
 
-// A command that takes no word.
+/// A command that takes no word.
 fn alone(command: Command, text: &[u8]) -> Option<Command>
     ensures { result ≡ alone command (words_of text.now) }
 {
@@ -133,7 +133,7 @@ fn alone(command: Command, text: &[u8]) -> Option<Command>
     }
 }
 
-// `peek ADDRESS N`
+/// `peek ADDRESS N`
 fn peek_of(text: &[u8]) -> Option<Command>
     ensures { result ≡ peek_of (words_of text.now) }
 {
@@ -146,7 +146,7 @@ fn peek_of(text: &[u8]) -> Option<Command>
     Some(Command::Peek { address, count })
 }
 
-// `apply NAME PRE POST`, or `apply NAME PRE POST tries K gap N`
+/// `apply NAME PRE POST`, or `apply NAME PRE POST tries K gap N`
 fn apply_of(alloc: Global, text: &[u8]) -> Result<Option<Command>, AllocError>
     ensures { IfOk result (λ command. command ≡ apply_of (words_of text.now)) }
 {
@@ -168,7 +168,7 @@ fn apply_of(alloc: Global, text: &[u8]) -> Result<Option<Command>, AllocError>
     }))
 }
 
-// How often an update is tried, and how many steps are made between two tries: once where there are no words.
+/// How often an update is tried, and how many steps are made between two tries: once where there are no words.
 fn tries_or_one(text: &[u8]) -> Option<(u32, u32)>
     ensures { result ≡ tries_or_one (words_of text.now) }
 {
@@ -178,7 +178,7 @@ fn tries_or_one(text: &[u8]) -> Option<(u32, u32)>
     }
 }
 
-// `tries K gap N`
+/// `tries K gap N`
 fn tries_of(text: &[u8]) -> Option<(u32, u32)>
     ensures { result ≡ tries_of (words_of text.now) }
 {
@@ -193,7 +193,7 @@ fn tries_of(text: &[u8]) -> Option<(u32, u32)>
     Some((tries, gap))
 }
 
-// The one word of a text that has no more and no fewer.
+/// The one word of a text that has no more and no fewer.
 fn only(text: &[u8]) -> Option<&[u8]>
     ensures { option_map (λ word. word.now) result ≡ only (words_of text.now) }
 {
@@ -204,7 +204,7 @@ fn only(text: &[u8]) -> Option<&[u8]>
     }
 }
 
-// The two words of a text that has no more and no fewer.
+/// The two words of a text that has no more and no fewer.
 fn two(text: &[u8]) -> Option<(&[u8], &[u8])>
     ensures { option_map (λ words. (words.0.now, words.1.now)) result ≡ two (words_of text.now) }
 {
@@ -213,7 +213,7 @@ fn two(text: &[u8]) -> Option<(&[u8], &[u8])>
     Some((first, second))
 }
 
-// The first three words of a text, and what stands behind them.
+/// The first three words of a text, and what stands behind them.
 fn first_three(text: &[u8]) -> Option<(&[u8], &[u8], &[u8], &[u8])>
     ensures { option_map (λ words. (words.0.now, words.1.now, words.2.now, words_of words.3.now)) result
         ≡ first_three (words_of text.now) }

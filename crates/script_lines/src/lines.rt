@@ -3,10 +3,10 @@ ghost use Rattle.std.specs.Prelude.{◌≡◌, ◌<◌, ◌∷◌, [], false, If
 ghost use Rattle.std.specs.List.{list_all, position};
 ghost use Rattle.script_lines.specs.Lines.{lines_of, words_of, is_line_end, is_space, is_plain, is_printable};
 
-// The longest line, in bytes.
+/// The longest line, in bytes.
 const LONGEST_LINE: usize = 4096;
 
-// The first line, and what stands behind its end.
+/// The first line, and what stands behind its end.
 #[tactic(auto, using(crate::proofs::Cuts::line_cuts))]
 pub(crate) fn first_line(bytes: &[u8]) -> (&[u8], &[u8])
     requires { 0 < length bytes.now }
@@ -19,7 +19,7 @@ pub(crate) fn first_line(bytes: &[u8]) -> (&[u8], &[u8])
     }
 }
 
-// The first word, and what stands behind it. `None` where there is no word.
+/// The first word, and what stands behind it. `None` where there is no word.
 #[tactic(auto, using(crate::proofs::Cuts::word_starts))]
 pub(crate) fn first_word(line: &[u8]) -> Option<(&[u8], &[u8])>
     ensures { MatchOption result (words_of line.now ≡ [])
@@ -29,7 +29,7 @@ pub(crate) fn first_word(line: &[u8]) -> Option<(&[u8], &[u8])>
     Some(word_at_front(&line[start..]))
 }
 
-// The word that a text begins with, and what stands behind it.
+/// The word that a text begins with, and what stands behind it.
 #[tactic(auto, using(crate::proofs::Cuts::word_cuts))]
 fn word_at_front(text: &[u8]) -> (&[u8], &[u8])
     requires some { 0 < length text.now }
@@ -56,7 +56,7 @@ fn find_space(text: &[u8]) -> Option<usize>
     text.iter().position(|byte| *byte == b' ')
 }
 
-// Where the first byte stands that is no space.
+/// Where the first byte stands that is no space.
 fn find_word(text: &[u8]) -> Option<usize>
     ensures value { result ≡ position (λ byte. not (is_space byte)) text.now }
     ensures bound { IfSome result (λ place. place < length text.now) }
@@ -64,7 +64,7 @@ fn find_word(text: &[u8]) -> Option<usize>
     text.iter().position(|byte| *byte != b' ')
 }
 
-// Whether a line has no more bytes than it may have, and none but printable ones.
+/// Whether a line has no more bytes than it may have, and none but printable ones.
 pub(crate) fn is_plain(line: &[u8]) -> bool
     ensures { result ≡ is_plain line.now }
 {

@@ -6,7 +6,7 @@ ghost use Rattle.std.specs.Str.Parse.{digits_value};
 ghost use Rattle.script_lines.specs.Numbers.{number_of, numeral, when};
 ghost use Rattle.script_lines.specs.Forms.{number_within};
 
-// The number that a word writes, in decimal, or in hexadecimal behind `0x`.
+/// The number that a word writes, in decimal, or in hexadecimal behind `0x`.
 pub(crate) fn number_of(word: &[u8]) -> Option<u32>
     ensures { result ≡ number_of word.now }
 {
@@ -16,7 +16,7 @@ pub(crate) fn number_of(word: &[u8]) -> Option<u32>
     }
 }
 
-// The number that a word writes, which is from `low` to `high`.
+/// The number that a word writes, which is from `low` to `high`.
 pub(crate) fn number_within(word: &[u8], low: u32, high: u32) -> Option<u32>
     ensures { result ≡ number_within low high word.now }
 {
@@ -27,7 +27,7 @@ pub(crate) fn number_within(word: &[u8], low: u32, high: u32) -> Option<u32>
     Some(number)
 }
 
-// The number that one to `most` digits write.
+/// The number that one to `most` digits write.
 fn numeral(digits: &[u8], base: u32, most: usize) -> Option<u32>
     requires low { 2 ≤ base }
     requires high { base ≤ 16 }
@@ -44,7 +44,7 @@ fn numeral(digits: &[u8], base: u32, most: usize) -> Option<u32>
     Some(value as u32)
 }
 
-// The value of digits, `None` where some byte is no digit of the base.
+/// The value of digits, `None` where some byte is no digit of the base.
 fn value_of(digits: &[u8], base: u32) -> Option<u64>
     requires low { 2 ≤ base }
     requires high { base ≤ 16 }

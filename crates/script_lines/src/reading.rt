@@ -11,7 +11,7 @@ use crate::types::{Command, Script};
 use ks_base::Refusal;
 use std::alloc::{AllocError, Global};
 
-// A script has at most so many lines.
+/// A script has at most so many lines.
 const MOST_LINES: u32 = 65_536;
 
 /// The commands of a script, in order; blank lines and comments give none. Each keeps the bounds of its line's form.
@@ -42,7 +42,7 @@ pub fn read_script(alloc: Global, bytes: &[u8]) -> Result<Script, Refusal>
     Ok(script)
 }
 
-// Appends what a line asks for.
+/// Appends what a line asks for.
 fn push_asked(script: &mut Script, asked: Option<Command>) -> Result<(), AllocError>
     ensures { OnOk result (script.new ≡ script.old ++ option_to_list asked) }
 {

@@ -45,7 +45,7 @@ pub fn same_sections<'a>(
     })
 }
 
-// For each section of the second object, whether it is the same in the first.
+/// For each section of the second object, whether it is the same in the first.
 fn marks_of_post(
     alloc: Global,
     comparison: &mut Comparison<'_, '_>,
@@ -62,7 +62,7 @@ fn marks_of_post(
     Ok(marks)
 }
 
-// The mark of a name, false where no section of the object has it.
+/// The mark of a name, false where no section of the object has it.
 fn mark_of(normal: &Normal<'_>, marks: &[bool], name: &[u8]) -> bool
     ensures { result ≡ mark_at marks.now (place_named normal.now name.now) }
 {
@@ -72,7 +72,7 @@ fn mark_of(normal: &Normal<'_>, marks: &[bool], name: &[u8]) -> bool
     }
 }
 
-// The mark of each section's name in another object.
+/// The mark of each section's name in another object.
 fn marks_of_names(
     alloc: Global,
     sections: &[NormalSection<'_>],
@@ -88,7 +88,7 @@ fn marks_of_names(
         .collect(alloc)
 }
 
-// For each section of the first object, whether it is the same in the second, by the marks of the second's sections.
+/// For each section of the first object, whether it is the same in the second, by the marks of the second's sections.
 fn marks_of_pre(
     alloc: Global,
     pre: &Normal<'_>,

@@ -35,7 +35,7 @@ impl<'n, 'a> Model for Comparison<'n, 'a> {
     ghost invariant = { λ c. AreKept c.pre.now c.post.now c.known };
 }
 
-// The bytes of the section at a place, none where there is no section.
+/// The bytes of the section at a place, none where there is no section.
 fn bytes_at<'n>(normal: &'n Normal<'_>, place: usize) -> &'n [u8]
     ensures { result.now ≡ bytes_at normal.now place }
 {
@@ -45,8 +45,8 @@ fn bytes_at<'n>(normal: &'n Normal<'_>, place: usize) -> &'n [u8]
     }
 }
 
-// Where the section stands that holds the text to which the reference `k` of a section goes. Where the reference goes
-// to no text, the answer says nothing.
+/// Where the section stands that holds the text to which the reference `k` of a section goes. Where the reference goes
+/// to no text, the answer says nothing.
 #[tactic(auto, using(crate::proofs::EndsOfTexts::holds_target))]
 fn place_of_text(normal: &Normal<'_>, section: usize, k: usize, r: &Ref<'_>) -> usize
     requires { slice_get (refs_at normal.now section) k ≡ Some r.now }
@@ -57,15 +57,15 @@ fn place_of_text(normal: &Normal<'_>, section: usize, k: usize, r: &Ref<'_>) -> 
     normal.target_place(section, k).unwrap_or(0)
 }
 
-// How many bytes of a section are before the end of a text that it holds at an offset.
+/// How many bytes of a section are before the end of a text that it holds at an offset.
 fn end_of_text(offset: u32, text: &[u8]) -> usize
     ensures { result ≡ offset + length text.now }
 {
     offset as usize + text.len()
 }
 
-// Keeps how many bytes before the ends are equal. Where there is no memory for that, nothing is kept: the bytes are
-// compared again.
+/// Keeps how many bytes before the ends are equal. Where there is no memory for that, nothing is kept: the bytes are
+/// compared again.
 fn keep(known: &mut BTreeMap<Ends, usize>, ends: Ends, count: usize)
     ensures { (pre post : List NormalSection) → AreKnown pre post known.old → IsKnown pre post ends count
         → AreKnown pre post known.new }
@@ -98,7 +98,7 @@ impl<'n, 'a> Comparison<'n, 'a> {
         }
     }
 
-    // How many bytes before the ends are known to be equal.
+    /// How many bytes before the ends are known to be equal.
     fn known(&self, ends: Ends) -> usize
         ensures { IsKnown self.now.pre self.now.post ends result }
     {
@@ -111,7 +111,7 @@ impl<'n, 'a> Comparison<'n, 'a> {
         }
     }
 
-    // Keeps how many bytes before the ends are equal.
+    /// Keeps how many bytes before the ends are equal.
     fn learn(&mut self, ends: Ends, count: usize)
         requires { IsKnown self.old.pre self.old.post ends count }
         ensures { self.new ≡ self.old }
@@ -121,7 +121,7 @@ impl<'n, 'a> Comparison<'n, 'a> {
         }
     }
 
-    // Whether so many bytes before the ends are equal.
+    /// Whether so many bytes before the ends are equal.
     fn same_before(&mut self, ends: Ends, count: usize) -> bool
         requires old_end { ends.old_end ≤ length (bytes_at self.old.pre ends.old_place) }
         requires new_end { ends.new_end ≤ length (bytes_at self.old.post ends.new_place) }
@@ -141,7 +141,7 @@ impl<'n, 'a> Comparison<'n, 'a> {
         equal == count
     }
 
-    // Whether two texts that end there are equal.
+    /// Whether two texts that end there are equal.
     fn same_text(&mut self, ends: Ends, old: &[u8], new: &[u8]) -> bool
         requires old { EndsIn (bytes_at self.old.pre ends.old_place) ends.old_end old.now }
         requires new { EndsIn (bytes_at self.old.post ends.new_place) ends.new_end new.now }
@@ -154,7 +154,7 @@ impl<'n, 'a> Comparison<'n, 'a> {
         self.same_before(ends, old.len())
     }
 
-    // Whether the reference `k` of a section of each object goes to the same.
+    /// Whether the reference `k` of a section of each object goes to the same.
     fn same_target(
         &mut self,
         old_section: usize,
@@ -196,7 +196,7 @@ impl<'n, 'a> Comparison<'n, 'a> {
         }
     }
 
-    // Whether the reference `k` is the same in a section of each object.
+    /// Whether the reference `k` is the same in a section of each object.
     fn same_reference(
         &mut self,
         old_section: usize,
@@ -216,7 +216,7 @@ impl<'n, 'a> Comparison<'n, 'a> {
         self.same_target(old_section, new_section, k, old, new)
     }
 
-    // Whether all references are the same in a section of each object.
+    /// Whether all references are the same in a section of each object.
     fn same_references(
         &mut self,
         old_section: usize,
@@ -240,7 +240,7 @@ impl<'n, 'a> Comparison<'n, 'a> {
         true
     }
 
-    // Whether two sections that stand at these places are the same.
+    /// Whether two sections that stand at these places are the same.
     #[tactic(auto, using(crate::proofs::EndsOfTexts::is_same_by))]
     fn same_at(
         &mut self,
@@ -264,7 +264,7 @@ impl<'n, 'a> Comparison<'n, 'a> {
         self.same_references(old_place, new_place, old, new)
     }
 
-    // Whether there are sections at these places of the two objects, and they are the same.
+    /// Whether there are sections at these places of the two objects, and they are the same.
     fn same_places(&mut self, old_place: usize, new_place: usize) -> bool
         ensures same { result ≡ are_same (slice_get self.old.pre old_place) (slice_get self.old.post new_place) }
         ensures objects { self.new ≡ self.old }

@@ -20,7 +20,7 @@ pub fn same_class(old: Class, new: Class) -> bool
     old == new
 }
 
-// Whether the values of two references are counted alike.
+/// Whether the values of two references are counted alike.
 fn same_form(old: Form, new: Form) -> bool
     ensures { result ≡ same_form old new }
 {

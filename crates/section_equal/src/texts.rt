@@ -13,10 +13,10 @@ pub(crate) struct Ends {
     pub(crate) new_end: usize,
 }
 
-// How many bytes are compared at once.
+/// How many bytes are compared at once.
 const BLOCK: usize = 64;
 
-// Whether the bytes of a block are equal. Where they aren't, nothing is said.
+/// Whether the bytes of a block are equal. Where they aren't, nothing is said.
 fn same_block(old: &[u8], new: &[u8], i: usize, j: usize) -> bool
     requires old { i + 64 ≤ length old.now }
     requires new { j + 64 ≤ length new.now }
@@ -27,8 +27,8 @@ fn same_block(old: &[u8], new: &[u8], i: usize, j: usize) -> bool
     old == new
 }
 
-// How many bytes before the ends are equal in whole blocks, after those that are known. More may be equal, but not a
-// whole block more.
+/// How many bytes before the ends are equal in whole blocks, after those that are known. More may be equal, but not a
+/// whole block more.
 fn blocks(old: &[u8], new: &[u8], ends: Ends, known: usize, bound: usize) -> usize
     requires old_end { ends.old_end ≤ length old.now }
     requires new_end { ends.new_end ≤ length new.now }

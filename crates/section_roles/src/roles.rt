@@ -26,7 +26,7 @@ pub fn roles_of<'e>(
     Ok(roles)
 }
 
-// Gives each name the role, in place of the one that it had.
+/// Gives each name the role, in place of the one that it had.
 fn put_roles<'e>(
     roles: &mut BTreeMap<&'e [u8], Role>,
     names: &'e Names,

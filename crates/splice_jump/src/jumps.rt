@@ -6,7 +6,7 @@ ghost use Rattle.splice_jump.specs.Jump.{jump_bytes, five_at, after_jump, after_
 
 use image_memory::{JUMP_LENGTH, Space};
 
-// JMP by a displacement of 32 bits.
+/// JMP by a displacement of 32 bits.
 const JUMP: u8 = 0xE9;
 
 /// The five bytes of the jump that stands at `home` and goes to `base`: E9, and how far it is from the jump's end to
@@ -56,7 +56,7 @@ pub fn five_at<S: Space>(space: &S, home: u32) -> [u8; JUMP_LENGTH]
     ]
 }
 
-// The byte at an address, 0 where there is none.
+/// The byte at an address, 0 where there is none.
 fn byte_at<S: Space>(space: &S, address: u32) -> u8
     ensures { result ≡ byte_at (S.contents space.now).pieces address }
 {

@@ -17,7 +17,7 @@ pub fn sorted(alloc: Global, ranges: &[Range]) -> Result<Vec<Range>, AllocError>
     Ok(in_order(Vec::from_slice(alloc, ranges)?))
 }
 
-// The same, of ranges of one's own.
+/// The same, of ranges of one's own.
 fn in_order(mut ranges: Vec<Range>) -> Vec<Range>
     ensures same { IsPermutation ranges.items result.items }
     ensures order { IsNonDecreasingBy (λ range. range.low) result.items }

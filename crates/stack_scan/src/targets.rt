@@ -12,10 +12,10 @@ use std::marker::Model;
 #[derive(Drop)]
 pub(crate) struct Targets<'a> {
     ranges: &'a [Range],
-    // No range begins below `low` or ends above `high`.
+    /// No range begins below `low` or ends above `high`.
     low: u32,
     high: u32,
-    // Whether they ascend and don't meet.
+    /// Whether they ascend and don't meet.
     in_order: bool,
 }
 

@@ -3,7 +3,7 @@
 ghost use Rattle.std.specs.Prelude.{◌≡◌, ◌<◌};
 ghost use Rattle.symbol_table.specs.inside.Blocks.{block_begin};
 
-// Where the last block of the items before an index begins.
+/// Where the last block of the items before an index begins.
 pub(crate) fn block_begin(end: usize) -> usize
     requires { 0 < end }
     ensures value { result ≡ block_begin end }

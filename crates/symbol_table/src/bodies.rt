@@ -46,7 +46,7 @@ impl Bodies {
     }
 }
 
-// Rows in ascending order of the homes.
+/// Rows in ascending order of the homes.
 fn by_home(mut rows: Vec<(u32, u32)>) -> Vec<(u32, u32)>
     ensures same { IsPermutation rows.items result.items }
     ensures rise { IsNonDecreasingBy home_of result.items }
@@ -55,7 +55,7 @@ fn by_home(mut rows: Vec<(u32, u32)>) -> Vec<(u32, u32)>
     rows
 }
 
-// The newest base of a home, of rows in ascending order of the homes.
+/// The newest base of a home, of rows in ascending order of the homes.
 fn newest_of(rows: &[(u32, u32)], home: u32) -> u32
     requires { IsNonDecreasingBy home_of rows.now }
     ensures { result ≡ newest rows.now home }

@@ -12,15 +12,15 @@ use crate::symbols::Symbol;
 use std::alloc::{AllocError, Global};
 use std::cmp::Ordering;
 
-// An entry of an index: the address of a symbol, and the symbol's place in the table.
+/// An entry of an index: the address of a symbol, and the symbol's place in the table.
 #[derive(Clone, Copy)]
 pub(crate) struct Entry {
     pub(crate) address: u32,
     pub(crate) place: usize,
 }
 
-// An index: of the functions or of the data in order of the addresses, or of the global or of all symbols in order of
-// the names, and those of one name in order of the addresses.
+/// An index: of the functions or of the data in order of the addresses, or of the global or of all symbols in order of
+/// the names, and those of one name in order of the addresses.
 #[derive(Clone, Copy)]
 pub(crate) enum Index {
     Functions,
@@ -29,7 +29,7 @@ pub(crate) enum Index {
     Names,
 }
 
-// Whether an index has a symbol.
+/// Whether an index has a symbol.
 fn is_in(index: Index, symbol: &Symbol) -> bool
     ensures { result ≡ is_in index symbol.now }
 {
@@ -41,7 +41,7 @@ fn is_in(index: Index, symbol: &Symbol) -> bool
     }
 }
 
-// The name of the symbol at a place, without bytes where there is none.
+/// The name of the symbol at a place, without bytes where there is none.
 fn name_at(symbols: &[Symbol], place: usize) -> &[u8]
     ensures { result.now ≡ name_of (slice_get symbols.now place) }
 {
@@ -51,14 +51,14 @@ fn name_at(symbols: &[Symbol], place: usize) -> &[u8]
     }
 }
 
-// How the name of an entry's symbol stands to a name.
+/// How the name of an entry's symbol stands to a name.
 pub(crate) fn order_at(symbols: &[Symbol], entry: &Entry, name: &[u8]) -> Ordering
     ensures { result ≡ order_at symbols.now name.now entry.now }
 {
     name_at(symbols, entry.place).cmp(name)
 }
 
-// How an entry stands to another by address, and at one address the last symbol before the first.
+/// How an entry stands to another by address, and at one address the last symbol before the first.
 pub(crate) fn address_order(entry: &Entry, other: &Entry) -> Ordering
     ensures order { result ≡ address_order entry.now other.now }
     ensures less { is_lt result ≡ address_less entry.now other.now }
@@ -69,14 +69,14 @@ pub(crate) fn address_order(entry: &Entry, other: &Entry) -> Ordering
         .then(other.place.cmp(&entry.place))
 }
 
-// How the names of two entries' symbols stand.
+/// How the names of two entries' symbols stand.
 fn name_order(symbols: &[Symbol], entry: &Entry, other: &Entry) -> Ordering
     ensures { result ≡ order_at symbols.now (name_of (slice_get symbols.now other.now.place)) entry.now }
 {
     order_at(symbols, entry, name_at(symbols, other.place))
 }
 
-// How an entry of an index stands to another.
+/// How an entry of an index stands to another.
 fn entry_order(index: Index, symbols: &[Symbol], entry: &Entry, other: &Entry) -> Ordering
     ensures { is_lt result ≡ entry_less index symbols.now entry.now other.now }
 {
@@ -89,7 +89,7 @@ fn entry_order(index: Index, symbols: &[Symbol], entry: &Entry, other: &Entry) -
     }
 }
 
-// Puts entries in the order of an index.
+/// Puts entries in the order of an index.
 fn sort_entries(entries: &mut [Entry], index: Index, symbols: &[Symbol])
     ensures same { IsPermutation entries.old entries.new }
     ensures ascend { IsSortedBy (entry_less index symbols.now) entries.new }
@@ -97,7 +97,7 @@ fn sort_entries(entries: &mut [Entry], index: Index, symbols: &[Symbol])
     entries.sort_unstable_by(|entry, other| entry_order(index, symbols, entry, other));
 }
 
-// Puts the last block of entries in order, where one more entry stands at the end than was in blocks.
+/// Puts the last block of entries in order, where one more entry stands at the end than was in blocks.
 fn sort_last_block(entries: &mut [Entry], index: Index, symbols: &[Symbol])
     requires some { 0 < length entries.old }
     requires blocks { InBlocks (entry_less index symbols.now) (take (length entries.old - 1) entries.old) }
@@ -108,7 +108,7 @@ fn sort_last_block(entries: &mut [Entry], index: Index, symbols: &[Symbol])
     sort_entries(&mut entries[begin..], index, symbols);
 }
 
-// Puts the entry of a symbol at the end, where the index has the symbol.
+/// Puts the entry of a symbol at the end, where the index has the symbol.
 fn push_symbol(entries: &mut Vec<Entry>, index: Index, symbol: &Symbol, place: usize)
     requires room { vec_len entries.old < vec_capacity entries.old }
     ensures items { entries.new.items ≡ entries.old.items ++ entry_at index symbol.now place }
@@ -121,7 +121,7 @@ fn push_symbol(entries: &mut Vec<Entry>, index: Index, symbol: &Symbol, place: u
     }
 }
 
-// Notes the last of the symbols in an index that has all before it.
+/// Notes the last of the symbols in an index that has all before it.
 pub(crate) fn note_last(entries: &mut Vec<Entry>, index: Index, symbols: &[Symbol])
     requires some { 0 < length symbols.now }
     requires before { HasAll index (take (length symbols.now - 1) symbols.now) entries.old.items }
@@ -138,7 +138,7 @@ pub(crate) fn note_last(entries: &mut Vec<Entry>, index: Index, symbols: &[Symbo
     }
 }
 
-// Makes the entries those of all symbols of an index, in the symbols' order.
+/// Makes the entries those of all symbols of an index, in the symbols' order.
 fn list_symbols(entries: &mut Vec<Entry>, index: Index, symbols: &[Symbol])
     requires room { length symbols.now ≤ vec_capacity entries.old }
     ensures items { entries.new.items ≡ entries_from index 0 symbols.now }
@@ -151,7 +151,7 @@ fn list_symbols(entries: &mut Vec<Entry>, index: Index, symbols: &[Symbol])
     }
 }
 
-// Makes the entries those of all symbols of an index, in order.
+/// Makes the entries those of all symbols of an index, in order.
 pub(crate) fn list_entries(entries: &mut Vec<Entry>, index: Index, symbols: &[Symbol])
     requires room { length symbols.now ≤ vec_capacity entries.old }
     ensures all { HasAll index symbols.now entries.new.items }
@@ -162,7 +162,7 @@ pub(crate) fn list_entries(entries: &mut Vec<Entry>, index: Index, symbols: &[Sy
     sort_entries(entries.as_mut_slice(), index, symbols);
 }
 
-// The entries of all symbols of an index, in order, with room for those of as many symbols.
+/// The entries of all symbols of an index, in order, with room for those of as many symbols.
 pub(crate) fn entries_of(
     alloc: Global,
     index: Index,

@@ -12,7 +12,7 @@ use crate::blocks::block_begin;
 use crate::entries::{Entry, address_order};
 use crate::symbols::Symbol;
 
-// Of two entries the one that isn't less.
+/// Of two entries the one that isn't less.
 fn greater_of(entry: Entry, other: Entry) -> Entry
     ensures { result ≡ (if address_less other entry then entry else other) }
 {
@@ -23,7 +23,7 @@ fn greater_of(entry: Entry, other: Entry) -> Entry
     }
 }
 
-// Of two entries, which may be missing, the one that isn't less.
+/// Of two entries, which may be missing, the one that isn't less.
 fn greater_entry(entry: Option<Entry>, other: Option<Entry>) -> Option<Entry>
     ensures { result ≡ greater_entry entry other }
 {
@@ -34,7 +34,7 @@ fn greater_entry(entry: Option<Entry>, other: Option<Entry>) -> Option<Entry>
     }
 }
 
-// Of entries in order the greatest at or below an address.
+/// Of entries in order the greatest at or below an address.
 fn last_in_block(entries: &[Entry], address: u32) -> Option<Entry>
     requires { IsSortedBy address_less entries.now }
     ensures { result ≡ entry_below address entries.now }
@@ -47,7 +47,7 @@ fn last_in_block(entries: &[Entry], address: u32) -> Option<Entry>
     }
 }
 
-// The greatest entry at or below an address, of entries in blocks in order of the addresses.
+/// The greatest entry at or below an address, of entries in blocks in order of the addresses.
 fn last_entry(entries: &[Entry], address: u32) -> Option<Entry>
     requires { InBlocks address_less entries.now }
     ensures found { result ≡ entry_below address entries.now }
@@ -63,7 +63,7 @@ fn last_entry(entries: &[Entry], address: u32) -> Option<Entry>
     last
 }
 
-// Of the function symbols at or below an address the one with the greatest address, and of several there the first.
+/// Of the function symbols at or below an address the one with the greatest address, and of several there the first.
 pub(crate) fn function_below<'a>(
     symbols: &'a [Symbol],
     entries: &[Entry],

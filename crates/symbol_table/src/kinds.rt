@@ -17,7 +17,7 @@ use crate::symbols::Symbol;
 use ks_base::Name;
 use std::alloc::{AllocError, Global};
 
-// What a lookup by name asks for.
+/// What a lookup by name asks for.
 #[derive(Clone, Copy)]
 pub(crate) enum Kind {
     Function,
@@ -25,7 +25,7 @@ pub(crate) enum Kind {
     Data,
 }
 
-// Whether a symbol is of a kind.
+/// Whether a symbol is of a kind.
 fn is_of_kind(symbol: &Symbol, kind: Kind) -> bool
     ensures { result ≡ is_of_kind kind symbol.now }
 {
@@ -36,7 +36,7 @@ fn is_of_kind(symbol: &Symbol, kind: Kind) -> bool
     }
 }
 
-// The address of the symbol at a place, where it is of a kind.
+/// The address of the symbol at a place, where it is of a kind.
 fn kind_address(symbols: &[Symbol], place: usize, kind: Kind) -> Option<u32>
     ensures { result ≡ kind_address kind (slice_get symbols.now place) }
 {
@@ -48,7 +48,7 @@ fn kind_address(symbols: &[Symbol], place: usize, kind: Kind) -> Option<u32>
     }
 }
 
-// The addresses of the symbols of a kind and a name, of entries in order of the names.
+/// The addresses of the symbols of a kind and a name, of entries in order of the names.
 fn found_in_block(
     alloc: Global,
     symbols: &[Symbol],
@@ -65,7 +65,7 @@ fn found_in_block(
         .collect(alloc)
 }
 
-// The addresses of the symbols of a kind and a name.
+/// The addresses of the symbols of a kind and a name.
 fn addresses_found(
     alloc: Global,
     symbols: &[Symbol],
@@ -87,7 +87,7 @@ fn addresses_found(
     Ok(found)
 }
 
-// The distinct addresses of the symbols of a kind and a name, ascending.
+/// The distinct addresses of the symbols of a kind and a name, ascending.
 pub(crate) fn addresses_of(
     alloc: Global,
     symbols: &[Symbol],
@@ -101,7 +101,7 @@ pub(crate) fn addresses_of(
     put_in_order(addresses_found(alloc, symbols, entries, kind, name)?)
 }
 
-// Whether an entry of a name stands at an address, of entries in order of the names.
+/// Whether an entry of a name stands at an address, of entries in order of the names.
 fn stands_in_block(symbols: &[Symbol], entries: &[Entry], name: &Name, address: u32) -> bool
     requires { IsSortedBy (name_less symbols.now) entries.now }
     ensures { result ≡ nat_lt 0 (length
@@ -111,7 +111,7 @@ fn stands_in_block(symbols: &[Symbol], entries: &[Entry], name: &Name, address: 
     !entries_at(named, address).is_empty()
 }
 
-// Whether a name has a global symbol at an address, by the index of the global symbols.
+/// Whether a name has a global symbol at an address, by the index of the global symbols.
 pub(crate) fn is_global(symbols: &[Symbol], entries: &[Entry], name: &Name, address: u32) -> bool
     requires { HasAll Globals symbols.now entries.now }
     ensures { result ≡ list_any (λ a. address == a) (global_addresses symbols.now name.now) }

@@ -8,21 +8,21 @@ ghost use Rattle.symbol_table.specs.inside.Names.{is_before, is_not_after, is_na
 use crate::entries::{Entry, order_at};
 use crate::symbols::Symbol;
 
-// Whether an entry's symbol comes before a name.
+/// Whether an entry's symbol comes before a name.
 fn is_before(symbols: &[Symbol], entry: &Entry, name: &[u8]) -> bool
     ensures { result ≡ is_before symbols.now name.now entry.now }
 {
     order_at(symbols, entry, name).is_lt()
 }
 
-// Whether an entry's symbol comes no later than a name.
+/// Whether an entry's symbol comes no later than a name.
 fn is_not_after(symbols: &[Symbol], entry: &Entry, name: &[u8]) -> bool
     ensures { result ≡ is_not_after symbols.now name.now entry.now }
 {
     order_at(symbols, entry, name).is_le()
 }
 
-// How many of the entries come before a name.
+/// How many of the entries come before a name.
 fn begin_of(symbols: &[Symbol], entries: &[Entry], name: &[u8]) -> usize
     requires { IsSortedBy (name_less symbols.now) entries.now }
     ensures bound { result ≤ length entries.now }
@@ -32,7 +32,7 @@ fn begin_of(symbols: &[Symbol], entries: &[Entry], name: &[u8]) -> usize
     entries.partition_point(|entry| is_before(symbols, entry, name))
 }
 
-// How many of the entries come no later than a name.
+/// How many of the entries come no later than a name.
 fn end_of(symbols: &[Symbol], entries: &[Entry], name: &[u8]) -> usize
     requires { IsSortedBy (name_less symbols.now) entries.now }
     ensures bound { result ≤ length entries.now }
@@ -42,7 +42,7 @@ fn end_of(symbols: &[Symbol], entries: &[Entry], name: &[u8]) -> usize
     entries.partition_point(|entry| is_not_after(symbols, entry, name))
 }
 
-// The entries of a name, in order of the addresses.
+/// The entries of a name, in order of the addresses.
 pub(crate) fn entries_named<'a>(
     symbols: &[Symbol],
     entries: &'a [Entry],
@@ -57,7 +57,7 @@ pub(crate) fn entries_named<'a>(
     &entries[begin..end]
 }
 
-// The entries at an address, of entries in order of the addresses.
+/// The entries at an address, of entries in order of the addresses.
 pub(crate) fn entries_at(entries: &[Entry], address: u32) -> &[Entry]
     requires { IsNonDecreasingBy (λ entry. entry.address) entries.now }
     ensures { result.now ≡ filter (stands_at address) entries.now }

@@ -8,7 +8,7 @@ ghost use Rattle.symbol_table.specs.inside.Next.{any_address, lesser, IsNext};
 use crate::blocks::block_begin;
 use crate::entries::Entry;
 
-// The lesser of two addresses that may be missing.
+/// The lesser of two addresses that may be missing.
 pub(crate) fn lesser(address: Option<u32>, other: Option<u32>) -> Option<u32>
     ensures { result ≡ lesser address other }
 {
@@ -19,7 +19,7 @@ pub(crate) fn lesser(address: Option<u32>, other: Option<u32>) -> Option<u32>
     }
 }
 
-// Of entries in order of the addresses the least address above an address.
+/// Of entries in order of the addresses the least address above an address.
 fn next_in_block(entries: &[Entry], address: u32) -> Option<u32>
     requires { IsSortedBy address_less entries.now }
     ensures { IsNext address (any_address entries.now) result }
@@ -32,7 +32,7 @@ fn next_in_block(entries: &[Entry], address: u32) -> Option<u32>
     }
 }
 
-// The least address above an address, of entries in blocks in order of the addresses.
+/// The least address above an address, of entries in blocks in order of the addresses.
 pub(crate) fn next_of(entries: &[Entry], address: u32) -> Option<u32>
     requires { InBlocks address_less entries.now }
     ensures { IsNext address (any_address entries.now) result }

@@ -16,7 +16,7 @@ use ks_base::{Name, Refusal};
 use std::alloc::{AllocError, Global};
 use std::marker::Model;
 
-// The offsets below which an address is shown with a function's name.
+/// The offsets below which an address is shown with a function's name.
 const NAMED_REACH: u32 = 65_536;
 
 /// The symbols of a running program in order. A clause sees it as the list of its symbols and the number
@@ -24,7 +24,7 @@ const NAMED_REACH: u32 = 65_536;
 #[derive(Drop)]
 pub struct SymbolTable {
     symbols: Vec<Symbol>,
-    // the indices of the symbols, each in blocks that are in order
+    /// the indices of the symbols, each in blocks that are in order
     functions: Vec<Entry>,
     data_entries: Vec<Entry>,
     globals: Vec<Entry>,
@@ -238,7 +238,7 @@ impl SymbolTable {
     }
 }
 
-// The one address of ascending ones that a name has.
+/// The one address of ascending ones that a name has.
 fn only_address(alloc: Global, name: &Name, addresses: &[u32]) -> Result<u32, Refusal>
     ensures { Gives (λ address. address) result (only_address name.now addresses.now) }
 {

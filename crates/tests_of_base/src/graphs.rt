@@ -3,7 +3,7 @@
 use reachability::{Edge, reached_along};
 use std::test::Fail;
 
-// A cycle 0, 1, 2, an edge out of it to 3, an edge into it from 4, and 5 with an edge to itself.
+/// A cycle 0, 1, 2, an edge out of it to 3, an edge into it from 4, and 5 with an edge to itself.
 const EDGES: [Edge; 6] = [
     Edge { from: 0, to: 1 },
     Edge { from: 1, to: 2 },

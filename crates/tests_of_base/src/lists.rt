@@ -73,7 +73,7 @@ fn name_of(alloc: Global, bytes: &[u8]) -> Result<Name, AllocError>
     Name::from_slice(alloc, bytes)
 }
 
-// Whether a refusal's line, put after a blank, is as wanted.
+/// Whether a refusal's line, put after a blank, is as wanted.
 fn prints(alloc: Global, refusal: &Refusal, wanted: &str) -> Result<bool, AllocError> {
     let mut line = Line::new(alloc);
     line.put_text(" ")?;
@@ -159,7 +159,7 @@ fn numbers_and_names_in_texts(rt: HostRuntime) -> Result<(), Fail> {
     Ok(())
 }
 
-// The refusals that hold no name, by their number.
+/// The refusals that hold no name, by their number.
 fn plain(number: u8) -> Refusal {
     match number {
         1 => Refusal::NotElf,
@@ -239,7 +239,7 @@ fn busy_refusals(rt: HostRuntime) -> Result<(), Fail> {
     Ok(())
 }
 
-// The refusals that hold a name alone, or a name and numbers, by their number.
+/// The refusals that hold a name alone, or a name and numbers, by their number.
 fn named(number: u8, name: Name) -> Refusal {
     match number {
         7 => Refusal::UnknownReloc(name, 0, 10),

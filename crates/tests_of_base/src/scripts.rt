@@ -5,7 +5,7 @@ use std::alloc::{AllocError, Global};
 use std::process::Abort;
 use std::test::Fail;
 
-// A command, with the name as text.
+/// A command, with the name as text.
 #[derive(Clone, Copy, Debug)]
 enum Wanted {
     Spawn(&'static str, u32),
@@ -13,7 +13,7 @@ enum Wanted {
     RoundRobin(u32, u32),
     Threads,
     Peek(u32, u32),
-    // with the tries and the gap
+    /// with the tries and the gap
     Apply(&'static str, &'static str, &'static str, u32, u32),
     Undo,
     ListUpdates,
@@ -22,7 +22,7 @@ enum Wanted {
 
 const TOP: u32 = 0xFFFF_FFFF;
 
-// Scripts of one command.
+/// Scripts of one command.
 const COMMANDS: [(&str, Wanted); 38] = [
     ("spawn main 7\n", Wanted::Spawn("main", 7)),
     ("spawn main 7", Wanted::Spawn("main", 7)),
@@ -85,7 +85,7 @@ const COMMANDS: [(&str, Wanted); 38] = [
     ("watch", Wanted::Watch),
 ];
 
-// Scripts that give no command.
+/// Scripts that give no command.
 const NOTHING: [&str; 9] = [
     "",
     "\n",
@@ -98,7 +98,7 @@ const NOTHING: [&str; 9] = [
     "#~ !\n\n#\n",
 ];
 
-// Scripts with a bad line, and its number.
+/// Scripts with a bad line, and its number.
 const BAD: [(&str, u32); 86] = [
     // words
     ("thread", 1),
@@ -228,7 +228,7 @@ fn is_wanted(command: &Command, wanted: Wanted) -> bool {
     }
 }
 
-// The number of the first bad line, where there is one.
+/// The number of the first bad line, where there is one.
 fn bad_line(alloc: Global, bytes: &[u8]) -> Option<u32> {
     match read_script(alloc, bytes) {
         Err(Refusal::BadLine(number)) => Some(number),
@@ -290,7 +290,7 @@ fn bad_lines(rt: HostRuntime) {
     }
 }
 
-// The text `front`, and `count` times the byte.
+/// The text `front`, and `count` times the byte.
 fn repeated(alloc: Global, front: &str, byte: u8, count: usize) -> Result<Vec<u8>, AllocError> {
     let mut bytes = Vec::from_slice(alloc, front.as_bytes())?;
     for _ in 0..count {
@@ -315,7 +315,7 @@ fn scripts_at_their_limits(rt: HostRuntime) -> Result<(), Fail> {
     Ok(())
 }
 
-// Whether a script is the command `threads` alone.
+/// Whether a script is the command `threads` alone.
 fn is_threads(alloc: Global, bytes: &[u8]) -> bool {
     match read_script(alloc, bytes) {
         Ok(script) => matches!(script.as_slice(), [Command::Threads]),

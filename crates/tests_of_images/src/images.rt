@@ -28,11 +28,11 @@ const EMPTY: [u8; 24] = [
     0x4b, 0x49, 0x4d, 0x31, 0, 0, 0, 0, 0, 0, 0, 0, 0, 0, 0, 0, 0, 0, 0, 0, 0, 0, 0, 0,
 ];
 
-// No change: behind the image.
+/// No change: behind the image.
 const SAME: (usize, u32) = (138, 0);
 
-// Changes of the whole image, each a field's offset and the number that stands there instead, after which
-// it is still an image.
+/// Changes of the whole image, each a field's offset and the number that stands there instead, after which
+/// it is still an image.
 const ACCEPTED: [[(usize, u32); 3]; 17] = [
     // as it is
     [SAME, SAME, SAME],
@@ -63,7 +63,7 @@ const ACCEPTED: [[(usize, u32); 3]; 17] = [
     [(126, 0x02FF_FFE0), (130, 0x02FF_FFE0), (134, 0x0300_0000)],
 ];
 
-// Changes after which it is none, with the offset and the fault that are named.
+/// Changes after which it is none, with the offset and the fault that are named.
 const REFUSED: [([(usize, u32); 3], u32, ImageFault); 70] = [
     // the magic bytes
     ([(0, 0x324D_494B), SAME, SAME], 0, ImageFault::Magic),
@@ -216,7 +216,7 @@ const REFUSED: [([(usize, u32); 3], u32, ImageFault); 70] = [
     ([(74, 2), (134, 0), SAME], 74, ImageFault::Kind),
 ];
 
-// The whole image after some changes.
+/// The whole image after some changes.
 fn changed(alloc: Global, changes: &[(usize, u32)]) -> Result<Vec<u8>, AllocError> {
     let mut bytes = Vec::from_slice(alloc, &WHOLE)?;
     for change in changes {
@@ -231,7 +231,7 @@ fn put_field(bytes: &mut [u8], offset: usize, number: u32) {
     }
 }
 
-// What is wrong with an image, and where; none where it is read.
+/// What is wrong with an image, and where; none where it is read.
 fn fault_of(alloc: Global, bytes: &[u8]) -> Option<(u32, ImageFault)> {
     match read_image(alloc, bytes) {
         Err(Refusal::BadImage(offset, fault)) => Some((offset, fault)),
@@ -247,14 +247,14 @@ fn refused(rt: &impl Abort, alloc: Global, bytes: &[u8], offset: u32, fault: Ima
     );
 }
 
-// The bytes are read, and written as they were.
+/// The bytes are read, and written as they were.
 fn read_and_written(rt: &impl Abort, alloc: Global, bytes: &[u8]) -> Result<(), Fail> {
     let image = read_image(alloc, bytes).ok().ok_or("refused")?;
     assert_eq!(rt; write_image(alloc, &image)?.as_slice(), bytes);
     Ok(())
 }
 
-// A file with as many regions and stacks as there may be, and one symbol with a name as long as one may be.
+/// A file with as many regions and stacks as there may be, and one symbol with a name as long as one may be.
 fn large(alloc: Global) -> Result<Vec<u8>, AllocError> {
     let mut bytes = Vec::new(alloc);
     put(&mut bytes, &[MAGIC, 1024, 1, 64, 0, 0])?;

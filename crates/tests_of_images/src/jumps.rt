@@ -6,7 +6,7 @@ use image_memory::{FlatSpace, Kind, Space, are_placed};
 use splice_jump::{jump_bytes, restore, splice};
 use std::test::Fail;
 
-// The five bytes that are seen from an address on.
+/// The five bytes that are seen from an address on.
 fn seen<S: Space>(space: &S, home: u32) -> [Option<(Kind, u8)>; 5] {
     [
         space.look(home),
@@ -28,7 +28,7 @@ fn code(bytes: [u8; 5]) -> [Option<(Kind, u8)>; 5] {
     ]
 }
 
-// Splices a home: the bytes that are answered, and those that are seen then and after they were put back.
+/// Splices a home: the bytes that are answered, and those that are seen then and after they were put back.
 fn there_and_back<S: Space>(
     space: &mut S,
     home: u32,

@@ -55,7 +55,7 @@ const LONG_SYMBOL: [u8; 17] = [0, 0, 0x10, 0, 1, 0, 0, 0, 1, 0, 0, 0, 1, 0, 0, 0
 
 const LONG_LENGTH: usize = 0x4000;
 
-// The bytes of a function's listing, and how many pages they came in.
+/// The bytes of a function's listing, and how many pages they came in.
 fn listed(alloc: Global, image: &[u8], name: &[u8]) -> Result<(Vec<u8>, u32), Refusal> {
     let image = read_image(alloc, image)?;
     let name = Name::from_slice(alloc, name)?;
@@ -93,7 +93,7 @@ fn whole_listings(rt: HostRuntime) -> Result<(), Fail> {
     Ok(())
 }
 
-// The line of the refusal of a name; nothing where its instructions are listed.
+/// The line of the refusal of a name; nothing where its instructions are listed.
 fn refusal_line(alloc: Global, name: &str) -> Result<Line, AllocError> {
     let mut line = Line::new(alloc);
     if let Err(refusal) = listed(alloc, &IMAGE, name.as_bytes()) {
@@ -115,7 +115,7 @@ fn refused_names(rt: HostRuntime) -> Result<(), Fail> {
     Ok(())
 }
 
-// 16,384 lines of 24 bytes and one of 15; a page is full after 2,731 of them.
+/// 16,384 lines of 24 bytes and one of 15; a page is full after 2,731 of them.
 #[test]
 fn several_pages(rt: HostRuntime) -> Result<(), Fail> {
     let alloc = rt.alloc();

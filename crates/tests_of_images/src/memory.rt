@@ -40,7 +40,7 @@ fn push(
     pieces.push(piece_of(alloc, kind, base, bytes)?)
 }
 
-// How many bytes are fetched.
+/// How many bytes are fetched.
 fn fetched<S: Space>(space: &S, pc: u32) -> Result<u32, Fault> {
     Ok(space.window(pc)?.length)
 }
@@ -67,7 +67,7 @@ fn example(alloc: Global) -> Result<Pieces, AllocError> {
     Ok(pieces)
 }
 
-// Whether two pieces of these bases and lengths (first at most 3, second at most 2) may make up a memory.
+/// Whether two pieces of these bases and lengths (first at most 3, second at most 2) may make up a memory.
 fn placed(alloc: Global, low: u32, high: u32, bytes: &[u8]) -> Result<bool, AllocError> {
     let mut pieces = Pieces::new(alloc);
     push(alloc, &mut pieces, Kind::Code, low, &[1, 2, 3])?;
@@ -81,7 +81,7 @@ fn reads<S: Space>(space: &S, address: u32) -> (Result<(), Fault>, [u8; 4]) {
     (answer, bytes)
 }
 
-// Drops the piece that begins at a base.
+/// Drops the piece that begins at a base.
 fn drop_at(space: &mut FlatSpace, base: u32)
     requires { list_any (λ piece. piece.base == base) (⟦<FlatSpace as Space>⟧.contents space.old).pieces ≡ true }
     ensures { ⟦<FlatSpace as Space>⟧.contents space.new

@@ -5,7 +5,7 @@ use std::alloc::{AllocError, Global};
 use std::test::Fail;
 use symbol_table::{Bodies, Solved, Symbol, SymbolTable, Unknown, Values};
 
-// The address, whether it is a function, whether it is global, and the name.
+/// The address, whether it is a function, whether it is global, and the name.
 type Row = (u32, bool, bool, &'static [u8]);
 
 const ROWS: [Row; 13] = [
@@ -24,7 +24,7 @@ const ROWS: [Row; 13] = [
     (0x28, false, true, b"f"),
 ];
 
-// Adds the rows from an index on.
+/// Adds the rows from an index on.
 fn add_rows(table: &mut SymbolTable, alloc: Global, from: usize) -> Result<(), AllocError> {
     for row in ROWS.iter().skip(from) {
         let symbol = Symbol {
@@ -45,7 +45,7 @@ fn table_of_rows(alloc: Global) -> Result<SymbolTable, AllocError> {
     Ok(table)
 }
 
-// The table with its last four symbols taken away and put back.
+/// The table with its last four symbols taken away and put back.
 fn table_put_back(alloc: Global) -> Result<SymbolTable, AllocError> {
     let mut table = table_of_rows(alloc)?;
     if 4 <= table.len() {
@@ -55,7 +55,7 @@ fn table_put_back(alloc: Global) -> Result<SymbolTable, AllocError> {
     Ok(table)
 }
 
-// Whether a symbol stands at an index, with this address and name.
+/// Whether a symbol stands at an index, with this address and name.
 fn has_at(table: &SymbolTable, index: usize, address: u32, name: &[u8]) -> bool {
     match table.get(index) {
         Some(symbol) => symbol.address == address && symbol.name.as_slice() == name,
@@ -76,7 +76,7 @@ fn symbols_stand_in_order(rt: HostRuntime) -> Result<(), Fail> {
     Ok(())
 }
 
-// What a name is looked up as.
+/// What a name is looked up as.
 #[derive(Clone, Copy)]
 enum Kind {
     Function,
@@ -84,7 +84,7 @@ enum Kind {
     Data,
 }
 
-// Whether a name has these addresses.
+/// Whether a name has these addresses.
 fn has_addresses(
     alloc: Global,
     table: &SymbolTable,
@@ -123,7 +123,7 @@ fn names_have_their_addresses(rt: HostRuntime) -> Result<(), Fail> {
     Ok(())
 }
 
-// The address of the function of a name, or the line of the refusal.
+/// The address of the function of a name, or the line of the refusal.
 fn function_line(alloc: Global, table: &SymbolTable, name: &str) -> Result<Line, AllocError> {
     let name = Name::from_slice(alloc, name.as_bytes())?;
     let mut line = Line::new(alloc);
@@ -195,7 +195,7 @@ fn homes_have_their_newest_base(rt: HostRuntime) -> Result<(), Fail> {
     Ok(())
 }
 
-// The values of a section of code and of one of data that have one name.
+/// The values of a section of code and of one of data that have one name.
 fn values(alloc: Global, body: Solved) -> Result<Values, Fail> {
     let mut values = Values::new(alloc);
     values.insert(Unknown::Code(Name::from_slice(alloc, b"f")?), body)?;

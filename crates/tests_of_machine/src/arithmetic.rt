@@ -13,7 +13,7 @@ use ia32_alu::{
 
 type Text = &'static str;
 
-// Operation, width, two operands, flags before, value and flags after.
+/// Operation, width, two operands, flags before, value and flags after.
 static BINARY: [(Binary, Width, u32, u32, Text, u32, Text); 33] = [
     (Add, W8, 0x7F, 0x01, "", 0x80, "OS"),
     (Add, W8, 0x180, 0x280, "", 0x00, "OZPC"),
@@ -50,7 +50,7 @@ static BINARY: [(Binary, Width, u32, u32, Text, u32, Text); 33] = [
     (Test, W32, 0x80000007, 0xFFFFFFFF, "OC", 0x80000007, "S"),
 ];
 
-// Operation, width, operand, flags before, value and flags after.
+/// Operation, width, operand, flags before, value and flags after.
 static UNARY: [(Unary, Width, u32, Text, u32, Text); 16] = [
     (Inc, W8, 0x7F, "", 0x80, "OS"),
     (Inc, W8, 0xFF, "C", 0x00, "ZPC"),
@@ -70,7 +70,7 @@ static UNARY: [(Unary, Width, u32, Text, u32, Text); 16] = [
     (Neg, W32, 0xFFFFFFFF, "", 0x01, "C"),
 ];
 
-// Shift, width, operand, count, flags before, value, flags after, and which flags are defined.
+/// Shift, width, operand, count, flags before, value, flags after, and which flags are defined.
 static SHIFTS: [(Shift, Width, u32, u8, Text, u32, Text, Text); 26] = [
     (Shl, W8, 0x81, 1, "", 0x02, "OC", "OSZPC"),
     (Shl, W8, 0x81, 7, "", 0x80, "S", "SZPC"),
@@ -102,7 +102,7 @@ static SHIFTS: [(Shift, Width, u32, u8, Text, u32, Text, Text); 26] = [
     (Sar, W32, 0x80000000, 0, "O", 0x80000000, "O", "OSZPC"),
 ];
 
-// The same of rotations, which are of 32 bits.
+/// The same of rotations, which are of 32 bits.
 static ROTATIONS: [(Shift, u32, u8, Text, u32, Text, Text); 9] = [
     (Rol, 0x80000001, 1, "", 0x03, "OC", "OSZPC"),
     (Rol, 0x40000000, 1, "OSZP", 0x80000000, "OSZP", "OSZPC"),
@@ -115,7 +115,7 @@ static ROTATIONS: [(Shift, u32, u8, Text, u32, Text, Text); 9] = [
     (Ror, 0xC0000000, 32, "SC", 0xC0000000, "SC", "OSZPC"),
 ];
 
-// Signed or not, width, two operands, product, and which of OF and CF are set after it.
+/// Signed or not, width, two operands, product, and which of OF and CF are set after it.
 static PRODUCTS: [(bool, Width, u32, u32, u64, Text); 11] = [
     (false, W8, 0xFF, 0xFF, 0xFE01, "OC"),
     (false, W8, 0x10, 0x0F, 0xF0, ""),
@@ -130,7 +130,7 @@ static PRODUCTS: [(bool, Width, u32, u32, u64, Text); 11] = [
     (true, W32, 0x80000000, 0x01, 0xFFFFFFFF80000000, ""),
 ];
 
-// Signed or not, width, dividend, divisor, and the quotient and the remainder, if there is one.
+/// Signed or not, width, dividend, divisor, and the quotient and the remainder, if there is one.
 static QUOTIENTS: [(bool, Width, u64, u32, Option<(u32, u32)>); 16] = [
     (false, W8, 0xFEFF, 0xFF, Some((0xFF, 0xFE))),
     (false, W8, 0xFF00, 0xFF, None),
@@ -168,8 +168,8 @@ static QUOTIENTS: [(bool, Width, u64, u32, Option<(u32, u32)>); 16] = [
     (true, W32, 0x5, 0x00, None),
 ];
 
-// Of each condition, at which flags it holds: bit n for the flags of the number n, whose bits are OF, SF, ZF, PF and
-// CF.
+/// Of each condition, at which flags it holds: bit n for the flags of the number n, whose bits are OF, SF, ZF, PF and
+/// CF.
 static CONDITIONS: [u32; 16] = [
     0xFFFF0000, 0x0000FFFF, 0xAAAAAAAA, 0x55555555, 0xF0F0F0F0, 0x0F0F0F0F, 0xFAFAFAFA, 0x05050505,
     0xFF00FF00, 0x00FF00FF, 0xCCCCCCCC, 0x33333333, 0x00FFFF00, 0xFF0000FF, 0xF0FFFFF0, 0x0F00000F,

@@ -1,7 +1,7 @@
 //! What is decoded, how long it is, where its fields stand, and what is padding.
 use ia32_decode::{Decoded, Field, Instr, Operand, Register, Width, decode, is_padding};
 
-// Padding, of which each is its whole window.
+/// Padding, of which each is its whole window.
 static PADDING: [&[u8]; 8] = [
     &[0x90],
     &[0x66, 0x90],
@@ -16,7 +16,7 @@ static PADDING: [&[u8]; 8] = [
     ],
 ];
 
-// Windows at whose front no instruction stands.
+/// Windows at whose front no instruction stands.
 static UNDECODED: [&[u8]; 8] = [
     // 15 prefixes, with a byte after them and without
     &[
@@ -34,7 +34,7 @@ static UNDECODED: [&[u8]; 8] = [
     &[0x0F],
 ];
 
-// Instructions that are no padding, each at the front of a window: how long they are.
+/// Instructions that are no padding, each at the front of a window: how long they are.
 static OTHERS: [(&[u8], u32); 7] = [
     (&[0x66, 0xB8, 1, 0], 4),
     (&[0xC7, 5, 0, 0, 0x20, 0, 1, 0, 0, 0], 10),

@@ -232,7 +232,7 @@ static MIXED: [Range; 4] = [
     },
 ];
 
-// A stack of zeros but for a dword.
+/// A stack of zeros but for a dword.
 fn pieces_of(alloc: Global, size: u32, dword: (u32, u32)) -> Result<Pieces, Fail> {
     let mut bytes = Vec::new(alloc);
     bytes.resize(size as usize, 0)?;
@@ -263,7 +263,7 @@ fn wanted(answer: Answer, esp: u32) -> Result<Option<Standing>, StackOut> {
     }
 }
 
-// What the look at a thread of a case answers.
+/// What the look at a thread of a case answers.
 fn seen(
     rt: &impl Abort,
     alloc: Global,
@@ -310,7 +310,7 @@ fn no_range(rt: HostRuntime) -> Result<(), Fail> {
     Ok(())
 }
 
-// Words, and the least index of one that is an address of the range.
+/// Words, and the least index of one that is an address of the range.
 static WORDS: [(&[u32], Option<u32>); 7] = [
     (&[], None),
     (&[INSIDE], Some(0)),

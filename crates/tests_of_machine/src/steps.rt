@@ -38,7 +38,7 @@ const HIGH: usize = 10;
 
 const PC: usize = 11;
 
-// What they are before each row.
+/// What they are before each row.
 static BEFORE: [u32; 12] = [
     0x8000FF81, 0x00000103, 0x00000000, 0x00200000, 0x00400004, 0x00400000, 0xFFFFFFFE, 0x7FFFFFFF,
     0x81234567, 0x00100123, 0x00200000, 0x00100000,
@@ -147,13 +147,13 @@ static ROWS: [Row; 51] = [
     (&[0xF0, 0xFF, 0x03], "", "S", &[(DATA, 0x81234568)]), // lock inc dword [ebx]
 ];
 
-// After a shift by more than one place OF is undefined.
+/// After a shift by more than one place OF is undefined.
 static SHIFTS: [Row; 2] = [
     (&[0xC1, 0x3B, 0x1F], "", "SP", &[(DATA, 0xFFFFFFFF)]), // sar dword [ebx],0x1f
     (&[0xD3, 0xE1], "", "P", &[(ECX, 0x818)]), // shl ecx,cl
 ];
 
-// After a product OF and CF alone are defined.
+/// After a product OF and CF alone are defined.
 static PRODUCTS: [Row; 4] = [
     (&[0x6B, 0x13, 0xFD], "", "OC", &[(EDX, 0x7C962FCB)]), // imul edx,dword [ebx],0xfffffffd
     (&[0x66, 0x0F, 0xAF, 0xC8], "OSZPC", "OC", &[(ECX, 0x7F83)]), // imul cx,ax
@@ -161,7 +161,7 @@ static PRODUCTS: [Row; 4] = [
     (&[0xF7, 0xEE], "", "OC", &[(EAX, 0xFFFE00FE)]), // imul esi
 ];
 
-// After a division no flag is defined.
+/// After a division no flag is defined.
 static QUOTIENTS: [Row; 2] = [
     (
         &[0x66, 0xF7, 0xF1],
@@ -172,7 +172,7 @@ static QUOTIENTS: [Row; 2] = [
     (&[0xF6, 0xF9], "", "", &[(EAX, 0x8000FFD6)]), // idiv cl
 ];
 
-// Bytes of an instruction, and why it stops.
+/// Bytes of an instruction, and why it stops.
 static STOPS: [(&[u8], Fault); 20] = [
     (&[0xA1, 0, 0, 0x10, 0], Fault::CodeAccess),
     (&[0xA1, 0, 0, 0, 0], Fault::Unmapped),
@@ -211,7 +211,7 @@ fn push_piece(
     Ok(())
 }
 
-// Code at 0x00100000, a dword at 0x00200000, a read-only one at 0x00300000, and a stack of two at 0x00400000.
+/// Code at 0x00100000, a dword at 0x00200000, a read-only one at 0x00300000, and a stack of two at 0x00400000.
 fn memory(rt: &impl Abort, alloc: Global, code: &[u8]) -> Result<FlatSpace, Fail> {
     let mut pieces = ListOf::new(alloc);
     push_piece(alloc, &mut pieces, Kind::Code, 0x0010_0000, code)?;

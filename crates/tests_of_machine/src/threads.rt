@@ -13,7 +13,7 @@ use std::process::Abort;
 use std::test::Fail;
 use symbol_table::Symbol;
 
-// `f` gives 1, and `main` calls it and returns. Two stacks.
+/// `f` gives 1, and `main` calls it and returns. Two stacks.
 const IMAGE: [u8; 121] = [
     0x4b, 0x49, 0x4d, 0x31, 1, 0, 0, 0, 2, 0, 0, 0, 2, 0, 0, 0, // magic and counts
     0, 0, 0x80, 0, 0, 0, 0x81, 0, // arena
@@ -28,7 +28,7 @@ const IMAGE: [u8; 121] = [
     0, 0x20, 0x40, 0, 0, 0x30, 0x40, 0, // another at 0x00402000
 ];
 
-// The image's regions, and a writable piece of zeros for each stack.
+/// The image's regions, and a writable piece of zeros for each stack.
 fn pieces_of(alloc: Global, image: &Image) -> Result<Pieces, AllocError> {
     let mut pieces = image.pieces.clone()?;
     for stack in image.stacks.as_slice() {
@@ -62,7 +62,7 @@ fn spawned(machine: &mut Machine<FlatSpace>, alloc: Global, name: &[u8]) -> Resu
     machine.spawn(&name, 7)
 }
 
-// The number of the thread that is started, if one is.
+/// The number of the thread that is started, if one is.
 fn starts(machine: &mut Machine<FlatSpace>, alloc: Global, name: &[u8]) -> Option<u32>
     requires { AreStacks machine.old.contents.pieces machine.old.stacks }
     ensures { AreStacks machine.new.contents.pieces machine.new.stacks }
@@ -70,7 +70,7 @@ fn starts(machine: &mut Machine<FlatSpace>, alloc: Global, name: &[u8]) -> Optio
     spawned(machine, alloc, name).ok()
 }
 
-// Whether a thread isn't started, with this line.
+/// Whether a thread isn't started, with this line.
 fn is_refused(
     machine: &mut Machine<FlatSpace>,
     alloc: Global,
@@ -120,7 +120,7 @@ fn first_thread(rt: HostRuntime) -> Result<(), Fail> {
     Ok(())
 }
 
-// What the steps of thread 0 come to until none is made.
+/// What the steps of thread 0 come to until none is made.
 fn outcomes(alloc: Global, machine: &mut Machine<FlatSpace>) -> Result<Vec<Outcome>, AllocError> {
     let mut outcomes = Vec::new(alloc);
     for _ in 0..100 {
@@ -156,7 +156,7 @@ fn step_of(machine: &mut Machine<FlatSpace>, thread: u32)
     let _ = machine.step(thread).ok();
 }
 
-// Starts `f` and steps it to its end.
+/// Starts `f` and steps it to its end.
 fn runs_once(machine: &mut Machine<FlatSpace>, alloc: Global, number: u32) -> bool
     requires { AreStacks machine.old.contents.pieces machine.old.stacks }
     ensures { AreStacks machine.new.contents.pieces machine.new.stacks }
@@ -168,7 +168,7 @@ fn runs_once(machine: &mut Machine<FlatSpace>, alloc: Global, number: u32) -> bo
     started == Some(number)
 }
 
-// Where a thread of the machine stands in a range.
+/// Where a thread of the machine stands in a range.
 fn standing(
     machine: &Machine<FlatSpace>,
     number: usize,
@@ -188,7 +188,7 @@ fn stands_at(place: Place, value: u32) -> Option<Result<Option<Standing>, StackO
     })))
 }
 
-// `main` stands in itself by its pc, and after its call by the address to return to.
+/// `main` stands in itself by its pc, and after its call by the address to return to.
 #[test]
 fn standing_of_a_caller(rt: HostRuntime) -> Result<(), Fail> {
     let alloc = rt.alloc();
@@ -218,7 +218,7 @@ fn stack_of_an_ended_thread(rt: HostRuntime) -> Result<(), Fail> {
     Ok(())
 }
 
-// An unknown name is told before the want of a stack.
+/// An unknown name is told before the want of a stack.
 #[test]
 fn unknown_function(rt: HostRuntime) -> Result<(), Fail> {
     let alloc = rt.alloc();
@@ -282,7 +282,7 @@ fn added_symbols(rt: HostRuntime) -> Result<(), Fail> {
     Ok(())
 }
 
-// Bytes of the stack's top, written into the memory and read again.
+/// Bytes of the stack's top, written into the memory and read again.
 fn written(machine: &mut Machine<FlatSpace>, bytes: &[u8; 20]) -> [u8; 20] {
     let _ = machine.space_mut().write(0x0040_0FEC, bytes);
     first_frame(machine)
@@ -296,7 +296,7 @@ fn changed_memory(rt: HostRuntime) -> Result<(), Fail> {
     Ok(())
 }
 
-// The numbers of two threads in the order in which they step.
+/// The numbers of two threads in the order in which they step.
 fn order(rt: &impl Abort, alloc: Global, quantum: u32, steps: u32) -> Result<Vec<u32>, Refusal>
     requires { 1 ≤ quantum }
 {

@@ -15,12 +15,12 @@ const CODE: u32 = 0x0010_0000;
 
 const STACK: u32 = 0x0040_0000;
 
-// The start of a thread, and what a watch says of it.
+/// The start of a thread, and what a watch says of it.
 #[derive(Clone, Copy)]
 struct Start {
-    // The thread's pc.
+    /// The thread's pc.
     pc: u32,
-    // What stands where its ESP points.
+    /// What stands where its ESP points.
     dword: u32,
     verdict: Verdict,
 }
@@ -51,7 +51,7 @@ static STARTS: [Start; 3] = [
     },
 ];
 
-// A return, and a stack of a dword.
+/// A return, and a stack of a dword.
 fn pieces_of(alloc: Global, dword: u32) -> Result<Pieces, AllocError> {
     let mut pieces = Pieces::new(alloc);
     pieces.push(Piece {
@@ -67,7 +67,7 @@ fn pieces_of(alloc: Global, dword: u32) -> Result<Pieces, AllocError> {
     Ok(pieces)
 }
 
-// A thread whose ESP points to the dword of its stack.
+/// A thread whose ESP points to the dword of its stack.
 #[tactic(auto, unfolding(ia32_step::specs::Frames::is_slot))]
 fn thread(pc: u32) -> Thread
     ensures { is_slot result.stack (esp_of result) (esp_of result) ≡ true }
@@ -91,7 +91,7 @@ fn thread(pc: u32) -> Thread
     }
 }
 
-// The verdict when a thread was started.
+/// The verdict when a thread was started.
 fn verdict_of(alloc: Global, space: &FlatSpace, thread: &Thread) -> Result<Verdict, AllocError>
     requires { is_slot thread.now.stack (esp_of thread.now) (esp_of thread.now) ≡ true }
 {

@@ -108,7 +108,7 @@ const Y: Section = Section {
     references: &[],
 };
 
-// What comes of two objects.
+/// What comes of two objects.
 fn difference(
     alloc: Global,
     pre: &[Section],
@@ -122,12 +122,12 @@ fn difference(
     Ok(extract(alloc, &pre, &post))
 }
 
-// What is taken of two objects that differ.
+/// What is taken of two objects that differ.
 fn taken(alloc: Global, pre: &[Section], post: &[Section]) -> Result<Extract, Fail> {
     Ok(difference(alloc, pre, post)?.ok().ok_or("refused")?)
 }
 
-// Whether names are one name alone.
+/// Whether names are one name alone.
 fn is_one(names: &Names, name: &[u8]) -> bool {
     match names.as_slice() {
         [only] => only.as_slice() == name,
@@ -168,7 +168,7 @@ fn new_data_come_with_a_new_function(rt: HostRuntime) -> Result<(), Fail> {
     Ok(())
 }
 
-// Whether the refusal of two objects has this line.
+/// Whether the refusal of two objects has this line.
 fn is_refused(
     alloc: Global,
     pre: &[Section],
@@ -205,8 +205,8 @@ fn differences_are_refused(rt: HostRuntime) -> Result<(), Fail> {
     Ok(())
 }
 
-// In the first object `.data.d` reaches `.rodata.x` as texts, in the second it doesn't reach it: that `.rodata.x` is
-// read-only data there is no change of `.data.d`.
+/// In the first object `.data.d` reaches `.rodata.x` as texts, in the second it doesn't reach it: that `.rodata.x` is
+/// read-only data there is no change of `.data.d`.
 #[test]
 fn a_section_is_of_its_class_where_it_is_reached(rt: HostRuntime) -> Result<(), Fail> {
     let alloc = rt.alloc();

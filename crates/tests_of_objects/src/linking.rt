@@ -19,7 +19,7 @@ static PLACES: [(&str, u32); 7] = [
     (".text.g", 0x0080_0090),
 ];
 
-// A table of symbols: whether each is a function, its name and its address.
+/// A table of symbols: whether each is a function, its name and its address.
 fn table_of(alloc: Global, symbols: &[(bool, &str, u32)]) -> Result<SymbolTable, Fail> {
     let mut table = SymbolTable::new(alloc);
     for (function, name, address) in symbols {
@@ -34,7 +34,7 @@ fn table_of(alloc: Global, symbols: &[(bool, &str, u32)]) -> Result<SymbolTable,
     Ok(table)
 }
 
-// What is known before: the home of `f`, and perhaps where `.data.y` begins.
+/// What is known before: the home of `f`, and perhaps where `.data.y` begins.
 fn known(alloc: Global, with_data: bool) -> Result<Values, Fail> {
     let mut values = Values::new(alloc);
     let home = Solved::Body {
@@ -69,7 +69,7 @@ fn placement_of(alloc: Global) -> Result<Placement, Fail> {
     Ok(placement)
 }
 
-// The values that the new sections need.
+/// The values that the new sections need.
 fn resolved(
     alloc: Global,
     symbols: &[(bool, &str, u32)],
@@ -83,7 +83,7 @@ fn resolved(
     Ok(resolve_post(alloc, &pre, &post, &sections, &values, &table))
 }
 
-// The same, where none is missing.
+/// The same, where none is missing.
 fn values_of(alloc: Global, symbols: &[(bool, &str, u32)]) -> Result<Values, Fail> {
     Ok(resolved(alloc, symbols, true)?.ok().ok_or("refused")?)
 }
@@ -133,7 +133,7 @@ fn new_sections_are_linked(rt: HostRuntime) -> Result<(), Fail> {
     Ok(())
 }
 
-// Whether an unknown is at an index of the values, and came to an address.
+/// Whether an unknown is at an index of the values, and came to an address.
 fn is_at(values: &Values, index: usize, which: &Unknown, address: u32) -> bool {
     values.get_index_of(which) == Some(index)
         && values.get(which).copied() == Some(Solved::Address(address))
@@ -198,7 +198,7 @@ static MISSING: [(&[(bool, &str, u32)], bool, &str); 5] = [
     ),
 ];
 
-// Whether values are refused with this line.
+/// Whether values are refused with this line.
 fn is_refused(
     alloc: Global,
     symbols: &[(bool, &str, u32)],

@@ -5,7 +5,7 @@ use link_post::{Placement, SectionSize, ascend, place};
 use std::alloc::Global;
 use std::test::Fail;
 
-// Sections of sizes and alignments.
+/// Sections of sizes and alignments.
 fn sections_of(alloc: Global, sizes: &[(u32, u32)]) -> Result<Vec<SectionSize>, Fail> {
     let mut sections = Vec::new(alloc);
     for (size, align) in sizes {
@@ -29,7 +29,7 @@ fn ranges_of(alloc: Global, gaps: &[(u32, u32)]) -> Result<Ranges, Fail> {
     Ok(ranges)
 }
 
-// What comes of sections among gaps.
+/// What comes of sections among gaps.
 fn places(
     alloc: Global,
     sizes: &[(u32, u32)],
@@ -83,7 +83,7 @@ static LOWEST: [(&[(u32, u32)], &[(u32, u32)], &[u32]); 7] = [
     (&[], THREE, &[]),
 ];
 
-// Whether sections among gaps come to these bases.
+/// Whether sections among gaps come to these bases.
 fn are_placed(
     alloc: Global,
     sizes: &[(u32, u32)],
@@ -122,7 +122,7 @@ static WITHOUT_ROOM: [(&[(u32, u32)], &[(u32, u32)], &str); 4] = [
     ),
 ];
 
-// Whether sections among gaps are refused with this line.
+/// Whether sections among gaps are refused with this line.
 fn is_refused(
     alloc: Global,
     sizes: &[(u32, u32)],
@@ -144,7 +144,7 @@ fn sections_without_room_are_refused(rt: HostRuntime) -> Result<(), Fail> {
     Ok(())
 }
 
-// 1,000 gaps of 16 bytes, every 64 bytes, and one of 64 KiB behind them.
+/// 1,000 gaps of 16 bytes, every 64 bytes, and one of 64 KiB behind them.
 fn many_gaps(alloc: Global) -> Result<Vec<(u32, u32)>, Fail> {
     let mut gaps = Vec::new(alloc);
     for k in 0..1_000u32 {

@@ -46,7 +46,7 @@ static TEXTS: [u8; 560] = [
     0x00, 0x00, 0x00, 0x00, 0x00, 0x00, 0x00, 0x00, 0x01, 0x00, 0x00, 0x00, 0x00, 0x00, 0x00, 0x00,
 ];
 
-// An object with one byte changed.
+/// An object with one byte changed.
 fn changed(alloc: Global, place: usize, value: u8) -> Result<Vec<u8>, AllocError> {
     let mut bytes = Vec::from_slice(alloc, &TEXTS)?;
     if let Some(byte) = bytes.get_mut(place) {
@@ -55,12 +55,12 @@ fn changed(alloc: Global, place: usize, value: u8) -> Result<Vec<u8>, AllocError
     Ok(bytes)
 }
 
-// How many sections are the same.
+/// How many sections are the same.
 fn count(same: &[bool]) -> usize {
     same.iter().filter(|same| **same).count()
 }
 
-// Whether the section of a name is the same in two objects, and how many sections of the second are.
+/// Whether the section of a name is the same in two objects, and how many sections of the second are.
 fn same_in<'a>(
     alloc: Global,
     pre: &'a [u8],
@@ -74,7 +74,7 @@ fn same_in<'a>(
     Ok((one, count(all.post.as_slice())))
 }
 
-// The same of the object and one with a byte changed.
+/// The same of the object and one with a byte changed.
 fn compared(alloc: Global, place: usize, value: u8, name: &str) -> Result<(bool, usize), Fail> {
     let other = changed(alloc, place, value)?;
     same_in(alloc, &TEXTS, other.as_slice(), name)

@@ -427,7 +427,7 @@ fn values(rt: HostRuntime) -> Result<(), Fail> {
     Ok(())
 }
 
-// Whether the refusal of a fault has this line.
+/// Whether the refusal of a fault has this line.
 fn fault_prints(alloc: Global, fault: ObjectFault, wanted: &str) -> Result<bool, AllocError> {
     let refusal = object_refusal(fault);
     let mut line = Line::new(alloc);

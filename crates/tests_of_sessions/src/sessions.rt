@@ -7,7 +7,7 @@ use script_lines::read_script;
 use std::alloc::Global;
 use std::test::Fail;
 
-// `f` gives 1, and `main` calls it and returns. One stack.
+/// `f` gives 1, and `main` calls it and returns. One stack.
 const IMAGE: [u8; 113] = [
     0x4b, 0x49, 0x4d, 0x31, 1, 0, 0, 0, 2, 0, 0, 0, 1, 0, 0, 0, // magic and counts
     0, 0, 0x80, 0, 0, 0, 0x81, 0, // arena
@@ -30,7 +30,7 @@ fn session_over(alloc: Global, bytes: &[u8]) -> Option<Session> {
     Session::new(alloc, image).ok()
 }
 
-// Runs a script over no files. The answer is how it ended and whether these are the replies.
+/// Runs a script over no files. The answer is how it ended and whether these are the replies.
 fn ends(
     alloc: Global,
     session: &mut Session,
@@ -72,7 +72,7 @@ fn replies_to_a_script(rt: HostRuntime) -> Result<(), Fail> {
     Ok(())
 }
 
-// `f` pushes EAX and returns to it, which isn't its frame's address.
+/// `f` pushes EAX and returns to it, which isn't its frame's address.
 #[test]
 fn broken_rule_is_shown(rt: HostRuntime) -> Result<(), Fail> {
     let alloc = rt.alloc();
@@ -97,7 +97,7 @@ fn broken_rule_is_shown(rt: HostRuntime) -> Result<(), Fail> {
     Ok(())
 }
 
-// What a session answers from is its system and its watch: these are all its parts.
+/// What a session answers from is its system and its watch: these are all its parts.
 #[test]
 fn session_is_its_system_and_its_watch(rt: HostRuntime) -> Result<(), Fail> {
     let alloc = rt.alloc();

@@ -67,7 +67,7 @@ refused 27 nothing applied
 watch disciplined
 ";
 
-// The files of the script.
+/// The files of the script.
 fn files_of(alloc: Global) -> Option<MemoryFiles> {
     let mut files = MemoryFiles::new(alloc, Vec::new(alloc));
     let old = object(alloc, &OLD).ok()?;

@@ -68,7 +68,7 @@ static PIECES: [(Kind, u32, &[u8]); 4] = [
     (Kind::Code, 0x0080_0050, b"\xc3"),
 ];
 
-// Sections, each with what the update does with it.
+/// Sections, each with what the update does with it.
 fn parts_of<'p, 'a>(
     alloc: Global,
     sections: &'p [NormalSection<'a>],
@@ -80,13 +80,13 @@ fn parts_of<'p, 'a>(
     Ok(parts)
 }
 
-// The loaded sections of an object's file.
+/// The loaded sections of an object's file.
 fn normal_of(alloc: Global, file: &[u8]) -> Result<Normal<'_>, Fail> {
     let object = read_object(alloc, file).ok().ok_or("not read")?;
     Ok(normalise(alloc, &object).ok().ok_or("no sections")?)
 }
 
-// Places for the sections, in one gap.
+/// Places for the sections, in one gap.
 fn placed(rt: &impl Abort, alloc: Global, parts: &[Part<'_, '_>]) -> Result<Placement, Fail> {
     let gaps = ranges_of(alloc, &[(0x0080_0001, 0x0090_0000)])?;
     assert!(rt; ascend(&gaps));
@@ -102,7 +102,7 @@ fn values_of(alloc: Global) -> Result<Values, Fail> {
     Ok(values)
 }
 
-// The pieces of an object's sections.
+/// The pieces of an object's sections.
 fn pieces_added(
     rt: &impl Abort,
     alloc: Global,
@@ -178,7 +178,7 @@ const OLDS: [Old; 5] = [
     (b".text.x", 0x0010_0040, 0x0010_0040, 10, Fate::Dropped),
 ];
 
-// A section without bytes and references.
+/// A section without bytes and references.
 fn section_of(alloc: Global, row: &New) -> Result<NormalSection<'static>, AllocError> {
     let (name, class, function, variables, _) = *row;
     let mut objects = Objects::new(alloc);
@@ -241,7 +241,7 @@ fn replaced(
     })
 }
 
-// What is reported of the new sections and the old functions.
+/// What is reported of the new sections and the old functions.
 fn reported(alloc: Global) -> Result<Report, AllocError> {
     let mut report = Report {
         replaced: ListOf::new(alloc),

@@ -23,7 +23,7 @@ fn piece_of(alloc: Global, kind: Kind, base: u32, bytes: &[u8]) -> Result<Piece,
     Ok(Piece { kind, base, bytes })
 }
 
-// A memory of one function, which gives 1.
+/// A memory of one function, which gives 1.
 #[tactic(auto, unfolding(crate::specs::Small::small))]
 fn small(rt: &impl Abort, alloc: Global) -> Result<FlatSpace, Fail>
     ensures { IfOk result (λ space. ⟦<FlatSpace as Space>⟧.contents space ≡ small) }
@@ -35,7 +35,7 @@ fn small(rt: &impl Abort, alloc: Global) -> Result<FlatSpace, Fail>
     Ok(FlatSpace::new(alloc, pieces)?)
 }
 
-// A variable, and the function that is to give 2.
+/// A variable, and the function that is to give 2.
 #[tactic(auto, unfolding(crate::specs::Small::added))]
 fn added(alloc: Global) -> Result<Pieces, AllocError>
     ensures { IfOk result (λ pieces. pieces ≡ added) }
@@ -46,7 +46,7 @@ fn added(alloc: Global) -> Result<Pieces, AllocError>
     Ok(pieces)
 }
 
-// Adds the pieces, and retires the function that runs.
+/// Adds the pieces, and retires the function that runs.
 fn add_and_retire(space: &mut FlatSpace, pieces: Pieces)
     requires contents { ⟦<FlatSpace as Space>⟧.contents space.old ≡ small }
     requires pieces { pieces ≡ added }
@@ -62,7 +62,7 @@ fn add_and_retire(space: &mut FlatSpace, pieces: Pieces)
     retire(space, &[Fence { range, jump: true }]);
 }
 
-// Notes what stands at the function's home, and writes the jump there.
+/// Notes what stands at the function's home, and writes the jump there.
 fn jump_over(space: &mut FlatSpace) -> Jump
     requires { ⟦<FlatSpace as Space>⟧.contents space.old ≡ with_fences (with_pieces small added) retired }
 {
@@ -76,7 +76,7 @@ fn jump_over(space: &mut FlatSpace) -> Jump
     jumps[0]
 }
 
-// Whether these bytes of code stand from an address on.
+/// Whether these bytes of code stand from an address on.
 fn has_code(space: &FlatSpace, address: u32, bytes: &[u8]) -> bool {
     let mut at = address;
     for byte in bytes {

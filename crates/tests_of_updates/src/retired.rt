@@ -234,7 +234,7 @@ pub(crate) fn olds_of(alloc: Global, rows: &[Old]) -> Result<Vec<OldFunction>, A
     Ok(olds)
 }
 
-// A memory of some pieces, without retired ranges.
+/// A memory of some pieces, without retired ranges.
 fn space_of(rt: &impl Abort, alloc: Global, parts: &[Part]) -> Result<FlatSpace, Fail>
     ensures { IfOk result (λ space. (⟦<FlatSpace as Space>⟧.contents space).fences ≡ []) }
 {
@@ -243,7 +243,7 @@ fn space_of(rt: &impl Abort, alloc: Global, parts: &[Part]) -> Result<FlatSpace,
     Ok(FlatSpace::new(alloc, pieces)?)
 }
 
-// What stands in the way in a case.
+/// What stands in the way in a case.
 fn refusal_of(rt: &impl Abort, alloc: Global, case: &Case) -> Result<Result<(), Refusal>, Fail> {
     let (parts, symbols, retired, rows, _) = *case;
     let space = space_of(rt, alloc, parts)?;

@@ -45,7 +45,7 @@ fn thread(number: u32, stack: Range, esp: u32) -> Thread
     }
 }
 
-// What is answered of two threads with these stack pointers, of ranges that are sorted first.
+/// What is answered of two threads with these stack pointers, of ranges that are sorted first.
 fn checked(
     rt: &impl Abort,
     alloc: Global,

@@ -10,7 +10,7 @@ use retired_code::Fate;
 use std::alloc::{AllocError, Global};
 use std::collections::BTreeMap;
 
-// The fate of each function that the update doesn't keep, by the name of its section.
+/// The fate of each function that the update doesn't keep, by the name of its section.
 pub(crate) fn fates_of<'e>(
     alloc: Global,
     extract: &'e Extract,
@@ -23,7 +23,7 @@ pub(crate) fn fates_of<'e>(
     Ok(fates)
 }
 
-// Gives each name the fate, in place of the one that it had.
+/// Gives each name the fate, in place of the one that it had.
 fn put_fates<'e>(
     fates: &mut BTreeMap<&'e [u8], Fate>,
     names: &'e Names,

@@ -33,7 +33,7 @@ pub(crate) fn olds_of(
     Ok(olds)
 }
 
-// Adds the function that a section is, where it is one that runs.
+/// Adds the function that a section is, where it is one that runs.
 fn add_old(
     alloc: Global,
     olds: &mut Vec<OldFunction>,
@@ -52,7 +52,7 @@ fn add_old(
     add_solved(alloc, olds, fates, section, solved)
 }
 
-// Adds a section that has a body in the running program, as that function.
+/// Adds a section that has a body in the running program, as that function.
 fn add_solved(
     alloc: Global,
     olds: &mut Vec<OldFunction>,
@@ -80,14 +80,14 @@ fn add_solved(
     }
 }
 
-// What a map says of the function that is the section of a name.
+/// What a map says of the function that is the section of a name.
 fn fate_at(fates: &BTreeMap<&[u8], Fate>, name: &[u8]) -> Fate
     ensures { result ≡ fate_at fates.now name.now }
 {
     fates.get(name).copied().unwrap_or(Fate::Kept)
 }
 
-// What an unknown came to.
+/// What an unknown came to.
 fn solved_as(values: &Values, which: &Unknown) -> Option<Solved>
     ensures { result ≡ solved_as values.now.entries which.now }
 {

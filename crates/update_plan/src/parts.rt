@@ -33,14 +33,14 @@ pub(crate) fn parts_of<'p, 'a>(
     Ok(parts)
 }
 
-// What a map says of the section of a name.
+/// What a map says of the section of a name.
 fn role_at(roles: &BTreeMap<&[u8], Role>, name: &[u8]) -> Option<Role>
     ensures { result ≡ role_at roles.now name.now }
 {
     roles.get(name).copied()
 }
 
-// Adds a section where it has a role.
+/// Adds a section where it has a role.
 fn add_part<'p, 'a>(
     parts: &mut Vec<Part<'p, 'a>>,
     section: &'p NormalSection<'a>,

@@ -75,27 +75,27 @@ pub fn plan<'a, S: Space>(
     plan_between(alloc, &program, &objects)
 }
 
-// A running program, for which an update is planned.
+/// A running program, for which an update is planned.
 #[derive(Drop)]
 struct Program<'p, S: Space> {
     space: &'p S,
-    // the newest bases
+    /// the newest bases
     bodies: &'p Bodies,
     symbols: &'p SymbolTable,
-    // what is retired, the oldest first
+    /// what is retired, the oldest first
     retired: &'p Ranges,
-    // where new sections may be placed
+    /// where new sections may be placed
     gaps: &'p Ranges,
 }
 
-// The sections of the objects of an update.
+/// The sections of the objects of an update.
 #[derive(Drop)]
 struct Objects<'o, 'a> {
     pre: &'o Normal<'a>,
     post: &'o Normal<'a>,
 }
 
-// The same of the sections of both objects.
+/// The same of the sections of both objects.
 fn plan_between<S: Space>(
     alloc: Global,
     program: &Program<'_, S>,
@@ -122,7 +122,7 @@ fn plan_between<S: Space>(
     plan_with(alloc, program, objects, &extract, &found)
 }
 
-// The same where the difference and the old object's values are known.
+/// The same where the difference and the old object's values are known.
 fn plan_with<S: Space>(
     alloc: Global,
     program: &Program<'_, S>,
@@ -156,7 +156,7 @@ fn plan_with<S: Space>(
     )
 }
 
-// The same where the sections to place, their values and the old functions are known.
+/// The same where the sections to place, their values and the old functions are known.
 #[tactic(auto, unfolding(crate::specs::inside::Rests::planned_at))]
 fn plan_at<S: Space>(
     alloc: Global,
@@ -177,7 +177,7 @@ fn plan_at<S: Space>(
     Ok(plan_of(alloc, program.space, post, values, olds, parts, &placement)?)
 }
 
-// The values with those that the references of the sections to place need besides.
+/// The values with those that the references of the sections to place need besides.
 fn values_for(
     alloc: Global,
     objects: &Objects<'_, '_>,
@@ -192,7 +192,7 @@ fn values_for(
     resolve_post(alloc, objects.pre, objects.post, &names, found, symbols)
 }
 
-// The lists of sections that an update is about.
+/// The lists of sections that an update is about.
 fn extract_of<'a>(alloc: Global, pre: &Normal<'a>, post: &Normal<'a>) -> Result<Extract, Refusal>
     ensures { Gives (λ extract. extract) result (extracted pre.now post.now) }
 {
@@ -201,7 +201,7 @@ fn extract_of<'a>(alloc: Global, pre: &Normal<'a>, post: &Normal<'a>) -> Result<
     extract(alloc, pre, post)
 }
 
-// The functions of the old object as they run, where nothing of the code stands in the update's way.
+/// The functions of the old object as they run, where nothing of the code stands in the update's way.
 fn free_olds<S: Space>(
     alloc: Global,
     program: &Program<'_, S>,
@@ -234,7 +234,7 @@ fn free_olds<S: Space>(
     Ok(olds)
 }
 
-// The places of sections that stand in the order of the object, which keep that order.
+/// The places of sections that stand in the order of the object, which keep that order.
 fn places_of(
     alloc: Global,
     post: &Normal<'_>,
@@ -252,7 +252,7 @@ fn places_of(
     place(alloc, sizes.as_slice(), gaps)
 }
 
-// The plan of new sections at their places, and of the functions of the old object.
+/// The plan of new sections at their places, and of the functions of the old object.
 fn plan_of<S: Space>(
     alloc: Global,
     space: &S,
@@ -277,7 +277,7 @@ fn plan_of<S: Space>(
     })
 }
 
-// What is retired of the functions, each with whether the jump is written at its low.
+/// What is retired of the functions, each with whether the jump is written at its low.
 fn fences_of(alloc: Global, olds: &[OldFunction]) -> Result<Fences, AllocError>
     requires { AreBodies olds.now }
     ensures { IfOk result (λ fences. fences ≡ fences_of olds.now) }

@@ -40,7 +40,7 @@ use std::alloc::{AllocError, Global};
 use symbol_table::{Addresses, SymbolTable};
 use update_plan::Plan;
 
-// Makes room in a program for pieces, retired ranges and symbols to come. What is seen of the program stays.
+/// Makes room in a program for pieces, retired ranges and symbols to come. What is seen of the program stays.
 pub(crate) fn reserve<S: Space>(machine: &mut Machine<S>, plan: &Plan) -> Result<(), AllocError>
     requires { ArePlaceable plan.now.pieces }
     ensures seen { seen machine.new ≡ seen machine.old }
@@ -54,7 +54,7 @@ pub(crate) fn reserve<S: Space>(machine: &mut Machine<S>, plan: &Plan) -> Result
     machine.symbols_mut().reserve(symbols)
 }
 
-// A number of items as 32 bits; there is no room for more.
+/// A number of items as 32 bits; there is no room for more.
 fn counted(count: usize) -> Result<u32, AllocError>
     ensures { IfOk result (λ n. n ≡ count) }
 {
@@ -64,7 +64,7 @@ fn counted(count: usize) -> Result<u32, AllocError>
     }
 }
 
-// Adds pieces, retires ranges, writes jumps and adds symbols, for which there is room. It takes no memory.
+/// Adds pieces, retires ranges, writes jumps and adds symbols, for which there is room. It takes no memory.
 pub(crate) fn change<S: Space>(
     machine: &mut Machine<S>,
     pieces: Pieces,
@@ -91,7 +91,7 @@ pub(crate) fn change<S: Space>(
     add_symbols(machine.symbols_mut(), symbols);
 }
 
-// Adds symbols, for which there is room.
+/// Adds symbols, for which there is room.
 fn add_symbols(table: &mut SymbolTable, symbols: NewSymbols)
     requires { length symbols ≤ table.old.spare }
     ensures { table.new.symbols ≡ table.old.symbols ++ symbols }
@@ -101,7 +101,7 @@ fn add_symbols(table: &mut SymbolTable, symbols: NewSymbols)
     }
 }
 
-// The jumps of replaced functions, each with the code that stands at its home.
+/// The jumps of replaced functions, each with the code that stands at its home.
 #[tactic(auto, using(crate::proofs::CarryLaws::rows_bare, crate::proofs::CarryLaws::homes_low))]
 pub(crate) fn jumps_of<S: Space>(
     alloc: Global,
@@ -117,7 +117,7 @@ pub(crate) fn jumps_of<S: Space>(
     Ok(Jumps::from_vec(with_old_code(space, jumps)))
 }
 
-// Jumps, each with the code that stands at its home.
+/// Jumps, each with the code that stands at its home.
 fn with_old_code<S: Space>(space: &S, mut jumps: Vec<Jump>) -> Vec<Jump>
     requires { All (λ jump. jump.home + 5 ≤ 2 ^ 32) jumps.items }
     ensures rows { rows_of result.items ≡ rows_of jumps.items }
@@ -127,7 +127,7 @@ fn with_old_code<S: Space>(space: &S, mut jumps: Vec<Jump>) -> Vec<Jump>
     jumps
 }
 
-// The jumps of replaced functions, before the code at their homes is noted.
+/// The jumps of replaced functions, before the code at their homes is noted.
 fn bare_jumps(alloc: Global, replaced: &[Replaced]) -> Result<Vec<Jump>, AllocError>
     ensures { IfOk result (λ jumps. jumps.items ≡ map bare_jump replaced.now) }
 {
@@ -148,7 +148,7 @@ fn bare_jump(one: &Replaced) -> Jump
     }
 }
 
-// What is kept of a plan that is carried out with these jumps, where this was free, and its pieces have these ranges.
+/// What is kept of a plan that is carried out with these jumps, where this was free, and its pieces have these ranges.
 pub(crate) fn kept_of(
     alloc: Global,
     plan: &Plan,
@@ -170,7 +170,7 @@ pub(crate) fn kept_of(
     })
 }
 
-// The ranges of a plan's pieces in ascending order.
+/// The ranges of a plan's pieces in ascending order.
 fn in_order(alloc: Global, plan: &Plan, ranges: &Ranges) -> Result<Ranges, AllocError>
     requires { ranges.now ≡ map piece_range plan.now.pieces }
     ensures { IfOk result (λ sorted. IsPermutation (map piece_range plan.now.pieces) sorted) }
@@ -178,7 +178,7 @@ fn in_order(alloc: Global, plan: &Plan, ranges: &Ranges) -> Result<Ranges, Alloc
     Ok(Ranges::from_vec(sorted(alloc, ranges.as_slice())?))
 }
 
-// The ranges of pieces.
+/// The ranges of pieces.
 pub(crate) fn piece_ranges(alloc: Global, pieces: &[Piece]) -> Result<Ranges, AllocError>
     requires { All (λ piece. (piece_range piece).high < 2 ^ 32) pieces.now }
     ensures { IfOk result (λ ranges. ranges ≡ map piece_range pieces.now) }
@@ -220,7 +220,7 @@ fn ranges_of(alloc: Global, fences: &[Fence]) -> Result<Ranges, AllocError>
     Ok(ranges)
 }
 
-// The update of a name, as it is shown.
+/// The update of a name, as it is shown.
 pub(crate) fn shown_as(alloc: Global, name: &Name, report: &Report) -> Result<Update, AllocError>
     ensures { IfOk result (λ update. update ≡ shown_as name.now report.now) }
 {
@@ -230,7 +230,7 @@ pub(crate) fn shown_as(alloc: Global, name: &Name, report: &Report) -> Result<Up
     })
 }
 
-// Puts an update, and what is kept of it, behind the others. For want of memory both lists are as before.
+/// Puts an update, and what is kept of it, behind the others. For want of memory both lists are as before.
 pub(crate) fn push_both(
     updates: &mut Updates,
     kept: &mut KeptList,
@@ -250,8 +250,8 @@ pub(crate) fn push_both(
     Ok(())
 }
 
-// A plan that can be made on a system's machine fits in its program, each of its jumps ends at an address of 32 bits,
-// and when it is carried out, the system holds, as the machine after the update.
+/// A plan that can be made on a system's machine fits in its program, each of its jumps ends at an address of 32 bits,
+/// and when it is carried out, the system holds, as the machine after the update.
 pub(crate) fn plans_are_carried_out()
     ensures fits { (program : Program)
         (arena : RangeOf) (gaps : List RangeOf) (updates : List Shown) (kept : List KeptOf)

@@ -14,10 +14,10 @@ use ks_base::{Name, Range, Ranges, Replaced};
 use std::alloc::{AllocError, Global};
 use symbol_table::Bodies;
 
-// Homes with their newest bases, in the order in which the homes were replaced first.
+/// Homes with their newest bases, in the order in which the homes were replaced first.
 type Bases = IndexMap<u32, u32>;
 
-// The newest base of each home that live updates replaced.
+/// The newest base of each home that live updates replaced.
 #[tactic(auto, using(crate::proofs::LiveLaws::homes_distinct))]
 pub(crate) fn bodies_of(alloc: Global, updates: &[Update]) -> Result<Bodies, AllocError>
     ensures rows { IfOk result (λ bodies. IsPermutation (bodies_in (table_of updates.now)) bodies) }
@@ -29,7 +29,7 @@ pub(crate) fn bodies_of(alloc: Global, updates: &[Update]) -> Result<Bodies, All
     Ok(Bodies::new(rows))
 }
 
-// The same, in the order of the table.
+/// The same, in the order of the table.
 fn newest_bases(alloc: Global, updates: &[Update]) -> Result<Bases, AllocError>
     ensures { IfOk result (λ bases. bases.entries ≡ bodies_in (table_of updates.now)) }
 {
@@ -40,7 +40,7 @@ fn newest_bases(alloc: Global, updates: &[Update]) -> Result<Bases, AllocError>
     Ok(bases)
 }
 
-// Puts the base of each replaced function in place of its home's, or behind the others.
+/// Puts the base of each replaced function in place of its home's, or behind the others.
 fn put_replaced(bases: &mut Bases, replaced: &[Replaced]) -> Result<(), AllocError>
     ensures { OnOk result (bases.new.entries ≡ insert_all nat_eq bases.old.entries (jump_rows replaced.now)) }
 {
@@ -50,7 +50,7 @@ fn put_replaced(bases: &mut Bases, replaced: &[Replaced]) -> Result<(), AllocErr
     Ok(())
 }
 
-// The rows of a map.
+/// The rows of a map.
 fn rows_of(alloc: Global, bases: &Bases) -> Result<Vec<(u32, u32)>, AllocError>
     ensures { IfOk result (λ rows. rows.items ≡ bases.now.entries) }
 {
@@ -61,7 +61,7 @@ fn rows_of(alloc: Global, bases: &Bases) -> Result<Vec<(u32, u32)>, AllocError>
     Ok(rows)
 }
 
-// The ranges that live updates retired, those of the oldest first.
+/// The ranges that live updates retired, those of the oldest first.
 pub(crate) fn retired_by(alloc: Global, kept: &[Kept]) -> Result<Ranges, AllocError>
     ensures { IfOk result (λ ranges. ranges ≡ flat_map (λ one. one.retired) kept.now) }
 {
@@ -81,7 +81,7 @@ fn put_ranges(ranges: &mut Ranges, more: &[Range]) -> Result<(), AllocError>
     Ok(())
 }
 
-// Whether a live update has a name.
+/// Whether a live update has a name.
 pub(crate) fn is_taken(updates: &[Update], name: &Name) -> bool
     ensures { result ≡ list_any (λ update. same_bytes update.name name.now) updates.now }
 {

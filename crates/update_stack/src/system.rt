@@ -44,7 +44,7 @@ use std::alloc::{AllocError, Global};
 use std::marker::Model;
 use update_plan::{Plan, alike_programs_have_one_plan, plan, plans_can_be_made};
 
-// So many updates may be live.
+/// So many updates may be live.
 const MOST_UPDATES: usize = 64;
 
 /// A program that runs over a memory, with the arena that new versions of its functions are placed in, and its live
@@ -55,7 +55,7 @@ pub struct System<S: Space> {
     alloc: Global,
     machine: Machine<S>,
     arena: Range,
-    // What is free of the arena.
+    /// What is free of the arena.
     gaps: Ranges,
     updates: Updates,
     kept: KeptList,
@@ -166,7 +166,7 @@ impl<S: Space> System<S> {
         self.step_program(thread)
     }
 
-    // Steps a thread of the program.
+    /// Steps a thread of the program.
     fn step_program(&mut self, thread: u32) -> Result<Traced, Refusal>
         ensures { ComesOfStep self.old self.new thread result }
     {
@@ -229,7 +229,7 @@ impl<S: Space> System<S> {
         self.take_newest_back()
     }
 
-    // Whether no thread stands in the way of taking the newest update back.
+    /// Whether no thread stands in the way of taking the newest update back.
     fn check_newest(&self) -> Result<(), Refusal>
         ensures { result_err result ≡ undo_refusal self.now }
     {
@@ -241,7 +241,7 @@ impl<S: Space> System<S> {
         }
     }
 
-    // Takes the newest update back, and answers its name.
+    /// Takes the newest update back, and answers its name.
     fn take_newest_back(&mut self) -> Result<Name, Refusal>
         ensures { ComesOfUndo (newest_update self.old) self.old self.new result }
     {
@@ -258,7 +258,7 @@ impl<S: Space> System<S> {
         Ok(update.name)
     }
 
-    // What an update would do, or the first refusal but those of the threads.
+    /// What an update would do, or the first refusal but those of the threads.
     fn plan(&self, name: &Name, pre: &[u8], post: &[u8]) -> Result<Plan, Refusal>
         ensures planned { Gives (λ plan. plan) result (planned_in self.now name.now pre.now post.now) }
         ensures sound { IfOk result (λ plan. CanBeMade (contents_of self.now) plan) }
@@ -273,7 +273,7 @@ impl<S: Space> System<S> {
         self.plan_beside(pre, post)
     }
 
-    // The same where the update's name has no say.
+    /// The same where the update's name has no say.
     fn plan_beside(&self, pre: &[u8], post: &[u8]) -> Result<Plan, Refusal>
         ensures planned { Gives (λ plan. plan) result
             (planned (running_of self.now) (retired_of self.now) (gaps_of self.now) pre.now post.now) }
@@ -295,7 +295,7 @@ impl<S: Space> System<S> {
         )
     }
 
-    // Whether no thread stands in the way of a plan.
+    /// Whether no thread stands in the way of a plan.
     fn check_threads(&self, plan: &Plan) -> Result<(), Refusal>
         ensures { Finds Refusal.Memory result (thread_refusal self.now.pieces plan.now.guarded self.now.threads) }
     {
@@ -305,7 +305,7 @@ impl<S: Space> System<S> {
         self.check_ranges(ranges.as_slice())
     }
 
-    // Whether no thread stands in one of some ranges.
+    /// Whether no thread stands in one of some ranges.
     fn check_ranges(&self, ranges: &[Range]) -> Result<(), Refusal>
         ensures { result_err result ≡ thread_refusal self.now.pieces ranges.now self.now.threads }
     {
@@ -315,7 +315,7 @@ impl<S: Space> System<S> {
         check_threads(threads, self.machine.space(), ranges)
     }
 
-    // Carries a plan out, and answers its report. `Err` comes for want of memory alone, and all is then as before.
+    /// Carries a plan out, and answers its report. `Err` comes for want of memory alone, and all is then as before.
     fn carry_out(&mut self, name: &Name, plan: Plan) -> Result<Report, AllocError>
         requires { CanBeMade (contents_of self.old) plan }
         ensures report { IfOk result (λ report. report ≡ plan.report) }
@@ -352,7 +352,7 @@ impl<S: Space> System<S> {
     }
 }
 
-// What is free of an arena in which nothing was placed.
+/// What is free of an arena in which nothing was placed.
 fn gaps_in(alloc: Global, arena: Range) -> Result<Ranges, AllocError>
     ensures { IfOk result (λ gaps. gaps ≡ gaps_in arena) }
 {

@@ -26,7 +26,7 @@ use splice_jump::{
     jumps_change_their_bytes_alone,
 };
 
-// Takes away what an update changed: its jumps, its retired ranges, its pieces and its symbols. It takes no memory.
+/// Takes away what an update changed: its jumps, its retired ranges, its pieces and its symbols. It takes no memory.
 pub(crate) fn take_back<S: Space>(machine: &mut Machine<S>, one: &Kept)
     requires { CanBeTaken machine.old one.now }
     ensures { seen machine.new ≡ after_taking one.now (seen machine.old) }
@@ -37,7 +37,7 @@ pub(crate) fn take_back<S: Space>(machine: &mut Machine<S>, one: &Kept)
     machine.symbols_mut().remove_last(one.symbol_count);
 }
 
-// What is kept of the newest update can be taken away, and the system holds then, as the machine without that update.
+/// What is kept of the newest update can be taken away, and the system holds then, as the machine without that update.
 pub(crate) fn updates_are_taken_back()
     ensures can { (program : Program)
         (arena : RangeOf) (gaps : List RangeOf) (updates : List Shown) (kept : List KeptOf)

@@ -3,7 +3,7 @@
 use object_builder::Kind::{Comment, Data, Global, Local, ReadOnly, Strings, Zeros};
 use object_builder::{ABSOLUTE, RELATIVE, Section};
 
-// `mov eax, 1` and `ret`.
+/// `mov eax, 1` and `ret`.
 const F: Section = Section {
     name: ".text.f",
     kind: Global("f"),
@@ -40,7 +40,7 @@ const H: Section = Section {
     references: &[],
 };
 
-// Calls `f`.
+/// Calls `f`.
 const MAIN: Section = Section {
     name: ".text.main",
     kind: Global("main"),
@@ -48,7 +48,7 @@ const MAIN: Section = Section {
     references: &[(1, RELATIVE, ".text.f")],
 };
 
-// A jump to the start of the cold part, and `ret`.
+/// A jump to the start of the cold part, and `ret`.
 const WORK: Section = Section {
     name: ".text.work",
     kind: Global("work"),
@@ -129,8 +129,8 @@ const EIGHT_ZEROS: Section = Section {
     references: &[],
 };
 
-// A `switch` over its argument, by a jump table: 10 for 0, 20 for 1, the text `hi` for 2, and else, by way of the cold
-// part, 99.
+/// A `switch` over its argument, by a jump table: 10 for 0, 20 for 1, the text `hi` for 2, and else, by way of the cold
+/// part, 99.
 const SWITCH: Section = Section {
     name: ".text.work",
     kind: Global("work"),
@@ -233,7 +233,7 @@ const X: Section = Section {
     references: &[],
 };
 
-// `xor eax, eax` and `ret`.
+/// `xor eax, eax` and `ret`.
 const TW: Section = Section {
     name: ".text.tw",
     kind: Local("tw"),
@@ -241,7 +241,7 @@ const TW: Section = Section {
     references: &[],
 };
 
-// Calls `tw` and `ext`, and `ret`.
+/// Calls `tw` and `ext`, and `ret`.
 const START: Section = Section {
     name: ".text.start",
     kind: Global("start"),

@@ -5,8 +5,8 @@ use std::fs;
 use std::process::Abort;
 use std::test::Fail;
 
-// A file that is one byte longer than its limit is too long, and none of it is kept; one as long as its limit is
-// whole.
+/// A file that is one byte longer than its limit is too long, and none of it is kept; one as long as its limit is
+/// whole.
 #[test]
 fn a_file_one_byte_above_its_limit(rt: HostRuntime) -> Result<(), Fail> {
     fs::write(&rt, "nine_bytes", "nine byte")?;
