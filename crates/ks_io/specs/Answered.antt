@@ -19,10 +19,3 @@ ShowsIn Missing before now = Rose before.absences now.absences
 ShowsIn TooLong before now = Rose before.excesses now.excesses
 ShowsIn Failed before now = Rose before.faults now.faults
 ShowsIn Memory before now = Unit {0}
-
--- a fault of the outside leaves the two counts of the other faults as they were
-abbrev pub RoseAlone : FileFault → Counts → Counts → Type 0
-RoseAlone Missing before now = (now.excesses ≡ before.excesses) × (now.faults ≡ before.faults)
-RoseAlone TooLong before now = (now.absences ≡ before.absences) × (now.faults ≡ before.faults)
-RoseAlone Failed before now = (now.absences ≡ before.absences) × (now.excesses ≡ before.excesses)
-RoseAlone Memory before now = Unit {0}

@@ -2,7 +2,7 @@
 ghost use Rattle.std.specs.Prelude.{◌≡◌, ◌≢◌, ℕ, ◌≤◌, ◌<◌, Option, List, [], length};
 ghost use Rattle.std.specs.Prelude.{take, OnOk, OnErr, IfOk, IfErr, IsErrOf};
 ghost use Rattle.ks_io.specs.Outside.{Counts, Rose, NeverFall, CountsTell, grown};
-ghost use Rattle.ks_io.specs.Answered.{LoadGives, RoseAlone, ShowsIn};
+ghost use Rattle.ks_io.specs.Answered.{LoadGives, ShowsIn};
 
 use crate::types::{FileFault, SinkFault};
 
@@ -27,8 +27,6 @@ pub trait Files {
         ensures never_fall { NeverFall (counts self.old) (counts self.new) }
         // Missing comes only where absences rose, TooLong only where excesses rose, Failed only where faults rose.
         ensures shown { IfErr result (λ fault. ShowsIn fault (counts self.old) (counts self.new)) }
-        // No other of the three counts rose then.
-        ensures alone { IfErr result (λ fault. RoseAlone fault (counts self.old) (counts self.new)) }
         ensures at_most { OnOk result (length into.new.items ≤ limit) }
         // Where the files are told, the answer agrees with the file of this name.
         ensures gives { (files : List ℕ → Option (List ℕ)) → told self.old ≡ Some files
@@ -68,9 +66,8 @@ pub trait Sink {
         ensures failed { IsErrOf result SinkFault.SinkFailed → Rose (faults self.old) (faults self.new) }
         // An Ok that took nothing of a piece that isn't empty is a fault, too.
         ensures stuck { result ≡ Ok 0 → 0 < length piece.now → Rose (faults self.old) (faults self.new) }
-        // A call that took something, or an Ok for an empty piece, or one that memory was wanting for, is no fault.
+        // A call that took something, or that memory was wanting for, is no fault.
         ensures steady { IfOk result (λ n. 0 < n → faults self.new ≡ faults self.old) }
-        ensures empty { piece.now ≡ [] → IfOk result (λ _. faults self.new ≡ faults self.old) }
         ensures memory { IsErrOf result SinkFault.Memory → faults self.new ≡ faults self.old }
         ensures never_falls { faults self.old ≤ faults self.new }
         ensures quiet_kept { quiet self.old → quiet self.new }
