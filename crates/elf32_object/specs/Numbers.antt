@@ -1,5 +1,6 @@
--- The numbers of the format, by their names in the System V gABI (chapter 4, "Object Files") and its supplement for the
--- Intel386; the sizes alone have names of their own. All definitions take them from here, and none from the code.
+-- The numbers of the format that have names, as in the System V gABI (chapter 4, "Object Files") and its supplement for
+-- the Intel386; the sizes and the offsets of the header's fields have names of this project's own. Definitions take them
+-- from here, and none from the code.
 use Rattle.std.specs.Prelude.{ℕ}
 
 -- Identification ("ELF Header", "ELF Identification"): places in e_ident, and what a 32-bit little-endian file of the

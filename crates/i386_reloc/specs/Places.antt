@@ -1,4 +1,4 @@
--- Where a section stands in a list of sections.
+-- Where a section stands in a list of sections, and what the section at a place has, nothing where there is none.
 use Rattle.std.specs.Prelude.{ℕ, suc, if◌then◌else◌, List, [], ◌∷◌, Option, Some, None, option_map}
 use Rattle.std.specs.List.{slice_get}
 use Rattle.i386_reloc.specs.declared.types.NormalSection.{NormalSection}

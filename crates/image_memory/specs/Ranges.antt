@@ -6,7 +6,7 @@ use mathlib.Core.HLevel.{Unit-prop}
 use native.Mathlib.Bridge.{le_prop}
 use Rattle.ks_base.specs.declared.places.Range.{Range}
 
--- the range from an address up to another
+-- the range from an address up to another, which is not in it
 abbrev pub from_to : (low high : ℕ) → Range
 from_to low high = record { low = low; high = high }
 
