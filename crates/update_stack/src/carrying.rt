@@ -163,11 +163,33 @@ pub(crate) fn kept_of(
         pieces: bases_of(alloc, plan.pieces.as_slice())?,
         ranges: in_order(alloc, plan, ranges)?,
         retired: ranges_of(alloc, plan.fences.as_slice())?,
-        symbols: plan.symbols.clone()?,
+        symbols: copy_of_symbols(&plan.symbols)?,
         symbol_count: counted(plan.symbols.len())?,
-        jumps: jumps.clone()?,
-        gaps: gaps.clone()?,
+        jumps: copy_of_jumps(jumps)?,
+        gaps: copy_of_ranges(gaps)?,
     })
+}
+
+/// A copy of symbols. It and the next two say in a clause of their own that a copy is equal, which the proof of what is
+/// kept of a plan needs.
+fn copy_of_symbols(symbols: &NewSymbols) -> Result<NewSymbols, AllocError>
+    ensures { IfOk result (λ copy. copy ≡ symbols.now) }
+{
+    symbols.clone()
+}
+
+/// A copy of jumps.
+fn copy_of_jumps(jumps: &Jumps) -> Result<Jumps, AllocError>
+    ensures { IfOk result (λ copy. copy ≡ jumps.now) }
+{
+    jumps.clone()
+}
+
+/// A copy of ranges.
+fn copy_of_ranges(ranges: &Ranges) -> Result<Ranges, AllocError>
+    ensures { IfOk result (λ copy. copy ≡ ranges.now) }
+{
+    ranges.clone()
 }
 
 /// The ranges of a plan's pieces in ascending order.
