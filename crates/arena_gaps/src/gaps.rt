@@ -1,11 +1,12 @@
 //! What is left of free ranges where others were taken.
 ghost use Rattle.std.specs.Prelude.{◌≡◌, ◌+◌, ◌-◌, ◌^◌, ◌++◌, [], ◌∷◌, ◌<◌, max, nat_lt, if◌then◌else◌, fold, IfOk};
 ghost use Rattle.std.specs.Prelude.{OnOk};
-ghost use Rattle.std.specs.List.Sorted.{IsNonDecreasingBy, IsPermutation};
+ghost use Rattle.std.specs.List.Sorted.{IsNonDecreasingBy};
 ghost use Rattle.image_memory.specs.Ranges.{Ascends, from_to};
 ghost use Rattle.link_post.specs.Places.{unless_empty, without};
 ghost use Rattle.arena_gaps.specs.inside.Sweeping.{Stands};
 
+use image_memory::sorted;
 use ks_base::{Range, Ranges};
 use std::alloc::{AllocError, Global};
 
@@ -15,17 +16,8 @@ pub fn without_all(alloc: Global, free: &Ranges, taken: &[Range]) -> Result<Rang
     requires { Ascends (λ range. range) 0 free.now }
     ensures { IfOk result (λ left. left ≡ fold without free.now taken.now) }
 {
-    let taken = in_order(Vec::from_slice(alloc, taken)?);
+    let taken = sorted(alloc, taken)?;
     swept(alloc, free.as_slice(), taken.as_slice())
-}
-
-/// Ranges by their lows.
-fn in_order(mut ranges: Vec<Range>) -> Vec<Range>
-    ensures same { IsPermutation ranges.items result.items }
-    ensures rises { IsNonDecreasingBy (λ range. range.low) result.items }
-{
-    ranges.sort_unstable_by_key(|range| range.low);
-    ranges
 }
 
 /// The same where the taken ones are in order, in one pass over both.

@@ -1,7 +1,5 @@
 mod Apart
-pub mod EachBelow
 mod Entries
-pub mod Firsts
 mod Loads
 mod Offered
 mod Rules

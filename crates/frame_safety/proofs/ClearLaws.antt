@@ -5,14 +5,13 @@ use Rattle.std.proofs.Common.{◌<◌, Bool, true, false, cond, ◌&&◌, nat_le
 use Rattle.std.proofs.Common.{◌==◌, if◌then◌else◌, List, [], ◌∷◌, ◌++◌, map}
 use Rattle.std.proofs.Common.{get_or, Option, Some, None, Result, Ok, Err}
 use Rattle.std.proofs.Common.{slice_get, IsTrue, IsFalse, All, refl, sym, ◌∙◌, ap, subst, arith}
-use Rattle.std.specs.Prelude.{not, is_some, ◌||◌}
+use Rattle.std.specs.Prelude.{not, is_some}
 use Rattle.std.specs.Option.{option_map, option_or, option_to_list}
-use Rattle.std.specs.List.{filter, flat_map}
+use Rattle.std.specs.List.{flat_map}
 use Rattle.std.proofs.lemmas.Bool.{eqb-true}
 use Rattle.std.proofs.lemmas.Bool.Decides.{nat_tests}
 use Rattle.std.proofs.lemmas.List.{append-nil}
-use Rattle.std.proofs.lemmas.List.Folds.{find-append, list_any-append}
-use Rattle.std.proofs.lemmas.Simd.{map-map}
+use Rattle.std.proofs.lemmas.List.Folds.{find-append}
 use Rattle.ks_base.specs.declared.places.Range.{Range}
 use Rattle.ks_base.specs.declared.refusals.Place.{Place}
 use Rattle.ks_base.specs.declared.refusals.Place.TheVariants.{Pc}
@@ -20,8 +19,7 @@ use Rattle.ks_base.specs.declared.refusals.Refusal.{Refusal}
 use Rattle.ks_base.specs.declared.reports.Report.{Report}
 use Rattle.image_file.specs.Fields.{◌>>=◌}
 use Rattle.image_memory.specs.declared.types.Piece.{Piece}
-use Rattle.image_memory.specs.Ranges.{lies_in}
-use Rattle.image_memory.specs.Contents.{fence_range, spliced_at}
+use Rattle.image_memory.specs.Contents.{fence_range}
 use Rattle.image_memory.specs.Access.{first_fault, read_fault, dword_at}
 use Rattle.ia32_step.specs.declared.types.Frame.{Frame}
 use Rattle.ia32_step.specs.declared.types.State.{State}
@@ -34,18 +32,14 @@ use Rattle.stack_scan.specs.Standing.{looked_at, in_register, on_stack, addresse
 use Rattle.stack_scan.specs.Standing.{first_place, standing_at, stack_out, is_stack_out, stands_by, stands}
 use Rattle.stack_scan.specs.Standing.{standing_refused, thread_refusal}
 use Rattle.match_candidates.specs.Candidates.{Running as Program}
-use Rattle.retired_code.specs.declared.types.OldFunction.{OldFunction}
-use Rattle.retired_code.specs.Retired.{is_retired, retired_range, retired_by, jump_range, is_guarded, guarded}
 use Rattle.update_plan.specs.declared.types.Plan.{Plan}
-use Rattle.update_plan.specs.Olds.{olds_of}
-use Rattle.update_plan.specs.Plan.{fence_of, fences_of, planned, unless}
-use Rattle.update_plan.proofs.SoundSteps.{is_planned}
+use Rattle.update_plan.specs.Plan.{planned, unless}
 use Rattle.update_stack.specs.CallTable.{CallTable, Update}
 use Rattle.update_stack.specs.Apply.{name_refusal, running_of, retired_of, gaps_of, planned_in, applied, committed}
 use Rattle.update_stack.specs.Apply.{update_as}
 use Rattle.update_stack.specs.Undo.{withdrawn, ranges_in, newest_update, undone_by, undone}
 use Rattle.update_stack.specs.Events.{apply_answered, undo_answered, answered}
-use Rattle.update_stack.proofs.TableLaws.{last_more}
+use Rattle.update_stack.specs.StackedLaws.{last_more}
 use Rattle.frame_safety.specs.Clear.{newest_retired, newest_pieces, IsOutside, KeepSlots, AcceptedIsClear}
 use Rattle.frame_safety.specs.Clear.{TakenBackIsClear}
 
@@ -167,33 +161,13 @@ module _ (pieces : List Piece) (ranges : List Range) where
         first.0,
       )
 
--- ---- what a plan retires is guarded
-left_false : (a b : Bool) → (a || b) ≡ false → a ≡ false
-left_false true b is = absurd (cc)
-left_false false b is = refl
-
-retired_guarded : (has_jump : ℕ → Bool) (olds : List OldFunction) (address : ℕ)
-    → IsFalse (in_one (guarded has_jump olds) address) → IsFalse (in_one (map fence_range (fences_of olds)) address)
-unfolding guarded retired_by
-retired_guarded has_jump olds address clear =
-    let gone = filter (λ (old : OldFunction). is_retired old.fate) olds in
-    let jumps = map jump_range (filter (is_guarded has_jump) olds) in
-    let same : map fence_range (map fence_of gone) ≡ map retired_range gone = map-map fence_range fence_of gone in
-    subst (λ (ranges : List Range). IsFalse (in_one ranges address)) (sym same)
-    (left_false (in_one (map retired_range gone) address) (in_one jumps address)
-    (sym (list_any-append (lies_in address) (map retired_range gone) jumps) ∙ clear))
-
-plan_guarded : (running : Program) (retired gaps : List Range) (pre_file post_file : List ℕ) (plan : Plan)
-    → planned running retired gaps pre_file post_file ≡ Ok plan → (address : ℕ)
-    → IsFalse (in_one plan.guarded address) → IsFalse (in_one (map fence_range plan.fences) address)
-plan_guarded running retired gaps pre_file post_file plan is address =
-    let it = is_planned running retired gaps pre_file post_file plan is in
-    subst
-    (λ (p : Plan). IsFalse (in_one p.guarded address) → IsFalse (in_one (map fence_range p.fences) address))
-    it.plan_is
-    (retired_guarded (spliced_at running.contents.fences) (olds_of it.extract it.found it.pre) address)
-
 -- ---- the update rule
+-- the law of plans that is used here
+abbrev pub RetiredIsGuarded : Type 0
+RetiredIsGuarded = (running : Program) (retired gaps : List Range) (pre_file post_file : List ℕ) (plan : Plan)
+    (address : ℕ) → planned running retired gaps pre_file post_file ≡ Ok plan
+    → IsFalse (in_one plan.guarded address) → IsFalse (in_one (map fence_range plan.fences) address)
+
 module _ (k : CallTable) (name pre post : List ℕ) where
   plan_in : (plan : Plan) → planned_in k name pre post ≡ Ok plan
       → planned (running_of k) (retired_of k) (gaps_of k) pre post ≡ Ok plan
@@ -214,21 +188,24 @@ module _ (k : CallTable) (name pre post : List ℕ) where
       ∙ append-nil (map fence_range plan.fences)
 
   -- where threads and frames are outside what the plan guards, they are outside what it retires
-  made_clear : (plan : Plan) (number : ℕ) (thread : Thread) (frames : List Frame)
+  made_clear : RetiredIsGuarded → (plan : Plan) (number : ℕ) (thread : Thread) (frames : List Frame)
       → planned_in k name pre post ≡ Ok plan → thread_refusal k.pieces plan.guarded k.threads ≡ None
       → running_at k.threads number ≡ Some thread → KeepSlots k thread frames
       → IsOutside (newest_retired (committed k name plan)) thread frames
-  made_clear plan number thread frames is none runs keeps =
+  made_clear law plan number thread frames is none runs keeps =
       let clear = thread_clear k.pieces plan.guarded k.threads number thread frames none runs keeps in
-      let guards = plan_guarded (running_of k) (retired_of k) (gaps_of k) pre post plan (plan_in plan is) in
+      let guards : (address : ℕ) → IsFalse (in_one plan.guarded address)
+      → IsFalse (in_one (map fence_range plan.fences) address) =
+      λ address. law (running_of k) (retired_of k) (gaps_of k) pre post plan address (plan_in plan is) in
       subst (λ (ranges : List Range). IsOutside ranges thread frames) (sym (retired_now plan)) record {
         addresses = λ i d l. guards (get_or frames i d).address (clear.0 i d l);
         pc = guards thread.pc clear.1;
       }
 
-pub accepted_clear : AcceptedIsClear
+pub accepted_clear : RetiredIsGuarded → AcceptedIsClear
 unfolding answered applied
-accepted_clear k name pre post now number thread frames is runs keeps = by_plan (planned_in k name pre post) refl is
+accepted_clear law k name pre post now number thread frames is runs keeps =
+    by_plan (planned_in k name pre post) refl is
   where
     by_threads : (plan : Plan) (o : Option Refusal) → planned_in k name pre post ≡ Ok plan
         → thread_refusal k.pieces plan.guarded k.threads ≡ o
@@ -239,7 +216,7 @@ accepted_clear k name pre post now number thread frames is runs keeps = by_plan 
     by_threads plan None planned none is =
         let machine : committed k name plan ≡ now.machine = cc in
         subst (λ (m : CallTable). IsOutside (newest_retired m) thread frames) machine
-        (made_clear k name pre post plan number thread frames planned none runs keeps)
+        (made_clear k name pre post law plan number thread frames planned none runs keeps)
 
     by_plan : (r : Result Plan Refusal) → planned_in k name pre post ≡ r
         → apply_answered (r >>= λ (plan : Plan). unless (thread_refusal k.pieces plan.guarded k.threads) plan

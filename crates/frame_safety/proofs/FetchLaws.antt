@@ -11,13 +11,13 @@ use Rattle.image_memory.specs.Ranges.{lies_in, Ascends}
 use Rattle.image_memory.specs.Contents.{Contents, IsValid, piece_range, fence_range, holding, spliced_at}
 use Rattle.image_memory.specs.Fetch.{View, AtHome, Stray, Bytes, is_code, code_in, code_from, cut_before}
 use Rattle.image_memory.specs.Fetch.{window_of, seen_in, view, view_at, has_window, jump_at, window_for, window_at}
-use Rattle.image_memory.proofs.RangeLaws.{inside, below, above, found, found_along}
-use Rattle.splice_jump.proofs.RowLaws.{Before}
+use Rattle.image_memory.specs.RangeLaws.{inside, below, above, found, found_along}
+use Rattle.splice_jump.specs.RowLaws.{Before}
 use Rattle.stack_scan.specs.Standing.{in_one}
 use Rattle.ia32_step.specs.Step.{window_length, fetched_count}
 use Rattle.update_stack.specs.CallTable.{contents_of}
-use Rattle.update_stack.proofs.BuiltLaws.{built_sound}
-use Rattle.update_stack.proofs.LockStep.{met_alike}
+use Rattle.update_stack.specs.StackedLaws.{built_sound}
+use Rattle.update_stack.specs.ViewLaws.{met_alike}
 use Rattle.frame_safety.specs.Windows.{FetchedHaveWindows}
 use Rattle.frame_safety.proofs.ViewLaws.{shows, window_by, has_text}
 

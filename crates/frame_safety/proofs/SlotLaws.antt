@@ -8,23 +8,23 @@ use Rattle.std.specs.List.{fold}
 use Rattle.std.specs.Int.{w32, from_le_bytes}
 use Rattle.std.proofs.lemmas.Bool.Decides.{nat_tests}
 use Rattle.std.proofs.lemmas.List.Elements.{All-contains}
+use Rattle.std.proofs.lemmas.List.Folds.{Any-from_list_any}
 use Rattle.ks_base.specs.declared.places.Range.{Range}
 use Rattle.ks_base.specs.declared.refusals.Fault.{Fault}
 use Rattle.ks_base.specs.declared.refusals.Refusal.{Refusal}
 use Rattle.ks_base.specs.declared.reports.Report.{Report}
-use Rattle.propagation.proofs.ListLaws.{list_any_has, Contains_of_filter}
 use Rattle.image_file.specs.Fields.{◌>>=◌}
 use Rattle.image_memory.specs.declared.types.Piece.{Piece}
 use Rattle.image_memory.specs.Ranges.{lies_in, are_same, Ascends}
 use Rattle.image_memory.specs.Contents.{piece_range, holding, byte_in}
 use Rattle.image_memory.specs.Access.{first_fault, read_fault, unreadable, kind_of, byte_at, bytes_at, dword_at}
 use Rattle.image_memory.specs.Changes.{with_piece}
-use Rattle.image_memory.proofs.RangeLaws.{found_here}
+use Rattle.image_memory.specs.RangeLaws.{found_here}
 use Rattle.image_threads.specs.Spawning.{is_writable, is_stack}
 use Rattle.ia32_step.specs.declared.types.Frame.{Frame}
 use Rattle.ia32_step.specs.Frames.{is_slot, holds_dword, keeps_slot}
 use Rattle.memory_changes.specs.Withdrawn.{is_based_at}
-use Rattle.memory_changes.proofs.PutLaws.{Contains-put}
+use Rattle.image_memory.specs.PutLaws.{Contains-put}
 use Rattle.stack_scan.specs.Standing.{thread_refusal}
 use Rattle.update_plan.specs.declared.types.Plan.{Plan}
 use Rattle.update_plan.specs.Plan.{unless}
@@ -33,9 +33,10 @@ use Rattle.update_stack.specs.Apply.{planned_in, applied, committed, with_new_pi
 use Rattle.update_stack.specs.Undo.{withdrawn, ranges_in, newest_update, undone_by, undone}
 use Rattle.update_stack.specs.Stacked.{IsBuilt}
 use Rattle.update_stack.specs.Events.{Apply, Undo, Happened, apply_answered, undo_answered, answered}
-use Rattle.update_stack.proofs.BuiltLaws.{built_sound}
+use Rattle.update_stack.specs.StackedLaws.{built_sound}
 use Rattle.frame_safety.specs.Slots.{KeepsSlots, SameThreads, UpdatesKeepSlots, UndosKeepSlots, UpdatesKeepThreads}
 use Rattle.frame_safety.specs.Slots.{UndosKeepThreads}
+use Rattle.frame_safety.proofs.ViewLaws.{filter_contains}
 
 both : (a b : Bool) → (a && b) ≡ true → (a ≡ true) × (b ≡ true)
 both true b is = (refl, is)
@@ -71,10 +72,11 @@ shared_alike : (old new some : List Piece) (stack : Range) → Ascends piece_ran
     → ((piece : Piece) → Contains some piece → Contains old piece × Contains new piece)
     → IsTrue (is_stack some stack) → IsAlike old new stack
 shared_alike old new some stack up_old up_new shared is address low below =
-    let (piece, there, passes) =
-    list_any_has (λ (piece : Piece). is_writable piece.kind && are_same (piece_range piece) stack) some is in
-    let lies = stack_has (is_writable piece.kind) piece stack address passes low below in
-    let (before, after) = shared piece there in
+    let found =
+    Any-from_list_any (λ (piece : Piece). is_writable piece.kind && are_same (piece_range piece) stack) some is in
+    let piece = found.1 in
+    let lies = stack_has (is_writable piece.kind) piece stack address found.4 low below in
+    let (before, after) = shared piece (found.0, found.2, found.3) in
     one_holds old piece address up_old before lies ∙ sym (one_holds new piece address up_new after lies)
 
 still_there : (more pieces : List Piece) (piece : Piece) → Contains pieces piece
@@ -161,7 +163,7 @@ withdrawn_keeps k update built after stack esp frame listed =
     (shared_alike k.pieces (withdrawn k update).pieces (withdrawn k update).pieces stack (ascending k built)
     (ascending (withdrawn k update) after)
     (λ piece there.
-    ((Contains_of_filter (λ (p : Piece). not (is_based_at update.pieces p)) k.pieces piece there).0, there))
+    (filter_contains (λ (p : Piece). not (is_based_at update.pieces p)) k.pieces piece there, there))
     (is_there (withdrawn k update) stack after listed))
     esp frame
 

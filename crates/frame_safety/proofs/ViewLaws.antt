@@ -14,8 +14,8 @@ use Rattle.image_memory.specs.Contents.{Contents, IsValid, piece_range, fence_ra
 use Rattle.image_memory.specs.Access.{overlaid_piece, written}
 use Rattle.image_memory.specs.Fetch.{AtHome, Stray, Bytes, is_code, code_in, HasCode, window_of, seen_in, view}
 use Rattle.image_memory.specs.Fetch.{has_window}
-use Rattle.image_memory.proofs.AccessLaws.{length-overlaid}
-use Rattle.image_memory.proofs.RangeLaws.{inside, within, found, found_here}
+use Rattle.image_memory.specs.AccessLaws.{length-overlaid}
+use Rattle.image_memory.specs.RangeLaws.{inside, within, found, found_here}
 use Rattle.splice_jump.specs.Jumps.{IsFenced}
 use Rattle.memory_changes.specs.Retired.{with_range, with_ranges}
 use Rattle.memory_changes.specs.Withdrawn.{is_based_at, without_pieces}

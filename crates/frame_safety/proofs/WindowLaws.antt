@@ -16,6 +16,7 @@ use Rattle.ks_base.specs.declared.reports.Report.{Report}
 use Rattle.image_file.specs.Fields.{◌>>=◌}
 use Rattle.image_memory.specs.declared.types.Piece.{Piece}
 use Rattle.image_memory.specs.Contents.{fence_range}
+use Rattle.image_memory.specs.Fetch.{HasCode}
 use Rattle.symbol_table.specs.Symbols.{function_named}
 use Rattle.splice_jump.specs.Jumps.{IsFenced, IsSpliced}
 use Rattle.memory_changes.specs.Withdrawn.{is_one_of}
@@ -24,21 +25,19 @@ use Rattle.image_threads.specs.Program.{running_at}
 use Rattle.image_threads.specs.Spawning.{started, started_at, started_on, free_stack, first_bytes, first_thread}
 use Rattle.stack_scan.specs.Standing.{in_one, thread_refusal}
 use Rattle.update_plan.specs.declared.types.Plan.{Plan}
-use Rattle.update_plan.specs.Plan.{planned, unless}
+use Rattle.update_plan.specs.Plan.{unless}
 use Rattle.update_plan.specs.Sound.{is_replaced_at, CanBeMade}
 use Rattle.update_stack.specs.CallTable.{CallTable, Row, Update, is_home, view_in, fence_in, contents_of}
 use Rattle.update_stack.specs.Steps.{step_in, moved_by, moved, after_start, spawned}
-use Rattle.update_stack.specs.Apply.{name_refusal, running_of, retired_of, gaps_of, planned_in, applied, committed}
+use Rattle.update_stack.specs.Apply.{planned_in, applied, committed}
 use Rattle.update_stack.specs.Apply.{update_as}
 use Rattle.update_stack.specs.Undo.{withdrawn, ranges_in, newest_update, undone_by, undone}
 use Rattle.update_stack.specs.Events.{Happened, spawn_answered, step_answered}
 use Rattle.update_stack.specs.Events.{apply_answered, undo_answered, answered, machine_after}
 use Rattle.update_stack.specs.Stacked.{IsBuilt}
-use Rattle.update_stack.proofs.BuiltLaws.{PiecesCode, built_sound, pieces_made, pieces_fit}
-use Rattle.update_stack.proofs.KeptLaws.{HasNewest, built_newest}
-use Rattle.update_stack.proofs.PlanLaws.{PlansCanBeMade, GapsAscend, GapsBelow, GapsApart, plan_sound}
-use Rattle.update_stack.proofs.TableLaws.{homes_after, homes_spliced, last_more}
-use Rattle.update_stack.proofs.WriteLaws.{by_step}
+use Rattle.update_stack.specs.StackedLaws.{HasNewest, built_newest, last_more}
+use Rattle.update_stack.specs.TableLaws.{homes_after, homes_spliced}
+use Rattle.update_stack.specs.StepLaws.{by_step}
 use Rattle.frame_safety.specs.Clear.{newest_retired, newest_pieces}
 use Rattle.frame_safety.specs.Windows.{window_in, SameWindows, KeepsWindows, StartsKeepWindows, StepsKeepWindows}
 use Rattle.frame_safety.specs.Windows.{UpdatesKeepWindows, UndosKeepWindows}
@@ -51,6 +50,20 @@ window_is : (k : CallTable) (address : ℕ)
     → window_in k address ≡ shows (text_at k.pieces address) (is_home k.table address) (in_one k.retired address)
 unfolding view_in
 window_is k address = window_by (is_home k.table) k.retired k.pieces address
+
+-- the laws of updates that are used here
+abbrev pub PlansCanBeMade : Type 0
+PlansCanBeMade = (k : CallTable) (name pre_file post_file : List ℕ) (plan : Plan) → IsBuilt k
+    → planned_in k name pre_file post_file ≡ Ok plan → CanBeMade (contents_of k) plan
+
+abbrev pub CodeStays : Type 0
+CodeStays = (k : CallTable) (name : List ℕ) (plan : Plan) (address count : ℕ) → IsBuilt k
+    → CanBeMade (contents_of k) plan → HasCode k.pieces address count
+    → HasCode (committed k name plan).pieces address count
+
+pub record UpdateLaws : Type 0 where
+  pub can : PlansCanBeMade
+  pub code : CodeStays
 
 -- Where text is where it was, windows are.
 abbrev SameText : (old new : List Piece) → Type 0
@@ -133,14 +146,10 @@ module _ (k : CallTable) (name : List ℕ) (plan : Plan) where
       newest_is (λ (update : Update). update.retired) after (update_as name plan)
       (last_more None k.updates (update_as name plan))
 
-  code_after : PiecesCode → IsBuilt k → CanBeMade (contents_of k) plan → (address : ℕ)
+  code_after : CodeStays → IsBuilt k → CanBeMade (contents_of k) plan → (address : ℕ)
       → text_at k.pieces address ≡ true → text_at after.pieces address ≡ true
-  unfolding committed
   code_after code built can address is =
-      subst (λ (pieces : List Piece). text_at pieces address ≡ true) (pieces_made (contents_of k) plan.pieces)
-      (code_is_text _ address
-      (code (contents_of k) plan.pieces address 1 (built_sound k built).jumps.valid can.placeable
-      (pieces_fit (contents_of k) plan can) (text_is_code k.pieces address is)))
+      code_is_text after.pieces address (code k name plan address 1 built can (text_is_code k.pieces address is))
 
   home_after : (address : ℕ) → is_home after.table address
       ≡ (is_home k.table address || is_replaced_at plan.report.replaced address)
@@ -152,7 +161,7 @@ module _ (k : CallTable) (name : List ℕ) (plan : Plan) where
   unfolding committed
   stray_after address = one_more k.retired (map fence_range plan.fences) address
 
-  update_windows : PiecesCode → IsBuilt k → CanBeMade (contents_of k) plan → KeepsWindows (newest_retired after) k after
+  update_windows : CodeStays → IsBuilt k → CanBeMade (contents_of k) plan → KeepsWindows (newest_retired after) k after
   update_windows code built can address out was =
       window_is after address
       ∙ shows_on (text_at k.pieces address) (is_home k.table address) (in_one k.retired address)
@@ -173,25 +182,6 @@ module _ (k : CallTable) (name : List ℕ) (plan : Plan) where
       outside free gone stray =
           false≢true (sym (stray_after address
           ∙ ap (λ (b : Bool). b || in_one k.retired address) not_new ∙ free) ∙ stray)
-
--- the laws that are used of an update
-pub record UpdateLaws : Type 0 where
-  pub code : PiecesCode
-  pub plans : PlansCanBeMade
-  pub ascend : GapsAscend
-  pub below : GapsBelow
-  pub apart : GapsApart
-
-plan_can : UpdateLaws → (k : CallTable) (name pre post : List ℕ) (plan : Plan) → IsBuilt k
-    → planned_in k name pre post ≡ Ok plan → CanBeMade (contents_of k) plan
-unfolding planned_in
-plan_can laws k name pre post plan built is = by_name (name_refusal k name) is
-  where
-    by_name : (o : Option Refusal)
-        → (unless o k >>= λ (m : CallTable). planned (running_of m) (retired_of m) (gaps_of m) pre post) ≡ Ok plan
-        → CanBeMade (contents_of k) plan
-    by_name (Some refusal) is = absurd (cc)
-    by_name None is = plan_sound laws.plans laws.ascend laws.below laws.apart k pre post (Ok plan) built is
 
 -- what an update leaves of the windows, or a refusal of one
 abbrev KeepsBut : CallTable → Result Happened Refusal → Type 0
@@ -214,7 +204,7 @@ apply_windows laws k name pre post built = by_plan (planned_in k name pre post) 
         let r : Result (CallTable × Report) Refusal = Ok (committed k name clear, clear.report) in r))
     by_plan (Err refusal) is = λ address out was. was
     by_plan (Ok plan) is =
-        by_threads plan (thread_refusal k.pieces plan.guarded k.threads) (plan_can laws k name pre post plan built is)
+        by_threads plan (thread_refusal k.pieces plan.guarded k.threads) (laws.can k name pre post plan built is)
 
 pub updates_keep_windows : UpdateLaws → UpdatesKeepWindows
 unfolding answered

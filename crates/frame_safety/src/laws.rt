@@ -4,15 +4,17 @@ ghost use Rattle.frame_safety.specs.Slots.{UpdatesKeepSlots, UndosKeepSlots, Upd
 ghost use Rattle.frame_safety.specs.Windows.{StartsKeepWindows, StepsKeepWindows, UpdatesKeepWindows, UndosKeepWindows};
 ghost use Rattle.frame_safety.specs.Windows.{FetchedHaveWindows};
 
-use arena_gaps::gaps_are_free;
-use memory_changes::pieces_are_added;
-use update_plan::plans_can_be_made;
+use update_plan::retired_code_is_guarded;
+use update_stack::updates_can_be_made;
 
 /// Where an update is accepted, no running thread, and no frame of it that keeps the slot rule, is in the code that is
 /// retired.
 pub fn accepted_updates_are_clear()
     ensures { AcceptedIsClear }
-{}
+{
+    // Nothing is done here: the law says that a plan guards what it retires.
+    retired_code_is_guarded();
+}
 
 /// Where an update is taken back, no running thread, and no frame of it that keeps the slot rule, is in the update's
 /// pieces.
@@ -31,10 +33,8 @@ pub fn updates_keep_windows()
     ensures updates { UpdatesKeepWindows }
     ensures undos { UndosKeepWindows }
 {
-    // Nothing is done here: code stays code where pieces are added, and a plan's pieces meet no piece that is there.
-    pieces_are_added();
-    plans_can_be_made();
-    gaps_are_free();
+    // Nothing is done here: the law says that an update that is planned can be made, and that code stays code then.
+    updates_can_be_made();
 }
 
 /// Where a step fetches more than the five bytes of a jump, there is a window at each of them.

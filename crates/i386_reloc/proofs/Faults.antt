@@ -1,8 +1,8 @@
 -- What is wrong with a section, from what was read of it.
-use Rattle.std.proofs.Common.{◌≡◌, ℕ, zero, suc, Bool, true, false, ◌&&◌, ◌||◌, cond, List, [], ◌∷◌}
-use Rattle.std.proofs.Common.{◌++◌, length, Option, Some, None, is_some, is_none, refl, sym, ap, ◌∙◌}
+use Rattle.std.proofs.Common.{◌≡◌, ℕ, Bool, true, false, ◌&&◌, ◌||◌, cond, List}
+use Rattle.std.proofs.Common.{None, is_none, refl, sym, ap, ◌∙◌}
 use Rattle.elf32_object.specs.declared.types.Section.{Section}
-use Rattle.elf32_object.specs.Below.{first_of, any_below, least_below}
+use Rattle.elf32_object.specs.Below.{least_below}
 use Rattle.elf32_object.specs.Fields.{section_header, section_name, is_loaded, symbol_count}
 use Rattle.ks_base.specs.declared.refusals.Refusal.TheVariants as refusal
 use Rattle.i386_reloc.specs.declared.types.Class.{Class}
@@ -10,11 +10,9 @@ use Rattle.i386_reloc.specs.declared.functions.Functions.{Functions}
 use Rattle.i386_reloc.specs.inside.Functions.{functions_below}
 use Rattle.i386_reloc.specs.inside.Loaded.{IsLoadedSection}
 use Rattle.i386_reloc.specs.Classes.{class_by, is_code_class, is_code}
-use Rattle.i386_reloc.specs.Normal.{function_symbol, starts, has_inner_function, same_bytes}
-use Rattle.i386_reloc.specs.Normal.{loaded_below, normal_section, is_name_twice, is_not_one_function}
-use Rattle.i386_reloc.specs.Places.{place_named}
+use Rattle.i386_reloc.specs.Normal.{function_symbol, starts, has_inner_function}
+use Rattle.i386_reloc.specs.Normal.{is_name_twice, is_not_one_function}
 use Rattle.i386_reloc.specs.Refused.{refused_where, name_fault_at, function_fault_at}
-use Rattle.i386_reloc.proofs.Places.{place_named_push}
 
 -- nothing is wrong with a section that isn't loaded
 pub name_fault_unloaded : (bytes : List ℕ) (i : ℕ) → is_loaded bytes i ≡ false → name_fault_at bytes i ≡ None
@@ -55,42 +53,3 @@ pub function_fault_read : (bytes : List ℕ) (i : ℕ) (section : Section) (func
     → function_fault_at bytes i ≡ refused_where bad (refusal.NotOneFunction section.name.now)
 function_fault_read bytes i section functions class bad read gathered class_is bad_is =
     function_fault_loaded bytes i section functions read gathered ∙ rw (bad_is, class_is) refl
-
--- whether an earlier loaded section has a name, which is whether the name has a place among them
-or_false : (b : Bool) → b || false ≡ b
-or_false true = refl
-or_false false = refl
-
-some_first : (place : Option ℕ) (b : Bool) (n : ℕ) → is_some place
-    || b ≡ is_some (first_of place (cond b (Some n) None))
-some_first None true n = refl
-some_first None false n = refl
-some_first (Some place) b n = refl
-
-named_more : (bytes name : List ℕ) (i : ℕ) (loaded : Bool)
-    → any_below (λ k. is_loaded bytes k && same_bytes (section_name bytes k) name) i ≡ is_some
-    (place_named (loaded_below bytes i) name) → any_below
-    (λ k. is_loaded bytes k && same_bytes (section_name bytes k) name) i
-    || (loaded && same_bytes (section_name bytes i) name) ≡ is_some
-    (place_named (cond loaded (loaded_below bytes i ++ normal_section bytes i ∷ []) (loaded_below bytes i)) name)
-unfolding normal_section
-named_more bytes name i true before =
-    ap (λ b. b || same_bytes (section_name bytes i) name) before
-    ∙ some_first (place_named (loaded_below bytes i) name) (same_bytes (section_name bytes i) name)
-    (length (loaded_below bytes i))
-    ∙ sym (ap is_some (place_named_push (loaded_below bytes i) (normal_section bytes i) name))
-named_more bytes name i false before = or_false _ ∙ before
-
-pub named_before : (bytes name : List ℕ) (i : ℕ) → any_below
-    (λ k. is_loaded bytes k && same_bytes (section_name bytes k) name) i ≡ is_some
-    (place_named (loaded_below bytes i) name)
-named_before bytes name zero = refl
-named_before bytes name (suc i) = named_more bytes name i (is_loaded bytes i) (named_before bytes name i)
-
-pub name_fault_loaded : (bytes : List ℕ) (i : ℕ) → is_loaded bytes i ≡ true
-    → name_fault_at bytes i ≡ refused_where (is_some (place_named (loaded_below bytes i) (section_name bytes i)))
-    (refusal.DoubleName (section_name bytes i))
-unfolding name_fault_at is_name_twice
-name_fault_loaded bytes i loaded =
-    rw loaded (ap (λ b. refused_where b (refusal.DoubleName (section_name bytes i)))
-    (named_before bytes (section_name bytes i) i))

@@ -1,11 +1,10 @@
 -- The places of names in a list of sections.
-use Rattle.std.proofs.Common.{◌≡◌, ℕ, suc, ◌+◌, Bool, true, false, cond, List, [], ◌∷◌, ◌++◌, length, Option}
+use Rattle.std.proofs.Common.{◌≡◌, ℕ, ◌+◌, Bool, true, false, cond, List, [], ◌∷◌, ◌++◌, length, Option}
 use Rattle.std.proofs.Common.{Some, None, is_some, option_map, sym, ◌∙◌, ap, refl, arith, length-append}
 use Rattle.std.specs.Ordering.{nat_cmp, is_eq}
 use Rattle.std.specs.Cmp.Lexicographic.{slice_cmp, bytes_decides, texts_ties}
 use denote.Ref.{Bor}
 use Rattle.std.specs.BTreeMap.{BTreeMap, btree_map_len}
-use Rattle.ks_base.specs.declared.refusals.Refusal.{Refusal}
 use Rattle.elf32_object.specs.Below.{first_of}
 use Rattle.i386_reloc.specs.declared.types.NormalSection.{NormalSection}
 use Rattle.i386_reloc.specs.declared.types.Ref.{Ref}
@@ -15,29 +14,7 @@ use Rattle.i386_reloc.specs.Normal.{same_bytes}
 use Rattle.i386_reloc.specs.Places.{place_named, place_of_target, reference_in, reference_at, place_of_reference}
 use Rattle.i386_reloc.specs.inside.NamePlaces.{named, HasPlaces}
 use Rattle.i386_reloc.specs.inside.Targets.{targets_of, targets_in}
-use Rattle.i386_reloc.specs.Refused.{refused_where}
-
-suc_of_first : (place : Option ℕ) (b : Bool) (n : ℕ)
-    → option_map suc (first_of place (cond b (Some n) None)) ≡ first_of (option_map suc place)
-    (cond b (Some (suc n)) None)
-suc_of_first None true n = refl
-suc_of_first None false n = refl
-suc_of_first (Some place) b n = refl
-
--- one more section
-pub place_named_push : (sections : List NormalSection) (section : NormalSection) (name : List ℕ)
-    → place_named (sections ++ section ∷ []) name ≡ first_of (place_named sections name)
-    (cond (same_bytes section.name name) (Some (length sections)) None)
-place_named_push [] section name = refl
-place_named_push (s ∷ sections) section name =
-    elim (same_bytes s.name name) as (λ b. cond b (Some 0)
-    (option_map suc (place_named (sections ++ section ∷ []) name)) ≡ first_of
-    (cond b (Some 0) (option_map suc (place_named sections name)))
-    (cond (same_bytes section.name name) (Some (suc (length sections))) None)) [
-      | true ↦ refl
-      | false ↦ ap (option_map suc) (place_named_push sections section name)
-          ∙ suc_of_first (place_named sections name) (same_bytes section.name name) (length sections)
-    ]
+use Rattle.i386_reloc.specs.NameLaws.{place_named_push}
 
 -- a map from names to places, with one more name
 first_of_none : (o : Option ℕ) → first_of o None ≡ o
@@ -47,10 +24,6 @@ first_of_none (Some x) = refl
 pub no_place : (o : Option ℕ) → is_some o ≡ false → o ≡ None
 no_place None none = refl
 no_place (Some x) none = absurd cc
-
-pub not_refused : (broken : Bool) (why : Refusal) → refused_where broken why ≡ None → broken ≡ false
-not_refused true why none = absurd cc
-not_refused false why none = refl
 
 one_more_place : (sections : List NormalSection) (section : NormalSection) (q : List ℕ) (b : Bool)
     → (b ≡ true → place_named sections q ≡ None) → cond b (Some (length sections)) (place_named sections q) ≡ first_of

@@ -27,5 +27,7 @@ pub use crate::reading::normalise;
 pub use crate::refused::object_refusal;
 pub use crate::sections::Normal;
 pub use crate::span::Span;
-pub use crate::types::{Class, Form, NormalSection, ObjectSymbol, Objects, Ref, Refs, Target};
+pub use crate::types::{
+    Class, FIELD_LENGTH, Form, NormalSection, ObjectSymbol, Objects, Ref, Refs, Target,
+};
 pub use crate::value::field_value;

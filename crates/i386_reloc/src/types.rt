@@ -1,6 +1,7 @@
 //! The sections of an object as they are compared.
 ghost use Rattle.std.specs.Prelude.{◌≡◌};
 ghost use Rattle.i386_reloc.specs.Classes.{is_code_class, is_strings_class};
+ghost use Rattle.i386_reloc.specs.Normal.{function_name};
 
 use crate::span::Span;
 use ks_base::{Bytes, ListOf};
@@ -35,6 +36,9 @@ impl Class {
         matches!(self, Class::Strings)
     }
 }
+
+/// How many bytes the field of a reference has.
+pub const FIELD_LENGTH: u32 = 4;
 
 /// How the value of a reference is counted.
 #[derive(Clone, Copy, Debug, PartialEq, Eq)]
@@ -115,4 +119,16 @@ pub struct NormalSection<'a> {
     pub refs: Refs<'a>,
     /// The variables that stand in the section.
     pub objects: Objects<'a>,
+}
+
+impl<'a> NormalSection<'a> {
+    /// The name of the function that the section is, without bytes where it is none.
+    pub fn function_name(&self) -> &'a [u8]
+        ensures { result.now ≡ function_name self.now }
+    {
+        match &self.function {
+            Some(name) => name.as_slice(),
+            None => &[],
+        }
+    }
 }

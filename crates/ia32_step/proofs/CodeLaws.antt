@@ -11,7 +11,6 @@ use Rattle.std.proofs.lemmas.Option.{slice_get-map}
 use Rattle.ks_base.specs.declared.refusals.Fault.{Fault}
 use Rattle.ia32_decode.specs.declared.types.Decoded.{Decoded}
 use Rattle.ia32_decode.specs.declared.types.Width.{Width}
-use Rattle.ia32_decode.specs.declared.types.Width.TheVariants.{Byte, Word, Dword}
 use Rattle.image_memory.specs.declared.types.Kind.{Kind}
 use Rattle.image_memory.specs.declared.types.Kind.TheVariants.{Code, ReadOnly, Writable}
 use Rattle.image_memory.specs.declared.types.Piece.{Piece}
@@ -20,6 +19,7 @@ use Rattle.image_memory.specs.Contents.{Contents, ArePlaced, piece_range, holdin
 use Rattle.image_memory.specs.Fetch.{is_code}
 use Rattle.image_memory.specs.Access.{kind_of, unreadable, unwritable, read_fault, write_fault, first_fault, byte_at}
 use Rattle.image_memory.specs.Access.{bytes_at, new_byte, overlaid, overlaid_piece, written}
+use Rattle.image_memory.specs.AccessLaws.{length-overlaid, new_outside}
 use Rattle.ia32_step.specs.declared.types.Context.{Context}
 use Rattle.ia32_step.specs.declared.types.Store.{Store}
 use Rattle.ia32_step.specs.declared.types.Thread.{Thread}
@@ -30,7 +30,7 @@ use Rattle.ia32_step.specs.Exec.{executed}
 use Rattle.ia32_step.specs.Step.{context_of, store_fault, after_store, unless_barred, done, change_by, carried_out}
 use Rattle.ia32_step.specs.Step.{next_change, exits, stepped}
 use Rattle.ia32_step.specs.Code.{code_pieces, KeepsCode, data_bytes, without_code, SameData, SameLeft}
-use Rattle.ia32_step.proofs.Keeping.{as_long}
+use Rattle.ia32_step.specs.OperandLaws.{length-spelled}
 
 -- no byte among those tested is bad
 pub each_good : (f : ℕ → Option Fault) (start n a : ℕ) → first_fault f start n ≡ None → start ≤ a → a < start + n
@@ -54,10 +54,6 @@ each_good f start (suc n) a h l m =
     second None y h = h
     second (Some x) y h = cc
 
-outside : (start : ℕ) (bytes : List ℕ) (a b : ℕ) → (a < start) ⊎ (start + length bytes ≤ a)
-    → new_byte start bytes a b ≡ b
-outside start bytes a b h = grind (arith, nat_tests)
-
 -- bytes that are none of those written stay
 untouched : (start : ℕ) (bytes : List ℕ) (address : ℕ) (xs : List ℕ)
     → ((a : ℕ) → address ≤ a → a < address + length xs → (a < start) ⊎ (start + length bytes ≤ a))
@@ -66,7 +62,7 @@ unfolding overlaid
 untouched start bytes address [] h = refl
 untouched start bytes address (x ∷ xs) h =
     let first : new_byte start bytes address x ≡ x =
-    outside start bytes address x (h address (omega arith) (omega arith)) in
+    new_outside start bytes address x (h address (omega arith) (omega arith)) in
     rw (first, untouched start bytes (address + 1) xs (λ a l m. h a (omega arith) (omega arith))) refl
 
 -- of the addresses written those at floor and above are in no piece of some kinds
@@ -108,11 +104,6 @@ not_code : (kind : Kind) → unwritable (Some kind) ≡ None → is_code kind �
 not_code Code h = cc
 not_code ReadOnly h = cc
 not_code Writable h = refl
-
-length-spelled : (width : Width) (n : ℕ) → length (spelled width n) ≡ byte_count width
-length-spelled Byte n = refl
-length-spelled Word n = refl
-length-spelled Dword n = refl
 
 whole_code : (start : ℕ) (bytes : List ℕ) (pieces : List Piece)
     → ((i : ℕ) (p : Piece) → slice_get pieces i ≡ Some p → is_code p.kind ≡ true → overlaid_piece start bytes p ≡ p)
@@ -262,8 +253,8 @@ data_overlaid : (start : ℕ) (bytes : List ℕ) (kind : Kind) (base : ℕ) (xs 
     → data_bytes kind (overlaid start bytes base (data_bytes kind xs)) ≡ data_bytes kind (overlaid start bytes base xs)
 data_overlaid start bytes Code base xs =
     ap (λ (n : ℕ). replicate n 0)
-    (as_long start bytes base (replicate (length xs) 0)
-    ∙ (length-replicate (length xs) 0 ∙ sym (as_long start bytes base xs)))
+    (length-overlaid start bytes base (replicate (length xs) 0)
+    ∙ (length-replicate (length xs) 0 ∙ sym (length-overlaid start bytes base xs)))
 data_overlaid start bytes ReadOnly base xs = refl
 data_overlaid start bytes Writable base xs = refl
 
@@ -306,7 +297,7 @@ not_data kind h = ap (λ (k : Kind). not (is_code k)) h
 blank_overlaid : (start : ℕ) (bytes : List ℕ) (kind : Kind) (base : ℕ) (xs : List ℕ)
     → (not (is_code kind) ≡ true → overlaid start bytes base xs ≡ xs)
     → data_bytes kind (overlaid start bytes base xs) ≡ data_bytes kind xs
-blank_overlaid start bytes Code base xs h = ap (λ (n : ℕ). replicate n 0) (as_long start bytes base xs)
+blank_overlaid start bytes Code base xs h = ap (λ (n : ℕ). replicate n 0) (length-overlaid start bytes base xs)
 blank_overlaid start bytes ReadOnly base xs h = h refl
 blank_overlaid start bytes Writable base xs h = h refl
 

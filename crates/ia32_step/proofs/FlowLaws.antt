@@ -19,7 +19,8 @@ use Rattle.image_memory.specs.Ranges.{lies_in}
 use Rattle.image_memory.specs.Contents.{Contents, ArePlaced, piece_range, holding, byte_in}
 use Rattle.image_memory.specs.Fetch.{fetched, window_at}
 use Rattle.image_memory.specs.Access.{kind_of, unreadable, unwritable, read_fault, write_fault, first_fault, byte_at}
-use Rattle.image_memory.specs.Access.{bytes_at, new_byte, overlaid, overlaid_piece, written, dword_at}
+use Rattle.image_memory.specs.Access.{bytes_at, overlaid, overlaid_piece, written, dword_at}
+use Rattle.image_memory.specs.AccessLaws.{length-overlaid, new_inside, length-bytes_at, get_or-bytes_at, all_good}
 use Rattle.ia32_alu.specs.declared.types.Flags.{Flags}
 use Rattle.ia32_alu.specs.Arithmetic.{binary_of}
 use Rattle.ia32_alu.specs.declared.types.Binary.TheVariants as binary
@@ -73,7 +74,6 @@ use Rattle.ia32_step.specs.Step.{Left, context_of, store_fault, unless_barred, d
 use Rattle.ia32_step.specs.Step.{next_change, exits, stepped}
 use Rattle.ia32_step.specs.Threads.{esp_of}
 use Rattle.ia32_step.specs.Frames.{decoded_in, instruction_at, IsCalled, IsReturned}
-use Rattle.ia32_step.proofs.Keeping.{as_long}
 use Rattle.ia32_step.proofs.CodeLaws.{each_good}
 
 -- what an instruction's change says of how it goes on: a call is the one change of calls, and a return goes on at what
@@ -313,10 +313,6 @@ by_decoded read thread d =
     (by_instruction read (found thread d) d.instr)))
 
 -- the bytes that were written stand where they were
-new_inside : (start : ℕ) (bytes : List ℕ) (a b : ℕ) → start ≤ a → a < start + length bytes
-    → new_byte start bytes a b ≡ get_or bytes (a - start) 0
-new_inside start bytes a b l m = grind (arith, nat_tests)
-
 byte_overlaid : (start : ℕ) (bytes : List ℕ) (address : ℕ) (xs : List ℕ) (k : ℕ) → k < length xs → start ≤ address + k
     → address + k < start + length bytes
     → get_or (overlaid start bytes address xs) k 0 ≡ get_or bytes (address + k - start) 0
@@ -335,7 +331,7 @@ byte_written : (start : ℕ) (bytes : List ℕ) (pieces : List Piece) (a : ℕ) 
     → byte_at (written start bytes pieces) a ≡ get_or bytes (a - start) 0
 byte_written start bytes [] a from to good = cc
 byte_written start bytes (x ∷ xs) a from to good =
-    rw (as_long start bytes x.base x.bytes)
+    rw (length-overlaid start bytes x.base x.bytes)
     (elim (lies_in a (piece_range x)) as
     (λ b. lies_in a (piece_range x) ≡ b → unwritable (option_map kind_of (cond b (Some x) (holding xs a))) ≡ None
     → unwrap_or
@@ -351,19 +347,6 @@ byte_written start bytes (x ∷ xs) a from to good =
   where
     bounds : (a low high : ℕ) → lies_in a (record { low = low; high = high }) ≡ true → (low ≤ a) × (a < high)
     bounds a low high h = grind (arith, nat_tests)
-
-length-bytes_at : (pieces : List Piece) (a n : ℕ) → length (bytes_at pieces a n) ≡ n
-unfolding bytes_at
-length-bytes_at pieces a zero = refl
-length-bytes_at pieces a (suc n) = ap suc (length-bytes_at pieces (a + 1) n)
-
-get_or-bytes_at : (pieces : List Piece) (a n k : ℕ) → k < n → get_or (bytes_at pieces a n) k 0 ≡ byte_at pieces (a + k)
-unfolding bytes_at
-get_or-bytes_at pieces a zero k l = absurd (omega arith)
-get_or-bytes_at pieces a (suc n) zero l = ap (byte_at pieces) (omega arith)
-get_or-bytes_at pieces a (suc n) (suc k) l =
-    let e : (a + 1) + k ≡ a + suc k = omega arith in
-    rw e at (get_or-bytes_at pieces (a + 1) n k (omega arith))
 
 written_back : (start : ℕ) (bytes : List ℕ) (pieces : List Piece)
     → first_fault (write_fault pieces) start (length bytes) ≡ None
@@ -387,7 +370,7 @@ kinds_written : (start : ℕ) (bytes : List ℕ) (pieces : List Piece) (a : ℕ)
     → option_map kind_of (holding (written start bytes pieces) a) ≡ option_map kind_of (holding pieces a)
 kinds_written start bytes [] a = refl
 kinds_written start bytes (x ∷ xs) a =
-    rw (as_long start bytes x.base x.bytes)
+    rw (length-overlaid start bytes x.base x.bytes)
     (elim (lies_in a (piece_range x)) as
     (λ b. option_map kind_of (cond b (Some (overlaid_piece start bytes x)) (holding (written start bytes xs) a))
     ≡ option_map kind_of (cond b (Some x) (holding xs a))) [ true ↦ refl | false ↦ kinds_written start bytes xs a ])
@@ -397,11 +380,6 @@ read_where_written None h = cc
 read_where_written (Some Code) h = cc
 read_where_written (Some ReadOnly) h = refl
 read_where_written (Some Writable) h = refl
-
-all_good : (f : ℕ → Option Fault) (a n : ℕ) → ((k : ℕ) → k < n → f (a + k) ≡ None) → first_fault f a n ≡ None
-unfolding first_fault
-all_good f a zero h = refl
-all_good f a (suc n) h = rw (all_good f a n (λ k l. h k (omega arith))) (h n (omega arith))
 
 read_back : (pieces : List Piece) (at n : ℕ) (bytes : List ℕ) → first_fault (write_fault pieces) at n ≡ None
     → first_fault (read_fault (written at bytes pieces)) at n ≡ None

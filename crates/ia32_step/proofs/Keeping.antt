@@ -1,28 +1,23 @@
 -- What each step keeps.
-use Rattle.std.proofs.Common.{◌≡◌, ℕ, suc, ◌+◌, ◌==◌, Bool, true, false, if◌then◌else◌, List, [], ◌∷◌, length, map}
+use Rattle.std.proofs.Common.{◌≡◌, ℕ, ◌+◌, ◌==◌, Bool, true, false, if◌then◌else◌, List, [], ◌∷◌, map}
 use Rattle.std.proofs.Common.{Option, Some, None, Result, Ok, Err, refl, ap, ◌∙◌}
 use Rattle.ks_base.specs.declared.places.Range.{Range}
 use Rattle.ks_base.specs.declared.refusals.Fault.{Fault}
 use Rattle.image_memory.specs.declared.types.Kind.{Kind}
 use Rattle.image_memory.specs.declared.types.Piece.{Piece}
 use Rattle.image_memory.specs.Contents.{Contents, shape_of}
-use Rattle.image_memory.specs.Access.{overlaid, overlaid_piece, written}
+use Rattle.image_memory.specs.Access.{overlaid_piece, written}
+use Rattle.image_memory.specs.AccessLaws.{length-overlaid}
 use Rattle.ia32_step.specs.declared.types.Store.{Store}
 use Rattle.ia32_step.specs.declared.types.Thread.{Thread}
 use Rattle.ia32_step.specs.declared.types.Change.{Change}
 use Rattle.ia32_step.specs.Step.{Left, store_fault, after_store, unless_barred, done, next_change, exits}
 use Rattle.ia32_step.specs.Step.{stepped}
 
-pub as_long : (start : ℕ) (bytes : List ℕ) (address : ℕ) (old : List ℕ)
-    → length (overlaid start bytes address old) ≡ length old
-unfolding overlaid
-as_long start bytes address [] = refl
-as_long start bytes address (b ∷ bs) = ap suc (as_long start bytes (address + 1) bs)
-
 same_shape : (start : ℕ) (bytes : List ℕ) (piece : Piece) → shape_of (overlaid_piece start bytes piece) ≡ shape_of piece
 same_shape start bytes piece =
     ap (λ (n : ℕ). (piece.kind, record { low = piece.base; high = piece.base + n }))
-    (as_long start bytes piece.base piece.bytes)
+    (length-overlaid start bytes piece.base piece.bytes)
 
 same_shapes : (start : ℕ) (bytes : List ℕ) (pieces : List Piece)
     → map shape_of (written start bytes pieces) ≡ map shape_of pieces

@@ -1,20 +1,19 @@
 -- What is read was spelled by the bytes that were read.
-use Rattle.std.proofs.Common.{◌≡◌, ℕ, zero, suc, ◌+◌, ◌<◌, ◌≤◌, Bool, true, false, cond, ltb, List}
-use Rattle.std.proofs.Common.{[], ◌∷◌, ◌++◌, length, get_or, take, drop, Result, Ok, Err, refl, sym}
-use Rattle.std.proofs.Common.{ap, subst, ◌∙◌, append_assoc, length-append, arith, inl, inr, ◌&&◌}
+use Rattle.std.proofs.Common.{◌≡◌, ℕ, zero, suc, ◌+◌, ◌<◌, ◌≤◌, true, List}
+use Rattle.std.proofs.Common.{[], ◌∷◌, ◌++◌, length, get_or, take, drop, Result, Ok, refl, sym}
+use Rattle.std.proofs.Common.{ap, subst, ◌∙◌, append_assoc, length-append, arith, inl, inr}
 use Rattle.std.specs.List.{flat_map}
 use Rattle.std.specs.Int.{w32, from_le_bytes}
-use Rattle.std.proofs.lemmas.Bool.{cases_lt, ltb-false}
-use Rattle.std.proofs.lemmas.List.{drop-drop, length-drop, length-take, take-append-drop}
+use Rattle.std.proofs.lemmas.Bool.{cases_lt}
+use Rattle.std.proofs.lemmas.List.{drop-drop, length-take, take-append-drop}
 use Rattle.std.proofs.lemmas.List.{append-nil, get_or-drop, get_or-take, get_or_past}
 use Rattle.std.proofs.lemmas.List.Concat.{flat_map-cons}
 use Rattle.std.proofs.lemmas.Nat.{le_bytes_4}
-use Rattle.ks_base.specs.declared.refusals.ImageFault.TheVariants.{Short}
 use Rattle.ks_base.specs.declared.refusals.Refusal.{Refusal}
-use Rattle.ks_base.specs.declared.refusals.Refusal.TheVariants.{BadImage}
-use Rattle.image_file.specs.Fields.{◌>>=◌, Rule, checked, content_at, number_at, field, items_at}
+use Rattle.image_file.specs.Fields.{Rule, checked, content_at, number_at, field, items_at}
 use Rattle.image_file.specs.Keeps.{all_hold}
 use Rattle.image_file.specs.Spelling.{number}
+use Rattle.image_file.specs.FieldLaws.{bind_ok, ok_is, content_cut, content_long, all_kept}
 
 abbrev pub IsBytes : List ℕ → Type 0
 IsBytes bytes = (i : ℕ) → get_or bytes i 0 < 256
@@ -28,28 +27,6 @@ IsBytes-take n bytes h i =
       | inl lt ↦ rw (get_or-take n bytes i 0 lt) (h i)
       | inr le ↦ rw (get_or_past (take n bytes) i 0 (omega (arith, length-take n bytes))) (omega arith)
     ]
-
--- the value of a step that was not refused
-pub bind_ok : {A B : Type 0} (r : Result A Refusal) (f : A → Result B Refusal) (y : B) → (r >>= f) ≡ Ok y →
-    (x : A) × (r ≡ Ok x) × (f x ≡ Ok y)
-bind_ok (Ok x) f y e = (x, refl, e)
-bind_ok (Err d) f y e = absurd cc
-
--- the same, for what follows from it
-pub after_bind : {A B : Type 0} (P : Type 0) (y : B) (r : Result A Refusal) (f : A → Result B Refusal) →
-    (r >>= f) ≡ Ok y → ((x : A) → r ≡ Ok x → f x ≡ Ok y → P) → P
-after_bind P y (Ok x) f e follows = follows x refl e
-after_bind P y (Err d) f e follows = absurd cc
-
-abbrev done : {A : Type 0} → A → Result A Refusal
-done x = Ok x
-
-pub ok_is : {A : Type 0} (x y : A) → done x ≡ done y → x ≡ y
-ok_is x y e = cc
-
-guard_ok : {A : Type 0} (b : Bool) (d : Refusal) (x y : A) → cond b (Err d) (Ok x) ≡ Ok y → (b ≡ false) × (x ≡ y)
-guard_ok true d x y e = absurd cc
-guard_ok false d x y e = (refl, cc)
 
 -- from one offset on to another, a file has this text
 pub record Takes (bytes : List ℕ) (from : ℕ) (text : List ℕ) (to : ℕ) : Type 0 where
@@ -67,20 +44,6 @@ Takes-then bytes a x b y c p q = record {
 
 pub Takes-none : (bytes : List ℕ) (a : ℕ) → a ≤ length bytes → Takes bytes a [] a
 Takes-none bytes a h = record { parts = refl; place = omega arith; within = h }
-
-content_cut : (bytes : List ℕ) (offset n : ℕ) (x : List ℕ) → content_at bytes offset n ≡ Ok x →
-    (offset + n ≤ length bytes) × (take n (drop offset bytes) ≡ x)
-unfolding content_at
-content_cut bytes offset n x e =
-    let g = guard_ok (ltb (length bytes) (offset + n)) (BadImage (length bytes) Short)
-    (take n (drop offset bytes)) x e in
-    (ltb-false _ _ g.0, g.1)
-
-pub content_long : (bytes : List ℕ) (offset n : ℕ) (x : List ℕ) → content_at bytes offset n ≡ Ok x → length x ≡ n
-content_long bytes offset n x e =
-    let g = content_cut bytes offset n x e in
-    let within = g.0 in
-    rw (← g.1) (omega (arith, length-take n (drop offset bytes), length-drop offset bytes))
 
 pub content_taken : (bytes : List ℕ) (offset n : ℕ) (x : List ℕ) (to : ℕ) → offset + n ≡ to →
     content_at bytes offset n ≡ Ok x → Takes bytes offset x to
@@ -105,16 +68,6 @@ number_taken bytes offset n to there fits e =
     (IsBytes-take 4 (drop offset bytes) (IsBytes-drop offset bytes fits)) in
     let same : number n ≡ b.0 = le_bytes_4 b.0 n (content_long bytes offset 4 b.0 b.1) small (sym is) in
     subst (λ (w : List ℕ). Takes bytes offset w to) (sym same) (content_taken bytes offset 4 b.0 to there b.1)
-
-pub all_kept : {A : Type 0} (offset : ℕ) (rules : List Rule) (x y : A) → checked offset rules x ≡ Ok y →
-    (all_hold rules ≡ true) × (x ≡ y)
-all_kept offset [] x y e = (refl, ok_is x y e)
-all_kept {A} offset (rule ∷ rules) x y e =
-    elim rule.holds as (λ b. cond b (checked offset rules x) (Err (BadImage offset rule.fault)) ≡ Ok y
-    → (b && all_hold rules ≡ true) × (x ≡ y)) [
-      | true ↦ λ more. all_kept offset rules x y more
-      | false ↦ λ wrong. absurd cc
-    ] e
 
 pub field_taken : (bytes : List ℕ) (offset : ℕ) (rules : ℕ → List Rule) (n to : ℕ) → offset + 4 ≡ to → IsBytes bytes →
     field bytes offset rules ≡ Ok n

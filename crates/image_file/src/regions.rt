@@ -8,10 +8,10 @@ ghost use Rattle.image_file.specs.Rules.{region_kind_rules, region_kind, base_ru
 ghost use Rattle.image_file.specs.Keeps.{all_hold, keeps_region};
 ghost use Rattle.image_file.specs.Reading.{region_after, region_at, region_width};
 
-use crate::bounds::{END_LIMIT, LOWEST, MEMORY_LIMIT, meets};
+use crate::bounds::{LOWEST, MEMORY_LIMIT};
 use crate::front::HEADER_LENGTH;
 use crate::numbers::{content_of, number_of};
-use image_memory::{Kind, Piece, Pieces};
+use image_memory::{END_LIMIT, Kind, Piece, Pieces, meets};
 use ks_base::{Bytes, ImageFault, Range, Refusal};
 use std::alloc::Global;
 

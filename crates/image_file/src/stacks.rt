@@ -9,9 +9,9 @@ ghost use Rattle.image_file.specs.Rules.{own_range, stack_low_rules, stack_high_
 ghost use Rattle.image_file.specs.Keeps.{all_hold, keeps_stack};
 ghost use Rattle.image_file.specs.Reading.{stack_after, stack_at, stack_width};
 
-use crate::bounds::{END_LIMIT, LOWEST, MEMORY_LIMIT, is_aligned, meets, meets_a_piece};
+use crate::bounds::{LOWEST, MEMORY_LIMIT, is_aligned, meets_a_piece};
 use crate::numbers::number_of;
-use image_memory::Piece;
+use image_memory::{END_LIMIT, Piece, meets};
 use ks_base::{ImageFault, Range, Ranges, Refusal};
 use std::alloc::Global;
 

@@ -1,73 +1,18 @@
 -- What holds of things in order after one was put among them or taken out.
 use Rattle.std.proofs.Common.{◌≡◌, ◌≢◌, ℕ, zero, suc, ◌+◌, ◌-◌, ◌≤◌, ◌<◌, Bool, true, false}
-use Rattle.std.proofs.Common.{not, cond, ◌||◌, nat_lt, List, [], ◌∷◌, length, get_or, drop}
+use Rattle.std.proofs.Common.{not, cond, nat_lt, List, [], ◌∷◌, length, get_or, drop}
 use Rattle.std.proofs.Common.{refl, sym, ◌∙◌, ap, arith, ◌⊎◌, inl, inr, Option, Some}
-use Rattle.std.specs.List.{filter, insert, remove, list_any, position, position_or_len, All, Contains}
+use Rattle.std.specs.List.{filter, remove, position, position_or_len, All, Contains}
 use Rattle.std.proofs.lemmas.List.Sums.{prefix_len_passes}
 use Rattle.std.proofs.lemmas.Bool.Decides.{nat_tests}
 use Rattle.std.proofs.lemmas.List.{drop-drop}
 use Rattle.std.proofs.lemmas.List.Elements.{All-cons, All-head, All-tail}
 use Rattle.ks_base.specs.declared.places.Range.{Range}
-use Rattle.image_memory.specs.Ranges.{Ascends, are_same, meets, MeetsNone, put_in}
+use Rattle.image_memory.specs.Ranges.{Ascends, are_same}
 use Rattle.image_memory.specs.Changes.{without_first}
-use Rattle.image_memory.proofs.RangeLaws.{each_above, one_after}
-use Rattle.image_memory.proofs.FenceLaws.{not_above, is_above}
-
-or_left : (a b : Bool) → (a || b) ≡ false → a ≡ false
-or_left true b h = h
-or_left false b h = refl
-
-or_right : (a b : Bool) → (a || b) ≡ false → b ≡ false
-or_right true b h = absurd (cc)
-or_right false b h = h
-
-goes_before : (a b : Range) → nat_lt a.low b.low ≡ true → b.low < b.high → meets a b ≡ false → a.high ≤ b.low
-goes_before a b first full apart = grind (arith, nat_tests)
-
-goes_behind : (a b : Range) → nat_lt a.low b.low ≡ false → a.low < a.high → meets a b ≡ false → b.high ≤ a.low
-goes_behind a b first full apart = grind (arith, nat_tests)
+use Rattle.image_memory.specs.RangeLaws.{each_above, one_after}
 
 module _ {X : Type 0} (range : X → Range) where
-  -- a thing put at the place behind all that begin at or below it
-  pub insert_is_put : (x : X) (xs : List X) (n : ℕ) → n ≤ length xs
-      → ((k : ℕ) (d : X) → k < n → (range (get_or xs k d)).low ≤ (range x).low)
-      → ((k : ℕ) (d : X) → n ≤ k → k < length xs → (range x).low < (range (get_or xs k d)).low)
-      → insert xs n x ≡ put_in range x xs
-  insert_is_put x [] zero bound before after = refl
-  insert_is_put x [] (suc n) bound before after = absurd (omega arith)
-  insert_is_put x (y ∷ ys) zero bound before after = rw (is_above _ _ (after 0 y (omega arith) (omega arith))) refl
-  insert_is_put x (y ∷ ys) (suc n) bound before after =
-      rw (not_above _ _ (before 0 y (omega arith)))
-      (ap (λ (zs : List X). y ∷ zs) (insert_is_put x ys n (omega arith)
-      (λ k d l. before (suc k) d (omega arith))
-      (λ k d l m. after (suc k) d (omega arith) (omega arith))))
-
-  pub All-put : (P : X → Type 0) (x : X) (xs : List X) → P x → All P xs → All P (put_in range x xs)
-  All-put P x [] h all = All-cons P x [] h all
-  All-put P x (y ∷ ys) h all =
-      elim (nat_lt (range x).low (range y).low) as (λ b. All P (cond b (x ∷ y ∷ ys) (y ∷ put_in range x ys))) [
-        | true ↦ All-cons P x (y ∷ ys) h all
-        | false ↦ All-cons P y (put_in range x ys) (All-head P y ys all) (All-put P x ys h (All-tail P y ys all))
-      ]
-
-  pub Ascends-put : (floor : ℕ) (x : X) (xs : List X) → floor ≤ (range x).low → (range x).low < (range x).high
-      → MeetsNone range (range x) xs → Ascends range floor xs → Ascends range floor (put_in range x xs)
-  Ascends-put floor x [] low full apart up = (low, full, tt)
-  Ascends-put floor x (y ∷ ys) low full apart up =
-      let here = or_left (meets (range x) (range y)) (list_any (λ z. meets (range x) (range z)) ys) apart in
-      let rest = or_right (meets (range x) (range y)) (list_any (λ z. meets (range x) (range z)) ys) apart in
-      elim (nat_lt (range x).low (range y).low)
-      as (λ b. nat_lt (range x).low (range y).low ≡ b → Ascends range floor
-      (cond b (x ∷ y ∷ ys) (y ∷ put_in range x ys))) [
-        | true ↦ λ e. (low, full, (goes_before (range x) (range y) e up.1 here, up.1, up.2))
-        | false ↦ λ e. (
-          up.0,
-          up.1,
-          Ascends-put (range y).high x ys
-              (goes_behind (range x) (range y) e full here) full rest up.2,
-        )
-      ] refl
-
   ascends_lower : (floor low : ℕ) (xs : List X) → low ≤ floor → Ascends range floor xs → Ascends range low xs
   ascends_lower floor low [] l up = tt
   ascends_lower floor low (x ∷ xs) l up = let h = up.0 in (omega arith, up.1, up.2)

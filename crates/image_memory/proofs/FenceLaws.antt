@@ -1,6 +1,6 @@
 -- What the retired range that holds an address tells of it.
 use Rattle.std.proofs.Common.{◌≡◌, ◌≢◌, ℕ, zero, suc, ◌≤◌, ◌<◌, Bool, true, false, cond, ◌&&◌, ◌||◌, ◌==◌, List}
-use Rattle.std.proofs.Common.{[], ◌∷◌, length, get_or, refl, arith, ◌⊎◌, inl, inr, Some, None, min, take, nat_lt}
+use Rattle.std.proofs.Common.{[], ◌∷◌, length, get_or, refl, arith, ◌⊎◌, inl, inr, Some, None, min, take}
 use Rattle.std.specs.List.{find, list_any, slice_get}
 use Rattle.std.proofs.lemmas.Bool.Decides.{nat_tests}
 use Rattle.std.proofs.lemmas.List.{take-take, take_all, length-take}
@@ -8,7 +8,7 @@ use Rattle.std.proofs.lemmas.List.Folds.{list_any_none}
 use Rattle.image_memory.specs.Ranges.{lies_in, Ascends}
 use Rattle.image_memory.specs.Contents.{fence_range, spliced_at}
 use Rattle.image_memory.specs.declared.types.Fence.{Fence}
-use Rattle.image_memory.proofs.RangeLaws.{inside, within, each_above}
+use Rattle.image_memory.specs.RangeLaws.{inside, within, each_above}
 
 not_low : (jump : Bool) (low pc : ℕ) → low ≢ pc → (jump && (low == pc)) ≡ false
 not_low jump low pc h = elim jump as (λ b. (b && (low == pc)) ≡ false) [
@@ -97,9 +97,3 @@ take_min m n xs = elim (cases m n) [
   where
     cases : (m n : ℕ) → (m ≤ n) ⊎ (n ≤ m)
     cases m n = grind arith
-
-pub not_above : (pc low : ℕ) → low ≤ pc → nat_lt pc low ≡ false
-not_above pc low h = grind (arith, nat_tests)
-
-pub is_above : (pc low : ℕ) → pc < low → nat_lt pc low ≡ true
-is_above pc low h = grind (arith, nat_tests)

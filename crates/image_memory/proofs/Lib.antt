@@ -1,5 +1,5 @@
-pub mod RangeLaws
 pub mod AccessLaws
 pub mod FenceLaws
 pub mod ChangeLaws
 pub mod WindowLaws
+pub mod MetLaws

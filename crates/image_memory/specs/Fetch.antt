@@ -68,13 +68,24 @@ has_window AtHome = true
 has_window Stray = false
 has_window (Bytes code) = true
 
+-- the code that is met, if there is any
+abbrev pub bytes_met : View → Option (List ℕ)
+bytes_met Unmapped = None
+bytes_met AtHome = None
+bytes_met Stray = None
+bytes_met (Bytes bytes) = Some bytes
+
 -- the view of a memory at pc
 abbrev pub view_at : Contents → ℕ → View
 view_at contents pc = view (spliced_at contents.fences) (map fence_range contents.fences) contents.pieces pc
 
--- the five bytes of the jump at a spliced home, as far as its piece goes
+-- how many bytes the jump at a spliced home has: E9, and a displacement of four (Intel SDM volume 2, JMP rel32)
+abbrev pub jump_length : ℕ
+jump_length = 5
+
+-- the bytes of the jump at a spliced home, as far as its piece goes
 abbrev pub jump_at : List Piece → ℕ → List ℕ
-jump_at pieces home = take 5 (unwrap_or (code_from pieces home) [])
+jump_at pieces home = take jump_length (unwrap_or (code_from pieces home) [])
 
 -- at most 15 bytes as a window, and the bytes of a window
 abbrev pub shown : List ℕ → Window

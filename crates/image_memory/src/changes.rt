@@ -1,12 +1,13 @@
 //! Putting pieces and ranges in their places, and taking them out.
-ghost use Rattle.std.specs.Prelude.{◌≡◌, ◌≤◌, ◌<◌, ◌+◌, insert, map, vec_len, vec_capacity, IfOk, OnOk, OnErr};
+ghost use Rattle.std.specs.Prelude.{◌≡◌, ◌≤◌, ◌<◌, ◌+◌, ◌^◌, insert, map, vec_len, vec_capacity, IfOk, OnOk, OnErr};
+ghost use Rattle.std.specs.List.{All};
 ghost use Rattle.image_memory.specs.Ranges.{Ascends};
 ghost use Rattle.image_memory.specs.Contents.{piece_range};
-ghost use Rattle.image_memory.specs.Changes.{with_piece, ArePlaceable};
+ghost use Rattle.image_memory.specs.Changes.{with_piece};
 
 use crate::lookup::begun;
-use crate::types::{Piece, Pieces};
-use ks_base::Range;
+use crate::types::Piece;
+use ks_base::Ranges;
 use std::alloc::{AllocError, Global};
 
 /// Puts a piece among pieces that ascend, before the first that begins above it. Its place is found by halving.
@@ -45,13 +46,13 @@ pub(crate) fn insert_spare<T: Drop>(items: &mut Vec<T>, at: usize, item: T)
     let _ = items.insert(at, item);
 }
 
-/// The pieces' ranges in order.
-pub(crate) fn ranges_of(alloc: Global, pieces: &Pieces) -> Result<Vec<Range>, AllocError>
-    requires { ArePlaceable pieces.now }
-    ensures { IfOk result (λ ranges. ranges.items ≡ map piece_range pieces.now) }
+/// The ranges of pieces, in their order. `Err` comes for want of memory alone.
+pub fn ranges_of(alloc: Global, pieces: &[Piece]) -> Result<Ranges, AllocError>
+    requires { All (λ piece. (piece_range piece).high < 2 ^ 32) pieces.now }
+    ensures { IfOk result (λ ranges. ranges ≡ map piece_range pieces.now) }
 {
-    let mut ranges = Vec::new(alloc);
-    for piece in pieces.as_slice() {
+    let mut ranges = Ranges::new(alloc);
+    for piece in pieces {
         ranges.push(piece.range())?;
     }
     Ok(ranges)

@@ -283,10 +283,10 @@ impl Space for FlatSpace {
     }
 
     fn reserve(&mut self, pieces: &Pieces, fences: u32) -> Result<(), AllocError> {
-        let ranges = ranges_of(*self.pieces.allocator(), pieces)?;
+        let ranges = ranges_of(*self.pieces.allocator(), pieces.as_slice())?;
         self.pieces.reserve(ranges.len())?;
         self.fences.reserve(fences as usize)?;
-        self.spare_ranges = SpareRanges::from_vec(ranges);
+        self.spare_ranges = SpareRanges::from_vec(ranges.into_vec());
         self.spare_fences = fences;
         Ok(())
     }

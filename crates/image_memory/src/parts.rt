@@ -5,7 +5,7 @@ ghost use Rattle.std.specs.Option.{option_copied};
 ghost use Rattle.image_memory.specs.Ranges.{lies_in};
 ghost use Rattle.image_memory.specs.Contents.{piece_range};
 ghost use Rattle.image_memory.specs.Access.{access_fault, overlaid_piece, written};
-ghost use Rattle.image_memory.specs.Fetch.{code_in, shown, window_for, AtHome, Stray};
+ghost use Rattle.image_memory.specs.Fetch.{code_in, jump_length, shown, window_for, AtHome, Stray};
 
 use crate::bytes::{front, overlay};
 use crate::types::{Access, Fence, JUMP_LENGTH, Kind, Piece, WINDOW_LENGTH, Window};
@@ -30,7 +30,7 @@ impl Access {
 
 impl Piece {
     /// The addresses of its bytes.
-    pub(crate) fn range(&self) -> Range
+    pub fn range(&self) -> Range
         requires { (piece_range self.now).high < 2 ^ 32 }
         ensures { result ≡ piece_range self.now }
     {
@@ -93,7 +93,7 @@ impl Fence {
     /// What is fetched at an address of the range, where these code bytes stand from it on.
     pub(crate) fn window(&self, pc: u32, bytes: &[u8]) -> Result<Window, Fault>
         ensures { result ≡ window_for (if self.now.jump && (self.now.range.low == pc) then AtHome else Stray)
-            (take 5 bytes.now) }
+            (take jump_length bytes.now) }
     {
         if self.is_home(pc) {
             Ok(Window::of(front(bytes, JUMP_LENGTH)))

@@ -2,10 +2,7 @@
 ghost use Rattle.std.specs.Prelude.{◌≡◌, ◌≤◌, ◌<◌, ◌+◌, ◌^◌, ◌↔◌, length, IsTrue};
 ghost use Rattle.image_memory.specs.Contents.{ArePlaced, piece_range};
 
-use crate::types::{Piece, Pieces};
-
-/// No piece ends above this address.
-const END_LIMIT: u64 = 0xFFFF_0000;
+use crate::types::{END_LIMIT, Piece, Pieces};
 
 /// Whether no piece is empty, none ends above 0xFFFF0000, and they ascend by base without meeting.
 pub fn are_placed(pieces: &Pieces) -> bool
@@ -27,9 +24,10 @@ fn fits_from(piece: &Piece, floor: u64) -> bool
         × ((piece_range piece.now).high ≤ 0xFFFF_0000)) }
 {
     let base = u64::from(piece.base);
+    let limit = u64::from(END_LIMIT);
     let count = piece.bytes.len() as u64;
-    if base < floor || base > END_LIMIT || count == 0 {
+    if base < floor || base > limit || count == 0 {
         return false;
     }
-    count <= END_LIMIT - base
+    count <= limit - base
 }

@@ -44,6 +44,9 @@ pub struct Fence {
     pub jump: bool,
 }
 
+/// No piece of memory ends above this address.
+pub const END_LIMIT: u32 = 0xFFFF_0000;
+
 /// How many bytes the jump at a spliced home has.
 pub const JUMP_LENGTH: usize = 5;
 

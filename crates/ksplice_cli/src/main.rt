@@ -1,29 +1,12 @@
 //! `ksplice`: the program. It reads its words, carries out the call, and ends with the call's status.
 #![tactic(auto)]
 
-ghost use Rattle.std.specs.Prelude.{◌≡◌, true};
-ghost use Rattle.ksplice_cli.specs.Calls.{is_status};
+ghost use Rattle.std.specs.Prelude.{◌≡◌, ◌≢◌, None, map, string_bytes, true, IfOk, IfErr};
+ghost use Rattle.std.specs.IoError.{error_kind};
+ghost use Rattle.ksplice_calls.specs.Calls.{is_status};
+ghost use Rattle.ksplice_calls.specs.Words.{reading};
 
-pub mod answering;
-mod command;
-mod comparing;
-mod diffing;
-mod held;
-mod image_code;
-pub mod laws;
-mod limits;
-mod listing;
-mod matching;
-pub mod real;
-mod saying;
-mod session_run;
-mod solution;
-pub mod status;
-mod words;
-
-use crate::answering::ksplice;
-use crate::real::{RealFiles, RealSink};
-use crate::status::Status;
+use ksplice_calls::{RealFiles, RealSink, Status, ksplice};
 use std::env;
 use std::io::{self, ErrorKind};
 use std::process::ExitCode;
@@ -37,13 +20,15 @@ fn words_of(rt: &HostRuntime) -> io::Result<Vec<String>> {
     Ok(words)
 }
 
-/// Carries out the call that the words ask for.
-fn run(rt: &HostRuntime) -> Status
-    ensures { is_status result.code ≡ true }
+/// Carries out the call that the words ask for, which could be read or not.
+fn run(rt: &HostRuntime, words: io::Result<Vec<String>>) -> Status
+    ensures status { is_status result.code ≡ true }
+    ensures usage { result.code ≡ 2 → IfOk words (λ read. reading (map string_bytes read.items) ≡ None) }
+    ensures unread { IfErr words (λ error. error_kind error ≢ ErrorKind.InvalidData → result.code ≡ 6) }
 {
     let mut files = RealFiles::new(rt);
     let mut output = RealSink::new(rt);
-    match words_of(rt) {
+    match words {
         Ok(words) => ksplice(rt.alloc(), words.as_slice(), &mut files, &mut output),
         // A word that isn't UTF-8 has no reading, and neither has a call without words: it stands for that.
         Err(error) if error.kind() == ErrorKind::InvalidData => ksplice(
@@ -57,8 +42,5 @@ fn run(rt: &HostRuntime) -> Status
 }
 
 fn main(rt: HostRuntime) -> ExitCode {
-    ExitCode::from(run(&rt).code)
+    ExitCode::from(run(&rt, words_of(&rt)).code)
 }
-
-#[cfg(test)]
-mod tests;

@@ -1,9 +1,7 @@
 -- Why each line is answered as it is to be.
 use Rattle.std.proofs.Common.{◌≡◌, ◌≢◌, ℕ, Bool, true, false, List, [], ◌∷◌, ◌++◌, length, map, is_some}
-use Rattle.std.proofs.Common.{arith, Result, Ok, Err, IfOk, refl, sym, ◌∙◌, ap, subst, append-nil}
+use Rattle.std.proofs.Common.{Result, Ok, Err, IfOk, refl, sym, ◌∙◌, ap, subst, append-nil}
 use Rattle.std.specs.declared.alloc.AllocError.{AllocError}
-use Rattle.std.specs.Global.{Vec}
-use Rattle.ks_io.specs.Loads.{bytes_of}
 use Rattle.ks_base.specs.declared.refusals.Refusal.{Refusal}
 use Rattle.ks_base.specs.declared.refusals.Refusal.TheVariants.{NoThread, Memory}
 use Rattle.ks_base.specs.Refusals.{refusal_line}
@@ -12,15 +10,19 @@ use Rattle.script_lines.specs.declared.types.Command.TheVariants.{Spawn, Step, R
 use Rattle.script_lines.specs.declared.types.Command.TheVariants.{Peek, Undo, ListUpdates, Watch}
 use Rattle.update_stack.specs.CallTable.{CallTable, shown_update}
 use Rattle.update_stack.specs.Events.{Event, Spawn as SpawnEvent, Undo as UndoEvent, Spawned, Undone}
-use Rattle.update_stack.specs.Events.{Happened, happened, answered, machine_after, after_event, after_events}
+use Rattle.update_stack.specs.Events.{Happened, happened, spawn_answered, undo_answered, answered}
+use Rattle.update_stack.specs.Events.{machine_after, after_event, after_events}
+use Rattle.update_stack.specs.Steps.{spawned}
+use Rattle.update_stack.specs.Undo.{undone}
 use Rattle.update_stack.specs.StandsFor.{patched}
 use Rattle.ksplice_session.specs.declared.types.Answer.{Answer}
 use Rattle.ksplice_session.specs.Watching.{Watched, watched_by, watched_after, watched_after_all}
 use Rattle.ksplice_session.specs.Lines.{spawned_line, threads_lines, peek_line, undone_line, list_lines, watch_line}
 use Rattle.ksplice_session.specs.Running.{thread_steps, round_robin}
-use Rattle.ksplice_session.specs.Replies.{Told, told_of, apply_told, told_by, replied}
+use Rattle.ksplice_session.specs.Replies.{Told, told_of, spawn_told, undo_told, replied}
 use Rattle.ksplice_session.specs.Replies.{refused_after, shown, step_told, turns_told}
 use Rattle.ksplice_session.specs.Answers.{Answers, MadeFront, Noted, Unnoted, watched, answer_of}
+use Rattle.ksplice_session.proofs.EventAnswers.{same_Ok}
 
 nothing_made : (s now : Watched) (events : List Event) → now ≡ s → now ≡ watched_after_all s []
 unfolding watched_after_all
@@ -117,32 +119,50 @@ nothing_came s now event refusal none (Unnoted [] rest name argument whole is) =
 nothing_came s now event refusal none (Unnoted (e ∷ []) rest name argument whole is) = cc
 nothing_came s now event refusal none (Unnoted (e ∷ f ∷ es) rest name argument whole is) = cc
 
--- where memory ran out in a line that is one event, a front of what it tells was made
-pub front_told : (s now : Watched) (event : Event) → MadeFront s (event ∷ []) now
-    → MadeFront s (told_by event (answered s.machine event)).events now
-front_told s now event front = by (answered s.machine event) refl
+-- where memory ran out in a start, a front of what its line tells was made
+pub front_told : (s now : Watched) (name : List ℕ) (argument : ℕ) → MadeFront s (SpawnEvent name argument ∷ []) now
+    → MadeFront s (told_of s (Spawn name argument) []).events now
+unfolding told_of answered
+front_told s now name argument front = by (spawned s.machine name argument) refl
   where
-    by : (r : Result Happened Refusal) → answered s.machine event ≡ r → MadeFront s (told_by event r).events now
-    by (Ok happened) is = front
-    by (Err refusal) is = none_made s now [] (nothing_came s now event refusal is front)
-
-pub told_spawn : (s : Watched) (name : List ℕ) (argument : ℕ)
-    → told_of s (Spawn name argument) []
-    ≡ told_by (SpawnEvent name argument) (answered s.machine (SpawnEvent name argument))
-unfolding told_of
-told_spawn s name argument = refl
+    by : (r : Result CallTable Refusal) → spawned s.machine name argument ≡ r
+        → MadeFront s (spawn_told (SpawnEvent name argument) (length s.machine.threads) r).events now
+    by (Ok left) is = front
+    by (Err refusal) is =
+        none_made s now []
+        (nothing_came s now (SpawnEvent name argument) refusal
+        (ap (spawn_answered (length s.machine.threads)) is) front)
 
 pub told_spawned : (s : Watched) (now : CallTable) (name : List ℕ) (argument number : ℕ)
     → answered s.machine (SpawnEvent name argument) ≡ Ok (happened now (Spawned number))
     → told_of s (Spawn name argument) [] ≡ replied (SpawnEvent name argument ∷ []) (shown now number spawned_line)
-unfolding told_of
-told_spawned s now name argument number is = ap (told_by (SpawnEvent name argument)) is
+unfolding told_of answered
+told_spawned s now name argument number is = by (spawned s.machine name argument) is
+  where
+    by : (r : Result CallTable Refusal)
+        → spawn_answered (length s.machine.threads) r ≡ Ok (happened now (Spawned number))
+        → spawn_told (SpawnEvent name argument) (length s.machine.threads) r
+        ≡ replied (SpawnEvent name argument ∷ []) (shown now number spawned_line)
+    by (Ok left) is =
+        let came : happened left (Spawned (length s.machine.threads)) ≡ happened now (Spawned number) =
+        same_Ok _ _ is in
+        let answer : Spawned (length s.machine.threads) ≡ Spawned number = ap (λ (h : Happened). h.answer) came in
+        let count : length s.machine.threads ≡ number = cc in
+        ap (λ (h : Happened).
+        replied (SpawnEvent name argument ∷ []) (shown h.machine (length s.machine.threads) spawned_line)) came
+        ∙ ap (λ (n : ℕ). replied (SpawnEvent name argument ∷ []) (shown now n spawned_line)) count
+    by (Err refusal) is = cc
 
 pub told_spawn_refused : (s : Watched) (name : List ℕ) (argument : ℕ) (refusal : Refusal)
     → answered s.machine (SpawnEvent name argument) ≡ Err refusal
     → told_of s (Spawn name argument) [] ≡ refused_after [] refusal
-unfolding told_of
-told_spawn_refused s name argument refusal is = ap (told_by (SpawnEvent name argument)) is
+unfolding told_of answered
+told_spawn_refused s name argument refusal is = by (spawned s.machine name argument) is
+  where
+    by : (r : Result CallTable Refusal) → spawn_answered (length s.machine.threads) r ≡ Err refusal
+        → spawn_told (SpawnEvent name argument) (length s.machine.threads) r ≡ refused_after [] refusal
+    by (Ok left) is = cc
+    by (Err other) is = cc
 
 pub told_stepped : (s : Watched) (thread n : ℕ) → is_some (running_at s.machine.threads thread) ≡ true
     → told_of s (Step thread n) [] ≡ step_told s.machine thread (thread_steps s.machine thread n)
@@ -171,13 +191,26 @@ told_peek s address count = refl
 pub told_undone : (s : Watched) (now : CallTable) (name : List ℕ)
     → answered s.machine UndoEvent ≡ Ok (happened now (Undone name))
     → told_of s Undo [] ≡ replied (UndoEvent ∷ []) (undone_line name)
-unfolding told_of
-told_undone s now name is = ap (told_by UndoEvent) is
+unfolding told_of answered
+told_undone s now name is = by (undone s.machine) is
+  where
+    by : (r : Result (CallTable × List ℕ) Refusal) → undo_answered r ≡ Ok (happened now (Undone name))
+        → undo_told r ≡ replied (UndoEvent ∷ []) (undone_line name)
+    by (Ok left) is =
+        let answer : Undone left.1 ≡ Undone name = ap (λ (h : Happened). h.answer) (same_Ok _ _ is) in
+        let same : left.1 ≡ name = cc in
+        ap (λ (n : List ℕ). replied (UndoEvent ∷ []) (undone_line n)) same
+    by (Err refusal) is = cc
 
 pub told_undo_refused : (s : Watched) (refusal : Refusal) → answered s.machine UndoEvent ≡ Err refusal
     → told_of s Undo [] ≡ refused_after [] refusal
-unfolding told_of
-told_undo_refused s refusal is = ap (told_by UndoEvent) is
+unfolding told_of answered
+told_undo_refused s refusal is = by (undone s.machine) is
+  where
+    by : (r : Result (CallTable × List ℕ) Refusal) → undo_answered r ≡ Err refusal
+        → undo_told r ≡ refused_after [] refusal
+    by (Ok left) is = cc
+    by (Err other) is = cc
 
 pub told_list : (s : Watched) → told_of s ListUpdates [] ≡ replied [] (list_lines (map shown_update s.machine.updates))
 unfolding told_of
@@ -186,11 +219,3 @@ told_list s = refl
 pub told_watch : (s : Watched) → told_of s Watch [] ≡ replied [] (watch_line s.watch.verdict)
 unfolding told_of
 told_watch s = refl
-
--- any other number of files than two
-pub not_two_files : (k : CallTable) (name : List ℕ) (tries gap : ℕ) (held : List (Vec ℕ)) → length held ≢ 2
-    → apply_told k name tries gap (bytes_of held) ≡ replied [] []
-not_two_files k name tries gap [] other = refl
-not_two_files k name tries gap (pre ∷ []) other = refl
-not_two_files k name tries gap (pre ∷ post ∷ []) other = absurd (other (omega arith))
-not_two_files k name tries gap (pre ∷ post ∷ more ∷ rest) other = refl

@@ -63,7 +63,7 @@ goes_on (Moved flow) = true
 goes_on (Exited value) = false
 goes_on (Stopped fault) = false
 
-same_Ok : {X Y : Type 0} (x y : X) → (let a : Result X Y = Ok x in a) ≡ Ok y → x ≡ y
+pub same_Ok : {X Y : Type 0} (x y : X) → (let a : Result X Y = Ok x in a) ≡ Ok y → x ≡ y
 same_Ok x y is = cc
 
 not_Ok : {X Y : Type 0} (e : Y) (y : X) → (let a : Result X Y = Err e in a) ≡ Ok y → ⊥

@@ -11,8 +11,6 @@ use Rattle.image_memory.specs.declared.types.Piece.{Piece}
 use Rattle.image_memory.specs.Ranges.{meets}
 use Rattle.image_memory.specs.Contents.{Contents, IsValid, ArePlaced}
 use Rattle.ia32_decode.specs.declared.types.Decoded.{Decoded}
-use Rattle.ia32_decode.specs.declared.types.Width.{Width}
-use Rattle.ia32_decode.specs.declared.types.Width.TheVariants.{Byte, Word, Dword}
 use Rattle.ia32_decode.specs.Widths.{byte_count}
 use Rattle.ia32_step.specs.declared.types.Flow.TheVariants.{Call}
 use Rattle.ia32_step.specs.declared.types.Frame.{Frame}
@@ -24,6 +22,7 @@ use Rattle.ia32_step.specs.Frames.{instruction_at, IsCalled, is_slot, holds_dwor
 use Rattle.ia32_step.specs.Operands.{spelled}
 use Rattle.ia32_step.specs.Step.{Left, after_store, stepped, fetched_count}
 use Rattle.ia32_step.specs.Threads.{esp_of}
+use Rattle.ia32_step.specs.OperandLaws.{length-spelled}
 use Rattle.image_threads.specs.Program.{if_running, running_at, AreNumbered}
 use Rattle.splice_jump.specs.Jumps.{jumped_memory}
 use Rattle.update_stack.specs.CallTable.{CallTable, bodies_in, contents_of}
@@ -32,6 +31,7 @@ use Rattle.update_stack.specs.Jumps.{CanJump, StepsStand, jumped_left}
 use Rattle.update_stack.specs.Stacked.{IsBuilt}
 use Rattle.update_stack.specs.StandsFor.{patched}
 use Rattle.update_stack.specs.Steps.{step_in, after_step, moved_by, moved}
+use Rattle.update_stack.specs.StackedLaws.{built_sound}
 use Rattle.frame_safety.specs.Windows.{StepsKeepWindows, FetchedHaveWindows}
 use Rattle.frame_watch.specs.Conditions.{HasPushed, IsStepOf, IsStep, touches, HoldBut, HaveWindows}
 use Rattle.frame_watch.specs.Discipline.{sight_of, step_noted}
@@ -41,7 +41,7 @@ use Rattle.ksplice_session.specs.Watching.{Watched, sight_in, step_seen, watched
 use Rattle.ksplice_session.specs.inside.InStep.{IsInStep}
 use Rattle.ksplice_session.proofs.ByteLaws.{holds_same, alike_written}
 use Rattle.ksplice_session.proofs.SightLaws.{step_alike}
-use Rattle.ksplice_session.proofs.SeenLaws.{JumpLaws, jumps_alike, built_sound}
+use Rattle.ksplice_session.proofs.SeenLaws.{JumpLaws, jumps_alike}
 use Rattle.ksplice_session.proofs.StackLaws.{frames_hold}
 use Rattle.ksplice_session.proofs.TestedLaws.{step_left}
 use Rattle.ksplice_session.proofs.WatchLaws.{RunsIn, runs_in, slots_in, left_in_step, its_thread}
@@ -61,11 +61,6 @@ pub record StepLaws : Type 0 where
   pub valid : (contents : Contents) (rows : List (ℕ × ℕ)) → IsValid contents → IsValid (jumped_memory rows contents)
 
 -- what a step wrote meets no slot outside it
-spelled_length : (width : Width) (n : ℕ) → length (spelled width n) ≡ byte_count width
-spelled_length Byte n = refl
-spelled_length Word n = refl
-spelled_length Dword n = refl
-
 outside : (a n slot x : ℕ) → meets (let r : Range = record { low = a; high = a + n } in r)
     (let r : Range = record { low = slot; high = slot + 4 } in r) ≡ false
     → slot ≤ x → x < slot + 4 → (x < a) ⊎ (a + n ≤ x)
@@ -77,7 +72,7 @@ untouched contents None slot value apart = refl
 untouched contents (Some s) slot value apart =
     holds_same (after_store contents (Some s)).pieces contents.pieces slot value (λ x low high.
     alike_written s.address (spelled s.width s.value) contents.pieces x
-    (subst (λ (n : ℕ). (x < s.address) ⊎ (s.address + n ≤ x)) (sym (spelled_length s.width s.value))
+    (subst (λ (n : ℕ). (x < s.address) ⊎ (s.address + n ≤ x)) (sym (length-spelled s.width s.value))
     (outside s.address (byte_count s.width) slot x apart low high)))
 
 -- what is known of a step that is noted, and what comes of it

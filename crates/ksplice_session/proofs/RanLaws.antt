@@ -2,8 +2,6 @@
 use Rattle.std.proofs.Common.{◌≡◌, ◌⊎◌, inl, inr, ℕ, List, [], ◌∷◌, ◌++◌, Option, Ok, refl, sym}
 use Rattle.std.proofs.Common.{◌∙◌, ap, subst, append_assoc, append-nil}
 use Rattle.std.specs.List.{fold}
-use Rattle.ks_io.specs.Outside.{Counts}
-use Rattle.ks_io.specs.Loads.{Told as ToldFiles}
 use Rattle.ks_io.specs.declared.types.FileFault.{FileFault}
 use Rattle.image_file.specs.Reading.{Contents as Image, image_of}
 use Rattle.script_lines.specs.declared.types.Command.{Command}
@@ -13,9 +11,9 @@ use Rattle.ksplice_session.specs.Watching.{Watched, first_watched, watched_after
 use Rattle.ksplice_session.specs.Replies.{told_of}
 use Rattle.ksplice_session.specs.Answers.{MadeFront, Noted, Unnoted}
 use Rattle.ksplice_session.specs.Session.{Ran, Played, nothing_played, play_line, played, ran_by}
-use Rattle.ksplice_session.specs.Session.{events_along, session_played, At, told_at}
+use Rattle.ksplice_session.specs.Session.{events_along, script_events, session_played, At, told_at}
 use Rattle.ksplice_session.specs.Session.{Ends, AllDone, AllRun, FileStopped, SinkStopped, SinkAtFile, MemoryInLine}
-use Rattle.ksplice_session.specs.Session.{MemoryAfterLine, MemoryAtFile, SessionEnds}
+use Rattle.ksplice_session.specs.Session.{MemoryAfterLine, MemoryAtFile}
 use Rattle.ksplice_session.specs.Safety.{OpenFramesKeepWindows, NoReturnIsLost, IsSafe, HasStartedMore, RanSafely}
 use Rattle.ksplice_session.proofs.WatchedLaws.{machine_after_all, watched_after_both}
 use Rattle.ksplice_session.proofs.OpenFrames.{front_disciplined}
@@ -165,23 +163,20 @@ safe_list frames returns file image read events now =
     first : Watched
     first = first_watched image
 
-pub ran_safely : OpenFramesKeepWindows → NoReturnIsLost → (file : List ℕ) (image : Image) (now : Watched)
-    → image_of file ≡ Ok image → {s : Watched} → s ≡ first_watched image
-    → {told : ToldFiles} {script : List Command} {before after : Counts} {old new : Option (List ℕ)} {end : SessionEnd}
-    → SessionEnds told s script before after old new now end
-    → RanSafely told (first_watched image) script before after now
-ran_safely frames returns file image now read {s} is {told} {script} {before} {after} {old} {new} {end} ended =
-    let made : Made (first_watched image) now (events_along (first_watched image) (ran_by script ended.held)) =
-    subst (λ (x : Watched). Made x now (events_along x (ran_by script ended.held))) is
-    (by_end s now script ended.held ended.lost old new end ended.ends) in
+pub ran_safely : OpenFramesKeepWindows → NoReturnIsLost → (k now : Watched)
+    (script : List Command) (old new : Option (List ℕ)) (end : SessionEnd)
+    (file : List ℕ) (image : Image) (held : List (List ℕ)) (lost : Option FileFault)
+    → image_of file ≡ Ok image → k ≡ first_watched image
+    → Ends k script held lost old new now end → RanSafely k (script_events k script held) now
+ran_safely frames returns k now script old new end file image held lost read first ends =
+    let made : Made k now (script_events k script held) = by_end k now script held lost old new end ends in
     record {
-      held = ended.held;
-      lost = ended.lost;
-      loads = ended.loads;
       noted = made.noted;
       rest = made.rest;
-      of_script = made.front;
+      front = made.front;
       watch = made.watch;
       machine = made.machine;
-      safe = λ front behind whole disciplined. safe_list frames returns file image read front disciplined;
+      safe = λ front behind whole.
+          subst (λ (s : Watched). IsDisciplined s front → IsSafe s front) (sym first)
+          (safe_list frames returns file image read front);
     }

@@ -1,14 +1,17 @@
 -- Steps one after another, as lists of events.
 use Rattle.std.proofs.Common.{◌≡◌, ℕ, zero, suc, ◌+◌, ◌-◌, ◌<◌, ◌==◌, Bool, true, false, if◌then◌else◌, is_some}
 use Rattle.std.proofs.Common.{List, [], ◌∷◌, length, Option, Some, None, refl, sym, ◌∙◌, ap, subst, arith}
+use Rattle.std.specs.List.{slice_get}
 use Rattle.std.proofs.lemmas.Bool.Decides.{nat_tests}
-use Rattle.image_threads.specs.Program.{running_at}
+use Rattle.std.proofs.lemmas.List.{length-set}
+use Rattle.std.proofs.lemmas.Option.{slice_get_within}
+use Rattle.image_threads.specs.Program.{if_running, running_at}
 use Rattle.image_threads.specs.Turning.{Schedule, turn_from, next_turn, after_turn}
 use Rattle.image_threads.specs.declared.turns.Turn.{Turn}
 use Rattle.ia32_step.specs.declared.types.Thread.{Thread}
 use Rattle.update_stack.specs.CallTable.{CallTable}
-use Rattle.update_stack.specs.Steps.{moved_by, moved}
-use Rattle.update_stack.specs.Events.{Event, Step, step_answered, answered, after_event}
+use Rattle.update_stack.specs.Steps.{step_in, moved_by, moved}
+use Rattle.update_stack.specs.Events.{Event, Step, step_answered, answered, machine_after, after_event, after_events}
 use Rattle.ksplice_session.specs.Running.{thread_steps, turn_steps, taken, after_taken}
 use Rattle.ksplice_session.specs.Watching.{Watched, watched_by, watched_after, watched_after_all}
 use Rattle.ksplice_session.specs.inside.InStep.{watched_taken}
@@ -41,6 +44,41 @@ has_gone first all made s rest is h = (
   let n : length rest ≡ 0 = ap length is in omega (arith, h.count),
   sym (ap (watched_after_all s) is) ∙ h.after,
 )
+
+-- a step leaves as many threads as there were
+step_counts : (k : CallTable) (n : ℕ) → length (after_event k (Step n)).threads ≡ length k.threads
+unfolding after_event answered moved
+step_counts k n = by (running_at k.threads n)
+  where
+    by : (o : Option Thread) → length (machine_after k (step_answered (moved_by k n o))).threads ≡ length k.threads
+    by None = refl
+    by (Some before) = length-set k.threads n (step_in k before).thread
+
+steps_count : (k : CallTable) (thread n : ℕ)
+    → length (after_events k (thread_steps k thread n)).threads ≡ length k.threads
+unfolding thread_steps after_events
+steps_count k thread zero = refl
+steps_count k thread (suc n) =
+    by (is_some (running_at k.threads thread))
+    (steps_count (after_event k (Step thread)) thread n ∙ step_counts k thread)
+  where
+    later : List Event
+    later = thread_steps (after_event k (Step thread)) thread n
+
+    by : (b : Bool) → length (after_events (after_event k (Step thread)) later).threads ≡ length k.threads
+        → length (after_events k (if b then Step thread ∷ later else [])).threads ≡ length k.threads
+    by true more = more
+    by false more = refl
+
+-- a thread that runs is there after its steps
+pub steps_leave : (k now : CallTable) (thread n : ℕ) → is_some (running_at k.threads thread) ≡ true
+    → now ≡ after_events k (thread_steps k thread n) → thread < length now.threads
+steps_leave k now thread n runs is = rw (is, steps_count k thread n) (by (slice_get k.threads thread) refl runs)
+  where
+    by : (o : Option Thread) → slice_get k.threads thread ≡ o → is_some (if_running o) ≡ true
+        → thread < length k.threads
+    by None none runs = cc
+    by (Some t) got runs = slice_get_within k.threads thread t got
 
 pub thread_done : (k : CallTable) (thread n : ℕ) → n ≡ 0 → thread_steps k thread n ≡ []
 unfolding thread_steps

@@ -40,7 +40,7 @@ use Rattle.ksplice_session.specs.Answers.{MadeFront, answer_of}
 use Rattle.ksplice_session.specs.inside.LineEnds.{LineEnds, ToldEnds, FileEnds, written_end, file_end}
 use Rattle.ksplice_session.specs.inside.LineEnds.{CutAt, SinkCut, MemoryCut, EventsCut, LostAt, LineWritten}
 use Rattle.ksplice_session.specs.inside.LineEnds.{SinkLost, MemoryLost, WasRun, EndedBy, AtLine, AtFile}
-use Rattle.ksplice_session.specs.inside.ScriptEnds.{line_of, IsFiled, AreFiled, HaveRun}
+use Rattle.ksplice_session.specs.inside.ScriptEnds.{line_of, IsFiled, AreFiled, HaveRun, ScriptEnds, script_end}
 
 -- the line that has these files is run, and then the others
 ran_by-one : (line : Command) (lines : List Command) (mine rest : List (List ℕ)) → length mine ≡ length (files_of line)
@@ -379,7 +379,7 @@ module _ (files : ToldFiles)
       lost_exit held lost file came lacks new' now' end lost_at same
 
 -- the session ends after all lines
-pub all_run : (files : ToldFiles) (k : Watched)
+all_run : (files : ToldFiles) (k : Watched)
     (script : List Command) (before after : Counts) (old new : Option (List ℕ)) (now : Watched) (refused : Bool)
     → HaveRun files k script before after old new now refused
     → SessionEnds files k script before after old new now (if refused then SomeRefused else Done)
@@ -413,6 +413,18 @@ all_run files k script before after old new now refused run =
         → Ends k script held None old new now (if refused then SomeRefused else Done)
     all_end true none marked out session = AllRun none (sym marked) out session
     all_end false none marked out session = AllDone none (sym marked) out session
+
+-- the session ends as its lines do
+pub script_ends : (files : ToldFiles) (k : Watched) (script : List Command) (before after : Counts)
+    (old new : Option (List ℕ)) (now : Watched) (ran : Result Bool SessionEnd) (end : SessionEnd) → end ≡ script_end ran
+    → ScriptEnds files k script before after old new now ran → SessionEnds files k script before after old new now end
+script_ends files k script before after old new now ran end is ends =
+    subst (SessionEnds files k script before after old new now) (sym is) (by ran ends)
+  where
+    by : (ran : Result Bool SessionEnd) → ScriptEnds files k script before after old new now ran
+        → SessionEnds files k script before after old new now (script_end ran)
+    by (Ok refused) run = all_run files k script before after old new now refused run
+    by (Err end) ends = ends
 
 -- the ends at which all lines were run
 abbrev ran_all : SessionEnd → Bool

@@ -18,7 +18,7 @@ use Rattle.ia32_step.specs.Frames.{is_slot, holds_dword}
 use Rattle.ia32_step.specs.Threads.{runs}
 use Rattle.image_threads.specs.Program.{if_running, IsStackRange, WellPlaced}
 use Rattle.image_threads.specs.Spawning.{is_taken, free_stack, first_top, first_bytes, first_thread}
-use Rattle.image_threads.proofs.StackLaws.{length-first_bytes}
+use Rattle.image_threads.specs.StackLaws.{length-first_bytes}
 use Rattle.update_stack.specs.CallTable.{CallTable}
 use Rattle.update_stack.specs.Events.{Spawn, Spawned, happened, answered, machine_after, after_event, after_events}
 use Rattle.update_stack.specs.Stacked.{IsBuilt}
@@ -226,6 +226,12 @@ spawn_begun jumps k now w name argument number thread memory built_now in_step p
     } in IsBegun (patched m) k m w t) same
     (is_begun jumps k w gives.stack gives.pc argument in_step placed gives.free
     (subst IsBuilt gives.machine built_now))))
+
+pub started_within : (k now : CallTable) (name : List ℕ) (argument number : ℕ)
+    → answered k (Spawn name argument) ≡ Ok (happened now (Spawned number)) → number < length now.threads
+started_within k now name argument number is =
+    slice_get_within now.threads number _
+    (thread_there k now argument number (spawn_gives k name argument (happened now (Spawned number)) is))
 
 pub started_there : (k now : CallTable) (name : List ℕ) (argument number : ℕ)
     → answered k (Spawn name argument) ≡ Ok (happened now (Spawned number))

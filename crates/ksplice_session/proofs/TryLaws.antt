@@ -7,15 +7,18 @@ use Rattle.ks_base.specs.declared.reports.Report.{Report}
 use Rattle.ks_base.specs.declared.refusals.Refusal.{Refusal}
 use Rattle.ks_base.specs.declared.refusals.Refusal.TheVariants.{Memory}
 use Rattle.update_stack.specs.CallTable.{CallTable}
-use Rattle.update_stack.specs.Events.{Event, Spawn, Applied, Happened, happened, answered, after_event, after_events}
+use Rattle.update_stack.specs.Events.{Event, Spawn, Applied, Happened, happened, apply_answered, answered}
+use Rattle.update_stack.specs.Events.{after_event, after_events}
 use Rattle.ksplice_session.specs.declared.types.Answer.{Answer}
 use Rattle.ksplice_session.specs.Lines.{applied_lines}
 use Rattle.ksplice_session.specs.Running.{round_robin}
-use Rattle.ksplice_session.specs.Replies.{Told, Trial, event_of, try_told, tried, is_busy, after_gap, replied}
+use Rattle.ksplice_session.specs.Replies.{Told, Trial, event_of, applied_by, try_told, tried, is_busy}
+use Rattle.ksplice_session.specs.Replies.{after_gap, replied}
 use Rattle.ksplice_session.specs.Watching.{Watched, watched_after, watched_after_all}
 use Rattle.ksplice_session.specs.Answers.{Answers, MadeFront, Noted, Unnoted, watched, answer_of}
 use Rattle.ksplice_session.specs.inside.Trying.{IsTryAnswer}
 use Rattle.ksplice_session.proofs.AnswerLaws.{refused_answers, one_event, all_made, none_made}
+use Rattle.ksplice_session.proofs.EventAnswers.{same_Ok}
 use Rattle.ksplice_session.proofs.WatchedLaws.{machine_after_all, watched_after_both}
 
 after_both : (k : CallTable) (gap events : List Event)
@@ -50,28 +53,28 @@ after_gap_answers s now gap told (Err e) h = front_after s now gap told.events h
 
 -- a try that is the last one
 pub last_try : (trial : Trial) (gap try left : ℕ) (k : CallTable) → left ≡ 0
-    → tried trial gap try left k ≡ try_told trial try (answered k (event_of trial))
+    → tried trial gap try left k ≡ try_told trial try (applied_by k trial)
 unfolding tried
 last_try trial gap try left k none = rw none refl
 
 -- a try after which there is none, though more were left
-ends_try : (trial : Trial) (gap try left : ℕ) (k : CallTable) → is_busy (answered k (event_of trial)) ≡ false
-    → tried trial gap try left k ≡ try_told trial try (answered k (event_of trial))
+ends_try : (trial : Trial) (gap try left : ℕ) (k : CallTable) → is_busy (applied_by k trial) ≡ false
+    → tried trial gap try left k ≡ try_told trial try (applied_by k trial)
 unfolding tried
 ends_try trial gap try zero k free = refl
 ends_try trial gap try (suc left) k free =
     ap (λ (b : Bool). if b
     then after_gap (round_robin k 1 gap) (tried trial gap (try + 1) left (after_events k (round_robin k 1 gap)))
-    else try_told trial try (answered k (event_of trial))) free
+    else try_told trial try (applied_by k trial)) free
 
-again_try : (trial : Trial) (gap try left : ℕ) (k : CallTable) → is_busy (answered k (event_of trial)) ≡ true
+again_try : (trial : Trial) (gap try left : ℕ) (k : CallTable) → is_busy (applied_by k trial) ≡ true
     → tried trial gap try (suc left) k
     ≡ after_gap (round_robin k 1 gap) (tried trial gap (try + 1) left (after_events k (round_robin k 1 gap)))
 unfolding tried
 again_try trial gap try left k busy =
     ap (λ (b : Bool). if b
     then after_gap (round_robin k 1 gap) (tried trial gap (try + 1) left (after_events k (round_robin k 1 gap)))
-    else try_told trial try (answered k (event_of trial))) busy
+    else try_told trial try (applied_by k trial)) busy
 
 -- What a try came to is what the machine answers, unless memory ran out; what is refused changes nothing.
 pub record CameOut (s now : Watched) (trial : Trial) (outcome : Result Report Refusal) : Type 0 where
@@ -81,11 +84,38 @@ pub record CameOut (s now : Watched) (trial : Trial) (outcome : Result Report Re
   pub noted : OnOk outcome (now ≡ watched_after s (event_of trial))
   pub refused : OnErr outcome (now ≡ s)
 
+-- what a try comes to, by what is answered to its event
+apply_came : (k now : CallTable) (trial : Trial) (report : Report)
+    → answered k (event_of trial) ≡ Ok (happened now (Applied report)) → applied_by k trial ≡ Ok (now, report)
+unfolding answered
+apply_came k now trial report is = by (applied_by k trial) is
+  where
+    by : (r : Result (CallTable × Report) Refusal) → apply_answered r ≡ Ok (happened now (Applied report))
+        → r ≡ Ok (now, report)
+    by (Ok left) is =
+        let came : happened left.0 (Applied left.1) ≡ happened now (Applied report) = same_Ok _ _ is in
+        let answer : Applied left.1 ≡ Applied report = ap (λ (h : Happened). h.answer) came in
+        let same : left.1 ≡ report = cc in
+        ap (λ (h : Happened). Ok (h.machine, left.1)) came ∙ ap (λ (x : Report). Ok (now, x)) same
+    by (Err refusal) is = cc
+
+apply_refused : (k : CallTable) (trial : Trial) (refusal : Refusal)
+    → answered k (event_of trial) ≡ Err refusal → applied_by k trial ≡ Err refusal
+unfolding answered
+apply_refused k trial refusal is = by (applied_by k trial) is
+  where
+    by : (r : Result (CallTable × Report) Refusal) → apply_answered r ≡ Err refusal → r ≡ Err refusal
+    by (Ok left) is = cc
+    by (Err other) is = cc
+
 same_busy : (s now : Watched) (trial : Trial) (outcome : Result Report Refusal) → outcome ≢ Err Memory
-    → CameOut s now trial outcome → is_busy (answered s.machine (event_of trial)) ≡ is_busy outcome
-same_busy s now trial (Ok report) other came = ap (λ (r : Result Happened Refusal). is_busy r) came.answered
+    → CameOut s now trial outcome → is_busy (applied_by s.machine trial) ≡ is_busy outcome
+same_busy s now trial (Ok report) other came =
+    ap (λ (r : Result (CallTable × Report) Refusal). is_busy r)
+    (apply_came s.machine now.machine trial report came.answered)
 same_busy s now trial (Err refusal) other came =
-    ap (λ (r : Result Happened Refusal). is_busy r) (came.answered (λ is. other (ap (λ (x : Refusal). Err x) is)))
+    ap (λ (r : Result (CallTable × Report) Refusal). is_busy r)
+    (apply_refused s.machine trial refusal (came.answered (λ is. other (ap (λ (x : Refusal). Err x) is))))
 
 is_free : (outcome : Result Report Refusal) → outcome ≡ Err Memory → is_busy outcome ≡ false
 is_free outcome is = ap (λ (r : Result Report Refusal). is_busy r) is
@@ -98,13 +128,14 @@ unchanged s now (Err refusal) busy refused = refused
 -- what a try tells that ends its line, as its answer
 try_answers : (s now : Watched) (trial : Trial) (try : ℕ) (told : Told) (outcome : Result Report Refusal)
     (r : Result Answer AllocError)
-    → (outcome ≢ Err Memory → told ≡ try_told trial try (answered s.machine (event_of trial)))
+    → (outcome ≢ Err Memory → told ≡ try_told trial try (applied_by s.machine trial))
     → CameOut s now trial outcome
     → IfOk r (IsTryAnswer trial.name try outcome) → Answers s told now r
 try_answers s now trial try told (Ok report) r is came h = by r h
   where
     told_is : told ≡ replied (event_of trial ∷ []) (applied_lines trial.name try report)
-    told_is = is (λ e. cc) ∙ ap (try_told trial try) came.answered
+    told_is =
+        is (λ e. cc) ∙ ap (try_told trial try) (apply_came s.machine now.machine trial report came.answered)
 
     made : now ≡ watched_after_all s told.events
     made =
@@ -116,7 +147,8 @@ try_answers s now trial try told (Ok report) r is came h = by r h
     by (Err e) h = all_made s now told.events made
 try_answers s now trial try told (Err refusal) r is came h =
     refused_answers s now told refusal r (λ _. came.refused)
-    (λ other. is (λ e. other cc) ∙ ap (try_told trial try) (came.answered other))
+    (λ other. is (λ e. other cc)
+    ∙ ap (try_told trial try) (apply_refused s.machine trial refusal (came.answered other)))
     (none_made s now told.events came.refused) h
 
 -- the last try

@@ -3,6 +3,7 @@ use Rattle.std.specs.Prelude.{ℕ, zero, suc, ◌+◌, ◌-◌, Bool, true, fals
 use Rattle.std.specs.Prelude.{map, is_some, Option, Some, None, Result, Ok, Err}
 use Rattle.std.specs.List.{slice_get}
 use Rattle.ks_base.specs.declared.refusals.Refusal.{Refusal}
+use Rattle.ks_base.specs.declared.reports.Report.{Report}
 use Rattle.ks_base.specs.declared.refusals.Refusal.TheVariants.{NoThread, Busy}
 use Rattle.ks_base.specs.Refusals.{refusal_line}
 use Rattle.ks_io.specs.Loads.{Needed}
@@ -14,7 +15,10 @@ use Rattle.script_lines.specs.declared.types.Command.TheVariants.{Spawn, Step, R
 use Rattle.script_lines.specs.declared.types.Command.TheVariants.{Apply, Undo, ListUpdates, Watch}
 use Rattle.update_stack.specs.CallTable.{CallTable, shown_update}
 use Rattle.update_stack.specs.Events.{Event, Spawn as SpawnEvent, Apply as ApplyEvent, Undo as UndoEvent}
-use Rattle.update_stack.specs.Events.{Answer, Spawned, Stepped, Applied, Undone, Happened, answered, after_events}
+use Rattle.update_stack.specs.Events.{after_events}
+use Rattle.update_stack.specs.Steps.{spawned}
+use Rattle.update_stack.specs.Apply.{applied}
+use Rattle.update_stack.specs.Undo.{undone}
 use Rattle.update_stack.specs.StandsFor.{patched}
 use Rattle.frame_watch.specs.declared.types.Verdict.{Verdict}
 use Rattle.ksplice_session.specs.Watching.{Watched}
@@ -42,18 +46,16 @@ shown_by k line (Some thread) = line k.symbols thread
 abbrev pub shown : CallTable → ℕ → (List Symbol → Thread → List ℕ) → List ℕ
 shown k number line = shown_by k line (slice_get k.threads number)
 
--- The reply to an event, by its answer. The replies to a step and to an update aren't made here, and so they are empty:
--- a step's line tells how many were made, and an update's which try it was.
-abbrev pub reply_to : CallTable → Answer → List ℕ
-reply_to now (Spawned thread) = shown now thread spawned_line
-reply_to now (Undone name) = undone_line name
-reply_to now (Stepped outcome) = []
-reply_to now (Applied report) = []
+-- A line that starts a thread, by what that comes to: the new thread has this number. Where it is refused, nothing
+-- happened.
+abbrev pub spawn_told : Event → (number : ℕ) → Result CallTable Refusal → Told
+spawn_told event number (Err refusal) = refused_after [] refusal
+spawn_told event number (Ok now) = replied (event ∷ []) (shown now number spawned_line)
 
--- a line that is one event; where it is refused, nothing happened
-abbrev pub told_by : Event → Result Happened Refusal → Told
-told_by event (Err refusal) = refused_after [] refusal
-told_by event (Ok now) = replied (event ∷ []) (reply_to now.machine now.answer)
+-- a line that takes the newest update back, by what that comes to
+abbrev pub undo_told : Result (CallTable × List ℕ) Refusal → Told
+undo_told (Err refusal) = refused_after [] refusal
+undo_told (Ok left) = replied (UndoEvent ∷ []) (undone_line left.1)
 
 abbrev pub stepped_line_of : ℕ → List Symbol → Thread → List ℕ
 stepped_line_of made symbols thread = stepped_line symbols thread made
@@ -64,10 +66,6 @@ step_told k thread events = replied events (shown (after_events k events) thread
 abbrev pub turns_told : List Event → Told
 turns_told events = replied events (turns_line (length events))
 
--- a line that is this event of a machine
-abbrev pub event_told : CallTable → Event → Told
-event_told k event = told_by event (answered k event)
-
 -- an update that a line tries to make: its name, and its two files
 pub record Trial : Type 0 where
   pub name : List ℕ
@@ -77,15 +75,14 @@ pub record Trial : Type 0 where
 abbrev pub event_of : Trial → Event
 event_of trial = ApplyEvent trial.name trial.pre trial.post
 
--- the reply to a try, by its number from 1 on; an answer of another kind doesn't come
-abbrev pub try_reply : Trial → (try : ℕ) → Answer → List ℕ
-try_reply trial try (Applied report) = applied_lines trial.name try report
-try_reply trial try _ = []
+-- what a try comes to: the machine after the update and its report, or why there is none
+abbrev pub applied_by : CallTable → Trial → Result (CallTable × Report) Refusal
+applied_by k trial = applied k trial.name trial.pre trial.post
 
--- what a try does, and its reply
-abbrev pub try_told : Trial → (try : ℕ) → Result Happened Refusal → Told
+-- what a try does, and its reply, which tells its number from 1 on
+abbrev pub try_told : Trial → (try : ℕ) → Result (CallTable × Report) Refusal → Told
 try_told trial try (Err refusal) = refused_after [] refusal
-try_told trial try (Ok now) = replied (event_of trial ∷ []) (try_reply trial try now.answer)
+try_told trial try (Ok left) = replied (event_of trial ∷ []) (applied_lines trial.name try left.1)
 
 -- whether a thread stands in the way; no other refusal is that
 abbrev pub is_busy : {A : Type 0} → Result A Refusal → Bool
@@ -100,11 +97,11 @@ after_gap gap told = record { events = gap ++ told.events; reply = told.reply; r
 -- the way and another try is allowed, the threads make at most `gap` steps in turn, one at a time, and the update is
 -- tried again. Every other refusal ends the line, and after the last try no step is made.
 unfoldable pub tried : Trial → (gap try left : ℕ) → CallTable → Told
-tried trial gap try zero k = try_told trial try (answered k (event_of trial))
+tried trial gap try zero k = try_told trial try (applied_by k trial)
 tried trial gap try (suc left) k =
-    if is_busy (answered k (event_of trial))
+    if is_busy (applied_by k trial)
     then after_gap (round_robin k 1 gap) (tried trial gap (try + 1) left (after_events k (round_robin k 1 gap)))
-    else try_told trial try (answered k (event_of trial))
+    else try_told trial try (applied_by k trial)
 
 -- an update from the first of two files to the second, in at most so many tries; a line has both its files when it is
 -- run, so the last case doesn't come
@@ -115,7 +112,8 @@ apply_told k name tries gap _ = replied [] []
 
 -- what a line of a machine does and replies, once its files are held with these bytes
 abbrev pub line_told : CallTable → Verdict → Command → List (List ℕ) → Told
-line_told k verdict (Spawn name argument) held = event_told k (SpawnEvent name argument)
+line_told k verdict (Spawn name argument) held =
+    spawn_told (SpawnEvent name argument) (length k.threads) (spawned k name argument)
 line_told k verdict (Step thread n) held =
     if is_some (running_at k.threads thread)
     then step_told k thread (thread_steps k thread n)
@@ -124,7 +122,7 @@ line_told k verdict (RoundRobin quantum n) held = turns_told (round_robin k quan
 line_told k verdict Threads held = replied [] (threads_lines k.symbols k.threads)
 line_told k verdict (Peek address count) held = replied [] (peek_line (patched k).pieces address count)
 line_told k verdict (Apply name pre post tries gap) held = apply_told k name tries gap held
-line_told k verdict Undo held = event_told k UndoEvent
+line_told k verdict Undo held = undo_told (undone k)
 line_told k verdict ListUpdates held = replied [] (list_lines (map shown_update k.updates))
 line_told k verdict Watch held = replied [] (watch_line verdict)
 

@@ -5,9 +5,6 @@ use Rattle.std.specs.Prelude.{◌==◌, nat_le, List, [], ◌∷◌, ◌++◌, l
 use Rattle.std.specs.Prelude.{Option, Some, None, Result, Ok, Err}
 use Rattle.std.specs.Option.{option_map, unwrap_or}
 use Rattle.std.specs.List.{last_or, All}
-use Rattle.ks_io.specs.Outside.{Counts}
-use Rattle.ks_io.specs.Loads.{Told as ToldFiles, CameTo}
-use Rattle.ks_io.specs.declared.types.FileFault.{FileFault}
 use Rattle.ks_base.specs.declared.refusals.Fault.TheVariants as faults
 use Rattle.ks_base.specs.declared.refusals.Refusal.{Refusal}
 use Rattle.image_file.specs.Reading.{Contents as Image, image_of}
@@ -22,8 +19,6 @@ use Rattle.update_stack.specs.CallTable.{CallTable, view_in}
 use Rattle.update_stack.specs.Events.{Event, Spawn, Step, Answer, Stepped, Happened, answered, after_events}
 use Rattle.frame_watch.specs.Frames.{frames_at}
 use Rattle.frame_safety.specs.Windows.{window_in}
-use Rattle.script_lines.specs.declared.types.Command.{Command}
-use Rattle.ksplice_session.specs.Session.{files_along, ran_by, events_along}
 use Rattle.ksplice_session.specs.Watching.{Watched, first_watched, watched_after, watched_after_all, IsDisciplined}
 
 -- the frames of a thread, how many they are, and the address of the last
@@ -134,23 +129,13 @@ pub record HasStartedMore (k : CallTable) (events rest : List Event) (now : Call
   pub next : Spawn name argument ∷ behind ≡ rest
   pub machine : now ≡ after_events k (events ++ Spawn name argument ∷ [])
 
--- What a session that ran a script from its start is. The events that its watch has noted are a front of those of the
--- script's lines, as far as the files of these were loaded. They are all that its machine made, but for the next one
--- where that is a start that was left unnoted for want of memory. And of each front of them that is disciplined both
--- hold.
-pub record RanSafely
-    (told : ToldFiles)
-    (first : Watched)
-    (script : List Command)
-    (before after : Counts)
-    (now : Watched)
-    : Type 0 where
-  pub held : List (List ℕ)
-  pub lost : Option FileFault
-  pub loads : CameTo told (files_along script) held lost before after
+-- What a session is that made a front of some events from its start. Those that its watch has noted are a front of
+-- them. They are all that its machine made, but for the next one where that is a start that was left unnoted for want
+-- of memory. And of each front of them that is disciplined both hold.
+pub record RanSafely (first : Watched) (events : List Event) (now : Watched) : Type 0 where
   pub noted : List Event
   pub rest : List Event
-  pub of_script : noted ++ rest ≡ events_along first (ran_by script held)
+  pub front : noted ++ rest ≡ events
   pub watch : now.watch ≡ (watched_after_all first noted).watch
   pub machine : (now.machine ≡ after_events first.machine noted) ⊎ HasStartedMore first.machine noted rest now.machine
   pub safe : (front behind : List Event) → front ++ behind ≡ noted → IsDisciplined first front → IsSafe first front

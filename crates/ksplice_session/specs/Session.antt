@@ -75,18 +75,22 @@ ran_by (line ∷ lines) held =
 abbrev pub lacking : List Command → List (List ℕ) → Option Needed
 lacking script held = first_lacking (files_along script) held
 
+-- the events of a script's lines that are run where these of its files are held
+abbrev pub script_events : Watched → List Command → List (List ℕ) → List Event
+script_events k script held = events_along k (ran_by script held)
+
 abbrev pub session_played : Watched → List Command → List (List ℕ) → Played
 session_played k script held = played k (ran_by script held)
 
 -- the line of a file that was not loaded; want of memory has none
-abbrev pub fault_text : FileFault → List ℕ
-fault_text Missing = codes "missing"
-fault_text TooLong = codes "too long"
-fault_text Failed = codes "failed"
-fault_text Memory = []
+abbrev pub file_fault_text : FileFault → List ℕ
+file_fault_text Missing = codes "missing"
+file_fault_text TooLong = codes "too long"
+file_fault_text Failed = codes "failed"
+file_fault_text Memory = []
 
 abbrev pub file_line : List ℕ → FileFault → List ℕ
-file_line name fault = codes "file " ++ shown_name name ++ codes " " ++ fault_text fault ++ 10 ∷ []
+file_line name fault = codes "file " ++ shown_name name ++ codes " " ++ file_fault_text fault ++ 10 ∷ []
 
 abbrev pub lost_line : Option Needed → Option FileFault → List ℕ
 lost_line None lost = []

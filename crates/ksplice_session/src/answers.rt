@@ -1,5 +1,5 @@
 //! What the lines of a script do to a session, and their replies.
-ghost use Rattle.std.specs.Prelude.{◌≡◌, ◌≢◌, ℕ, ◌≤◌, ◌+◌, ◌-◌, ◌^◌, List, [], ◌∷◌, length, map};
+ghost use Rattle.std.specs.Prelude.{◌≡◌, ◌≢◌, ℕ, ◌≤◌, ◌<◌, ◌+◌, ◌-◌, ◌^◌, List, [], ◌∷◌, length, map};
 ghost use Rattle.std.specs.Prelude.{Ok, Err, true, false, IfOk, MatchResult};
 ghost use Rattle.ks_base.specs.declared.refusals.Refusal.TheVariants.{Memory};
 ghost use Rattle.ks_base.specs.Refusals.{refusal_line};
@@ -11,7 +11,7 @@ ghost use Rattle.update_stack.specs.StandsFor.{patched};
 ghost use Rattle.ks_io.specs.Loads.{bytes_of};
 ghost use Rattle.ksplice_session.specs.Lines.{spawned_line, turns_line, threads_lines, peek_line};
 ghost use Rattle.ksplice_session.specs.Lines.{applied_lines, undone_line, list_lines, watch_line};
-ghost use Rattle.ksplice_session.specs.Replies.{told_of, apply_told, tried, is_busy, shown, stepped_line_of};
+ghost use Rattle.ksplice_session.specs.Replies.{told_of, files_of, apply_told, tried, is_busy, shown, stepped_line_of};
 ghost use Rattle.ksplice_session.specs.Answers.{Answers};
 ghost use Rattle.ksplice_session.specs.inside.Trying.{trial_of, IsTryAnswer};
 
@@ -27,14 +27,15 @@ use std::alloc::{AllocError, Global};
 
 /// Runs a line of a script that has its files, given the bytes of each, and answers it. `Err` comes for want of memory
 /// alone, when a front of the line's events was made.
-#[tactic(auto, unfolding(crate::specs::Replies::told_of))]
+#[tactic(auto, unfolding(crate::specs::Replies::told_of, crate::specs::Replies::files_of))]
 pub fn answer(
     alloc: Global,
     session: &mut Session,
     command: &Command,
     held: &[Vec<u8>],
 ) -> Result<Answer, AllocError>
-    requires { IsAllowed command.now }
+    requires allowed { IsAllowed command.now }
+    requires files { length held.now ≡ length (files_of command.now) }
     ensures { Answers session.old (told_of session.old command.now (bytes_of held.now)) session.new result }
 {
     match command {
@@ -144,17 +145,16 @@ fn answer_apply(
     gap: u32,
     held: &[Vec<u8>],
 ) -> Result<Answer, AllocError>
-    requires { 1 ≤ tries }
+    requires tries { 1 ≤ tries }
+    requires files { length held.now ≡ 2 }
     ensures { Answers session.old
         (apply_told session.old.machine name.now tries gap (bytes_of held.now)) session.new result }
 {
-    if held.len() != 2 {
-        return told(Ok(Line::new(alloc)));
-    }
+    let [pre, post] = held else { unreachable!() };
     let trial = Trial {
         name,
-        pre: held[0].as_slice(),
-        post: held[1].as_slice(),
+        pre: pre.as_slice(),
+        post: post.as_slice(),
     };
     answer_trial(alloc, session, &trial, tries, gap)
 }
@@ -239,12 +239,12 @@ fn is_memory(refusal: &Refusal) -> bool
 }
 
 fn spawned_reply(alloc: Global, session: &Session, number: u32) -> Result<Line, AllocError>
+    requires { number < length session.now.machine.threads }
     ensures { IfOk result (λ line. line ≡ shown session.now.machine number spawned_line) }
 {
     let mut line = Line::new(alloc);
-    if let Some(thread) = session.thread(number) {
-        put_spawned(&mut line, session.symbols(), &thread)?;
-    }
+    let thread = &session.threads()[number as usize];
+    put_spawned(&mut line, session.symbols(), thread)?;
     Ok(line)
 }
 
@@ -254,12 +254,12 @@ fn stepped_reply(
     number: u32,
     made: u32,
 ) -> Result<Line, AllocError>
+    requires { number < length session.now.machine.threads }
     ensures { IfOk result (λ line. line ≡ shown session.now.machine number (stepped_line_of made)) }
 {
     let mut line = Line::new(alloc);
-    if let Some(thread) = session.thread(number) {
-        put_stepped(&mut line, session.symbols(), &thread, made)?;
-    }
+    let thread = &session.threads()[number as usize];
+    put_stepped(&mut line, session.symbols(), thread, made)?;
     Ok(line)
 }
 

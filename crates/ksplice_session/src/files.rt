@@ -7,7 +7,7 @@ ghost use Rattle.ks_io.specs.Kept.{SinkKept};
 ghost use Rattle.ks_io.specs.Loads.{needed_by};
 ghost use Rattle.ks_io.specs.Outside.{Rose, TookPart, TookFront, grown};
 ghost use Rattle.ksplice_session.specs.Replies.{files_of, object_file};
-ghost use Rattle.ksplice_session.specs.Session.{fault_text, file_line};
+ghost use Rattle.ksplice_session.specs.Session.{file_fault_text, file_line};
 
 use crate::types::Loads;
 use ks_base::{Line, Name};
@@ -106,14 +106,14 @@ fn file_line(alloc: Global, name: &str, fault: FileFault) -> Result<Line, AllocE
     line.put_text("file ")?;
     line.put_name(&Name::from_slice(alloc, name.as_bytes())?)?;
     line.put_text(" ")?;
-    line.put_text(fault_word(fault))?;
+    line.put_text(file_fault_word(fault))?;
     line.put_text("\n")?;
     Ok(line)
 }
 
 /// Why a file was not loaded. Want of memory has no word.
-fn fault_word(fault: FileFault) -> &'static str
-    ensures { result.now ≡ fault_text fault }
+fn file_fault_word(fault: FileFault) -> &'static str
+    ensures { result.now ≡ file_fault_text fault }
 {
     match fault {
         FileFault::Missing => "missing",

@@ -1,15 +1,16 @@
 //! Running a script.
-ghost use Rattle.std.specs.Prelude.{◌≡◌, ◌≢◌, ◌⊎◌, ℕ, List, Ok, Err, IsErrOf};
+ghost use Rattle.std.specs.Prelude.{◌≡◌, ◌≢◌, ◌⊎◌, ℕ, List, length, Option, Ok, Err, IsErrOf};
 ghost use Rattle.std.specs.List.{All};
 ghost use Rattle.ks_io.specs.Kept.{FilesKept, SinkKept};
 ghost use Rattle.ks_io.specs.Loads.{LosesOne, bytes_of};
 ghost use Rattle.ks_io.specs.Outside.{Rose};
+ghost use Rattle.ks_io.specs.declared.types.FileFault.{FileFault as Fault};
 ghost use Rattle.image_file.specs.Reading.{Contents as Image, image_of};
 ghost use Rattle.script_lines.specs.Allowed.{IsAllowed};
 ghost use Rattle.ksplice_session.specs.inside.LineEnds.{LineEnds, ToldEnds, FileEnds, written_end, file_end};
-ghost use Rattle.ksplice_session.specs.Replies.{told_of};
-ghost use Rattle.ksplice_session.specs.inside.ScriptEnds.{ScriptEnds};
-ghost use Rattle.ksplice_session.specs.Session.{SessionEnds, files_along};
+ghost use Rattle.ksplice_session.specs.Replies.{told_of, files_of};
+ghost use Rattle.ksplice_session.specs.inside.ScriptEnds.{ScriptEnds, script_end};
+ghost use Rattle.ksplice_session.specs.Session.{Ends, SessionEnds, files_along, script_events};
 ghost use Rattle.ksplice_session.specs.Watching.{first_watched};
 ghost use Rattle.ksplice_session.specs.Safety.{RanSafely};
 
@@ -26,7 +27,8 @@ use std::alloc::Global;
 /// when it was run; a refused line changes nothing but by the steps between its tries, and the next is run. The session
 /// ends at a file that can't be loaded, when that file's line was written, at a fault of the sink, or for want of
 /// memory. Where it ran from the start of an image, the events that its watch has noted are a front of those of the
-/// lines; and as long as they kept the discipline, no open frame has lost the code that it returns to.
+/// lines over the files that were held; and as long as they kept the discipline, no open frame has lost the code that
+/// it returns to.
 pub fn run_session<F: Files, O: Sink>(
     alloc: Global,
     session: &mut Session,
@@ -48,33 +50,22 @@ pub fn run_session<F: Files, O: Sink>(
     ensures sink { result ≡ SessionEnd.SinkEnd → Rose (O.faults out.old) (O.faults out.new) }
     ensures steady { result ≢ SessionEnd.SinkEnd → O.faults out.new ≡ O.faults out.old }
     ensures quiet { O.quiet out.old → result ≢ SessionEnd.SinkEnd }
-    ensures safe { (file : List ℕ) (image : Image) → image_of file ≡ Ok image → session.old ≡ first_watched image →
-        RanSafely (F.told files.old) (first_watched image) script.now (F.counts files.old) (F.counts files.new)
-        session.new }
+    // For whichever files it ends so with, and so for those of `ends`.
+    ensures safe { (file : List ℕ) (image : Image) (held : List (List ℕ)) (lost : Option Fault) →
+        image_of file ≡ Ok image → session.old ≡ first_watched image →
+        Ends session.old script.now held lost (O.taken out.old) (O.taken out.new) session.new result →
+        RanSafely session.old (script_events session.old script.now held) session.new }
 {
     // The law says what the discipline spares a run.
     disciplined_runs_are_safe();
-    run_script(alloc, session, script, files, out)
+    script_end(run_lines(alloc, session, script.as_slice(), files, out))
 }
 
-/// The same, by the lines that are run.
-fn run_script<F: Files, O: Sink>(
-    alloc: Global,
-    session: &mut Session,
-    script: &Script,
-    files: &mut F,
-    out: &mut O,
-) -> SessionEnd
-    requires { All IsAllowed script.now }
-    ensures ends { SessionEnds (F.told files.old) session.old script.now (F.counts files.old) (F.counts files.new)
-        (O.taken out.old) (O.taken out.new) session.new result }
-    ensures files { FilesKept F.told F.counts F.quiet files.old files.new }
-    ensures out { SinkKept O.faults O.quiet out.old out.new }
-    ensures sink { result ≡ SessionEnd.SinkEnd → Rose (O.faults out.old) (O.faults out.new) }
-    ensures steady { result ≢ SessionEnd.SinkEnd → O.faults out.new ≡ O.faults out.old }
-    ensures quiet { O.quiet out.old → result ≢ SessionEnd.SinkEnd }
+/// How the session ends whose lines were all run, or that a line ended.
+fn script_end(ran: Result<bool, SessionEnd>) -> SessionEnd
+    ensures { result ≡ script_end ran }
 {
-    match run_lines(alloc, session, script.as_slice(), files, out) {
+    match ran {
         Ok(true) => SessionEnd::SomeRefused,
         Ok(false) => SessionEnd::Done,
         Err(end) => end,
@@ -138,7 +129,8 @@ fn reply<O: Sink>(
     held: &[Vec<u8>],
     out: &mut O,
 ) -> Result<bool, SessionEnd>
-    requires { IsAllowed command.now }
+    requires allowed { IsAllowed command.now }
+    requires files { length held.now ≡ length (files_of command.now) }
     ensures ends { ToldEnds session.old (told_of session.old command.now (bytes_of held.now))
         (O.taken out.old) (O.taken out.new) session.new result }
     ensures out { SinkKept O.faults O.quiet out.old out.new }

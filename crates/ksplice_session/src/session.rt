@@ -104,7 +104,7 @@ impl Session {
         let number = self.system.spawn(name, argument)?;
         let machine = self.system.machine();
         let Some(thread) = machine.threads().get(number as usize) else {
-            return Ok(number);
+            unreachable!()
         };
         self.watch.note_spawn_alone(thread, machine.space())?;
         Ok(number)

@@ -9,13 +9,10 @@ ghost use Rattle.ksplice_session.specs.inside.InStep.{watched_taken};
 
 use crate::session::Session;
 use frame_safety::{fetched_bytes_have_windows, threads_keep_windows};
-use ia32_step::calls_and_returns;
+use ia32_step::{ESP, calls_and_returns};
 use image_threads::Turns;
 use splice_jump::{homes_stay_spliced, jumps_change_their_bytes_alone, jumps_leave_views};
 use update_stack::steps_stand;
-
-/// The number of the register ESP.
-const ESP: usize = 4;
 
 impl Session {
     /// A step of the running thread of a number, and whether there is one. It takes no memory.
@@ -41,7 +38,7 @@ impl Session {
         };
         let machine = self.system.machine();
         let Some(after) = machine.threads().get(thread as usize) else {
-            return true;
+            unreachable!()
         };
         self.watch
             .note_traced(&before, after, &traced, machine.space());

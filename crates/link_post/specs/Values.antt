@@ -4,13 +4,14 @@ use Rattle.std.specs.Prelude.{◌≡◌, ℕ, ◌+◌, ◌-◌, ◌%◌, ◌^◌
 use Rattle.std.specs.Prelude.{Option, Some, None, IsSome, Result, Ok, Err}
 use Rattle.std.specs.List.{slice_get, AllByRecursion}
 use Rattle.ks_base.specs.declared.refusals.Refusal.{Refusal}
-use Rattle.ks_base.specs.declared.refusals.Refusal.TheVariants.{Unresolved, TwoNames}
+use Rattle.ks_base.specs.declared.refusals.Refusal.TheVariants.{Unresolved}
 use Rattle.symbol_table.specs.declared.symbols.Symbol.{Symbol}
 use Rattle.symbol_table.specs.declared.values.Unknown.{Unknown}
 use Rattle.symbol_table.specs.declared.values.Unknown.TheVariants as unknown
 use Rattle.symbol_table.specs.declared.values.Solved.{Solved}
 use Rattle.symbol_table.specs.declared.values.Solved.TheVariants.{Address}
-use Rattle.symbol_table.specs.Symbols.{global_addresses, data_addresses}
+use Rattle.symbol_table.specs.declared.symbols.Missing.TheVariants as missing
+use Rattle.symbol_table.specs.Symbols.{only_address, global_addresses, data_addresses}
 use Rattle.symbol_table.specs.Unknowns.{same_unknown}
 use Rattle.i386_reloc.specs.declared.types.Target.{Target}
 use Rattle.i386_reloc.specs.declared.types.Target.TheVariants.{Section, Outside, Text}
@@ -41,12 +42,6 @@ needed_by pre post (Outside name) = Some (unknown.Outside name)
 needed_by pre post (Section name) = if is_kept_data pre post name then Some (unknown.Data name) else None
 needed_by pre post (Text section offset text) = None
 
--- the one address of a name, refused where it has none, or by the two lowest where it has several
-abbrev pub one_of : List ℕ → List ℕ → Result ℕ Refusal
-one_of name [] = Err (Unresolved name)
-one_of name (a ∷ []) = Ok a
-one_of name (a ∷ b ∷ rest) = Err (TwoNames name a b)
-
 -- where a section begins in which a variable stands at an address
 abbrev pub less : ℕ → Result ℕ Refusal → Result ℕ Refusal
 less value (Err refusal) = Err refusal
@@ -58,12 +53,13 @@ first_object (Some section) = slice_get section.objects 0
 
 abbrev pub section_base : List Symbol → List ℕ → Option ObjectSymbol → Result ℕ Refusal
 section_base symbols section None = Err (Unresolved section)
-section_base symbols section (Some object) = less object.value (one_of object.name (data_addresses symbols object.name))
+section_base symbols section (Some object) =
+    less object.value (only_address missing.Unresolved object.name (data_addresses symbols object.name))
 
 -- The address that the running program lists: of an outside name its global symbols; of a data section the data
 -- symbols of its first variable in post, less the variable's offset.
 abbrev pub listed_as : List NormalSection → List Symbol → Unknown → Result ℕ Refusal
-listed_as post symbols (unknown.Outside name) = one_of name (global_addresses symbols name)
+listed_as post symbols (unknown.Outside name) = only_address missing.Unresolved name (global_addresses symbols name)
 listed_as post symbols (unknown.Data name) = section_base symbols name (first_object (section_named post name))
 listed_as post symbols (unknown.Code name) = Err (Unresolved name)
 

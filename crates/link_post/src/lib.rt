@@ -15,7 +15,7 @@ pub use crate::laws::{
     needed_targets_have_addresses, places_keep_the_order, places_lie_apart, values_are_found,
 };
 pub use crate::linking::linked;
-pub use crate::lookups::in_order;
+pub use crate::lookups::{in_order, solved_as};
 pub use crate::placing::{ascend, place};
 pub use crate::resolving::resolve_post;
 pub use crate::types::{Placed, Placement, SectionSize};

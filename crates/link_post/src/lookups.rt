@@ -66,8 +66,8 @@ pub(crate) fn base_in(post: &Normal<'_>, placement: &[Placed], name: &[u8]) -> O
     }
 }
 
-/// What an unknown came to.
-pub(crate) fn solved_as(values: &Values, which: &Unknown) -> Option<Solved>
+/// What an unknown came to, `None` exactly where the values tell nothing of it.
+pub fn solved_as(values: &Values, which: &Unknown) -> Option<Solved>
     ensures { result ≡ solved_as values.now.entries which.now }
 {
     values.get(which).copied()

@@ -3,8 +3,8 @@ ghost use Rattle.std.specs.Prelude.{◌≡◌, ◌++◌, ◌∷◌, [], None, If
 ghost use Rattle.std.specs.Option.{option_copied};
 ghost use Rattle.ks_base.specs.Gives.{Gives};
 ghost use Rattle.i386_reloc.specs.Normal.{section_named};
-ghost use Rattle.symbol_table.specs.Symbols.{data_addresses};
-ghost use Rattle.link_post.specs.Values.{solved_as, needed_by, one_of, less, first_object, listed_as, with_value};
+ghost use Rattle.symbol_table.specs.Symbols.{data_addresses, only_address};
+ghost use Rattle.link_post.specs.Values.{solved_as, needed_by, less, first_object, listed_as, with_value};
 ghost use Rattle.link_post.specs.Values.{with_needed, is_kept_data, resolved_by, references_of, resolved};
 
 use crate::linking::is_data;
@@ -12,7 +12,7 @@ use crate::lookups::solved_as;
 use i386_reloc::{Normal, ObjectSymbol, Ref, Target};
 use ks_base::{Name, Names, Refusal};
 use std::alloc::{AllocError, Global};
-use symbol_table::{Solved, SymbolTable, Unknown, Values};
+use symbol_table::{Missing, Solved, SymbolTable, Unknown, Values, only_address};
 
 /// The values with those that the references of some sections of `post` need besides, in the order in which the
 /// references need them: of each name that the object doesn't define, and of each section of data that is in `pre`
@@ -178,7 +178,12 @@ fn listed_as(
     match which {
         Unknown::Outside(name) => {
             let addresses = table.globals_of(name)?;
-            one_of(alloc, name.as_slice(), addresses.as_slice())
+            only_address(
+                alloc,
+                name.as_slice(),
+                addresses.as_slice(),
+                Missing::Unresolved,
+            )
         }
         Unknown::Data(name) => match first_object(post, name.as_slice()) {
             Some(object) => address_by(alloc, table, object),
@@ -199,21 +204,16 @@ fn first_object<'a, 'b>(post: &'a Normal<'b>, name: &[u8]) -> Option<&'a ObjectS
 /// Where the section begins that has a variable, by the variable's one address.
 fn address_by(alloc: Global, table: &SymbolTable, object: &ObjectSymbol<'_>) -> Result<u32, Refusal>
     ensures { Gives (λ address. address) result
-        (less object.now.value (one_of object.now.name (data_addresses table.now.symbols object.now.name))) }
+        (less object.now.value (only_address Missing.Unresolved object.now.name
+        (data_addresses table.now.symbols object.now.name))) }
 {
     let name = Name::from_slice(alloc, object.name.as_slice())?;
     let addresses = table.data_of(&name)?;
-    let address = one_of(alloc, name.as_slice(), addresses.as_slice())?;
+    let address = only_address(
+        alloc,
+        name.as_slice(),
+        addresses.as_slice(),
+        Missing::Unresolved,
+    )?;
     Ok(address.wrapping_sub(object.value))
-}
-
-/// The one address of a name.
-fn one_of(alloc: Global, name: &[u8], addresses: &[u32]) -> Result<u32, Refusal>
-    ensures { Gives (λ address. address) result (one_of name.now addresses.now) }
-{
-    match addresses {
-        [address] => Ok(*address),
-        [low, high, ..] => Err(Refusal::TwoNames(Name::from_slice(alloc, name)?, *low, *high)),
-        [] => Err(Refusal::Unresolved(Name::from_slice(alloc, name)?)),
-    }
 }

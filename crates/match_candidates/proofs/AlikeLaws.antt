@@ -15,8 +15,9 @@ use Rattle.symbol_table.specs.Bodies.{newest}
 use Rattle.run_pre_match.specs.Candidate.{Candidate}
 use Rattle.run_pre_match.specs.Matched.{PreSection, candidate, outcome}
 use Rattle.run_pre_match.specs.Alike.{AreAlike, HasFieldsInside, in_memory}
+use Rattle.i386_reloc.specs.Normal.{function_name}
 use Rattle.propagation.specs.Conflicts.{first_some}
-use Rattle.match_candidates.specs.Candidates.{Running, code_from, code_sections, function_name, is_stray, is_gone}
+use Rattle.match_candidates.specs.Candidates.{Running, code_from, code_sections, is_stray, is_gone}
 use Rattle.match_candidates.specs.Candidates.{homes_of, candidate_at, candidates_of, candidates, is_match, matches}
 use Rattle.match_candidates.specs.OwnFaults.{first_undecoded, missing_in, first_missing, difference_in, mismatch_in}
 use Rattle.match_candidates.specs.OwnFaults.{first_mismatch, own_fault}
@@ -75,7 +76,7 @@ module _ (one other : Running) (alike : RunAlike one other) where
   homes_alike : (pre : PreSection) → homes_of one pre ≡ homes_of other pre
   homes_alike pre =
       let there : is_there one ≡ is_there other = fun_ext gone_alike in
-      λ i. filter (there i) (function_addresses (alike.symbols i) (function_name pre))
+      λ i. filter (there i) (function_addresses (alike.symbols i) (function_name pre.section))
 
   candidate_alike : (pre : PreSection) (home : ℕ) →
       candidate_at other pre home ≡ in_memory other.contents (candidate_at one pre home)

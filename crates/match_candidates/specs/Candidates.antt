@@ -1,9 +1,9 @@
 -- The functions of the running program that a code section of an object may be.
 use Rattle.std.specs.Prelude.{ℕ, suc, Bool, true, false, not, ◌==◌, if◌then◌else◌, List, [], ◌∷◌, map, Result, Ok, Err}
-use Rattle.std.specs.Option.{unwrap_or}
 use Rattle.std.specs.List.{filter, flat_map}
 use Rattle.i386_reloc.specs.declared.types.NormalSection.{NormalSection}
 use Rattle.i386_reloc.specs.Classes.{is_code_class}
+use Rattle.i386_reloc.specs.Normal.{function_name}
 use Rattle.image_memory.specs.Contents.{Contents}
 use Rattle.image_memory.specs.Fetch.{View, Unmapped, AtHome, Stray, Bytes, view_at}
 use Rattle.symbol_table.specs.declared.symbols.Symbol.{Symbol}
@@ -31,9 +31,6 @@ code_from object place (section ∷ sections) =
 abbrev pub code_sections : List NormalSection → List PreSection
 code_sections object = code_from object 0 object
 
-abbrev pub function_name : PreSection → List ℕ
-function_name pre = unwrap_or pre.section.function []
-
 abbrev pub is_stray : View → Bool
 is_stray Unmapped = false
 is_stray AtHome = false
@@ -48,7 +45,7 @@ is_gone running home = is_stray (view_at running.contents (newest running.bodies
 -- base a range is retired
 abbrev pub homes_of : Running → PreSection → List ℕ
 homes_of running pre =
-    filter (λ home. not (is_gone running home)) (function_addresses running.symbols (function_name pre))
+    filter (λ home. not (is_gone running home)) (function_addresses running.symbols (function_name pre.section))
 
 abbrev pub candidate_at : Running → PreSection → ℕ → Candidate
 candidate_at running pre home = candidate pre running.contents running.symbols home (newest running.bodies home)

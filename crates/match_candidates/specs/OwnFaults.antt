@@ -10,11 +10,12 @@ use Rattle.run_pre_match.specs.declared.types.Matched.{Matched}
 use Rattle.run_pre_match.specs.declared.types.MatchFault.{MatchFault}
 use Rattle.run_pre_match.specs.declared.types.MatchFault.TheVariants.{Differs, Undecoded, Memory}
 use Rattle.run_pre_match.specs.Candidate.{Candidate}
-use Rattle.run_pre_match.specs.Landing.{undecoded_offset}
+use Rattle.instruction_lists.specs.Landing.{undecoded_offset}
 use Rattle.run_pre_match.specs.Matched.{PreSection, candidate, outcome}
+use Rattle.i386_reloc.specs.Normal.{function_name}
 use Rattle.propagation.specs.Conflicts.{first_some}
 use Rattle.match_candidates.specs.declared.trials.Tried.{Tried}
-use Rattle.match_candidates.specs.Candidates.{Running, code_sections, function_name, candidates_of, candidates, matches}
+use Rattle.match_candidates.specs.Candidates.{Running, code_sections, candidates_of, candidates, matches}
 
 -- the first code section whose code can't be matched, and the least offset at which it can't
 abbrev pub undecoded_in : PreSection → Option Refusal
@@ -25,7 +26,7 @@ first_undecoded object = first_some undecoded_in (code_sections object)
 
 -- the first code section without a candidate
 abbrev pub missing_in : PreSection → List Candidate → Option Refusal
-missing_in pre [] = Some (NoCandidate (function_name pre))
+missing_in pre [] = Some (NoCandidate (function_name pre.section))
 missing_in pre (c ∷ cs) = None
 
 abbrev pub first_missing : Running → List NormalSection → Option Refusal

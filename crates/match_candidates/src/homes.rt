@@ -2,7 +2,7 @@
 ghost use Rattle.std.specs.Prelude.{◌≡◌, ◌≢◌, None, Some, not, map, IfOk, IfErr};
 ghost use Rattle.std.specs.List.{filter};
 ghost use Rattle.ks_base.specs.declared.refusals.Refusal.TheVariants.{Memory};
-ghost use Rattle.match_candidates.specs.Candidates.{is_gone, homes_of, candidates_of, function_name};
+ghost use Rattle.match_candidates.specs.Candidates.{is_gone, homes_of, candidates_of};
 ghost use Rattle.match_candidates.specs.OwnFaults.{missing_in};
 ghost use Rattle.match_candidates.specs.inside.Trying.{missing_among};
 
@@ -40,16 +40,6 @@ fn still_there<S: Space>(
     Ok(homes)
 }
 
-/// The name of the function that a code section is, the empty name where it has none.
-fn function_name(alloc: Global, code: &PreCode<'_, '_>) -> Result<Name, AllocError>
-    ensures { IfOk result (λ name. name ≡ function_name code.now) }
-{
-    match &code.section().function {
-        Some(name) => Name::from_slice(alloc, name.as_slice()),
-        None => Ok(Name::new(alloc)),
-    }
-}
-
 /// The homes of a section's candidates. [`Refusal::NoCandidate`] comes where there are none.
 #[tactic(auto, using(crate::proofs::HomeLaws::missing_empty, crate::proofs::HomeLaws::missing_full))]
 fn homes_of<S: Space>(
@@ -62,7 +52,7 @@ fn homes_of<S: Space>(
     ensures refused { IfErr result
         (λ refusal. refusal ≢ Memory → missing_in code.now (candidates_of running.now code.now) ≡ Some refusal) }
 {
-    let name = function_name(alloc, code)?;
+    let name = Name::from_slice(alloc, code.section().function_name())?;
     let found = running.table.functions_of(&name)?;
     let homes = still_there(alloc, running, found.as_slice())?;
     if homes.is_empty() {

@@ -9,8 +9,9 @@ use Rattle.image_memory.specs.declared.types.Fence.{Fence}
 use Rattle.image_memory.specs.Ranges.{meets, MeetsNone, put_in}
 use Rattle.image_memory.specs.Contents.{Contents, IsValid, fence_range}
 use Rattle.image_memory.specs.Changes.{with_fence, after_fence}
+use Rattle.image_memory.specs.PutLaws.{Ascends-put, Contains-put}
 use Rattle.memory_changes.specs.Retired.{AreRetirable, with_fences, with_ranges}
-use Rattle.memory_changes.proofs.PutLaws.{Ascends-put, still_clear, pairs_tail, Contains-put, there_now}
+use Rattle.memory_changes.proofs.PutLaws.{still_clear, pairs_tail, there_now}
 
 -- one range after another
 pub none_retired : (contents : Contents) → with_fences contents [] ≡ contents

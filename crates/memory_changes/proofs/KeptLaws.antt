@@ -5,7 +5,7 @@ use Rattle.std.specs.List.{filter, find, All, Any, Contains}
 use Rattle.std.proofs.lemmas.List.Elements.{All-head, All-tail}
 use Rattle.ks_base.specs.declared.places.Range.{Range}
 use Rattle.image_memory.specs.Ranges.{lies_in, put_in, Ascends}
-use Rattle.image_memory.proofs.RangeLaws.{inside, above, each_above, found}
+use Rattle.image_memory.specs.RangeLaws.{inside, above, each_above, found}
 
 -- things that pass, after each was changed to one that passes alike, or to what it is seen by
 pub filter_map : {X Y : Type 0} (keep : Y → Bool) (f : X → Y) (xs : List X)

@@ -11,16 +11,13 @@ use Rattle.image_memory.specs.Contents.{Contents, IsValid, piece_range, fence_ra
 use Rattle.image_memory.specs.Access.{byte_at}
 use Rattle.image_memory.specs.Fetch.{HasCode}
 use Rattle.image_memory.specs.Changes.{IsPlaceable, ArePlaceable, with_piece, after_add}
-use Rattle.image_memory.proofs.AccessLaws.{length-bytes_at, get_or-bytes_at}
+use Rattle.image_memory.specs.AccessLaws.{length-bytes_at, get_or-bytes_at}
 use Rattle.splice_jump.specs.Jumps.{jumped, jumped_memory, old_at, olds_at, unjumped, AreSpliced}
-use Rattle.splice_jump.proofs.CodeLaws.{code_at}
-use Rattle.splice_jump.proofs.WriteLaws.{piece_after, unjumped-is, byte_after, Misses, Away, jumps_of, jumped_as}
-use Rattle.splice_jump.proofs.WriteLaws.{byte_outside, byte_inside, byte_after-append, in_or_out, IsWritten}
-use Rattle.splice_jump.proofs.WriteLaws.{written_or_not}
-use Rattle.splice_jump.proofs.RowLaws.{writes_apart, misses_jumps}
-use Rattle.splice_jump.proofs.JumpLaws.{all_outside}
-use Rattle.splice_jump.proofs.DataLaws.{unjumped-append, same_left}
-use Rattle.splice_jump.proofs.ChangeLaws.{not_held_twice}
+use Rattle.splice_jump.specs.CodeLaws.{code_at, not_held_twice}
+use Rattle.splice_jump.specs.WriteLaws.{piece_after, unjumped-is, byte_after, Misses, Away, jumps_of, jumped_as}
+use Rattle.splice_jump.specs.WriteLaws.{byte_outside, byte_inside, byte_after-append, in_or_out, IsWritten}
+use Rattle.splice_jump.specs.WriteLaws.{written_or_not, all_outside, unjumped-append, same_left}
+use Rattle.splice_jump.specs.RowLaws.{writes_apart, misses_jumps}
 use Rattle.memory_changes.specs.Added.{AreAddable, with_pieces}
 use Rattle.memory_changes.specs.Retired.{AreRetirable, with_fences}
 use Rattle.memory_changes.specs.Withdrawn.{without_pieces, without_ranges, withdrawn_memory}

@@ -9,8 +9,9 @@ use Rattle.image_memory.specs.declared.types.Piece.{Piece}
 use Rattle.image_memory.specs.Ranges.{are_same, meets, MeetsNone}
 use Rattle.image_memory.specs.Contents.{Contents, Room, ArePlaced, IsValid, piece_range}
 use Rattle.image_memory.specs.Changes.{IsPlaceable, ArePlaceable, without_first, with_piece, after_add}
+use Rattle.image_memory.specs.PutLaws.{Contains-put}
 use Rattle.memory_changes.specs.Added.{AreAddable, with_pieces}
-use Rattle.memory_changes.proofs.PutLaws.{still_clear, pairs_tail, Contains-put, there_now}
+use Rattle.memory_changes.proofs.PutLaws.{still_clear, pairs_tail, there_now}
 
 -- one piece after another
 pub none_added : (contents : Contents) → with_pieces contents [] ≡ contents

@@ -13,7 +13,7 @@ use Rattle.image_memory.specs.Contents.{Contents, fence_range}
 use Rattle.image_memory.specs.Changes.{HasPiece, IsRetired, after_drop, after_unfence}
 use Rattle.splice_jump.specs.Jump.{after_old}
 use Rattle.splice_jump.specs.Jumps.{unjumped}
-use Rattle.splice_jump.proofs.WriteLaws.{piece_after, unjumped-is}
+use Rattle.splice_jump.specs.WriteLaws.{piece_after, unjumped-is}
 use Rattle.memory_changes.specs.declared.types.Jump.{Jump}
 use Rattle.memory_changes.specs.Rows.{old_of}
 use Rattle.memory_changes.specs.Withdrawn.{without_pieces, without_ranges, spare_after}

@@ -15,10 +15,10 @@ use Rattle.image_memory.specs.Contents.{Contents, IsValid, piece_range, fence_ra
 use Rattle.image_memory.specs.Access.{byte_at, bytes_at, written, overlaid_piece}
 use Rattle.image_memory.specs.Fetch.{code_in, HasCode}
 use Rattle.image_memory.specs.Changes.{ArePlaceable, after_add, after_fence}
-use Rattle.image_memory.proofs.RangeLaws.{each_above}
+use Rattle.image_memory.specs.RangeLaws.{each_above}
 use Rattle.splice_jump.specs.Jumps.{jumped, unjumped}
-use Rattle.splice_jump.proofs.CodeLaws.{code_at}
-use Rattle.splice_jump.proofs.WriteLaws.{piece_after, unjumped-is, jumps_of, jumped-is}
+use Rattle.splice_jump.specs.CodeLaws.{code_at}
+use Rattle.splice_jump.specs.WriteLaws.{piece_after, unjumped-is, jumps_of, jumped-is}
 use Rattle.memory_changes.specs.Added.{AreAddable, with_pieces}
 use Rattle.memory_changes.specs.Retired.{AreRetirable, with_fences, with_ranges}
 use Rattle.memory_changes.specs.Withdrawn.{is_based_at, without_pieces, is_one_of, ranges_but, without_ranges}

@@ -1,38 +1,23 @@
 -- The loaded sections of an object that breaks no rule have all their bytes.
 use Rattle.std.proofs.Common.{◌≡◌, ◌≢◌, ℕ, zero, suc, ◌+◌, ◌<◌, ◌≤◌, true, false, ◌==◌, ◌||◌, List, []}
-use Rattle.std.proofs.Common.{◌∷◌, ◌++◌, length, take, drop, Option, Some, None, refl, ap, ◌∙◌}
+use Rattle.std.proofs.Common.{◌∷◌, ◌++◌, length, take, drop, None, refl, ap, ◌∙◌}
 use Rattle.std.proofs.Common.{if◌then◌else◌, inl, inr, arith, length-take, length-drop}
-use Rattle.std.proofs.lemmas.Bool.{cases_Bool, cases_lt}
+use Rattle.std.proofs.lemmas.Bool.{cases_Bool}
 use Rattle.std.proofs.lemmas.Bool.Decides.{nat_tests}
 use Rattle.elf32_object.specs.Numbers.{SHT_NOBITS}
 use Rattle.elf32_object.specs.declared.types.SectionHeader.{SectionHeader}
 use Rattle.elf32_object.specs.declared.types.Reloc.{Reloc}
-use Rattle.elf32_object.specs.Below.{first_of, first_below}
+use Rattle.elf32_object.specs.Below.{first_below}
 use Rattle.elf32_object.specs.Fields.{section_count, section_header, section_bytes, has_no_bytes, lies_in_file}
 use Rattle.elf32_object.specs.Fields.{holds_program, is_section, is_loaded}
 use Rattle.elf32_object.specs.Rules.{object_fault, place_fault, section_fault}
+use Rattle.elf32_object.specs.BelowLaws.{none_first, none_second, none_below}
 use Rattle.i386_reloc.specs.declared.types.Class.TheVariants.{Zero}
 use Rattle.i386_reloc.specs.declared.types.NormalSection.{NormalSection}
 use Rattle.i386_reloc.specs.Classes.{class_of}
 use Rattle.i386_reloc.specs.Normal.{loaded_below, loaded_sections, normal_section}
 use Rattle.i386_reloc.specs.References.{blanked_from, blanked_bytes}
 use Rattle.new_code.specs.Apart.{IsWhole, AreWhole}
-
-none_first : {X : Type 0} (a b : Option X) → first_of a b ≡ None → a ≡ None
-none_first (Some x) b e = e
-none_first None b e = refl
-
-none_second : {X : Type 0} (a b : Option X) → first_of a b ≡ None → b ≡ None
-none_second (Some x) b e = cc
-none_second None b e = e
-
-none_below : {X : Type 0} (f : ℕ → Option X) (n : ℕ) → first_below f n ≡ None → (i : ℕ) → i < n → f i ≡ None
-none_below f zero e i h = absurd (omega arith)
-none_below f (suc n) e i h =
-    elim (cases_lt i n) [
-      | inl lt ↦ none_below f n (none_first (first_below f n) (f n) e) i lt
-      | inr le ↦ ap f (let same : i ≡ n = omega arith in same) ∙ none_second (first_below f n) (f n) e
-    ]
 
 sections_kept : (bytes : List ℕ) → object_fault bytes ≡ None
     → first_below (section_fault bytes) (section_count bytes) ≡ None

@@ -9,7 +9,7 @@ mod reporting;
 mod symbols;
 
 pub use crate::laws::{new_pieces_lie_apart, places_are_found, sections_are_whole};
-pub use crate::parts::{Part, function_name, sizes};
+pub use crate::parts::{Part, sizes};
 pub use crate::pieces::new_pieces;
 pub use crate::reporting::report_of;
 pub use crate::symbols::{NewSymbols, new_symbols};

@@ -1,6 +1,5 @@
 //! The sections of a new object that an update places, and their places.
 ghost use Rattle.std.specs.Prelude.{◌≡◌, map, IfOk};
-ghost use Rattle.i386_reloc.specs.Normal.{function_name};
 ghost use Rattle.new_code.specs.Parts.{at_places, new_part, placed_part, size_of};
 
 use i386_reloc::NormalSection;
@@ -132,14 +131,4 @@ pub(crate) fn at_places<'p, 'a>(
         placed.push(PlacedPart::new(part.section(), part.role(), place.base))?;
     }
     Ok(placed)
-}
-
-/// The name of the function that a section is, without bytes where it is none. `Err` comes for want of memory alone.
-pub fn function_name(alloc: Global, section: &NormalSection<'_>) -> Result<Name, AllocError>
-    ensures { IfOk result (λ name. name ≡ function_name section.now) }
-{
-    match &section.function {
-        Some(name) => Name::from_slice(alloc, name.as_slice()),
-        None => Ok(Name::new(alloc)),
-    }
 }

@@ -7,7 +7,7 @@ ghost use Rattle.new_code.specs.Reports.{added_of, dropped_in, replaced_as, repl
 ghost use Rattle.new_code.specs.inside.OldMaps.{AreFirst};
 
 use crate::olds::olds_by_section;
-use crate::parts::{Part, PlacedPart, at_places, function_name};
+use crate::parts::{Part, PlacedPart, at_places};
 use ks_base::{Added, AddedList, Name, Names, Replaced, ReplacedList, Report};
 use link_post::Placement;
 use retired_code::OldFunction;
@@ -119,7 +119,7 @@ fn add_added(
 {
     match part.role() {
         Role::Added => added.push(Added {
-            function: function_name(alloc, part.section())?,
+            function: Name::from_slice(alloc, part.section().function_name())?,
             base: part.base(),
         }),
         Role::Changed => Ok(()),

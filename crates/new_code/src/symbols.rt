@@ -2,7 +2,7 @@
 ghost use Rattle.std.specs.Prelude.{◌≡◌, ◌++◌, map, IfOk, OnOk};
 ghost use Rattle.new_code.specs.NewSymbols.{function_symbol, new_symbols, symbols_of, variable_symbol};
 
-use crate::parts::{Part, PlacedPart, at_places, function_name};
+use crate::parts::{Part, PlacedPart, at_places};
 use i386_reloc::{NormalSection, ObjectSymbol};
 use ks_base::{ListOf, Name};
 use link_post::Placement;
@@ -60,7 +60,7 @@ fn function_symbol(
         address: base,
         function: true,
         global: section.global,
-        name: function_name(alloc, section)?,
+        name: Name::from_slice(alloc, section.function_name())?,
     })
 }
 

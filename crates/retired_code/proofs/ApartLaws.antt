@@ -11,19 +11,20 @@ use Rattle.std.proofs.lemmas.List.Elements.{All-head, All-tail, All-cons}
 use Rattle.std.proofs.lemmas.Map.Made.{AllPairs-from_IsDistinct}
 use Rattle.ks_base.specs.declared.places.Range.{Range}
 use Rattle.ks_base.specs.declared.refusals.Refusal.TheVariants.{Overlap}
+use Rattle.elf32_object.specs.BelowLaws.{none_second}
 use Rattle.i386_reloc.specs.Normal.{same_bytes}
 use Rattle.i386_reloc.specs.Refused.{first_among}
 use Rattle.image_memory.specs.Ranges.{meets, MeetsNone, from_to}
 use Rattle.image_memory.specs.Contents.{Contents}
+use Rattle.image_memory.specs.Fetch.{jump_length}
 use Rattle.symbol_table.specs.declared.symbols.Symbol.{Symbol}
-use Rattle.retired_code.specs.declared.types.TheConstants.{JUMP_LENGTH}
+use Rattle.image_memory.specs.RangeLaws.{they_meet, meet_where}
 use Rattle.retired_code.specs.declared.types.OldFunction.{OldFunction}
 use Rattle.retired_code.specs.Retired.{body_range, is_first, is_replaced, is_retired, retired_by}
 use Rattle.retired_code.specs.Retired.{retired_range, section_of, takes_jump}
 use Rattle.retired_code.specs.Overlaps.{LieApart, code_refusal, is_other, other_bodies, overlap_refusal, overlap_with}
 use Rattle.retired_code.specs.Overlaps.{room_refusal}
-use Rattle.retired_code.proofs.ListLaws.{among_none, find_none, none_second}
-use Rattle.retired_code.proofs.CountLaws.{they_meet, meet_where}
+use Rattle.retired_code.proofs.ListLaws.{among_none, find_none}
 
 -- ---- lists of which some items are taken
 All-taken : {X Y : Type 0} (f : X → Y) (p : X → Bool) (P : Y → Type 0) (xs : List X) →
@@ -113,15 +114,15 @@ bounds_by : (old : OldFunction) (b : Bool) → takes_jump old ≡ b → Bounds o
 bounds_by old true jump =
     let first : old.base ≡ old.home = eqb-true old.base old.home (and_parts (is_replaced old.fate) (is_first old)
     jump).1 in
-    let is : retired_range old ≡ from_to old.home (old.home + max old.length JUMP_LENGTH) =
-    ap (λ c. cond c (from_to old.home (old.home + max old.length JUMP_LENGTH)) (body_range old)) jump in
+    let is : retired_range old ≡ from_to old.home (old.home + max old.length jump_length) =
+    ap (λ c. cond c (from_to old.home (old.home + max old.length jump_length)) (body_range old)) jump in
     record {
       low = ap (λ (r : Range). r.low) is ∙ sym first;
       high = (let high = ap (λ (r : Range). r.high) is in omega (arith, high, first));
     }
 bounds_by old false later =
     let is : retired_range old ≡ body_range old =
-    ap (λ c. cond c (from_to old.home (old.home + max old.length JUMP_LENGTH)) (body_range old)) later in
+    ap (λ c. cond c (from_to old.home (old.home + max old.length jump_length)) (body_range old)) later in
     record {
       low = ap (λ (r : Range). r.low) is;
       high = (let high = ap (λ (r : Range). r.high) is in omega (arith, high));

@@ -1,6 +1,6 @@
 -- Counts: of ascending numbers below a bound, and of ranges that one range meets.
 use Rattle.std.proofs.Common.{◌≡◌, ℕ, zero, suc, ◌+◌, ◌-◌, ◌<◌, ◌≤◌, Bool, true, false, cond, ◌⊎◌, inl, inr, List}
-use Rattle.std.proofs.Common.{[], ◌∷◌, ◌++◌, length, get_or, min, max, nat_lt, Some, None, refl, sym, ap, ◌∙◌}
+use Rattle.std.proofs.Common.{[], ◌∷◌, ◌++◌, length, get_or, nat_lt, Some, None, refl, sym, ap, ◌∙◌}
 use Rattle.std.proofs.Common.{arith}
 use Rattle.std.specs.List.{filter, find}
 use Rattle.std.specs.List.Sorted.{IsPermutation}
@@ -12,6 +12,7 @@ use Rattle.std.proofs.lemmas.List.Sums.{length-filter}
 use Rattle.std.proofs.lemmas.List.Sorted.{sum_by-IsPermutation}
 use Rattle.ks_base.specs.declared.places.Range.{Range}
 use Rattle.image_memory.specs.Ranges.{meets}
+use Rattle.image_memory.specs.RangeLaws.{they_meet}
 use Rattle.retired_code.specs.inside.Counts.{AreCounted, highs_of, how_many, is_full, lows_of}
 
 -- one for an item that passes
@@ -56,23 +57,6 @@ none_counted p (x ∷ xs) none =
       | true ↦ λ e. absurd (omega arith)
       | false ↦ λ e. none_counted p xs e
     ] none
-
--- ---- ranges that meet
-pub record Meet (a b : Range) : Type 0 where
-  pub first : a.low < b.high
-  pub second : b.low < a.high
-  pub one : a.low < a.high
-  pub other : b.low < b.high
-
-pub they_meet : (a b : Range) → meets a b ≡ true → Meet a b
-they_meet a b e =
-    let less : max a.low b.low < min a.high b.high = ltb-true (max a.low b.low) (min a.high b.high) e in
-    record { first = omega arith; second = omega arith; one = omega arith; other = omega arith }
-
-pub meet_where : (a b : Range) → a.low < b.high → b.low < a.high → a.low < a.high → b.low < b.high → meets a b ≡ true
-meet_where a b first second one other =
-    let less : max a.low b.low < min a.high b.high = omega arith in
-    lt-ltb (max a.low b.low) (min a.high b.high) less
 
 bool_cases : (b : Bool) → (b ≡ true) ⊎ (b ≡ false)
 bool_cases true = inl refl

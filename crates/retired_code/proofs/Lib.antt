@@ -1,7 +1,6 @@
 pub mod ListLaws
 pub mod CountLaws
 pub mod OverlapLaws
-pub mod MetLaws
 pub mod PaddingLaws
 pub mod RoomLaws
 pub mod SameRoom

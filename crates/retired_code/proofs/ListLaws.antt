@@ -2,17 +2,9 @@
 use Rattle.std.proofs.Common.{◌≡◌, ℕ, zero, suc, ◌<◌, Bool, true, false, cond, List, [], ◌∷◌}
 use Rattle.std.proofs.Common.{length, get_or, Option, Some, None, refl, arith}
 use Rattle.std.specs.List.{find}
-use Rattle.elf32_object.specs.Below.{first_of}
 use Rattle.ks_base.specs.declared.refusals.Refusal.{Refusal}
+use Rattle.elf32_object.specs.BelowLaws.{none_first, none_second}
 use Rattle.i386_reloc.specs.Refused.{first_among}
-
-pub none_first : (a b : Option Refusal) → first_of a b ≡ None → a ≡ None
-none_first None b e = refl
-none_first (Some x) b e = e
-
-pub none_second : (a b : Option Refusal) → first_of a b ≡ None → b ≡ None
-none_second None b e = e
-none_second (Some x) b e = absurd cc
 
 -- no item is refused where none among them is
 pub among_none : {X : Type 0} (f : X → Option Refusal) (xs : List X) (i : ℕ) (d : X) → first_among f xs ≡ None →

@@ -10,24 +10,25 @@ use Rattle.ks_base.specs.declared.places.Range.{Range}
 use Rattle.ks_base.specs.declared.refusals.Refusal.TheVariants.{Overlap}
 use Rattle.i386_reloc.specs.Normal.{same_bytes}
 use Rattle.image_memory.specs.Ranges.{meets, from_to}
-use Rattle.retired_code.specs.declared.types.TheConstants.{JUMP_LENGTH}
+use Rattle.image_memory.specs.Fetch.{jump_length}
+use Rattle.image_memory.specs.RangeLaws.{meet_where}
 use Rattle.retired_code.specs.declared.types.OldFunction.{OldFunction}
 use Rattle.retired_code.specs.Retired.{body_range, is_first, is_replaced, is_retired, retired_range}
 use Rattle.retired_code.specs.Retired.{takes_jump}
 use Rattle.retired_code.specs.Overlaps.{is_other, other_bodies, overlap_with, overlap_refusal}
 use Rattle.retired_code.specs.inside.Counts.{all_ranges, how_many, own_count}
-use Rattle.retired_code.proofs.CountLaws.{meet_where, how_many-cons, how_many-append, none_counted, one_where}
+use Rattle.retired_code.proofs.CountLaws.{how_many-cons, how_many-append, none_counted, one_where}
 
 pub same_self : (name : List ℕ) → same_bytes name name ≡ true
 same_self name = (bytes_decides name name).1 refl
 
 -- ---- a function's own body
 meets_own : (old : OldFunction) (b : Bool) → takes_jump old ≡ b → 0 < old.length →
-    meets (cond b (from_to old.home (old.home + max old.length JUMP_LENGTH)) (body_range old)) (body_range old) ≡ true
+    meets (cond b (from_to old.home (old.home + max old.length jump_length)) (body_range old)) (body_range old) ≡ true
 meets_own old true jump some =
     let first : old.base ≡ old.home = eqb-true old.base old.home (and_parts (is_replaced old.fate) (is_first old)
     jump).1 in
-    meet_where (from_to old.home (old.home + max old.length JUMP_LENGTH)) (body_range old) (omega arith) (omega arith)
+    meet_where (from_to old.home (old.home + max old.length jump_length)) (body_range old) (omega arith) (omega arith)
     (omega arith) (omega arith)
 meets_own old false jump some =
     meet_where (body_range old) (body_range old) (omega arith) (omega arith) (omega arith) (omega arith)

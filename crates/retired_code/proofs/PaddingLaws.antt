@@ -1,8 +1,8 @@
 -- How padding goes on, and that it goes as far by any number of instructions that is enough.
 use Rattle.std.proofs.Common.{◌≡◌, ℕ, zero, suc, ◌+◌, ◌-◌, ◌<◌, ◌≤◌, min, true, false, cond, List, []}
-use Rattle.std.proofs.Common.{length, Option, Some, None, refl, sym, ap, ◌∙◌, arith}
+use Rattle.std.proofs.Common.{length, Option, Some, None, unwrap_or, refl, sym, ap, ◌∙◌, arith}
 use Rattle.image_memory.specs.Contents.{Contents}
-use Rattle.image_memory.specs.Fetch.{View, Unmapped, AtHome, Stray, Bytes, view_at}
+use Rattle.image_memory.specs.Fetch.{View, Unmapped, AtHome, Stray, Bytes, bytes_met, view_at}
 use Rattle.ia32_decode.specs.declared.types.Decoded.{Decoded}
 use Rattle.ia32_decode.specs.Decode.{decoded_from}
 use Rattle.ia32_decode.specs.Padding.{is_padding_of}
@@ -33,6 +33,22 @@ padding_met some within Unmapped = sym (ap padding_by (nothing_decoded some with
 padding_met some within AtHome = sym (ap padding_by (nothing_decoded some within))
 padding_met some within Stray = sym (ap padding_by (nothing_decoded some within))
 padding_met some within (Bytes code) = refl
+
+-- where no code is met there is no padding, and where code is met it tells it
+pub none_padded : (v : View) → bytes_met v ≡ None → padding_length v ≡ None
+none_padded Unmapped none = refl
+none_padded AtHome none = refl
+none_padded Stray none = refl
+none_padded (Bytes code) none = absurd cc
+
+pub padded_as : (v : View) (code : List ℕ) → v ≡ Bytes code → padding_length v ≡ padding_by (decoded_from code)
+padded_as v code met = ap padding_length met
+
+pub none_long : (v : View) → bytes_met v ≡ None → length (code_met v) ≡ 0
+none_long v none = ap (λ o. length (unwrap_or o [])) none
+
+pub met_long : (v : View) (code : List ℕ) → v ≡ Bytes code → length (code_met v) ≡ length code
+met_long v code met = ap (λ (w : View). length (code_met w)) met
 
 -- the instruction that padding is
 record Padded (code : List ℕ) (n : ℕ) : Type 0 where

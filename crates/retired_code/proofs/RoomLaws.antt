@@ -11,14 +11,13 @@ use Rattle.image_memory.specs.Ranges.{lies_in, meets, MeetsNone, Ascends, from_t
 use Rattle.image_memory.specs.Contents.{Contents, IsValid, fence_range, spliced_at}
 use Rattle.image_memory.specs.Fetch.{Stray, Bytes, seen_in, view, view_at, code_from}
 use Rattle.image_memory.specs.Fetch.{cut_before, window_of}
-use Rattle.image_memory.proofs.RangeLaws.{found, each_above, inside, within}
+use Rattle.image_memory.specs.RangeLaws.{found, each_above, inside, within, meet_where}
 use Rattle.ia32_decode.specs.Decode.{decoded_from}
 use Rattle.symbol_table.specs.declared.symbols.Symbol.{Symbol}
 use Rattle.symbol_table.specs.Symbols.{next_address}
 use Rattle.retired_code.specs.Room.{padding_length, padding_by, padding_end, up_to_symbol}
 use Rattle.retired_code.specs.Room.{room}
 use Rattle.retired_code.specs.inside.Met.{code_met}
-use Rattle.retired_code.proofs.CountLaws.{meet_where}
 use Rattle.retired_code.proofs.PaddingLaws.{AreSome, AreWithin, padding_met, enough, not_padded, stops}
 use Rattle.retired_code.proofs.PaddingLaws.{nothing_decoded}
 

@@ -10,8 +10,8 @@ use Rattle.i386_reloc.specs.Normal.{same_bytes}
 use Rattle.i386_reloc.specs.Refused.{first_among, refused_where}
 use Rattle.image_memory.specs.Ranges.{meets, MeetsNone}
 use Rattle.image_memory.specs.Contents.{Contents}
+use Rattle.image_memory.specs.Fetch.{jump_length}
 use Rattle.symbol_table.specs.declared.symbols.Symbol.{Symbol}
-use Rattle.retired_code.specs.declared.types.TheConstants.{JUMP_LENGTH}
 use Rattle.retired_code.specs.declared.types.OldFunction.{OldFunction}
 use Rattle.retired_code.specs.Room.{room}
 use Rattle.retired_code.specs.Retired.{body_range, is_retired, retired_range, takes_jump}
@@ -19,7 +19,7 @@ use Rattle.retired_code.specs.Retired.{body_range, is_retired, retired_range, ta
 -- a first version that is replaced has no room for the jump
 abbrev pub room_refusal : Contents → List Symbol → OldFunction → Option Refusal
 room_refusal contents symbols old =
-    refused_where (takes_jump old && nat_lt (room contents symbols old.home old.length) JUMP_LENGTH)
+    refused_where (takes_jump old && nat_lt (room contents symbols old.home old.length) jump_length)
     (TooSmall old.section (room contents symbols old.home old.length))
 
 -- the bodies of the functions of other sections, in their order

@@ -4,7 +4,7 @@ use Rattle.std.specs.List.{All, filter}
 use Rattle.ks_base.specs.declared.places.Range.{Range}
 use Rattle.image_memory.specs.Ranges.{MeetsNone, from_to}
 use Rattle.image_memory.specs.Contents.{Contents, fence_range}
-use Rattle.retired_code.specs.declared.types.TheConstants.{JUMP_LENGTH}
+use Rattle.image_memory.specs.Fetch.{jump_length}
 use Rattle.retired_code.specs.declared.types.Fate.{Fate}
 use Rattle.retired_code.specs.declared.types.Fate.TheVariants.{Kept, Replaced, Dropped}
 use Rattle.retired_code.specs.declared.types.OldFunction.{OldFunction}
@@ -42,13 +42,13 @@ takes_jump old = is_replaced old.fate && is_first old
 
 -- the bytes at a home that a jump takes
 abbrev pub jump_range : OldFunction → Range
-jump_range old = from_to old.home (old.home + JUMP_LENGTH)
+jump_range old = from_to old.home (old.home + jump_length)
 
 -- What is retired of a function: of a first version that is replaced its body, and at least the bytes of the jump; of a
 -- later version, and of a function that is dropped, the body.
 abbrev pub retired_range : OldFunction → Range
 retired_range old =
-    if takes_jump old then from_to old.home (old.home + max old.length JUMP_LENGTH) else body_range old
+    if takes_jump old then from_to old.home (old.home + max old.length jump_length) else body_range old
 
 -- the ranges that are retired, in the functions' order
 unfoldable pub retired_by : List OldFunction → List Range
@@ -66,7 +66,7 @@ guarded has_jump olds = retired_by olds ++ map jump_range (filter (is_guarded ha
 -- a body and a jump at the home end at addresses of 32 bits
 pub record IsBody (old : OldFunction) : Type 0 where
   pub body : old.base + old.length < 2 ^ 32
-  pub jump : old.home + JUMP_LENGTH < 2 ^ 32
+  pub jump : old.home + jump_length < 2 ^ 32
 
 abbrev pub AreBodies : List OldFunction → Type 0
 AreBodies olds = All IsBody olds

@@ -2,38 +2,29 @@
 ghost use Rattle.std.specs.Prelude.{◌≡◌, ◌≤◌, ◌<◌, ◌+◌, ◌-◌, ◌^◌, min, length, IfSome};
 ghost use Rattle.image_memory.specs.Ranges.{MeetsNone, from_to};
 ghost use Rattle.image_memory.specs.Contents.{fence_range};
-ghost use Rattle.image_memory.specs.Fetch.{fetched, view_at};
+ghost use Rattle.image_memory.specs.Fetch.{jump_length, view_at};
 ghost use Rattle.retired_code.specs.Room.{padding_length, padding_end, room, up_to_symbol};
 ghost use Rattle.retired_code.specs.inside.Met.{code_met};
 
-use crate::types::JUMP_LENGTH;
 use ia32_decode::{decode, instructions_have_bytes, is_padding};
-use image_memory::{Space, Window};
+use image_memory::{JUMP_LENGTH, Space, window_met};
 use symbol_table::SymbolTable;
 
-/// A window in which nothing is met.
-const NOTHING: Window = Window {
-    bytes: [0; 15],
-    length: 0,
-};
-
-/// The code that is met at an address, of which there is none at a spliced home and in a retired range.
-fn window_met<S: Space>(space: &S, address: u32) -> Window
-    ensures met { fetched result ≡ code_met (view_at (S.contents space.now) address) }
-    ensures long { length (fetched result) ≡ result.length }
-    ensures short { result.length ≤ 15 }
-    ensures low { 0 < length (fetched result) → address < 0xFFFF_0000 }
+/// How many bytes of code are met at an address, none at a spliced home and in a retired range.
+#[tactic(auto, using(crate::proofs::PaddingLaws::none_long, crate::proofs::PaddingLaws::met_long))]
+fn length_met<S: Space>(space: &S, address: u32) -> u32
+    ensures met { result ≡ length (code_met (view_at (S.contents space.now) address)) }
+    ensures low { 0 < result → address < 0xFFFF_0000 }
+    ensures short { result ≤ 15 }
 {
-    if space.spliced(address) {
-        return NOTHING;
+    match window_met(space, address) {
+        Some(window) => window.length,
+        None => 0,
     }
-    let Ok(window) = space.window(address) else {
-        return NOTHING;
-    };
-    window
 }
 
 /// The length of the instruction that is met at an address, where it is padding.
+#[tactic(auto, using(crate::proofs::PaddingLaws::none_padded, crate::proofs::PaddingLaws::padded_as))]
 fn padding_at<S: Space>(space: &S, address: u32) -> Option<u32>
     ensures length { result ≡ padding_length (view_at (S.contents space.now) address) }
     ensures some { IfSome result (λ n. 0 < n) }
@@ -41,7 +32,7 @@ fn padding_at<S: Space>(space: &S, address: u32) -> Option<u32>
 {
     // Nothing is done here: the law says that no instruction is empty.
     instructions_have_bytes();
-    let window = window_met(space, address);
+    let window = window_met(space, address)?;
     let decoded = decode(&window.bytes[..window.length as usize])?;
     if is_padding(&decoded) {
         Some(decoded.length)
@@ -82,11 +73,11 @@ fn up_to_symbol(end: u32, next: Option<u32>) -> u32
 pub fn room_for_jump<S: Space>(space: &S, table: &SymbolTable, home: u32, length: u32) -> u32
     requires fits { home + length < 2 ^ 32 }
     requires in_use { MeetsNone fence_range (from_to home (home + length)) (S.contents space.now).fences }
-    ensures { result ≡ min (room (S.contents space.now) table.now.symbols home length) JUMP_LENGTH }
+    ensures { result ≡ min (room (S.contents space.now) table.now.symbols home length) jump_length }
 {
     // Nothing is done here: the law says how many bytes an instruction has.
     instructions_have_bytes();
-    let met = window_met(space, home).length.min(JUMP_LENGTH);
+    let met = length_met(space, home).min(JUMP_LENGTH as u32);
     let end = padding_end(space, home + length, home + met);
     up_to_symbol(end, table.next_address(home)).saturating_sub(home)
 }

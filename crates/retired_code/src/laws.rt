@@ -7,7 +7,6 @@ ghost use Rattle.image_memory.specs.Contents.{Contents};
 ghost use Rattle.image_memory.specs.Fetch.{HasCode, view_at};
 ghost use Rattle.symbol_table.specs.declared.symbols.Symbol.{Symbol};
 ghost use Rattle.retired_code.specs.declared.types.OldFunction.{OldFunction};
-ghost use Rattle.retired_code.specs.declared.types.TheConstants.{JUMP_LENGTH};
 ghost use Rattle.retired_code.specs.Room.{HaveOneShape, room};
 ghost use Rattle.retired_code.specs.Retired.{retired_by, section_of};
 ghost use Rattle.retired_code.specs.Overlaps.{LieApart, code_refusal};
@@ -29,9 +28,4 @@ pub fn room_is_code()
 pub fn room_is_met()
     ensures { (a b : Contents) → ((pc : ℕ) → view_at a pc ≡ view_at b pc) → HaveOneShape a b
         → (symbols : List Symbol) (home length : ℕ) → room a symbols home length ≡ room b symbols home length }
-{}
-
-/// A jump takes five bytes: E9, and a displacement of four (Intel SDM volume 2, JMP rel32).
-pub fn jumps_have_five_bytes()
-    ensures { JUMP_LENGTH ≡ 5 }
 {}

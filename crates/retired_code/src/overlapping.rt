@@ -10,15 +10,9 @@ ghost use Rattle.retired_code.specs.inside.Counts.{all_ranges, own_count};
 
 use crate::bounds::Bounds;
 use crate::types::OldFunction;
+use image_memory::meets;
 use ks_base::{Range, Ranges, Refusal};
 use std::alloc::{AllocError, Global};
-
-/// Whether two ranges share an address.
-fn meet(range: Range, other: Range) -> bool
-    ensures { result ≡ meets range other }
-{
-    range.low.max(other.low) < range.high.min(other.high)
-}
 
 /// Whether a function is that of another section.
 fn is_other(old: &OldFunction, other: &OldFunction) -> bool
@@ -32,7 +26,7 @@ fn meets_other(range: Range, old: &OldFunction, other: &OldFunction) -> bool
     requires { IsBody other.now }
     ensures { result ≡ (is_other old.now other.now && meets range (body_range other.now)) }
 {
-    is_other(old, other) && meet(range, other.body_range())
+    is_other(old, other) && meets(range, other.body_range())
 }
 
 /// The first body of another function that a range meets.
@@ -52,7 +46,7 @@ fn body_met(range: Range, old: &OldFunction, olds: &[OldFunction]) -> Option<Ran
 fn range_met(range: Range, others: &[Range]) -> Option<Range>
     ensures { result ≡ find (meets range) others.now }
 {
-    others.iter().copied().find(|other| meet(range, *other))
+    others.iter().copied().find(|other| meets(range, *other))
 }
 
 /// The first that a range meets, of the bodies of other functions and then of the retired ranges.

@@ -8,8 +8,8 @@ ghost use Rattle.image_memory.specs.Contents.{fence_range};
 
 use crate::jump_room::room_for_jump;
 use crate::overlapping::check_overlaps;
-use crate::types::{JUMP_LENGTH, OldFunction};
-use image_memory::Space;
+use crate::types::OldFunction;
+use image_memory::{JUMP_LENGTH, Space};
 use ks_base::{Name, Ranges, Refusal};
 use std::alloc::Global;
 use symbol_table::SymbolTable;
@@ -29,7 +29,7 @@ fn check_room<S: Space>(
         return Ok(());
     }
     let room = room_for_jump(space, table, old.home, old.length);
-    if room < JUMP_LENGTH {
+    if room < JUMP_LENGTH as u32 {
         let section = Name::from_slice(alloc, old.section.as_slice())?;
         return Err(Refusal::TooSmall(section, room));
     }

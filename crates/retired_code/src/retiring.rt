@@ -4,8 +4,8 @@ ghost use Rattle.image_memory.specs.Contents.{spliced_at};
 ghost use Rattle.retired_code.specs.Retired.{AreBodies, IsBody, body_range, guarded, is_dropped, is_first, is_replaced};
 ghost use Rattle.retired_code.specs.Retired.{is_retired, jump_range, retired_by, retired_range, takes_jump};
 
-use crate::types::{Fate, JUMP_LENGTH, OldFunction};
-use image_memory::Space;
+use crate::types::{Fate, OldFunction};
+use image_memory::{JUMP_LENGTH, Space};
 use ks_base::{Range, Ranges};
 use std::alloc::{AllocError, Global};
 
@@ -65,7 +65,7 @@ impl OldFunction {
     {
         Range {
             low: self.home,
-            high: self.home + JUMP_LENGTH,
+            high: self.home + JUMP_LENGTH as u32,
         }
     }
 
@@ -78,7 +78,7 @@ impl OldFunction {
         if self.takes_jump() {
             Range {
                 low: self.home,
-                high: self.home + self.length.max(JUMP_LENGTH),
+                high: self.home + self.length.max(JUMP_LENGTH as u32),
             }
         } else {
             self.body_range()
@@ -132,7 +132,7 @@ pub fn are_bodies(olds: &[OldFunction]) -> bool
 fn is_body(old: &OldFunction) -> bool
     ensures { IsTrue result ↔ IsBody old.now }
 {
-    ends_low(old.base, old.length) && ends_low(old.home, JUMP_LENGTH)
+    ends_low(old.base, old.length) && ends_low(old.home, JUMP_LENGTH as u32)
 }
 
 /// Whether so many bytes from an address on end at one of 32 bits.

@@ -1,9 +1,6 @@
 //! The functions of an old object as they run, and what an update does with each.
 use ks_base::Name;
 
-/// The bytes of the jump that an update writes at the home of a function that it replaces.
-pub const JUMP_LENGTH: u32 = 5;
-
 /// What an update does with a function of its old object.
 #[derive(Clone, Copy, PartialEq, Eq, Debug)]
 pub enum Fate {

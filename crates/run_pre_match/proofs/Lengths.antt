@@ -1,116 +1,26 @@
 -- Where the body of a match lies.
 use Rattle.std.proofs.Common.{◌≡◌, ◌⊎◌, inl, inr, ◌==◌, ℕ, zero, suc, ◌+◌, ◌-◌, ◌^◌, ◌<◌, ◌≤◌, Bool, true, false, cond}
-use Rattle.std.proofs.Common.{List, [], ◌∷◌, ◌++◌, length, drop, map, min, Option, Some, None, Ok, All, nat_lt, nat_le}
-use Rattle.std.proofs.Common.{refl, ap, subst, arith}
-use Rattle.std.specs.List.{find, list_any, reduce}
-use Rattle.std.proofs.lemmas.Bool.{leb-true, ltb-true, and_parts}
-use Rattle.std.proofs.lemmas.List.{length-take, length-drop}
-use Rattle.std.proofs.lemmas.List.Elements.{All-head, All-tail}
-use Rattle.ks_base.specs.declared.places.Range.{Range}
+use Rattle.std.proofs.Common.{List, [], ◌∷◌, ◌++◌, length, min, Option, Some, None, Ok, refl, ap, arith}
+use Rattle.std.specs.List.{reduce}
 use Rattle.i386_reloc.specs.declared.types.NormalSection.{NormalSection}
-use Rattle.image_memory.specs.declared.types.Piece.{Piece}
-use Rattle.image_memory.specs.Ranges.{lies_in}
-use Rattle.image_memory.specs.Contents.{Contents, IsValid, piece_range, fence_range, holding, spliced_at}
-use Rattle.image_memory.specs.Fetch.{AtHome, Stray, Bytes, is_code, code_in, code_from, cut_before, window_of, seen_in}
-use Rattle.image_memory.specs.Fetch.{view, view_at}
-use Rattle.ia32_decode.specs.declared.types.Decoded.{Decoded}
-use Rattle.ia32_decode.specs.Decode.{decoded_from}
+use Rattle.image_memory.specs.Contents.{Contents, IsValid}
 use Rattle.run_pre_match.specs.declared.types.Matched.{Matched}
-use Rattle.run_pre_match.specs.Instructions.{Instruction, after, end_of, listed_on, listed, kept_of, through_kept}
-use Rattle.run_pre_match.specs.PreCode.{pre_code}
-use Rattle.run_pre_match.specs.RunCode.{run_instruction_at, run_code}
-use Rattle.run_pre_match.specs.Landing.{broken_offsets, misplaced_offsets, astray_offsets, unmet_offsets, empty_offsets}
-use Rattle.run_pre_match.specs.Landing.{offsets_named, undecoded_offset}
+use Rattle.instruction_lists.specs.Instructions.{Instruction, after, end_of, listed_on, listed, kept_of, through_kept}
+use Rattle.instruction_lists.specs.PreCode.{pre_code}
+use Rattle.instruction_lists.specs.RunCode.{run_instruction_at, run_code}
+use Rattle.instruction_lists.specs.Landing.{broken_offsets, misplaced_offsets, astray_offsets, unmet_offsets}
+use Rattle.instruction_lists.specs.Landing.{empty_offsets, offsets_named, undecoded_offset}
 use Rattle.run_pre_match.specs.Candidate.{Candidate, pre_list, run_list}
 use Rattle.run_pre_match.specs.Matched.{outcome}
-use Rattle.run_pre_match.proofs.Listed.{AreWithin}
-use Rattle.run_pre_match.proofs.RunLaws.{HaveBytes, spelled_at, has_bytes, place_met}
 use Rattle.run_pre_match.proofs.Claims.{no_difference}
 use Rattle.run_pre_match.proofs.Valuations.{matches}
 
--- ---- code ends where its piece does
-in_piece : (p : Piece) (pc : ℕ) (code : List ℕ) (b : Bool) → p.base ≤ pc → pc < p.base + length p.bytes →
-    p.base + length p.bytes ≤ 0xFFFF_0000 → cond b (Some (drop (pc - p.base) p.bytes)) None ≡ Some code →
-    pc + length code ≤ 0xFFFF_0000
-in_piece p pc code true low high ends is =
-    let same : drop (pc - p.base) p.bytes ≡ code = cc in
-    let long : length (drop (pc - p.base) p.bytes) ≡ length code = ap (λ (l : List ℕ). length l) same in
-    let rest = length-drop (pc - p.base) p.bytes in
-    omega (arith, low, high, ends, long, rest)
-in_piece p pc code false low high ends is = absurd cc
-
-code_held : (p : Piece) (ps : List Piece) (pc : ℕ) (code : List ℕ) (b : Bool) → lies_in pc (piece_range p) ≡ b →
-    (piece_range p).high ≤ 0xFFFF_0000 → (code_from ps pc ≡ Some code → pc + length code ≤ 0xFFFF_0000) →
-    code_in pc (cond b (Some p) (holding ps pc)) ≡ Some code → pc + length code ≤ 0xFFFF_0000
-code_held p ps pc code true lies ends later is =
-    let (low, high) = and_parts (nat_le (piece_range p).low pc) (nat_lt pc (piece_range p).high) lies in
-    in_piece p pc code (is_code p.kind) (leb-true p.base pc low) (ltb-true pc (piece_range p).high high) ends is
-code_held p ps pc code false lies ends later is = later is
-
-code_ends : (pieces : List Piece) (pc : ℕ) (code : List ℕ) →
-    All (λ piece. (piece_range piece).high ≤ 0xFFFF_0000) pieces → code_from pieces pc ≡ Some code →
-    pc + length code ≤ 0xFFFF_0000
-code_ends [] pc code all is = absurd cc
-code_ends (p ∷ ps) pc code all is =
-    code_held p ps pc code (lies_in pc (piece_range p)) refl
-    (All-head (λ piece. (piece_range piece).high ≤ 0xFFFF_0000) p ps all)
-    (code_ends ps pc code (All-tail (λ piece. (piece_range piece).high ≤ 0xFFFF_0000) p ps all)) is
-
-cut_few : (pc : ℕ) (o : Option Range) (code : List ℕ) → length (cut_before pc o code) ≤ length code
-cut_few pc None code = omega arith
-cut_few pc (Some range) code = let cut = length-take (range.low - pc) code in omega (arith, cut)
-
-window_few : (retired : List Range) (pc : ℕ) (code : List ℕ) → length (window_of retired pc code) ≤ length code
-window_few retired pc code =
-    let next : Option Range = find (λ range. nat_lt pc range.low) retired in
-    let cut = length-take 15 (cut_before pc next code) in
-    let few = cut_few pc next code in
-    omega (arith, cut, few)
-
-abbrev IsFrom : List ℕ → Option (List ℕ) → Type 0
-IsFrom bytes o = (code : List ℕ) × (o ≡ Some code) × (length bytes ≤ length code)
-
-met_from : (home stray : Bool) (retired : List Range) (pc : ℕ) (code bytes : List ℕ) →
-    cond home AtHome (cond stray Stray (Bytes (window_of retired pc code))) ≡ Bytes bytes → length bytes ≤ length code
-met_from true stray retired pc code bytes is = absurd cc
-met_from false true retired pc code bytes is = absurd cc
-met_from false false retired pc code bytes is =
-    let same : window_of retired pc code ≡ bytes = cc in
-    subst (λ (l : List ℕ). length l ≤ length code) same (window_few retired pc code)
-
-seen_from : (is_home : ℕ → Bool) (retired : List Range) (pc : ℕ) (o : Option (List ℕ)) (bytes : List ℕ) →
-    seen_in is_home retired pc o ≡ Bytes bytes → IsFrom bytes o
-seen_from is_home retired pc None bytes is = absurd cc
-seen_from is_home retired pc (Some code) bytes is =
-    (code, refl, met_from (is_home pc) (list_any (lies_in pc) retired) retired pc code bytes is)
-
-window_ends : (contents : Contents) (pc : ℕ) (bytes : List ℕ) → IsValid contents →
-    view_at contents pc ≡ Bytes bytes → pc + length bytes ≤ 0xFFFF_0000
-unfolding view
-window_ends contents pc bytes valid is =
-    let (code, from, few) = seen_from (spliced_at contents.fences) (map fence_range contents.fences) pc
-    (code_from contents.pieces pc) bytes is in
-    let ends = code_ends contents.pieces pc code valid.placed.end_below from in
-    omega (arith, few, ends)
-
--- ---- and so do its instructions
-abbrev pub AreWhole : Type 0
-AreWhole = (window : List ℕ) (d : Decoded) → decoded_from window ≡ Some d → d.length ≤ length window
-
-within : HaveBytes → AreWhole → (contents : Contents) → IsValid contents →
-    AreWithin (run_instruction_at contents) 0xFFFF_0000
-within have whole contents valid = record {
-  each = λ place i is.
-      let some = has_bytes have contents place i is in
-      let here = place_met contents place i is in
-      let s = spelled_at contents place i is in
-      let long : i.decoded.length ≤ length s.code =
-      subst (λ (j : Instruction). j.decoded.length ≤ length s.code) s.same (whole s.code s.decoded s.spells) in
-      let ends = window_ends contents place s.code valid s.met in
-      (omega (arith, some, here), omega (arith, here, long, ends));
-}
-
 -- ---- a body that isn't empty ends behind its base, in code
+-- each instruction has a byte, and ends at a bound or before
+abbrev AreWithin : (ℕ → Option Instruction) → ℕ → Type 0
+AreWithin there bound =
+    (place : ℕ) (i : Instruction) → there place ≡ Some i → (place < after i) × (after i ≤ bound)
+
 abbrev Ends : ℕ → ℕ → List Instruction → Type 0
 Ends bound place is = (is ≡ []) ⊎ ((place < end_of place is) × (end_of place is ≤ bound))
 
@@ -120,7 +30,7 @@ ends_on : (there : ℕ → Option Instruction) (bound n k place : ℕ) → AreWi
 unfolding through_kept
 ends_on there bound n k place within None found rest = inl refl
 ends_on there bound n k place within (Some i) found rest =
-    let (some, low) = within.each place i found in
+    let (some, low) = within place i found in
     let later : List Instruction = through_kept (cond i.kept n (suc n)) (listed there k (after i)) in
     elim (rest (cond i.kept n (suc n)) (after i)) [
       | inl none ↦
@@ -137,20 +47,25 @@ ends_in there bound within zero (suc n) place = inl refl
 ends_in there bound within (suc k) (suc n) place =
     ends_on there bound n k place within (there place) refl (λ m p. ends_in there bound within k m p)
 
-body_ends : HaveBytes → AreWhole → (c : Candidate) → IsValid c.contents → Ends 0xFFFF_0000 c.base (run_list c)
-unfolding run_code
-body_ends have whole c valid =
-    ends_in (run_instruction_at c.contents) 0xFFFF_0000 (within have whole c.contents valid) (2 ^ 32 - c.base)
-    (length (kept_of (pre_list c))) c.base
+-- what is known of each instruction that is met
+abbrev pub EndInCode : Type 0
+EndInCode = (contents : Contents) (address : ℕ) (i : Instruction) → IsValid contents →
+    run_instruction_at contents address ≡ Some i → (address < after i) × (after i ≤ 0xFFFF_0000)
 
-pub matched_ends : HaveBytes → AreWhole → (c : Candidate) (m : Matched) → IsValid c.contents →
+body_ends : EndInCode → (c : Candidate) → IsValid c.contents → Ends 0xFFFF_0000 c.base (run_list c)
+unfolding run_code
+body_ends end c valid =
+    ends_in (run_instruction_at c.contents) 0xFFFF_0000 (λ place i found. end c.contents place i valid found)
+    (2 ^ 32 - c.base) (length (kept_of (pre_list c))) c.base
+
+pub matched_ends : EndInCode → (c : Candidate) (m : Matched) → IsValid c.contents →
     0 < length (kept_of (pre_code c.section)) → outcome c ≡ Ok m →
     (0 < m.length) × (c.base + m.length ≤ 0xFFFF_0000)
-matched_ends have whole c m valid some is =
+matched_ends end c m valid some is =
     let (none, made) = no_difference c m is in
     let long : m.length ≡ end_of c.base (run_list c) - c.base = ap (λ (m : Matched). m.length) made in
     let as_many : length (kept_of (run_list c)) ≡ length (kept_of (pre_list c)) = (matches c none).whole in
-    elim (body_ends have whole c valid) [
+    elim (body_ends end c valid) [
       | inl empty ↦
           let no_more : length (kept_of (run_list c)) ≡ 0 = ap (λ (l : List Instruction). length (kept_of l)) empty in
           absurd (omega (arith, no_more, as_many, some))

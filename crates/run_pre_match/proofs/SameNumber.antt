@@ -1,10 +1,10 @@
 -- What places stand for, by the lists of places.
 use Rattle.std.proofs.Common.{◌≡◌, ℕ, length, map, Option, sym, ◌∙◌, ap}
 use Rattle.std.proofs.lemmas.List.{length-map}
-use Rattle.run_pre_match.specs.Instructions.{place_of, kept_of}
+use Rattle.instruction_lists.specs.Instructions.{place_of, kept_of}
 use Rattle.run_pre_match.specs.Candidate.{Candidate, pre_list, run_list, has_number, same_number}
-use Rattle.run_pre_match.specs.inside.Places.{Places, places_of, number_in}
-use Rattle.run_pre_match.proofs.PlaceLaws.{stands_for_by}
+use Rattle.instruction_lists.specs.Places.{Places, places_of, number_in}
+use Rattle.instruction_lists.specs.PlaceLaws.{stands_for_by}
 
 same_number_by : (c : Candidate) (pre run : Places) (offset address : ℕ) → pre ≡ places_of (pre_list c) →
     run ≡ places_of (run_list c) →

@@ -3,9 +3,9 @@ use Rattle.std.specs.Prelude.{ℕ, Bool, List, length}
 use Rattle.std.specs.Option.{option_map, unwrap_or}
 use Rattle.std.specs.List.{slice_get}
 use Rattle.image_memory.specs.Contents.{Contents}
-use Rattle.run_pre_match.specs.Instructions.{Instruction, place_of, kept_of, stands_for}
-use Rattle.run_pre_match.specs.PreCode.{pre_code}
-use Rattle.run_pre_match.specs.RunCode.{run_body}
+use Rattle.instruction_lists.specs.Instructions.{Instruction, place_of, kept_of, stands_for}
+use Rattle.instruction_lists.specs.PreCode.{pre_code}
+use Rattle.instruction_lists.specs.RunCode.{run_body}
 use Rattle.run_pre_match.specs.Candidate.{Candidate, pre_list, run_list, has_number}
 use Rattle.run_pre_match.specs.Matched.{PreSection}
 

@@ -3,8 +3,8 @@ ghost use Rattle.std.specs.Prelude.{◌≡◌, IfOk};
 ghost use Rattle.run_pre_match.specs.Bodies.{body_at, is_number_of, address_of};
 
 use crate::code::PreCode;
-use crate::run_code::{RunList, list_run};
 use image_memory::Space;
+use instruction_lists::{RunList, list_run};
 use std::alloc::{AllocError, Global};
 use std::marker::Model;
 
@@ -19,11 +19,11 @@ pub struct Body<'c, 'n, 'a, S: Space> {
 
 impl<'c, 'n, 'a, S: Space> Model for Body<'c, 'n, 'a, S> {
     ghost use Rattle.std.specs.Prelude.{◌≡◌, length};
-    ghost use Rattle.run_pre_match.specs.Instructions.{kept_of};
-    ghost use Rattle.run_pre_match.specs.PreCode.{pre_code};
-    ghost use Rattle.run_pre_match.specs.RunCode.{run_body};
+    ghost use Rattle.instruction_lists.specs.Instructions.{kept_of};
+    ghost use Rattle.instruction_lists.specs.PreCode.{pre_code};
+    ghost use Rattle.instruction_lists.specs.RunCode.{run_body};
     ghost use Rattle.run_pre_match.specs.Bodies.{Body, body_at};
-    ghost use Rattle.run_pre_match.specs.inside.Places.{places_of};
+    ghost use Rattle.instruction_lists.specs.Places.{places_of};
 
     ghost Value = { Body };
 

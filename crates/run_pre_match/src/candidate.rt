@@ -8,21 +8,16 @@ ghost use Rattle.i386_reloc.specs.declared.types.NormalSection.{NormalSection};
 ghost use Rattle.i386_reloc.specs.Places.{reference_at, place_of_target};
 ghost use Rattle.i386_reloc.specs.Texts.{HasTexts};
 ghost use Rattle.run_pre_match.specs.Candidate.{same_number};
-ghost use Rattle.run_pre_match.specs.Landing.{interior_offset};
 ghost use Rattle.run_pre_match.specs.inside.Texts.{HasText};
 ghost use Rattle.run_pre_match.specs.Goals.{goal_of, goal_at_place, goal_in_section, goal_in_code};
 
-use crate::endings::Endings;
 use crate::goals::Goal;
-use crate::places::Places;
-use crate::run_code::RunList;
-use i386_reloc::{Class, Form, Normal, NormalSection, Ref, Span, Target};
+use i386_reloc::{Class, Normal, NormalSection, Ref, Span, Target};
 use image_memory::Space;
+use instruction_lists::{Places, RunList, interior_offset};
+use read_only_data::Endings;
 use std::marker::Model;
 use symbol_table::SymbolTable;
-
-/// How many bytes the field of a reference has. A relative one holds the distance from its end.
-pub(crate) const FIELD_LENGTH: u32 = 4;
 
 /// What may be the function that a code section of an object is, with the places of the instructions of both.
 #[derive(Drop)]
@@ -43,10 +38,10 @@ impl<'m, 'a, S: Space> Model for Candidate<'m, 'a, S> {
     ghost use Rattle.std.specs.Prelude.{◌≡◌, Some};
     ghost use Rattle.std.specs.List.{slice_get};
     ghost use Rattle.run_pre_match.specs.Candidate.{Candidate, pre_list, run_list};
-    ghost use Rattle.run_pre_match.specs.inside.Places.{places_of};
+    ghost use Rattle.instruction_lists.specs.Places.{places_of};
     ghost use Rattle.run_pre_match.specs.inside.Candidates.{parts};
-    ghost use Rattle.run_pre_match.specs.inside.Endings.{AreEndings};
-    ghost use Rattle.run_pre_match.specs.Instructions.{end_of};
+    ghost use Rattle.read_only_data.specs.Endings.{AreEndings};
+    ghost use Rattle.instruction_lists.specs.Instructions.{end_of};
 
     ghost Value = { Candidate };
 
@@ -175,15 +170,5 @@ fn goal_in_code<'a>(place: usize, r: &Ref<'_>) -> Goal<'a>
         }
     } else {
         Goal::Entry(place)
-    }
-}
-
-/// The offset in a code section that an interior reference names.
-pub(crate) fn interior_offset(r: &Ref<'_>) -> u32
-    ensures { result ≡ interior_offset r.now }
-{
-    match r.form {
-        Form::Absolute => r.addend,
-        Form::Relative => r.addend.wrapping_add(FIELD_LENGTH),
     }
 }

@@ -6,21 +6,17 @@ ghost use Rattle.i386_reloc.specs.Classes.{is_code_class};
 ghost use Rattle.i386_reloc.specs.Normal.{HasFieldsInOrder};
 ghost use Rattle.i386_reloc.specs.Places.{place_named};
 ghost use Rattle.i386_reloc.specs.Reaches.{is_in};
-ghost use Rattle.run_pre_match.specs.Instructions.{kept_of, stands_for};
-ghost use Rattle.run_pre_match.specs.PreCode.{pre_code};
+ghost use Rattle.instruction_lists.specs.Instructions.{kept_of, stands_for};
+ghost use Rattle.instruction_lists.specs.PreCode.{pre_code};
 ghost use Rattle.run_pre_match.specs.Matched.{candidate, listed_code, outcome, answer, Comes};
 
 use crate::candidate::Candidate;
-use crate::endings::Endings;
-use crate::landing::undecoded_offset;
-use crate::named::{Offsets, offsets_named};
-use crate::places::Places;
-use crate::pre_code::list_pre;
-use crate::run_code::list_run;
 use crate::types::{MatchFault, Matched};
 use i386_reloc::{Normal, NormalSection};
 use image_memory::Space;
+use instruction_lists::{Offsets, Places, list_pre, list_run, offsets_named, undecoded_offset};
 use ks_base::Name;
+use read_only_data::Endings;
 use std::alloc::{AllocError, Global};
 use std::marker::Model;
 use std::rc::Rc;
@@ -38,8 +34,8 @@ pub struct PreObject<'n, 'a> {
 impl<'n, 'a> Model for PreObject<'n, 'a> {
     ghost use Rattle.std.specs.Prelude.{◌≡◌, List};
     ghost use Rattle.i386_reloc.specs.declared.types.NormalSection.{NormalSection};
-    ghost use Rattle.run_pre_match.specs.inside.Named.{all_offsets};
-    ghost use Rattle.run_pre_match.specs.inside.Endings.{AreEndings};
+    ghost use Rattle.instruction_lists.specs.Landing.{all_offsets};
+    ghost use Rattle.read_only_data.specs.Endings.{AreEndings};
 
     ghost Value = { List NormalSection };
 
@@ -63,10 +59,10 @@ pub struct PreCode<'n, 'a> {
 impl<'n, 'a> Model for PreCode<'n, 'a> {
     ghost use Rattle.std.specs.Prelude.{◌≡◌, Some};
     ghost use Rattle.std.specs.List.{slice_get};
-    ghost use Rattle.run_pre_match.specs.PreCode.{pre_code};
+    ghost use Rattle.instruction_lists.specs.PreCode.{pre_code};
     ghost use Rattle.run_pre_match.specs.Matched.{PreSection};
-    ghost use Rattle.run_pre_match.specs.inside.Endings.{AreEndings};
-    ghost use Rattle.run_pre_match.specs.inside.Places.{places_of};
+    ghost use Rattle.read_only_data.specs.Endings.{AreEndings};
+    ghost use Rattle.instruction_lists.specs.Places.{places_of};
 
     ghost Value = { PreSection };
 

@@ -1,20 +1,20 @@
 //! What is found by the fields of an instruction, and by those of the read-only sections to which they lead.
-ghost use Rattle.std.specs.Prelude.{◌≡◌, ◌<◌, ◌^◌, ℕ, List, Some, OnOk, IfOk};
+ghost use Rattle.std.specs.Prelude.{◌≡◌, List, Some, OnOk, IfOk};
 ghost use Rattle.i386_reloc.specs.Places.{reference_at};
-ghost use Rattle.image_memory.specs.Access.{byte_at, dword_at};
 ghost use Rattle.run_pre_match.specs.Goals.{goal_of};
 ghost use Rattle.run_pre_match.specs.Found.{Found, found_by, given_in_constant};
 ghost use Rattle.run_pre_match.specs.Differences.{is_in_section};
-ghost use Rattle.run_pre_match.specs.inside.Texts.{AreKnown, HasText};
+ghost use Rattle.read_only_data.specs.Texts.{AreKnown};
+ghost use Rattle.run_pre_match.specs.inside.Texts.{HasText};
 ghost use Rattle.run_pre_match.specs.inside.Kept.{Keeps, Judges, Follows, marks_for, joined};
 
 use crate::candidate::Candidate;
 use crate::goals::{Given, Goal, Verdict};
 use crate::judging::Judged;
-use crate::texts::TextPlace;
 use crate::values::{Marks, Values};
 use i386_reloc::Ref;
 use image_memory::Space;
+use read_only_data::{TextPlace, dword_at};
 use std::alloc::{AllocError, Global};
 
 impl Goal<'_> {
@@ -46,33 +46,6 @@ impl Marks {
             }
         }
     }
-}
-
-/// The byte of memory at an address, 0 where no piece holds it.
-#[tactic(auto, using(crate::proofs::Bounds::zero_high))]
-fn byte<S: Space>(space: &S, address: u64) -> u8
-    ensures { result ≡ byte_at (S.contents space.now).pieces address }
-{
-    if address > u64::from(u32::MAX) {
-        return 0;
-    }
-    match space.look(address as u32) {
-        Some((_, byte)) => byte,
-        None => 0,
-    }
-}
-
-/// The dword of memory at an address.
-fn dword<S: Space>(space: &S, address: u64) -> u32
-    requires { address < 2 ^ 33 }
-    ensures { result ≡ dword_at (S.contents space.now).pieces address }
-{
-    u32::from_le_bytes([
-        byte(space, address),
-        byte(space, address + 1),
-        byte(space, address + 2),
-        byte(space, address + 3),
-    ])
 }
 
 impl<'m, 'a, S: Space> Candidate<'m, 'a, S> {
@@ -124,7 +97,7 @@ impl<'m, 'a, S: Space> Candidate<'m, 'a, S> {
         ensures given { result ≡ given_in_constant self.now base r.now }
         ensures text { HasText self.now.object result.goal }
     {
-        let held = dword(self.space, base as u64 + r.offset as u64);
+        let held = dword_at(self.space, base as u64 + r.offset as u64);
         Given {
             goal: self.goal(place, k, r),
             value: held.wrapping_sub(r.addend),

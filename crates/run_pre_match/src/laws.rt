@@ -7,16 +7,16 @@ ghost use Rattle.image_memory.specs.Contents.{Contents, IsValid};
 ghost use Rattle.run_pre_match.specs.Alike.{AreAlike, HasFieldsInside, in_memory};
 ghost use Rattle.run_pre_match.specs.Bodies.{body_at, body_of};
 ghost use Rattle.run_pre_match.specs.Candidate.{Candidate};
-ghost use Rattle.run_pre_match.specs.Instructions.{kept_of};
-ghost use Rattle.run_pre_match.specs.Landing.{undecoded_offset};
+ghost use Rattle.instruction_lists.specs.Instructions.{kept_of};
+ghost use Rattle.instruction_lists.specs.Landing.{undecoded_offset};
 ghost use Rattle.run_pre_match.specs.Match.{Valuation, Match, Says};
 ghost use Rattle.run_pre_match.specs.Matched.{PreSection, home_claim, outcome};
-ghost use Rattle.run_pre_match.specs.PreCode.{pre_code};
+ghost use Rattle.instruction_lists.specs.PreCode.{pre_code};
 ghost use Rattle.run_pre_match.specs.declared.goals.Goal.{Goal};
 ghost use Rattle.run_pre_match.specs.declared.types.Claim.{Claim};
 ghost use Rattle.run_pre_match.specs.declared.types.Matched.{Matched};
 
-use ia32_decode::instructions_have_bytes;
+use instruction_lists::run_code_goes_on;
 
 /// The claims of a match in an object whose names are distinct give one thing one value, and the own home is the first
 /// of them.
@@ -60,6 +60,6 @@ pub fn bodies_lie_in_code()
     ensures low { (c : Candidate) (m : Matched) → IsValid c.contents → 0 < length (kept_of (pre_code c.section))
         → outcome c ≡ Ok m → c.base + m.length ≤ 0xFFFF_0000 }
 {
-    // Nothing is done here: the law says that each instruction has a byte, and no more than are there.
-    instructions_have_bytes();
+    // Nothing is done here: the law says that each instruction that is met has a byte, and ends in code.
+    run_code_goes_on();
 }

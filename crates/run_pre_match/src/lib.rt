@@ -7,25 +7,14 @@ mod borrowed;
 mod candidate;
 mod code;
 mod comparing;
-mod constants;
-mod endings;
 mod finding;
 mod goals;
-mod instructions;
 mod judging;
-mod landing;
 mod laws;
-mod least;
 mod matching;
-mod named;
 mod nth;
 mod pair;
-mod places;
-mod pre_code;
-mod run_code;
-mod running;
 mod stating;
-mod texts;
 mod types;
 mod values;
 
@@ -35,5 +24,4 @@ pub use code::{PreCode, PreObject, match_body};
 pub use laws::{
     alike_memories_match_alike, bodies_lie_in_code, claims_agree, matches_have_one_valuation,
 };
-pub use running::{RunInstruction, instruction_at, run_code_goes_on};
 pub use types::{Claim, Claims, Interior, Interiors, MatchFault, Matched};

@@ -1,15 +1,16 @@
 //! The kept instructions by their numbers.
 ghost use Rattle.std.specs.Prelude.{◌≡◌, ◌≤◌, Some, IfSome};
 ghost use Rattle.std.specs.List.{slice_get};
-ghost use Rattle.run_pre_match.specs.Instructions.{kept_of};
-ghost use Rattle.run_pre_match.specs.PreCode.{pre_instruction_at};
+ghost use Rattle.instruction_lists.specs.Instructions.{kept_of};
+ghost use Rattle.instruction_lists.specs.PreCode.{pre_instruction_at};
 ghost use Rattle.run_pre_match.specs.Candidate.{pre_list, run_list};
 
 use crate::candidate::Candidate;
-use crate::instructions::{PreInstruction, pre_instruction_at};
-use crate::pre_code::instructions_lie_within;
-use crate::running::{RunInstruction, instruction_at, run_code_goes_on};
 use image_memory::Space;
+use instruction_lists::{
+    PreInstruction, RunInstruction, instruction_at, instructions_lie_within, pre_instruction_at,
+    run_code_goes_on,
+};
 
 impl<'m, 'a, S: Space> Candidate<'m, 'a, S> {
     /// The kept instruction of the section by its number.

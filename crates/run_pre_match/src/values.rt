@@ -3,11 +3,11 @@ ghost use Rattle.std.specs.Prelude.{◌≡◌, List, []};
 ghost use Rattle.i386_reloc.specs.declared.types.NormalSection.{NormalSection};
 ghost use Rattle.image_memory.specs.declared.types.Piece.{Piece};
 ghost use Rattle.run_pre_match.specs.Candidate.{Candidate};
-ghost use Rattle.run_pre_match.specs.inside.Texts.{AreKnown};
+ghost use Rattle.read_only_data.specs.Texts.{AreKnown};
 ghost use Rattle.run_pre_match.specs.inside.Kept.{Keeps, verdict_by};
 
 use crate::goals::Verdict;
-use crate::texts::Known;
+use read_only_data::KnownTexts;
 use std::alloc::Global;
 use std::collections::BTreeMap;
 
@@ -27,7 +27,7 @@ pub(crate) struct Values<'a> {
     pub(crate) variables: BTreeMap<usize, First>,
     pub(crate) constants: BTreeMap<usize, First>,
     pub(crate) outsides: BTreeMap<&'a [u8], First>,
-    pub(crate) texts: BTreeMap<u64, Known>,
+    pub(crate) texts: KnownTexts,
 }
 
 impl<'a> Values<'a> {
@@ -41,7 +41,7 @@ impl<'a> Values<'a> {
             variables: BTreeMap::new(alloc),
             constants: BTreeMap::new(alloc),
             outsides: BTreeMap::new(alloc),
-            texts: BTreeMap::new(alloc),
+            texts: KnownTexts::new(alloc),
         }
     }
 }

@@ -6,24 +6,21 @@ use Rattle.std.specs.List.{All, Any, AllPairs}
 use Rattle.std.proofs.lemmas.Bool.Decides.{nat_tests}
 use Rattle.std.proofs.lemmas.Grind.{fold-append}
 use Rattle.std.proofs.lemmas.List.{length-map, get_or-map, length-append, get_or_append_left, get_or_at}
-use Rattle.std.proofs.lemmas.List.Folds.{list_any_at}
-use Rattle.ks_base.specs.declared.places.Range.{Range}
 use Rattle.image_memory.specs.declared.types.Piece.{Piece}
-use Rattle.image_memory.specs.Ranges.{lies_in, meets, MeetsNone}
+use Rattle.image_memory.specs.Ranges.{MeetsNone}
 use Rattle.image_memory.specs.Contents.{Contents, IsValid, piece_range}
 use Rattle.image_memory.specs.Access.{new_byte, byte_at}
 use Rattle.image_memory.specs.Changes.{with_piece, without_piece}
-use Rattle.image_memory.proofs.RangeLaws.{inside, found as found_at}
-use Rattle.image_memory.proofs.AccessLaws.{length-bytes_at, get_or-bytes_at, new_inside, new_outside}
+use Rattle.image_memory.specs.AccessLaws.{length-bytes_at, get_or-bytes_at, new_inside, new_outside}
 use Rattle.splice_jump.specs.Jump.{jump_bytes, five_at, with_jump, with_old}
 use Rattle.splice_jump.specs.Jumps.{with_row, jumped, row_with, with_base, old_at, olds_at, unjumped, AreSpliced}
-use Rattle.splice_jump.proofs.CodeLaws.{IsHeld, code_at}
-use Rattle.splice_jump.proofs.WriteLaws.{byte_after, piece_after, Misses, Away, jump_of, jumps_of}
-use Rattle.splice_jump.proofs.WriteLaws.{jumped-is, jumped_as, byte_outside, byte_inside, byte_after-append}
-use Rattle.splice_jump.proofs.WriteLaws.{in_or_out, IsWritten, written_or_not}
-use Rattle.splice_jump.proofs.RowLaws.{writes_apart, homes_apart, misses_jumps}
-use Rattle.splice_jump.proofs.JumpLaws.{all_outside}
-use Rattle.splice_jump.proofs.DataLaws.{unjumped-append, last_write, same_left, last_byte}
+use Rattle.splice_jump.specs.CodeLaws.{not_held_twice, code_at}
+use Rattle.splice_jump.specs.WriteLaws.{byte_after, piece_after, Misses, Away, jump_of, jumps_of, jumped-is, jumped_as}
+use Rattle.splice_jump.specs.WriteLaws.{byte_outside, byte_inside, byte_after-append, in_or_out, IsWritten}
+use Rattle.splice_jump.specs.WriteLaws.{written_or_not, all_outside, unjumped-append, same_left}
+use Rattle.splice_jump.specs.RowLaws.{writes_apart, misses_jumps}
+use Rattle.splice_jump.proofs.RowLaws.{homes_apart}
+use Rattle.splice_jump.proofs.DataLaws.{last_write, last_byte}
 
 -- a piece that no write reaches, put among pieces and taken out
 put_after : (ws : List (ℕ × List ℕ)) (piece : Piece) (ps : List Piece) → piece_after ws piece ≡ piece
@@ -50,21 +47,6 @@ dropped_after ws base (p ∷ ps) = by_base (not (p.base == base)) (dropped_after
         ≡ map (piece_after ws) (cond b (p ∷ without_piece base ps) (without_piece base ps))
     by_base true rest = ap (λ (qs : List Piece). piece_after ws p ∷ qs) rest
     by_base false rest = rest
-
--- a piece that meets none holds no byte of another
-both_hold : (a : ℕ) (r s : Range) → r.low ≤ a → a < r.high → s.low ≤ a → a < s.high → meets r s ≡ true
-both_hold a r s rl rh sl sh = grind (arith, nat_tests)
-
-pub not_held_twice : (pieces : List Piece) (piece : Piece) (a : ℕ) → MeetsNone piece_range (piece_range piece) pieces
-    → IsHeld pieces a 1 → piece.base ≤ a → a < (piece_range piece).high → ⊥
-not_held_twice pieces piece a apart here low high =
-    let at = found_at (λ p. lies_in a (piece_range p)) pieces here.piece here.found in
-    let there = inside a (piece_range here.piece) at.passes in
-    let met = both_hold a (piece_range piece) (piece_range here.piece) low high there.0 there.1 in
-    let hit : meets (piece_range piece) (piece_range (get_or pieces at.index here.piece)) ≡ true =
-    rw (at.at here.piece) met in
-    let all = list_any_at (λ p. meets (piece_range piece) (piece_range p)) pieces at.index here.piece at.in_list hit in
-    cc
 
 pub misses_piece : (contents : Contents) (rows : List (ℕ × ℕ)) (piece : Piece) (a : ℕ) → IsValid contents
     → AreSpliced contents rows

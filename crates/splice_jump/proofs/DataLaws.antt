@@ -12,16 +12,16 @@ use Rattle.image_memory.specs.Ranges.{lies_in, Ascends}
 use Rattle.image_memory.specs.Contents.{Contents, IsValid, piece_range, holding, byte_in, kind_and_byte, look_at}
 use Rattle.image_memory.specs.Access.{kind_of, unwritable, write_fault, first_fault, new_byte, byte_at, written}
 use Rattle.image_memory.specs.Fetch.{is_code, code_in, code_from, HasCode}
-use Rattle.image_memory.proofs.RangeLaws.{found as found_at}
-use Rattle.image_memory.proofs.AccessLaws.{good_at, new_outside}
+use Rattle.image_memory.specs.RangeLaws.{found as found_at}
+use Rattle.image_memory.specs.AccessLaws.{good_at, new_outside}
 use Rattle.splice_jump.specs.Jump.{with_old}
 use Rattle.splice_jump.specs.Jumps.{jumped, AreSpliced, with_old_row, unjumped}
-use Rattle.splice_jump.proofs.CodeLaws.{code_at, no_data}
-use Rattle.splice_jump.proofs.WriteLaws.{byte_after, piece_after, Misses, length-bytes_after, unjumped-is, jumps_of}
-use Rattle.splice_jump.proofs.WriteLaws.{jumped-is, jumped_as}
-use Rattle.splice_jump.proofs.WriteLaws.{in_or_out, byte_outside, byte_after-append, same_pieces, holding-after}
-use Rattle.splice_jump.proofs.WriteLaws.{byte_in_after}
-use Rattle.splice_jump.proofs.RowLaws.{misses_jumps}
+use Rattle.splice_jump.specs.WriteLaws.{same_left, one_write, byte_after, piece_after, Misses, length-bytes_after}
+use Rattle.splice_jump.specs.WriteLaws.{jumps_of, jumped-is, jumped_as, in_or_out, byte_outside, byte_after-append}
+use Rattle.splice_jump.specs.WriteLaws.{holding-after, byte_in_after}
+use Rattle.splice_jump.specs.CodeLaws.{code_at}
+use Rattle.splice_jump.specs.RowLaws.{misses_jumps}
+use Rattle.splice_jump.proofs.CodeLaws.{no_data}
 
 -- the pieces' kinds and ranges
 kinds_after : (ws : List (ℕ × List ℕ)) (ps : List Piece) → map kind_of (map (piece_after ws) ps) ≡ map kind_of ps
@@ -107,12 +107,7 @@ pub data_stays : (contents : Contents) (rows : List (ℕ × ℕ)) (a : ℕ) → 
 data_stays contents rows a valid spliced none =
     byte_stays rows contents.pieces a (no_jump contents rows a valid spliced none)
 
--- one list of writes after another, and one write behind or before others
-pub unjumped-append : (ws vs : List (ℕ × List ℕ)) (ps : List Piece)
-    → unjumped (ws ++ vs) ps ≡ unjumped vs (unjumped ws ps)
-unfolding unjumped
-unjumped-append ws vs ps = fold-append with_old_row ps ws vs
-
+-- one write behind or before others
 pub last_write : (w : ℕ × List ℕ) (ws : List (ℕ × List ℕ)) (ps : List Piece)
     → written w.0 w.1 (unjumped ws ps) ≡ unjumped (ws ++ w ∷ []) ps
 unfolding unjumped
@@ -122,11 +117,6 @@ first_write : (w : ℕ × List ℕ) (ws : List (ℕ × List ℕ)) (ps : List Pie
     → unjumped ws (written w.0 w.1 ps) ≡ unjumped (w ∷ ws) ps
 unfolding unjumped
 first_write w ws ps = refl
-
--- writes that leave the same byte at each address
-pub same_left : (ws vs : List (ℕ × List ℕ)) (ps : List Piece) → Ascends piece_range 0 ps
-    → ((a : ℕ) → byte_after ws a (byte_at ps a) ≡ byte_after vs a (byte_at ps a)) → unjumped ws ps ≡ unjumped vs ps
-same_left ws vs ps up same = unjumped-is ws ps ∙ (same_pieces ws vs 0 ps up same ∙ sym (unjumped-is vs ps))
 
 pub last_byte : (w : ℕ × List ℕ) (ws : List (ℕ × List ℕ)) (a b : ℕ)
     → byte_after (ws ++ w ∷ []) a b ≡ new_byte w.0 w.1 a (byte_after ws a b)
@@ -181,12 +171,6 @@ writes_past contents rows start bytes valid spliced good =
         let fine =
         rw e at (good_at (write_fault contents.pieces) start (length bytes) (a - start) good (omega arith)) in
         misses_jumps rows a (no_jump contents rows a valid spliced (no_code a (holding contents.pieces a) fine))
-
--- old bytes of code are put back before data are written or after it
-pub one_write : (start : ℕ) (bytes : List ℕ) (ps : List Piece)
-    → written start bytes ps ≡ unjumped ((start, bytes) ∷ []) ps
-unfolding unjumped
-one_write start bytes ps = refl
 
 pub writes_past_old : (contents : Contents) (home start : ℕ) (old bytes : List ℕ) → IsValid contents
     → HasCode contents.pieces home (length old)

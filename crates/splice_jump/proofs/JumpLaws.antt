@@ -11,9 +11,10 @@ use Rattle.image_memory.specs.Fetch.{AtHome, Stray, Bytes, code_from, cut_before
 use Rattle.image_memory.specs.Fetch.{jump_at}
 use Rattle.splice_jump.specs.Jump.{jump_bytes}
 use Rattle.splice_jump.specs.Jumps.{jumped, jumped_memory, AreSpliced}
-use Rattle.splice_jump.proofs.WriteLaws.{bytes_after, Misses, Away, length-bytes_after, get_or-bytes_after, jump_of}
-use Rattle.splice_jump.proofs.WriteLaws.{jumps_of, jumped-is, byte_outside, byte_inside, code_from-after}
-use Rattle.splice_jump.proofs.RowLaws.{homes_apart, Before, before_jumps}
+use Rattle.splice_jump.specs.WriteLaws.{all_outside, bytes_after, Misses, Away, length-bytes_after, get_or-bytes_after}
+use Rattle.splice_jump.specs.WriteLaws.{jump_of, jumps_of, jumped-is, byte_outside, byte_inside, code_from-after}
+use Rattle.splice_jump.specs.RowLaws.{Before}
+use Rattle.splice_jump.proofs.RowLaws.{homes_apart, before_jumps}
 
 -- code that no write reaches
 take_outside : (ws : List (ℕ × List ℕ)) (n pc : ℕ) (xs : List ℕ) → ((k : ℕ) → k < n → All (Misses (pc + k)) ws)
@@ -25,19 +26,6 @@ take_outside ws (suc n) pc (x ∷ xs) h =
     let e : pc + 0 ≡ pc = omega arith in
     let first = byte_outside ws pc x (rw e at (h 0 (omega arith))) in
     let rest = take_outside ws n (pc + 1) xs (λ k l.
-    let f : pc + suc k ≡ (pc + 1) + k = omega arith in
-    rw f at (h (suc k) (omega arith))) in
-    rw (first, rest) refl
-
-pub all_outside : (ws : List (ℕ × List ℕ)) (pc : ℕ) (xs : List ℕ)
-    → ((k : ℕ) → k < length xs → All (Misses (pc + k)) ws)
-    → bytes_after ws pc xs ≡ xs
-unfolding bytes_after
-all_outside ws pc [] h = refl
-all_outside ws pc (x ∷ xs) h =
-    let e : pc + 0 ≡ pc = omega arith in
-    let first = byte_outside ws pc x (rw e at (h 0 (omega arith))) in
-    let rest = all_outside ws (pc + 1) xs (λ k l.
     let f : pc + suc k ≡ (pc + 1) + k = omega arith in
     rw f at (h (suc k) (omega arith))) in
     rw (first, rest) refl

@@ -1,7 +1,7 @@
 -- What stays true of memory with jumps: it is a memory, and its homes stay spliced while it changes.
 use Rattle.std.proofs.Common.{◌≡◌, ◌≢◌, ℕ, zero, suc, ◌+◌, ◌≤◌, ◌<◌, Bool, true, false, cond}
 use Rattle.std.proofs.Common.{List, [], ◌∷◌, ◌++◌, map, length, get_or, nat_lt}
-use Rattle.std.proofs.Common.{Option, Some, None, refl, ap, ◌∙◌, arith, inl, inr}
+use Rattle.std.proofs.Common.{Option, refl, ap, ◌∙◌, arith, inl, inr}
 use Rattle.std.specs.Option.{option_map, unwrap_or}
 use Rattle.std.specs.List.{All, Any}
 use Rattle.std.proofs.lemmas.List.{length-map, get_or-map, length-append, get_or_append_left}
@@ -11,16 +11,13 @@ use Rattle.image_memory.specs.declared.types.Fence.{Fence}
 use Rattle.image_memory.specs.declared.types.Piece.{Piece}
 use Rattle.image_memory.specs.Ranges.{lies_in, MeetsNone, Ascends}
 use Rattle.image_memory.specs.Contents.{Contents, ArePlaced, IsValid, piece_range, holding, byte_in}
-use Rattle.image_memory.specs.Access.{byte_at, bytes_at, written, after_write}
-use Rattle.image_memory.specs.Fetch.{code_from, HasCode}
+use Rattle.image_memory.specs.Access.{byte_at, bytes_at}
+use Rattle.image_memory.specs.Fetch.{HasCode}
 use Rattle.image_memory.specs.Changes.{with_piece, with_fence, after_add, after_fence}
-use Rattle.image_memory.proofs.RangeLaws.{above, below}
+use Rattle.image_memory.specs.RangeLaws.{above, below}
 use Rattle.splice_jump.specs.Jumps.{jumped_memory, IsFenced, IsSpliced, AreSpliced}
-use Rattle.splice_jump.proofs.CodeLaws.{code_at}
-use Rattle.splice_jump.proofs.WriteLaws.{bytes_after, piece_after, length-bytes_after, unjumped-is, jumps_of}
-use Rattle.splice_jump.proofs.WriteLaws.{jumped-is, code_from-after, in_or_out}
-use Rattle.splice_jump.proofs.ChangeLaws.{not_held_twice}
-use Rattle.splice_jump.proofs.DataLaws.{one_write}
+use Rattle.splice_jump.specs.CodeLaws.{still_spliced, code_after, code_at, not_held_twice}
+use Rattle.splice_jump.specs.WriteLaws.{piece_after, length-bytes_after, jumps_of, jumped-is, in_or_out}
 
 -- pieces stay in their places
 Ascends-after : (ws : List (ℕ × List ℕ)) (floor : ℕ) (ps : List Piece) → Ascends piece_range floor ps
@@ -45,45 +42,12 @@ valid_jumped contents rows valid = record {
   fenced = valid.fenced;
 }
 
--- homes stay spliced where their code does and their fences do
-pub still_spliced : (before after : Contents) (rows : List (ℕ × ℕ)) → AreSpliced before rows
-    → ((home : ℕ) → HasCode before.pieces home 5 → HasCode after.pieces home 5)
-    → ((home : ℕ) → Any (IsFenced home) before.fences → Any (IsFenced home) after.fences) → AreSpliced after rows
-still_spliced before after rows spliced codes fences = record {
-  each = λ k d l.
-      let one = spliced.each k d l in
-      record { code = codes (get_or rows k d).0 one.code; fence = fences (get_or rows k d).0 one.fence };
-  once = spliced.once;
-}
-
-code_after : (ws : List (ℕ × List ℕ)) (ps : List Piece) (home count : ℕ) → HasCode ps home count
-    → HasCode (map (piece_after ws) ps) home count
-code_after ws ps home count code = rw (code_from-after ws ps home) (each (code_from ps home) code)
-  where
-    each : (o : Option (List ℕ)) → count ≤ length (unwrap_or o [])
-        → count ≤ length (unwrap_or (option_map (bytes_after ws home) o) [])
-    each None room = room
-    each (Some code) room = rw (length-bytes_after ws home code) room
-
 pub spliced_jumped : (contents : Contents) (rows others : List (ℕ × ℕ)) → AreSpliced contents rows
     → AreSpliced (jumped_memory others contents) rows
 spliced_jumped contents rows others spliced =
     still_spliced contents (jumped_memory others contents) rows spliced
     (λ home code. rw (jumped-is others contents.pieces) (code_after (jumps_of others) contents.pieces home 5 code))
     (λ home fence. fence)
-
-pub code_written : (ps : List Piece) (start : ℕ) (bytes : List ℕ) (home count : ℕ) → HasCode ps home count
-    → HasCode (written start bytes ps) home count
-code_written ps start bytes home count code =
-    rw (one_write start bytes ps ∙ unjumped-is ((start, bytes) ∷ []) ps)
-    (code_after ((start, bytes) ∷ []) ps home count code)
-
-pub spliced_written : (contents : Contents) (rows : List (ℕ × ℕ)) (start : ℕ) (bytes : List ℕ)
-    → AreSpliced contents rows
-    → AreSpliced (after_write contents start bytes) rows
-spliced_written contents rows start bytes spliced =
-    still_spliced contents (after_write contents start bytes) rows spliced
-    (λ home code. code_written contents.pieces start bytes home 5 code) (λ home fence. fence)
 
 -- a piece more holds no other addresses than its own
 holding-put : (piece : Piece) (ps : List Piece) (a : ℕ) → lies_in a (piece_range piece) ≡ false

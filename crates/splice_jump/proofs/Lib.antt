@@ -1,5 +1,4 @@
 pub mod CodeLaws
-pub mod WriteLaws
 pub mod RowLaws
 pub mod JumpLaws
 pub mod DataLaws

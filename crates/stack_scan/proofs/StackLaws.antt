@@ -1,15 +1,14 @@
 -- Why a part of a stack can be read.
 use Rattle.std.proofs.Common.{◌≡◌, ℕ, zero, suc, ◌+◌, ◌-◌, ◌≤◌, ◌<◌, true, false, List, [], ◌∷◌}
-use Rattle.std.proofs.Common.{length, get_or, Option, Some, None, refl, arith, ◌⊎◌, inl, inr}
-use Rattle.std.specs.Option.{option_or}
+use Rattle.std.proofs.Common.{length, get_or, Some, None, refl, arith}
 use Rattle.std.specs.List.{Any}
 use Rattle.std.proofs.lemmas.Bool.Decides.{nat_tests}
 use Rattle.ks_base.specs.declared.places.Range.{Range}
-use Rattle.ks_base.specs.declared.refusals.Fault.{Fault}
 use Rattle.image_memory.specs.declared.types.Piece.{Piece}
 use Rattle.image_memory.specs.Ranges.{lies_in, Ascends}
 use Rattle.image_memory.specs.Contents.{piece_range, holding}
 use Rattle.image_memory.specs.Access.{first_fault, read_fault}
+use Rattle.image_memory.specs.AccessLaws.{all_good, good_at}
 use Rattle.stack_scan.specs.Standing.{IsStack, LiesInWritable}
 
 later_above : (floor : ℕ) (ps : List Piece) (i : ℕ) (d : Piece) → Ascends piece_range floor ps → i < length ps
@@ -46,47 +45,18 @@ readable_at pieces stack a up held low high =
     held_by 0 pieces i a piece up held.2 (rw is (omega (arith, lies.low))) (rw is (omega (arith, lies.high))) in
     rw (here, is, lies.kind) refl
 
-none_bad : (fault_at : ℕ → Option Fault) (a n : ℕ)
-    → ((k : ℕ) → k < n → fault_at (a + k) ≡ None) → first_fault fault_at a n ≡ None
-unfolding first_fault
-none_bad fault_at a zero h = refl
-none_bad fault_at a (suc n) h =
-    let before = none_bad fault_at a n (λ k l. h k (omega arith)) in
-    rw before (h n (omega arith))
-
-all_good : (fault_at : ℕ → Option Fault) (a n : ℕ)
-    → first_fault fault_at a n ≡ None → (k : ℕ) → k < n → fault_at (a + k) ≡ None
-unfolding first_fault
-all_good fault_at a zero h k l = absurd (omega arith)
-all_good fault_at a (suc n) h k l =
-    elim (last_or_before k n l) [
-      | inl e ↦ rw e (second (first_fault fault_at a n) (fault_at (a + n)) h)
-      | inr m ↦ all_good fault_at a n (first (first_fault fault_at a n) (fault_at (a + n)) h) k m
-    ]
-  where
-    last_or_before : (k n : ℕ) → k < suc n → (k ≡ n) ⊎ (k < n)
-    last_or_before k n l = grind arith
-
-    first : (x y : Option Fault) → option_or x y ≡ None → x ≡ None
-    first None y h = refl
-    first (Some x) y h = cc
-
-    second : (x y : Option Fault) → option_or x y ≡ None → y ≡ None
-    second None y h = h
-    second (Some x) y h = cc
-
 -- bytes of a stack can be read
 pub stack_readable : (pieces : List Piece) (stack : Range) (a n : ℕ)
     → Ascends piece_range 0 pieces → IsStack pieces stack
     → stack.low ≤ a → a + n ≤ stack.high → first_fault (read_fault pieces) a n ≡ None
 stack_readable pieces stack a n up is low high =
-    none_bad (read_fault pieces) a n (λ k l. readable_at pieces stack (a + k) up is.held (omega arith) (omega arith))
+    all_good (read_fault pieces) a n (λ k l. readable_at pieces stack (a + k) up is.held (omega arith) (omega arith))
 
 -- and so can a part of what can be read
 pub part_readable : (pieces : List Piece) (a n b m : ℕ)
     → first_fault (read_fault pieces) a n ≡ None → a ≤ b → b + m ≤ a + n
     → first_fault (read_fault pieces) b m ≡ None
 part_readable pieces a n b m h low high =
-    none_bad (read_fault pieces) b m (λ k l.
+    all_good (read_fault pieces) b m (λ k l.
     let e : a + (b - a + k) ≡ b + k = omega arith in
-    rw e at (all_good (read_fault pieces) a n h (b - a + k) (omega arith)))
+    rw e at (good_at (read_fault pieces) a n (b - a + k) h (omega arith)))

@@ -143,11 +143,6 @@ found_none ranges pieces start n is =
     ∙ slice_get_past
     (map (on_stack pieces) (addresses start n)) (position_or_len (in_one ranges) words) (omega (arith, same))
 
-length-bytes_at : (pieces : List Piece) (a n : ℕ) → length (bytes_at pieces a n) ≡ n
-unfolding bytes_at
-length-bytes_at pieces a zero = refl
-length-bytes_at pieces a (suc n) = ap suc (length-bytes_at pieces (a + 1) n)
-
 get_or-bytes_at : (pieces : List Piece) (a n k b : ℕ)
     → k < n → a + k ≡ b → get_or (bytes_at pieces a n) k 0 ≡ byte_at pieces b
 unfolding bytes_at

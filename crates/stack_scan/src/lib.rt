@@ -12,7 +12,7 @@ mod words;
 
 pub use crate::checks::check_threads;
 pub use crate::scan::stands;
-pub use crate::sorting::{order_has_no_say, sorted};
+pub use crate::sorting::order_has_no_say;
 pub use crate::stacks::is_stack;
 pub use crate::types::StackOut;
 pub use crate::words::first_in;

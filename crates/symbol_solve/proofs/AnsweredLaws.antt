@@ -8,7 +8,7 @@ use Rattle.std.proofs.lemmas.Option.{same_Some}
 use Rattle.ks_base.specs.declared.refusals.Refusal.{Refusal}
 use Rattle.ks_base.specs.declared.refusals.Refusal.TheVariants.{PreUndecoded}
 use Rattle.i386_reloc.specs.declared.types.NormalSection.{NormalSection}
-use Rattle.i386_reloc.specs.Normal.{same_bytes, name_of}
+use Rattle.i386_reloc.specs.Normal.{same_bytes, name_of, function_name}
 use Rattle.i386_reloc.specs.Places.{place_named}
 use Rattle.image_memory.specs.Contents.{IsValid}
 use Rattle.symbol_table.specs.declared.values.Unknown.{Unknown}
@@ -19,12 +19,12 @@ use Rattle.symbol_table.specs.Unknowns.{same_unknown}
 use Rattle.run_pre_match.specs.declared.types.Claim.{Claim}
 use Rattle.run_pre_match.specs.declared.types.Matched.{Matched}
 use Rattle.run_pre_match.specs.declared.types.MatchFault.{MatchFault}
-use Rattle.run_pre_match.specs.Instructions.{kept_of}
-use Rattle.run_pre_match.specs.Landing.{undecoded_offset}
-use Rattle.run_pre_match.specs.PreCode.{pre_code}
+use Rattle.instruction_lists.specs.Instructions.{kept_of}
+use Rattle.instruction_lists.specs.Landing.{undecoded_offset}
+use Rattle.instruction_lists.specs.PreCode.{pre_code}
 use Rattle.run_pre_match.specs.Candidate.{Candidate}
 use Rattle.run_pre_match.specs.Matched.{PreSection, outcome}
-use Rattle.match_candidates.specs.Candidates.{Running, code_sections, function_name, is_gone, homes_of, candidate_at}
+use Rattle.match_candidates.specs.Candidates.{Running, code_sections, is_gone, homes_of, candidate_at}
 use Rattle.match_candidates.specs.Candidates.{candidates_of, candidates, is_match}
 use Rattle.match_candidates.specs.OwnFaults.{undecoded_in}
 use Rattle.symbol_solve.specs.Solve.{Value, left_of, obstacle, body_value, is_code_unknown, address_value, values_with}
@@ -233,14 +233,14 @@ module _ (kept : AreKept) (some : AreSome) (low : AreLow) (running : Running) (o
   answered_at pre home m has_pre has_home has_c is =
       let c : Candidate = candidate_at running pre home in
       let (listed, there) = filter_has (λ home. not (is_gone running home))
-      (function_addresses running.symbols (function_name pre)) home has_home in
+      (function_addresses running.symbols (function_name pre.section)) home has_home in
       let code = kept pre.object pre.section (decoded pre has_pre) in
       record {
         home = home;
         base = c.base;
         size = m.length;
         told = told_of c m has_c is;
-        is_home = contained (function_addresses running.symbols (function_name pre)) home listed;
+        is_home = contained (function_addresses running.symbols (function_name pre.section)) home listed;
         is_base = refl;
         stays = not_gone (is_gone running home) there;
         some = some c m valid code is;

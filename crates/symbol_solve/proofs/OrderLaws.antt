@@ -13,7 +13,7 @@ use Rattle.std.proofs.lemmas.Option.{same_Some, slice_get-map, slice_get-get_or}
 use Rattle.std.proofs.lemmas.Option.{slice_get_within, get_or_from_slice_get}
 use Rattle.i386_reloc.specs.declared.types.NormalSection.{NormalSection}
 use Rattle.i386_reloc.specs.Classes.{is_code_class}
-use Rattle.i386_reloc.specs.Normal.{same_bytes, name_of}
+use Rattle.i386_reloc.specs.Normal.{same_bytes, name_of, function_name}
 use Rattle.symbol_table.specs.Symbols.{address_of, is_function_named, function_addresses}
 use Rattle.symbol_table.specs.AscendingLaws.{Above, Ascends, ascends-ascending}
 use Rattle.run_pre_match.specs.declared.types.Claim.{Claim}
@@ -24,7 +24,7 @@ use Rattle.run_pre_match.specs.Matched.{PreSection, outcome}
 use Rattle.propagation.specs.declared.choice.Claim as numbered
 use Rattle.propagation.specs.Choices.{Agree, IsChoice, ComesBefore, AreChoices}
 use Rattle.match_candidates.specs.Candidates.{Running, code_from, candidate_at, homes_of}
-use Rattle.match_candidates.specs.Candidates.{candidates_of, candidates, function_name, is_match}
+use Rattle.match_candidates.specs.Candidates.{candidates_of, candidates, is_match}
 use Rattle.symbol_solve.specs.Clashes.{claims_in, claims_of}
 use Rattle.symbol_solve.specs.inside.Numbers.{Numbers, claim_of, choice_of, met_among, IsUnknownNumbered}
 use Rattle.symbol_solve.specs.inside.Claims.{IsAtOne}
@@ -87,8 +87,8 @@ homes_ordered running pre (h ∷ hs) up = (homes_above running pre h hs up.0, ho
 of_one_ordered : (running : Running) (pre : PreSection) → Ordered Before (candidates_of running pre)
 of_one_ordered running pre =
     homes_ordered running pre (homes_of running pre)
-    (ascends_filter _ (function_addresses running.symbols (function_name pre))
-    (ascends-ascending (map address_of (filter (is_function_named (function_name pre)) running.symbols))))
+    (ascends_filter _ (function_addresses running.symbols (function_name pre.section))
+    (ascends-ascending (map address_of (filter (is_function_named (function_name pre.section)) running.symbols))))
 
 of_one_place : (running : Running) (pre : PreSection) (P : ℕ → Type 0)
     → P pre.place → All (λ (c : Candidate). P c.place) (candidates_of running pre)

@@ -6,8 +6,10 @@ use Rattle.std.specs.Prelude.{Result, Ok, Err}
 use Rattle.std.specs.List.{filter, reduce}
 use Rattle.std.specs.Cmp.Lexicographic.{pointwise}
 use Rattle.ks_base.specs.declared.refusals.Refusal.{Refusal}
-use Rattle.ks_base.specs.declared.refusals.Refusal.TheVariants.{NoSymbol, TwoNames}
+use Rattle.ks_base.specs.declared.refusals.Refusal.TheVariants.{NoSymbol, Unresolved, TwoNames}
 use Rattle.symbol_table.specs.declared.symbols.Symbol.{Symbol}
+use Rattle.symbol_table.specs.declared.symbols.Missing.{Missing}
+use Rattle.symbol_table.specs.declared.symbols.Missing.TheVariants as missing
 
 -- a number put among ascending numbers, where it isn't there yet
 abbrev pub with_number : ℕ → List ℕ → List ℕ
@@ -50,15 +52,20 @@ global_addresses symbols name = addresses_of (is_global_named name) symbols
 abbrev pub data_addresses : List Symbol → List ℕ → List ℕ
 data_addresses symbols name = addresses_of (is_data_named name) symbols
 
+-- that a name has no address
+abbrev pub missing_as : Missing → List ℕ → Refusal
+missing_as missing.NoSymbol name = NoSymbol name
+missing_as missing.Unresolved name = Unresolved name
+
 -- the one address that a name has, refused where it has none, or by the two lowest where it has several
-abbrev pub only_address : List ℕ → List ℕ → Result ℕ Refusal
-only_address name [] = Err (NoSymbol name)
-only_address name (a ∷ []) = Ok a
-only_address name (a ∷ b ∷ rest) = Err (TwoNames name a b)
+abbrev pub only_address : Missing → List ℕ → List ℕ → Result ℕ Refusal
+only_address which name [] = Err (missing_as which name)
+only_address which name (a ∷ []) = Ok a
+only_address which name (a ∷ b ∷ rest) = Err (TwoNames name a b)
 
 -- the one address of the function symbols of a name
 abbrev pub function_named : List Symbol → List ℕ → Result ℕ Refusal
-function_named symbols name = only_address name (function_addresses symbols name)
+function_named symbols name = only_address missing.NoSymbol name (function_addresses symbols name)
 
 -- the least address of a symbol above an address
 abbrev pub next_address : List Symbol → ℕ → Option ℕ

@@ -16,6 +16,6 @@ mod values;
 
 pub use addresses::Addresses;
 pub use bodies::Bodies;
-pub use symbols::Symbol;
-pub use table::SymbolTable;
+pub use symbols::{Missing, Symbol};
+pub use table::{SymbolTable, only_address};
 pub use values::{Solved, Unknown, Values};

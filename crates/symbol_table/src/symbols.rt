@@ -1,4 +1,4 @@
-//! One symbol of a running program.
+//! One symbol of a running program, and what is said where a name has none.
 use ks_base::Name;
 
 /// A symbol: a name for an address of the running program.
@@ -12,4 +12,13 @@ pub struct Symbol {
     pub global: bool,
     /// The symbol's name.
     pub name: Name,
+}
+
+/// Which refusal says that a name has no address.
+#[derive(Clone, Copy, PartialEq, Eq, Debug)]
+pub enum Missing {
+    /// `Refusal::NoSymbol`: a user asked for the name.
+    NoSymbol,
+    /// `Refusal::Unresolved`: new code needs it.
+    Unresolved,
 }

@@ -4,14 +4,14 @@ ghost use Rattle.std.specs.Option.{option_copied, option_map};
 ghost use Rattle.std.specs.List.{slice_get, list_any};
 ghost use Rattle.ks_base.specs.Gives.{Gives};
 ghost use Rattle.symbol_table.specs.Symbols.{function_addresses, global_addresses, data_addresses};
-ghost use Rattle.symbol_table.specs.Symbols.{name_below, only_address, function_named, next_address};
+ghost use Rattle.symbol_table.specs.Symbols.{name_below, missing_as, only_address, function_named, next_address};
 
 use crate::addresses::Addresses;
 use crate::entries::{Entry, Index, entries_of, list_entries, note_last};
 use crate::functions::function_below;
 use crate::kinds::{Kind, addresses_of, is_global};
 use crate::next::{lesser, next_of};
-use crate::symbols::Symbol;
+use crate::symbols::{Missing, Symbol};
 use ks_base::{Name, Refusal};
 use std::alloc::{AllocError, Global};
 use std::marker::Model;
@@ -114,7 +114,12 @@ impl SymbolTable {
         ensures { Gives (λ address. address) result (function_named self.now.symbols name.now) }
     {
         let found = self.functions_of(name)?;
-        only_address(*self.symbols.allocator(), name, found.as_slice())
+        only_address(
+            *self.symbols.allocator(),
+            name.as_slice(),
+            found.as_slice(),
+            Missing::NoSymbol,
+        )
     }
 
     /// The distinct addresses of the global symbols of a name, ascending.
@@ -238,17 +243,32 @@ impl SymbolTable {
     }
 }
 
-/// The one address of ascending ones that a name has.
-fn only_address(alloc: Global, name: &Name, addresses: &[u32]) -> Result<u32, Refusal>
-    ensures { Gives (λ address. address) result (only_address name.now addresses.now) }
+/// The one address of ascending ones that a name has. The refusal that is said to be for a name without one comes exactly
+/// where there is none, [`Refusal::TwoNames`] with the two lowest exactly where there are several, and
+/// [`Refusal::Memory`] for want of memory alone.
+pub fn only_address(
+    alloc: Global,
+    name: &[u8],
+    addresses: &[u32],
+    missing: Missing,
+) -> Result<u32, Refusal>
+    ensures { Gives (λ address. address) result (only_address missing name.now addresses.now) }
 {
     match addresses {
         [address] => Ok(*address),
-        [low, high, ..] => Err(Refusal::TwoNames(
-            Name::from_slice(alloc, name.as_slice())?,
-            *low,
-            *high,
-        )),
-        [] => Err(Refusal::NoSymbol(Name::from_slice(alloc, name.as_slice())?)),
+        [low, high, ..] => Err(Refusal::TwoNames(Name::from_slice(alloc, name)?, *low, *high)),
+        [] => Err(missing.refusal(Name::from_slice(alloc, name)?)),
+    }
+}
+
+impl Missing {
+    /// The refusal, of a name.
+    fn refusal(self, name: Name) -> Refusal
+        ensures { result ≡ missing_as self name }
+    {
+        match self {
+            Missing::NoSymbol => Refusal::NoSymbol(name),
+            Missing::Unresolved => Refusal::Unresolved(name),
+        }
     }
 }

@@ -1,11 +1,8 @@
 -- Each thread of a program whose stacks are writable pieces has a stack that may be looked at.
-use Rattle.std.proofs.Common.{◌≡◌, ℕ, Bool, true, false, ◌&&◌, ◌==◌, List, refl, arith, IsTrue, Contains}
-use Rattle.std.proofs.lemmas.Bool.Decides.{nat_tests}
+use Rattle.std.proofs.Common.{◌≡◌, true, ◌&&◌, List, arith, IsTrue, Contains}
 use Rattle.std.proofs.lemmas.List.Elements.{All-contains}
 use Rattle.std.proofs.lemmas.List.Folds.{Any-from_list_any}
 use Rattle.ks_base.specs.declared.places.Range.{Range}
-use Rattle.image_memory.specs.declared.types.Kind.{Kind}
-use Rattle.image_memory.specs.declared.types.Kind.TheVariants.{Code, ReadOnly, Writable}
 use Rattle.image_memory.specs.declared.types.Piece.{Piece}
 use Rattle.image_memory.specs.Ranges.{are_same}
 use Rattle.image_memory.specs.Contents.{piece_range}
@@ -13,15 +10,7 @@ use Rattle.ia32_step.specs.declared.types.Thread.{Thread}
 use Rattle.image_threads.specs.Program.{WellPlaced, IsStackRange}
 use Rattle.image_threads.specs.Spawning.{is_writable, is_stack, AreStacks}
 use Rattle.stack_scan.specs.Standing.{IsStack, LiesInWritable}
-
-same_ends : (w : Bool) (a b c d : ℕ) → (w && ((a == b) && (c == d))) ≡ true → (w ≡ true) × (a ≡ b) × (c ≡ d)
-same_ends true a b c d h = grind (arith, nat_tests)
-same_ends false a b c d h = cc
-
-writable_kind : (kind : Kind) → is_writable kind ≡ true → kind ≡ Writable
-writable_kind Code h = cc
-writable_kind ReadOnly h = cc
-writable_kind Writable h = refl
+use Rattle.image_threads.specs.StackLaws.{same_ends, writable_kind}
 
 lies : (stack : Range) (piece : Piece)
     → (is_writable piece.kind && are_same (piece_range piece) stack) ≡ true → LiesInWritable stack piece

@@ -13,7 +13,7 @@ use Rattle.elf32_object.specs.Fields.{changes, entry_count, is_loaded, patches_l
 use Rattle.elf32_object.specs.Fields.{section_header}
 use Rattle.elf32_object.specs.Rules.{has_field, is_placed, object_fault, relocation_fault}
 use Rattle.elf32_object.specs.Rules.{relocations_fault}
-use Rattle.elf32_object.proofs.Firsts.{none_below, none_first, none_second}
+use Rattle.elf32_object.specs.BelowLaws.{none_below, none_first, none_second}
 use Rattle.i386_reloc.specs.declared.types.Class.TheVariants.{Zero, Code, Writable, Strings, ReadOnly}
 use Rattle.i386_reloc.specs.declared.types.NormalSection.{NormalSection}
 use Rattle.i386_reloc.specs.declared.types.Ref.{Ref}

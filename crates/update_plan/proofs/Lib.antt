@@ -1,7 +1,7 @@
 mod Answered
 mod Choices
 pub mod Fields
-mod Found
+mod GuardLaws
 pub mod InUse
 pub mod InUseOlds
 pub mod OnePlan

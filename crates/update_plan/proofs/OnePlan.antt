@@ -8,7 +8,7 @@ use Rattle.ks_base.specs.declared.refusals.Refusal.TheVariants.{TooSmall}
 use Rattle.elf32_object.specs.Below.{first_of}
 use Rattle.image_file.specs.Fields.{◌>>=◌}
 use Rattle.image_memory.specs.Contents.{Contents, spliced_at}
-use Rattle.image_memory.specs.Fetch.{view_at}
+use Rattle.image_memory.specs.Fetch.{jump_length, view_at}
 use Rattle.symbol_table.specs.declared.symbols.Symbol.{Symbol}
 use Rattle.i386_reloc.specs.declared.types.NormalSection.{NormalSection}
 use Rattle.i386_reloc.specs.Refused.{first_among, refused_where}
@@ -21,7 +21,6 @@ use Rattle.symbol_solve.specs.Solve.{solved}
 use Rattle.link_post.specs.declared.types.Placed.{Placed}
 use Rattle.link_post.specs.Values.{ValueList, resolved}
 use Rattle.link_post.specs.Places.{placed}
-use Rattle.retired_code.specs.declared.types.TheConstants.{JUMP_LENGTH}
 use Rattle.retired_code.specs.declared.types.OldFunction.{OldFunction}
 use Rattle.retired_code.specs.Room.{HaveOneShape, room}
 use Rattle.retired_code.specs.Retired.{guarded, takes_jump}
@@ -100,7 +99,7 @@ same_refusal : (a b : Contents) (symbols : List Symbol) (retired : List Range) (
 unfolding code_refusal
 same_refusal a b symbols retired olds rooms =
     let one : (old : OldFunction) → room_refusal a symbols old ≡ room_refusal b symbols old = λ old.
-    ap (λ n. refused_where (takes_jump old && nat_lt n JUMP_LENGTH) (TooSmall old.section n))
+    ap (λ n. refused_where (takes_jump old && nat_lt n jump_length) (TooSmall old.section n))
     (rooms old.home old.length) in
     λ i. first_of (first_among (λ old. one old i) olds) (first_among (overlap_refusal retired olds) olds)
 

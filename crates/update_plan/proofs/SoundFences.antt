@@ -13,7 +13,7 @@ use Rattle.retired_code.specs.declared.types.OldFunction.{OldFunction}
 use Rattle.retired_code.specs.Retired.{body_range, is_first, is_replaced, is_retired, retired_by}
 use Rattle.retired_code.specs.Retired.{retired_range, takes_jump}
 use Rattle.retired_code.specs.Overlaps.{LieApart}
-use Rattle.retired_code.proofs.CountLaws.{meet_where}
+use Rattle.image_memory.specs.RangeLaws.{meet_where}
 use Rattle.update_plan.specs.Plan.{fence_of, fences_of}
 use Rattle.update_plan.specs.Sound.{AreListed}
 use Rattle.update_plan.proofs.SoundLists.{Has, Pairs, all_has, all_of, all_pairs, any_false, any_none, has_filter}

@@ -12,6 +12,7 @@ use Rattle.ks_base.specs.declared.places.Range.{Range}
 use Rattle.ks_base.specs.declared.refusals.Refusal.{Refusal}
 use Rattle.ks_base.specs.declared.refusals.Refusal.TheVariants.{TooSmall}
 use Rattle.ks_base.specs.declared.reports.Replaced.{Replaced}
+use Rattle.elf32_object.specs.BelowLaws.{none_first}
 use Rattle.symbol_table.specs.declared.symbols.Symbol.{Symbol}
 use Rattle.image_memory.specs.declared.types.Fence.{Fence}
 use Rattle.symbol_table.specs.Bodies.{newest}
@@ -32,7 +33,7 @@ use Rattle.retired_code.specs.Room.{room}
 use Rattle.retired_code.specs.Retired.{AreInUse, body_range, is_first, is_replaced, is_retired, retired_by}
 use Rattle.retired_code.specs.Retired.{retired_range, takes_jump}
 use Rattle.retired_code.specs.Overlaps.{LieApart, code_refusal, overlap_refusal, room_refusal}
-use Rattle.retired_code.proofs.CountLaws.{meet_where}
+use Rattle.image_memory.specs.RangeLaws.{meet_where}
 use Rattle.new_code.specs.Parts.{AtPlace}
 use Rattle.new_code.specs.Reports.{replaced_as, replaced_by, replaced_of}
 use Rattle.update_plan.specs.Olds.{fate_of}
@@ -40,7 +41,7 @@ use Rattle.update_plan.specs.Plan.{fence_of, fences_of}
 use Rattle.update_plan.specs.Sound.{IsJumpTo, is_replaced_at}
 use Rattle.update_plan.proofs.SoundLists.{Has, Pairs, all_has, all_of, all_pairs, any_false, any_has, any_none}
 use Rattle.update_plan.proofs.SoundLists.{filter_has, found_has, has_filter, has_found, has_kept, has_left, has_map}
-use Rattle.update_plan.proofs.SoundLists.{has_right, kept_has, map_has, none_first, none_has, pairs_kept, some_has}
+use Rattle.update_plan.proofs.SoundLists.{has_right, kept_has, map_has, none_has, pairs_kept, some_has}
 use Rattle.update_plan.proofs.SoundLists.{some_of, two_of}
 use Rattle.update_plan.proofs.SoundParts.{changed_where}
 use Rattle.update_plan.proofs.SoundFences.{jump_is_fenced, low_is_base, one_base}

@@ -5,8 +5,8 @@ use Rattle.std.specs.List.{All, AllByRecursion, AllPairs, Any, Contains, cons_op
 use Rattle.std.specs.List.{flat_map, list_any}
 use Rattle.std.proofs.lemmas.Bool.{false_from_ne_true}
 use Rattle.std.proofs.lemmas.List.Elements.{All-nil, All-cons, All-head, All-tail}
-use Rattle.elf32_object.specs.Below.{first_of}
 use Rattle.ks_base.specs.declared.refusals.Refusal.{Refusal}
+use Rattle.elf32_object.specs.BelowLaws.{none_first, none_second}
 use Rattle.i386_reloc.specs.Refused.{first_among}
 
 abbrev pub Has : {X : Type 0} → List X → X → Type 0
@@ -98,14 +98,6 @@ has_found {X} p (a ∷ xs) x (inr rest) pass = by (p a) (has_found p xs x rest p
     by : (b : Bool) → (y : X) × (find p xs ≡ Some y) → (y : X) × (cond b (Some a) (find p xs) ≡ Some y)
     by true later = (a, refl)
     by false later = later
-
-pub none_first : (a b : Option Refusal) → first_of a b ≡ None → a ≡ None
-none_first None b e = refl
-none_first (Some x) b e = e
-
-pub none_second : (a b : Option Refusal) → first_of a b ≡ None → b ≡ None
-none_second None b e = e
-none_second (Some x) b e = absurd cc
 
 -- no item is refused where none among them is
 pub none_has : {X : Type 0} (f : X → Option Refusal) (xs : List X) (x : X) → first_among f xs ≡ None → Has xs x →

@@ -12,7 +12,7 @@ use Rattle.link_post.specs.declared.types.Placed.{Placed}
 use Rattle.link_post.specs.Places.{AreApart, LiesInOne}
 use Rattle.new_code.specs.Parts.{NewPart}
 use Rattle.new_code.specs.Apart.{AreNewPieces, IsInGap}
-use Rattle.retired_code.proofs.CountLaws.{they_meet, meet_where}
+use Rattle.image_memory.specs.RangeLaws.{they_meet, meet_where}
 use Rattle.update_plan.specs.Sound.{AreGaps}
 use Rattle.update_plan.proofs.SoundLists.{Has, Pairs, all_has, all_of, all_pairs, any_false, any_none, each_has}
 use Rattle.update_plan.proofs.SoundLists.{map_pairs}

@@ -18,6 +18,7 @@ use Rattle.symbol_solve.specs.Solve.{solved}
 use Rattle.link_post.specs.declared.types.Placed.{Placed}
 use Rattle.link_post.specs.Values.{ValueList, resolved}
 use Rattle.link_post.specs.Places.{placed}
+use Rattle.image_file.specs.FieldLaws.{bind_ok}
 use Rattle.retired_code.specs.declared.types.OldFunction.{OldFunction}
 use Rattle.retired_code.specs.Overlaps.{code_refusal}
 use Rattle.new_code.specs.Parts.{size_of}
@@ -25,11 +26,6 @@ use Rattle.update_plan.specs.declared.types.Plan.{Plan}
 use Rattle.update_plan.specs.Olds.{olds_of}
 use Rattle.update_plan.specs.Placing.{parts_of, names_of}
 use Rattle.update_plan.specs.Plan.{plan_of, planned, unless}
-
-after_ok : {A B : Type 0} (r : Result A Refusal) (rest : A → Result B Refusal) (y : B) → (r >>= rest) ≡ Ok y →
-    (x : A) × (r ≡ Ok x) × (rest x ≡ Ok y)
-after_ok (Ok x) rest y is = (x, refl, is)
-after_ok (Err e) rest y is = absurd cc
 
 unless_ok : {A : Type 0} (refusal : Option Refusal) (x y : A) → unless refusal x ≡ Ok y → (refusal ≡ None) × (x ≡ y)
 unless_ok None x y is = (refl, cc)
@@ -92,23 +88,23 @@ pub is_planned : (running : Running) (retired gaps : List Range) (pre_file post_
     IsPlanned running retired gaps pre_file post_file plan
 unfolding planned
 is_planned running retired gaps pre_file post_file plan is =
-    let (pre, pre_is, at_post) = after_ok (sections_of pre_file) (from_pre running retired gaps post_file) plan is in
-    let (post, post_is, at_extract) = after_ok (sections_of post_file) (from_post running retired gaps post_file pre)
+    let (pre, pre_is, at_post) = bind_ok (sections_of pre_file) (from_pre running retired gaps post_file) plan is in
+    let (post, post_is, at_extract) = bind_ok (sections_of post_file) (from_post running retired gaps post_file pre)
     plan at_post in
-    let (extract, extract_is, at_found) = after_ok (extracted pre post)
+    let (extract, extract_is, at_found) = bind_ok (extracted pre post)
     (from_extract running retired gaps post_file pre post) plan at_extract in
-    let (found, found_is, at_values) = after_ok (solved pre running.bodies running.contents running.symbols)
+    let (found, found_is, at_values) = bind_ok (solved pre running.bodies running.contents running.symbols)
     (from_found running retired gaps post_file pre post extract) plan at_found in
-    let (values, values_is, at_olds) = after_ok
+    let (values, values_is, at_olds) = bind_ok
     (resolved pre post running.symbols (names_of (parts_of extract post)) found)
     (from_values running retired gaps post_file pre post extract found) plan at_values in
-    let (olds, olds_is, at_places) = after_ok
+    let (olds, olds_is, at_places) = bind_ok
     (unless (code_refusal running.contents running.symbols retired (olds_of extract found pre))
     (olds_of extract found pre))
     (from_olds running retired gaps post_file post extract values) plan at_olds in
     let clear = unless_ok (code_refusal running.contents running.symbols retired (olds_of extract found pre))
     (olds_of extract found pre) olds olds_is in
-    let (placement, placement_is, last) = after_ok (placed (map size_of (parts_of extract post)) gaps)
+    let (placement, placement_is, last) = bind_ok (placed (map size_of (parts_of extract post)) gaps)
     (λ placement. Ok (plan_of running post values olds (parts_of extract post) placement)) plan at_places in
     record {
       pre = pre;

@@ -1,11 +1,12 @@
 -- The functions of the old object of an update, as they run, and what the update does with each.
-use Rattle.std.specs.Prelude.{ℕ, Bool, if◌then◌else◌, List, [], ◌∷◌, Option, Some, None, unwrap_or}
+use Rattle.std.specs.Prelude.{ℕ, Bool, if◌then◌else◌, List, [], ◌∷◌, Option, Some, None}
 use Rattle.std.specs.List.{flat_map, filter}
 use Rattle.symbol_table.specs.declared.values.Unknown.TheVariants as unknown
 use Rattle.symbol_table.specs.declared.values.Solved.{Solved}
 use Rattle.symbol_table.specs.declared.values.Solved.TheVariants.{Body, Address}
 use Rattle.i386_reloc.specs.declared.types.NormalSection.{NormalSection}
 use Rattle.i386_reloc.specs.Classes.{is_code_class}
+use Rattle.i386_reloc.specs.Normal.{function_name}
 use Rattle.extract_post.specs.declared.types.Extract.{Extract}
 use Rattle.section_roles.specs.Roles.{is_among}
 use Rattle.link_post.specs.Values.{ValueList, solved_as}
@@ -24,7 +25,7 @@ abbrev pub old_as : Extract → NormalSection → Option Solved → List OldFunc
 old_as extract section (Some (Body home base length)) =
     record {
       section = section.name;
-      function = unwrap_or section.function [];
+      function = function_name section;
       home = home;
       base = base;
       length = length;

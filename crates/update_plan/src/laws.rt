@@ -1,10 +1,11 @@
 //! What holds of every plan.
-ghost use Rattle.std.specs.Prelude.{◌≡◌, ℕ, List, Ok};
-ghost use Rattle.std.specs.List.{All, Contains};
+ghost use Rattle.std.specs.Prelude.{◌≡◌, ℕ, false, List, map, Ok};
+ghost use Rattle.std.specs.List.{All, Contains, list_any};
 ghost use Rattle.ks_base.specs.declared.places.Range.{Range};
 ghost use Rattle.i386_reloc.specs.declared.types.NormalSection.{NormalSection};
 ghost use Rattle.object_sections.specs.Sections.{sections_of};
-ghost use Rattle.image_memory.specs.Contents.{IsValid, spliced_at};
+ghost use Rattle.image_memory.specs.Ranges.{lies_in};
+ghost use Rattle.image_memory.specs.Contents.{IsValid, fence_range, spliced_at};
 ghost use Rattle.run_pre_match.specs.Alike.{HasFieldsInside};
 ghost use Rattle.match_candidates.specs.Alike.{RunAlike};
 ghost use Rattle.match_candidates.specs.Candidates.{Running};
@@ -59,6 +60,16 @@ pub fn plans_can_be_made()
     new_pieces_lie_apart();
     retired_code_lies_apart();
     room_is_code();
+}
+
+/// Each address that a plan retires is one of those that it guards.
+pub fn retired_code_is_guarded()
+    ensures { (running : Running) (retired gaps : List Range) (pre_file post_file : List ℕ) (plan : Plan)
+        (address : ℕ) → planned running retired gaps pre_file post_file ≡ Ok plan
+        → list_any (lies_in address) plan.guarded ≡ false
+        → list_any (lies_in address) (map fence_range plan.fences) ≡ false }
+{
+    // Nothing is done here: what is retired is the first part of what is guarded.
 }
 
 /// Each field of a section of an object file that isn't refused stands whole in the section's bytes.

@@ -1,7 +1,6 @@
 //! The functions of the old object of an update, as they run.
 ghost use Rattle.std.specs.Prelude.{◌≡◌, ◌++◌, ◌∷◌, [], IfOk, OnOk};
 ghost use Rattle.extract_post.specs.declared.types.Extract.{Extract as Lists};
-ghost use Rattle.link_post.specs.Values.{solved_as};
 ghost use Rattle.update_plan.specs.Olds.{fate_of, old_as, olds_of};
 ghost use Rattle.update_plan.specs.inside.Fates.{AreFates, fate_at};
 
@@ -9,7 +8,7 @@ use crate::fates::fates_of;
 use extract_post::Extract;
 use i386_reloc::{Normal, NormalSection};
 use ks_base::Name;
-use new_code::function_name;
+use link_post::solved_as;
 use retired_code::{Fate, OldFunction};
 use std::alloc::{AllocError, Global};
 use std::collections::BTreeMap;
@@ -67,7 +66,7 @@ fn add_solved(
         Some(Solved::Body { home, base, length }) => {
             olds.push(OldFunction {
                 section: Name::from_slice(alloc, section.name.as_slice())?,
-                function: function_name(alloc, section)?,
+                function: Name::from_slice(alloc, section.function_name())?,
                 home,
                 base,
                 length,
@@ -85,11 +84,4 @@ fn fate_at(fates: &BTreeMap<&[u8], Fate>, name: &[u8]) -> Fate
     ensures { result ≡ fate_at fates.now name.now }
 {
     fates.get(name).copied().unwrap_or(Fate::Kept)
-}
-
-/// What an unknown came to.
-fn solved_as(values: &Values, which: &Unknown) -> Option<Solved>
-    ensures { result ≡ solved_as values.now.entries which.now }
-{
-    values.get(which).copied()
 }

@@ -20,9 +20,9 @@ use Rattle.image_memory.specs.Contents.{Contents, IsValid, ArePlaced, piece_rang
 use Rattle.image_memory.specs.Access.{overlaid_piece, written}
 use Rattle.image_memory.specs.Changes.{ArePlaceable, HasPiece, with_piece, with_fence, after_add, after_fence}
 use Rattle.image_memory.specs.Fetch.{HasCode}
-use Rattle.image_memory.proofs.AccessLaws.{length-overlaid, Ascends-written}
+use Rattle.image_memory.specs.AccessLaws.{length-overlaid, Ascends-written}
 use Rattle.splice_jump.specs.Jumps.{IsFenced, IsSpliced, AreSpliced}
-use Rattle.splice_jump.proofs.KeepLaws.{spliced_written}
+use Rattle.splice_jump.specs.CodeLaws.{spliced_written}
 use Rattle.memory_changes.specs.Added.{AreAddable, with_pieces}
 use Rattle.memory_changes.specs.Retired.{AreRetirable, with_fences, with_ranges}
 use Rattle.memory_changes.specs.Withdrawn.{is_based_at, without_pieces, is_one_of, ranges_but}
@@ -35,9 +35,11 @@ use Rattle.update_stack.specs.CallTable.{contents_of}
 use Rattle.update_stack.specs.Apply.{with_new_piece, update_as, committed, retired_of}
 use Rattle.update_stack.specs.Undo.{without_last, withdrawn, newest_update}
 use Rattle.update_stack.specs.Stacked.{IsSound, IsOnTop, IsBuilt, Untouched, Updated}
-use Rattle.update_stack.proofs.TableLaws.{IsTable, first_table, table_stays, table_back, homes_after, last_back}
-use Rattle.update_stack.proofs.TableLaws.{last_more, pairs_map, all_homes_more, bases_after, table_spliced}
-use Rattle.update_stack.proofs.TableLaws.{homes_spliced}
+use Rattle.update_stack.specs.StackedLaws.{built_sound, last_more}
+use Rattle.update_stack.specs.TableLaws.{homes_after, homes_spliced}
+use Rattle.update_stack.specs.ViewLaws.{ranges_back}
+use Rattle.update_stack.proofs.TableLaws.{IsTable, first_table, table_stays, table_back, last_back}
+use Rattle.update_stack.proofs.TableLaws.{pairs_map, all_homes_more, bases_after, table_spliced}
 
 -- the laws of changes of memory that are used here
 abbrev pub PiecesValid : Type 0
@@ -104,11 +106,7 @@ pub record MemoryLaws : Type 0 where
   pub ranges_given : RangesGiven
   pub ranges_back : RangesBack
 
--- what holds at every moment holds of the jumps, the stacks and the arena; and the table is one
-pub built_sound : (k : CallTable) → IsBuilt k → IsSound k
-built_sound _ (Untouched k sound none empty unused) = sound
-built_sound _ (Updated k update sound newest above built) = sound
-
+-- and its table is one
 pub built_table : (k : CallTable) → IsBuilt k → IsTable k.table
 built_table _ (Untouched k sound none empty unused) = subst IsTable (sym empty) first_table
 built_table _ (Updated k update sound newest above built) =
@@ -144,11 +142,6 @@ or_none false = refl
 contains_mapped : {X Y : Type 0} (f : X → Y) (xs : List X) (x : X) → Contains xs x → Contains (map f xs) (f x)
 contains_mapped f xs x (k, less, at) =
     (k, rw (length-map xs f) less, get_or-map f xs k x (f x) less ∙ ap f at)
-
--- the retired ranges of a machine
-ranges_read : (table : List Row) (ranges : List Range) → map fence_range (map (fence_in table) ranges) ≡ ranges
-ranges_read table [] = refl
-ranges_read table (range ∷ ranges) = ap (λ (rs : List Range). range ∷ rs) (ranges_read table ranges)
 
 ascends_full : {X : Type 0} (range : X → Range) (floor : ℕ) (xs : List X) → Ascends range floor xs
     → All (λ x. (range x).low < (range x).high) xs
@@ -222,6 +215,16 @@ pieces_fit contents plan can = record {
   clear = All-map (λ range. MeetsNone piece_range range contents.pieces) piece_range plan.pieces can.alone;
 }
 
+-- code stays code where a plan is made
+pub code_kept : PiecesCode → (k : CallTable) (name : List ℕ) (plan : Plan) (address count : ℕ) → IsBuilt k
+    → CanBeMade (contents_of k) plan → HasCode k.pieces address count
+    → HasCode (committed k name plan).pieces address count
+unfolding committed
+code_kept code k name plan address count built can is =
+    subst (λ (pieces : List Piece). HasCode pieces address count) (pieces_made (contents_of k) plan.pieces)
+    (code (contents_of k) plan.pieces address count (built_sound k built).jumps.valid can.placeable
+    (pieces_fit (contents_of k) plan can) is)
+
 pub ranges_fit : FencesStay → (contents : Contents) (plan : Plan) → CanBeMade contents plan
     → AreRetirable (with_pieces contents plan.pieces) plan.fences
 ranges_fit stay contents plan can = record {
@@ -252,9 +255,9 @@ committed_back laws k name plan built can =
     ∙ laws.pieces_back contents plan.pieces valid can.placeable (pieces_fit contents plan can))
     (table_back k.table plan.report.replaced (built_table k built) can.once)
     (ap (λ (rs : List Range). ranges_but (map fence_range plan.fences) (with_ranges rs (map fence_range plan.fences)))
-    (sym (ranges_read k.table k.retired))
+    (sym (ranges_back k.table k.retired))
     ∙ laws.ranges_back contents plan.fences valid (plain_fit contents plan can)
-    ∙ ranges_read k.table k.retired)
+    ∙ ranges_back k.table k.retired)
     (last_back k.symbols plan.symbols)
     refl refl refl
     (last_back k.updates (update_as name plan ∷ []))
@@ -404,7 +407,7 @@ module _ (laws : MemoryLaws) (k : CallTable) (name : List ℕ) (plan : Plan) (bu
       laws.ranges_made added plan.fences
       ∙ ap (λ (fences : List Fence). with_ranges (map fence_range fences) (map fence_range plan.fences))
       (laws.pieces_fences contents plan.pieces)
-      ∙ ap (λ (ranges : List Range). with_ranges ranges (map fence_range plan.fences)) (ranges_read k.table k.retired)
+      ∙ ap (λ (ranges : List Range). with_ranges ranges (map fence_range plan.fences)) (ranges_back k.table k.retired)
 
   pieces_after : text_after.pieces ≡ (committed k name plan).pieces
   unfolding committed

@@ -16,7 +16,7 @@ use Rattle.image_memory.specs.Contents.{Contents, IsValid, piece_range, fence_ra
 use Rattle.image_memory.specs.Access.{bytes_at, written}
 use Rattle.image_memory.specs.Changes.{ArePlaceable, after_fence}
 use Rattle.image_memory.specs.Fetch.{HasCode}
-use Rattle.image_memory.proofs.WindowLaws.{list_any-map}
+use Rattle.image_memory.specs.RangeLaws.{list_any-map}
 use Rattle.symbol_table.specs.declared.symbols.Symbol.{Symbol}
 use Rattle.link_post.specs.Places.{unless_empty, without}
 use Rattle.splice_jump.specs.Jump.{five_at}
@@ -31,7 +31,7 @@ use Rattle.update_plan.specs.declared.types.Plan.{Plan}
 use Rattle.update_plan.specs.Sound.{IsJumpTo, CanBeMade}
 use Rattle.update_stack.specs.declared.updates.Update.{Update as Shown}
 use Rattle.update_stack.specs.declared.updates.Kept.{Kept}
-use Rattle.update_stack.specs.CallTable.{CallTable, Row, Update, bodies_in, fence_in, with_replaced, contents_of}
+use Rattle.update_stack.specs.CallTable.{CallTable, Row, Update, bodies_in, with_replaced, contents_of}
 use Rattle.update_stack.specs.CallTable.{jump_row, jump_rows}
 use Rattle.update_stack.specs.StandsFor.{Seen, seen, seen_of, patched}
 use Rattle.update_stack.specs.Apply.{with_new_piece, update_as, committed, gaps_of}
@@ -40,9 +40,11 @@ use Rattle.update_stack.specs.Systems.{text_of, HasJumpCode, Holds, live_update,
 use Rattle.update_stack.specs.Stacked.{IsBuilt, AreKept, OneKept}
 use Rattle.update_stack.specs.inside.Carrying.{bare_jump, shown_as, EndsLow, FitsIn, IsKeptOf}
 use Rattle.update_stack.specs.inside.Carrying.{IsCarriedOut, gaps_after, HoldsAfter}
+use Rattle.update_stack.specs.StackedLaws.{built_sound}
+use Rattle.update_stack.specs.ViewLaws.{ranges_back}
 use Rattle.update_stack.proofs.LastLaws.{last_more, text_more, table_more, live_more}
 use Rattle.update_stack.proofs.TableLaws.{JumpsAdded, JumpsReplaced, spliced_new, jumps_stacked}
-use Rattle.update_stack.proofs.BuiltLaws.{MemoryLaws, machine_is, pieces_made, pieces_fit, ranges_fit, built_sound}
+use Rattle.update_stack.proofs.BuiltLaws.{MemoryLaws, machine_is, pieces_made, pieces_fit, ranges_fit}
 use Rattle.update_stack.proofs.BuiltLaws.{committed_back, contents_after, built_commit}
 use Rattle.update_stack.proofs.KeptLaws.{CodeWasThere, kept_free}
 use Rattle.update_stack.proofs.BesideLaws.{ranges_stay}
@@ -119,10 +121,6 @@ fences_by a b [] same = same
 fences_by a b (fence ∷ fences) same =
     fences_by (after_fence a fence) (after_fence b fence) fences
     (ap (λ (fs : List Fence). (after_fence (record a { fences = fs }) fence).fences) same)
-
-ranges_back : (table : List Row) (ranges : List Range) → map fence_range (map (fence_in table) ranges) ≡ ranges
-ranges_back table [] = refl
-ranges_back table (range ∷ ranges) = ap (λ (rs : List Range). range ∷ rs) (ranges_back table ranges)
 
 -- the code that was noted, in pieces where it stands still
 same_olds : (ps qs : List Piece) (rows : List (ℕ × ℕ))

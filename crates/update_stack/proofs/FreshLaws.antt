@@ -1,13 +1,11 @@
 -- What holds of a system in which nothing was replaced.
-use Rattle.std.proofs.Common.{◌≡◌, ℕ, suc, ◌%◌, ◌<◌, ◌≤◌, Bool, true, false, ◌&&◌, ◌||◌, ◌==◌, nat_lt, min, max, cond}
+use Rattle.std.proofs.Common.{◌≡◌, ℕ, suc, ◌%◌, ◌<◌, ◌≤◌, Bool, true, false, ◌&&◌, ◌||◌, nat_lt, min, max, cond}
 use Rattle.std.proofs.Common.{List, [], ◌∷◌, ◌++◌, map, length, get_or, refl, ◌∙◌, ap, arith, IsTrue}
 use Rattle.std.specs.List.{All, Any, fold, flat_map, list_any}
 use Rattle.std.proofs.lemmas.Bool.Decides.{nat_tests}
 use Rattle.std.proofs.lemmas.List.Elements.{All-head, All-contains}
 use Rattle.std.proofs.lemmas.List.Folds.{Any-from_list_any}
 use Rattle.ks_base.specs.declared.places.Range.{Range}
-use Rattle.image_memory.specs.declared.types.Kind.{Kind}
-use Rattle.image_memory.specs.declared.types.Kind.TheVariants.{Code, ReadOnly, Writable}
 use Rattle.image_memory.specs.declared.types.Piece.{Piece}
 use Rattle.image_memory.specs.Ranges.{are_same, meets, MeetsNone, from_to}
 use Rattle.image_memory.specs.Contents.{Contents, piece_range}
@@ -16,6 +14,7 @@ use Rattle.image_threads.specs.Program.{IsStackRange, WellPlaced}
 use Rattle.image_threads.specs.Spawning.{is_writable, is_stack, AreStacks}
 use Rattle.link_post.specs.Places.{unless_empty, cut, without}
 use Rattle.stack_scan.specs.Standing.{LiesInWritable, HasStack}
+use Rattle.image_threads.specs.StackLaws.{same_ends, writable_kind}
 use Rattle.update_plan.specs.Sound.{AreGaps}
 use Rattle.update_stack.specs.declared.updates.Update.{Update as Shown}
 use Rattle.update_stack.specs.declared.updates.Kept.{Kept}
@@ -138,15 +137,6 @@ arena_free contents arena gaps = by_size (nat_lt arena.low arena.high) refl gaps
     by_size false e is = no_gap contents.pieces
 
 -- a stack is one writable piece, so it can be looked at
-same_ends : (w : Bool) (a b c d : ℕ) → (w && ((a == b) && (c == d))) ≡ true → (w ≡ true) × (a ≡ b) × (c ≡ d)
-same_ends true a b c d h = grind (arith, nat_tests)
-same_ends false a b c d h = cc
-
-writable_kind : (kind : Kind) → is_writable kind ≡ true → kind ≡ Writable
-writable_kind Code h = cc
-writable_kind ReadOnly h = cc
-writable_kind Writable h = refl
-
 stack_held : (pieces : List Piece) (stack : Range) → is_stack pieces stack ≡ true
     → Any (LiesInWritable stack) pieces
 stack_held pieces stack is =

@@ -20,11 +20,12 @@ use Rattle.update_stack.specs.CallTable.{CallTable, fence_in, bodies_in, shown_u
 use Rattle.update_stack.specs.StandsFor.{Seen, StandsFor, patched}
 use Rattle.update_stack.specs.Systems.{text_of, table_of, machine_of, live_updates, gaps_in, Holds}
 use Rattle.update_stack.specs.Stacked.{IsBuilt, Untouched, AreKept, NoneKept}
+use Rattle.update_stack.specs.StackedLaws.{built_sound}
 use Rattle.update_stack.proofs.TextLaws.{PastOldCode, CodeStays, IsClear, HasOldCode, placed_stays}
 use Rattle.update_stack.proofs.TextLaws.{clear_text, clear_under, old_code_stays, past_text}
 use Rattle.update_stack.proofs.FreshLaws.{arena_free}
 use Rattle.update_stack.proofs.KeptLaws.{CodeWasThere}
-use Rattle.update_stack.proofs.BuiltLaws.{built_sound, wrote, built_write}
+use Rattle.update_stack.proofs.BuiltLaws.{wrote, built_write}
 use Rattle.update_stack.proofs.BesideLaws.{AvoidsCode, none_avoids, clear_avoids, written_nothing, kept_write}
 
 -- the laws of other crates that are used here

@@ -9,7 +9,7 @@ use Rattle.update_stack.specs.declared.updates.Kept.{Kept}
 use Rattle.update_stack.specs.CallTable.{CallTable, Update}
 use Rattle.update_stack.specs.Apply.{gaps_of}
 use Rattle.update_stack.specs.Undo.{withdrawn, newest_update}
-use Rattle.update_stack.specs.Stacked.{IsSound, IsOnTop, IsBuilt, Untouched, Updated, IsKept, AreKept, NoneKept}
+use Rattle.update_stack.specs.Stacked.{IsKept, AreKept, NoneKept}
 use Rattle.update_stack.specs.Stacked.{OneKept}
 use Rattle.update_stack.proofs.LastLaws.{last_more}
 
@@ -22,20 +22,6 @@ pub withdrawn_pieces : (k : CallTable) (update : Update)
     → (withdrawn k update).pieces ≡ without_pieces update.pieces k.pieces
 unfolding withdrawn
 withdrawn_pieces k update = refl
-
--- of a machine with updates: the newest lies on one that is built
-pub record HasNewest (k : CallTable) (update : Update) : Type 0 where
-  pub sound : IsSound k
-  pub top : IsOnTop k update
-  pub below : IsBuilt (withdrawn k update)
-
-pub built_newest : (k : CallTable) (update : Update) → IsBuilt k → newest_update k ≡ Some update → HasNewest k update
-built_newest k update (Untouched _ sound none table retired) is =
-    let nothing : newest_update k ≡ None = ap (last_or None) none in
-    absurd (cc)
-built_newest k update (Updated _ other sound newest top below) is =
-    let same : other ≡ update = cc in
-    subst (HasNewest k) same (record { sound = sound; top = top; below = below })
 
 -- the last item of a list that ends with it
 last_same : {X : Type 0} (xs ys : List X) (x y : X) → xs ++ x ∷ [] ≡ ys ++ y ∷ [] → x ≡ y

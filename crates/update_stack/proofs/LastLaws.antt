@@ -1,5 +1,5 @@
 -- Lists that end with one item more.
-use Rattle.std.proofs.Common.{◌≡◌, ℕ, ◌+◌, ◌-◌, List, [], ◌∷◌, ◌++◌, take, length, Option, Some, None}
+use Rattle.std.proofs.Common.{◌≡◌, ℕ, ◌-◌, List, [], ◌∷◌, ◌++◌, take, length, Some, None}
 use Rattle.std.proofs.Common.{refl, sym, ◌∙◌, ap, arith}
 use Rattle.std.specs.List.{last_or, fold, flat_map}
 use Rattle.std.proofs.lemmas.List.{length-append, append_assoc, append-nil}
@@ -11,11 +11,7 @@ use Rattle.update_stack.specs.declared.updates.Kept.{Kept}
 use Rattle.update_stack.specs.CallTable.{Update, with_replaced}
 use Rattle.update_stack.specs.Undo.{without_last}
 use Rattle.update_stack.specs.Systems.{text_of, replaced_by, table_of, live_update, live_updates}
-
--- the last item
-last_from : {X : Type 0} (o : Option X) (xs : List X) (x : X) → last_or o (xs ++ x ∷ []) ≡ Some x
-last_from o [] x = refl
-last_from o (y ∷ ys) x = last_from (Some y) ys x
+use Rattle.update_stack.specs.StackedLaws.{last_more as last_from}
 
 pub last_more : {X : Type 0} (xs : List X) (x : X) → last_or None (xs ++ x ∷ []) ≡ Some x
 last_more xs x = last_from None xs x

@@ -15,8 +15,9 @@ use Rattle.update_stack.specs.declared.updates.Kept.{Kept}
 use Rattle.update_stack.specs.CallTable.{Row, Update, newest_in, bodies_in, jump_rows, with_replaced}
 use Rattle.update_stack.specs.Apply.{has_name}
 use Rattle.update_stack.specs.Systems.{replaced_by, table_of, live_updates}
+use Rattle.update_stack.specs.StackedLaws.{last_more}
 use Rattle.update_stack.proofs.LastLaws.{table_more}
-use Rattle.update_stack.proofs.TableLaws.{IsTable, pairs_map, first_table, table_stays, last_more}
+use Rattle.update_stack.proofs.TableLaws.{IsTable, pairs_map, first_table, table_stays}
 
 -- homes of which none stands twice
 far_off : (x : ℕ) (xs : List ℕ) → All (λ y. x ≢ y) xs → AllByRecursion (λ y. nat_eq x y ≡ false) xs

@@ -1,32 +1,24 @@
 -- Over the memory with the jumps a thread steps as on the machine that never patches code.
-use Rattle.std.proofs.Common.{◌≡◌, ℕ, ◌+◌, ◌-◌, ◌^◌, ◌<◌, ◌≤◌, suc, ◌==◌, ◌&&◌, ◌||◌, Bool, true, false}
-use Rattle.std.proofs.Common.{if◌then◌else◌, List, [], ◌∷◌, ◌++◌, map, length, replicate, Option, Some, None, Result}
-use Rattle.std.proofs.Common.{Ok, Err, refl, sym, ◌∙◌, ap, arith, subst}
+use Rattle.std.proofs.Common.{◌≡◌, ℕ, ◌+◌, ◌-◌, ◌^◌, ◌<◌, ◌≤◌, suc, ◌==◌, Bool, true, false}
+use Rattle.std.proofs.Common.{if◌then◌else◌, List, [], ◌∷◌, ◌++◌, length, replicate, Option, Some, None, Result}
+use Rattle.std.proofs.Common.{Ok, Err, refl, sym, ◌∙◌, ap, arith}
 use Rattle.std.proofs.Math.Seq.{take-append_seam}
-use Rattle.std.proofs.Math.Bool.{and-false}
-use Rattle.std.proofs.lemmas.Bool.{cond-true, cond-false, eq-eqb, eqb-true, false≢true}
 use Rattle.std.proofs.lemmas.List.Elements.{All-head, All-tail}
-use Rattle.std.proofs.lemmas.List.Folds.{list_any-from_Any}
 use Rattle.std.specs.Option.{option_map}
-use Rattle.std.specs.List.{All, Any, list_any}
+use Rattle.std.specs.List.{All, list_any}
 use Rattle.std.specs.Int.{w32, to_le_bytes}
 use Rattle.ks_base.specs.declared.places.Range.{Range}
 use Rattle.ks_base.specs.declared.refusals.Fault.{Fault}
 use Rattle.image_memory.specs.declared.types.Piece.{Piece}
-use Rattle.image_memory.specs.declared.types.Fence.{Fence}
 use Rattle.image_memory.specs.declared.types.Kind.TheVariants.{Code}
-use Rattle.image_memory.specs.Contents.{Contents, IsValid, ArePlaced, fence_range, spliced_at, holding}
+use Rattle.image_memory.specs.Contents.{Contents, IsValid, ArePlaced, holding}
 use Rattle.image_memory.specs.Ranges.{lies_in}
 use Rattle.image_memory.specs.Access.{kind_of, first_fault, write_fault, written, after_write}
 use Rattle.image_memory.specs.Fetch.{View, Unmapped, AtHome, Stray, Bytes, view, view_at, seen_in, code_from}
 use Rattle.image_memory.specs.Fetch.{window_of, window_for, window_at, jump_at, shown, fetched, HasCode}
-use Rattle.symbol_table.specs.Bodies.{newest}
 use Rattle.ia32_decode.specs.declared.types.Decoded.{Decoded}
-use Rattle.ia32_decode.specs.declared.types.Width.{Width}
-use Rattle.ia32_decode.specs.declared.types.Width.TheVariants.{Byte, Word, Dword}
 use Rattle.ia32_decode.specs.Decode.{decoded_from}
 use Rattle.ia32_decode.specs.Branches.{jump_by}
-use Rattle.ia32_decode.specs.Widths.{byte_count}
 use Rattle.ia32_step.specs.declared.types.Thread.{Thread}
 use Rattle.ia32_step.specs.declared.types.Flow.TheVariants.{Plain}
 use Rattle.ia32_step.specs.declared.types.Outcome.TheVariants.{Moved}
@@ -36,12 +28,14 @@ use Rattle.ia32_step.specs.Exec.{executed, is_stepped, refuses_prefixes, change_
 use Rattle.ia32_step.specs.Code.{SameData}
 use Rattle.ia32_step.specs.Step.{Left, left_by, context_of, exits, done, store_fault, after_store, unless_barred}
 use Rattle.ia32_step.specs.Step.{resumed, change_by, change_in, next_change, stepped}
+use Rattle.ia32_step.specs.OperandLaws.{length-spelled}
 use Rattle.splice_jump.specs.Jump.{displacement, jump_bytes}
-use Rattle.splice_jump.specs.Jumps.{jumped, jumped_memory, IsFenced, IsSpliced, AreSpliced}
-use Rattle.update_stack.specs.CallTable.{CallTable, Row, is_home, newest_in, bodies_in, fence_in, contents_of}
+use Rattle.splice_jump.specs.Jumps.{jumped, jumped_memory, IsSpliced, AreSpliced}
+use Rattle.update_stack.specs.CallTable.{CallTable, is_home, bodies_in, contents_of}
 use Rattle.update_stack.specs.CallTable.{view_in, base_of}
 use Rattle.update_stack.specs.Steps.{step_at, step_in}
 use Rattle.update_stack.specs.Jumps.{jumped_left}
+use Rattle.update_stack.specs.ViewLaws.{home_row, met_alike}
 
 -- the jump at a home leads to the base
 jump_leads : (home base : ℕ) → base < 2 ^ 32 → above (above home 5) (displacement home base) ≡ base
@@ -59,12 +53,6 @@ jump_carried_out pieces context n = refl
 -- what is fetched is what was shown
 fetched_is : (bytes : List ℕ) → fetched (shown bytes) ≡ bytes
 fetched_is bytes = take-append_seam bytes (replicate (15 - length bytes) 0)
-
--- a number of a width has as many bytes
-pub spelled_length : (width : Width) (n : ℕ) → length (spelled width n) ≡ byte_count width
-spelled_length Byte n = refl
-spelled_length Word n = refl
-spelled_length Dword n = refl
 
 -- the laws of other crates that are used here
 abbrev Decodes : Type 0
@@ -95,7 +83,7 @@ store_beside contents rows beside None clear = refl
 store_beside contents rows beside (Some s) clear =
     ap (λ (pieces : List Piece). let c : Contents = record contents { pieces = pieces } in c)
     (beside s.address (spelled s.width s.value)
-    (ap (first_fault (write_fault contents.pieces) s.address) (spelled_length s.width s.value) ∙ clear))
+    (ap (first_fault (write_fault contents.pieces) s.address) (length-spelled s.width s.value) ∙ clear))
 
 barred_beside : (contents : Contents) (rows : List (ℕ × ℕ)) → WritesBeside contents rows
     → (thread : Thread) (fault : Option Fault) (change : _) (left : Left)
@@ -151,84 +139,6 @@ by_view decodes say faults contents rows same beside thread base AtHome home =
     (displacement thread.pc base))
     ∙ ap (λ (pc : ℕ). left_by (jumped_memory rows contents) (record thread { pc = pc }) (Moved Plain))
     (jump_leads thread.pc base (home refl).1)
-
--- the machine and its own memory meet the same
-ranges_back : (table : List Row) (retired : List Range) → map fence_range (map (fence_in table) retired) ≡ retired
-ranges_back table [] = refl
-ranges_back table (range ∷ ranges) = ap (λ (rs : List Range). range ∷ rs) (ranges_back table ranges)
-
-seen_alike : (f g : ℕ → Bool) (a b : List Range) (pc : ℕ) (code : Option (List ℕ)) → f pc ≡ g pc → a ≡ b
-    → seen_in f a pc code ≡ seen_in g b pc code
-seen_alike f g a b pc None same ranges = refl
-seen_alike f g a b pc (Some bytes) same ranges =
-    ap (λ (is : Bool). if is then AtHome else (if list_any (lies_in pc) a then Stray else Bytes
-    (window_of a pc bytes))) same
-    ∙ ap (λ (rs : List Range). if g pc then AtHome else (if list_any (lies_in pc) rs then Stray else Bytes
-    (window_of rs pc bytes))) ranges
-
--- a home with a row has what each row has
-row_by : (row : Row) (rest : List Row) (pc : ℕ) (P : ℕ × ℕ → Type 0) (here : Bool) → (row.home == pc) ≡ here
-    → P (newest_in row) → (is_home rest pc ≡ true → P (pc, newest (bodies_in rest) pc)) → is_home (row ∷ rest) pc ≡ true
-    → P (pc, newest (bodies_in (row ∷ rest)) pc)
-row_by row rest pc P true e this later is =
-    let same : pc ≡ row.home = sym (eqb-true row.home pc e) in
-    let found : newest (bodies_in (row ∷ rest)) pc ≡ (newest_in row).1 = cond-true _ _ _ e in
-    subst P (ap (λ (n : ℕ). let r : ℕ × ℕ = (n, (newest_in row).1) in r) (sym same)
-    ∙ ap (λ (n : ℕ). let r : ℕ × ℕ = (pc, n) in r) (sym found)) this
-row_by row rest pc P false e this later is =
-    let found : newest (bodies_in (row ∷ rest)) pc ≡ newest (bodies_in rest) pc = cond-false _ _ _ e in
-    let there : is_home rest pc ≡ true = ap (λ (b : Bool). b || is_home rest pc) (sym e) ∙ is in
-    subst P (ap (λ (n : ℕ). let r : ℕ × ℕ = (pc, n) in r) (sym found)) (later there)
-
-home_row : (table : List Row) (pc : ℕ) (P : ℕ × ℕ → Type 0) → All P (bodies_in table) → is_home table pc ≡ true
-    → P (pc, newest (bodies_in table) pc)
-home_row [] pc P all is = absurd (false≢true is)
-home_row (row ∷ rest) pc P all is =
-    row_by row rest pc P (row.home == pc) refl (All-head P (newest_in row) (bodies_in rest) all)
-    (home_row rest pc P (All-tail P (newest_in row) (bodies_in rest) all)) is
-
-any_weaker : {X : Type 0} (P Q : X → Type 0) (xs : List X) → ((x : X) → P x → Q x) → Any P xs → Any Q xs
-any_weaker P Q xs f (k, x, less, at, p) = (k, x, less, at, f x p)
-
--- whether an address is a spliced home
-abbrev marks : ℕ → Fence → Bool
-marks pc fence = fence.jump && (fence.range.low == pc)
-
-fenced_marks : (pc : ℕ) (fence : Fence) → IsFenced pc fence → marks pc fence ≡ true
-fenced_marks pc fence is = ap (λ (b : Bool). b && (fence.range.low == pc)) is.jump ∙ eq-eqb fence.range.low pc is.low
-
-unmarked : (table : List Row) (pc : ℕ) (range : Range) (here : Bool) → (range.low == pc) ≡ here
-    → is_home table pc ≡ false → marks pc (fence_in table range) ≡ false
-unmarked table pc range true e none =
-    ap (λ (n : ℕ). is_home table n && (range.low == pc)) (eqb-true range.low pc e)
-    ∙ ap (λ (b : Bool). b && (range.low == pc)) none
-unmarked table pc range false e none = ap (λ (b : Bool). is_home table range.low && b) e
-    ∙ and-false (is_home table range.low)
-
-none_marked : (table : List Row) (pc : ℕ) (retired : List Range) → is_home table pc ≡ false
-    → list_any (marks pc) (map (fence_in table) retired) ≡ false
-none_marked table pc [] none = refl
-none_marked table pc (range ∷ ranges) none =
-    ap (λ (b : Bool). b || list_any (marks pc) (map (fence_in table) ranges))
-    (unmarked table pc range (range.low == pc) refl none)
-    ∙ none_marked table pc ranges none
-
-marked_by : (k : CallTable) (pc : ℕ) (is : Bool) → is_home k.table pc ≡ is
-    → All (λ row. IsSpliced (contents_of k) row.0) (bodies_in k.table)
-    → spliced_at (contents_of k).fences pc ≡ is
-marked_by k pc true e all =
-    list_any-from_Any (marks pc) (contents_of k).fences
-    (any_weaker (IsFenced pc) (λ fence. marks pc fence ≡ true) (contents_of k).fences (fenced_marks pc)
-    (home_row k.table pc (λ row. IsSpliced (contents_of k) row.0) all e).fence)
-marked_by k pc false e all = none_marked k.table pc k.retired e
-
-pub met_alike : (k : CallTable) (pc : ℕ) → All (λ row. IsSpliced (contents_of k) row.0) (bodies_in k.table)
-    → view_at (contents_of k) pc ≡ view_in k pc
-unfolding view view_in
-met_alike k pc all =
-    seen_alike (spliced_at (contents_of k).fences) (is_home k.table) (map fence_range (contents_of k).fences)
-    k.retired pc (code_from k.pieces pc)
-    (marked_by k pc (is_home k.table pc) refl all) (ranges_back k.table k.retired)
 
 -- the jump that is met at a home, and where it leads
 home_jump : (k : CallTable) (pc : ℕ)

@@ -13,6 +13,7 @@ use Rattle.std.proofs.lemmas.Map.Made.{AllPairs-from_IsDistinct, IsDistinct-from
 use Rattle.ks_base.specs.Gives.{Gives}
 use Rattle.ks_base.specs.declared.places.Range.{Range}
 use Rattle.ks_base.specs.declared.refusals.Refusal.{Refusal}
+use Rattle.image_file.specs.Fields.{◌>>=◌}
 use Rattle.image_memory.specs.declared.types.Kind.{Kind}
 use Rattle.image_memory.specs.declared.types.Kind.TheVariants.{Code, ReadOnly, Writable}
 use Rattle.image_memory.specs.declared.types.Piece.{Piece}
@@ -25,20 +26,21 @@ use Rattle.link_post.specs.Places.{unless_empty, without}
 use Rattle.match_candidates.specs.Candidates.{Running}
 use Rattle.match_candidates.specs.Alike.{RunAlike}
 use Rattle.run_pre_match.specs.Alike.{AreAlike}
-use Rattle.run_pre_match.specs.Constants.{constant_byte, constant_at}
+use Rattle.read_only_data.specs.Constants.{constant_byte, constant_at}
 use Rattle.retired_code.specs.Room.{HaveOneShape}
 use Rattle.splice_jump.specs.Jumps.{jumped, jumped_memory, IsSpliced, AreSpliced}
 use Rattle.symbol_table.specs.declared.symbols.Symbol.{Symbol}
 use Rattle.symbol_table.specs.Bodies.{home_of, homes, newest}
 use Rattle.image_threads.specs.Program.{Program}
 use Rattle.update_plan.specs.declared.types.Plan.{Plan}
-use Rattle.update_plan.specs.Plan.{planned}
+use Rattle.update_plan.specs.Plan.{planned, unless}
 use Rattle.update_plan.specs.Sound.{AreGaps, AreListed, CanBeMade}
 use Rattle.update_stack.specs.CallTable.{CallTable, bodies_in, contents_of}
-use Rattle.update_stack.specs.Apply.{running_of, retired_of, gaps_of}
+use Rattle.update_stack.specs.Apply.{name_refusal, running_of, retired_of, gaps_of, planned_in}
 use Rattle.update_stack.specs.StandsFor.{Seen, StandsFor, patched}
 use Rattle.update_stack.specs.Stacked.{IsSound, IsBuilt}
-use Rattle.update_stack.proofs.BuiltLaws.{built_sound, fences_listed}
+use Rattle.update_stack.specs.StackedLaws.{built_sound}
+use Rattle.update_stack.proofs.BuiltLaws.{fences_listed}
 use Rattle.update_stack.proofs.TableLaws.{pairs_map, pairs_read}
 
 -- the laws of other crates that are used here
@@ -273,3 +275,16 @@ plan_sound can ascend below apart k pre_file post_file (Ok plan) built given =
     let sound = built_sound k built in
     can (running_of k) (retired_of k) (gaps_of k) pre_file post_file plan sound.jumps.valid sound.jumps.spliced
     (fences_listed k built) (gaps_are ascend below apart k sound) given
+
+-- so the plan that a machine has for an update can be made
+pub planned_can : PlansCanBeMade → GapsAscend → GapsBelow → GapsApart → (k : CallTable)
+    (name pre_file post_file : List ℕ) (plan : Plan) → IsBuilt k → planned_in k name pre_file post_file ≡ Ok plan
+    → CanBeMade (contents_of k) plan
+unfolding planned_in
+planned_can can ascend below apart k name pre_file post_file plan built is = by_name (name_refusal k name) is
+  where
+    by_name : (o : Option Refusal)
+        → (unless o k >>= λ (m : CallTable). planned (running_of m) (retired_of m) (gaps_of m) pre_file post_file)
+        ≡ Ok plan → CanBeMade (contents_of k) plan
+    by_name (Some refusal) is = absurd (cc)
+    by_name None is = plan_sound can ascend below apart k pre_file post_file (Ok plan) built is

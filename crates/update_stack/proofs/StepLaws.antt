@@ -1,77 +1,30 @@
 -- A thread's step: the program does what the machine does.
-use Rattle.std.proofs.Common.{◌≡◌, ℕ, ◌==◌, Bool, true, false, if◌then◌else◌}
-use Rattle.std.proofs.Common.{List, map, length, set, Option, Some, None, Result, Ok, Err}
+use Rattle.std.proofs.Common.{◌≡◌, ℕ, true, false}
+use Rattle.std.proofs.Common.{List, map, set, Option, Some, None, Result, Ok, Err}
 use Rattle.std.proofs.Common.{MatchResult, OnErr, is_ok, is_some, refl, sym, ◌∙◌, ap, subst}
 use Rattle.ks_base.specs.declared.places.Range.{Range}
-use Rattle.ks_base.specs.declared.refusals.Fault.{Fault}
 use Rattle.ks_base.specs.declared.refusals.Refusal.{Refusal}
 use Rattle.image_memory.specs.declared.types.Piece.{Piece}
 use Rattle.image_memory.specs.Contents.{Contents, fence_range}
-use Rattle.image_memory.specs.Access.{first_fault, write_fault, after_write}
-use Rattle.image_memory.specs.Fetch.{View, Unmapped, AtHome, Stray, Bytes}
-use Rattle.ia32_decode.specs.Decode.{decoded_from}
 use Rattle.ia32_step.specs.declared.types.Thread.{Thread}
 use Rattle.ia32_step.specs.declared.types.Outcome.{Outcome}
-use Rattle.ia32_step.specs.Operands.{spelled}
-use Rattle.ia32_step.specs.Step.{Left, context_of, exits, done, store_fault, after_store, unless_barred, change_by}
+use Rattle.ia32_step.specs.Step.{Left}
 use Rattle.ia32_step.specs.Step.{stepped}
 use Rattle.image_threads.specs.Program.{Program, running_at}
 use Rattle.image_threads.specs.Stepping.{continued, moved_by as program_moved_by, moved as program_moved}
 use Rattle.update_stack.specs.declared.updates.Update.{Update as Shown}
 use Rattle.update_stack.specs.declared.updates.Kept.{Kept}
-use Rattle.update_stack.specs.CallTable.{CallTable, contents_of, view_in, base_of}
-use Rattle.update_stack.specs.Steps.{step_at, step_in, after_step, moved_by, moved}
+use Rattle.update_stack.specs.CallTable.{CallTable}
+use Rattle.update_stack.specs.Steps.{step_in, after_step, moved_by, moved}
 use Rattle.update_stack.specs.Jumps.{CanJump, StepsStand, jumped_left}
 use Rattle.update_stack.specs.StandsFor.{patched}
 use Rattle.update_stack.specs.Events.{Step, Stepped, happened}
 use Rattle.update_stack.specs.Events.{step_answered, answered, machine_after, after_event}
 use Rattle.update_stack.specs.Systems.{text_of, machine_of, Holds}
-use Rattle.update_stack.proofs.LockStep.{spelled_length}
-use Rattle.update_stack.proofs.TextLaws.{IsClear}
-use Rattle.update_stack.proofs.BuiltLaws.{built_sound}
+use Rattle.update_stack.specs.StackedLaws.{built_sound}
+use Rattle.update_stack.specs.StepLaws.{by_step}
 use Rattle.update_stack.proofs.HoldsLaws.{Laws, Sound, IsKeptOver, Follows, rows_in, machine_by, sound_of, over_of}
 use Rattle.update_stack.proofs.HoldsLaws.{follows_itself, follows_write, holds_again}
-
--- What is so of memory as it was, and after each write that has no fault, is so of what a step leaves.
-module _ (Q : Contents → Type 0) (contents : Contents) (same : Q contents)
-    (writes : (start : ℕ) (bytes : List ℕ) → IsClear start (length bytes) contents.pieces
-    → Q (after_write contents start bytes)) where
-  by_store : (store : _) → store_fault contents store ≡ None → Q (after_store contents store)
-  by_store None clear = same
-  by_store (Some s) clear =
-      writes s.address (spelled s.width s.value)
-      (ap (first_fault (write_fault contents.pieces) s.address) (spelled_length s.width s.value) ∙ clear)
-
-  by_fault : (thread : Thread) (fault : Option Fault) (change : _) (left : Left)
-      → left ≡ unless_barred fault contents thread change → store_fault contents change.store ≡ fault → Q left.contents
-  by_fault thread None change left leaves is =
-      subst (λ (l : Left). Q l.contents) (sym leaves) (by_store change.store is)
-  by_fault thread (Some fault) change left leaves is = subst (λ (l : Left). Q l.contents) (sym leaves) same
-
-  by_change : (thread : Thread) (change : Result _ Fault) → Q (done contents thread change).contents
-  by_change thread (Err fault) = same
-  by_change thread (Ok change) =
-      by_fault thread (store_fault contents change.store) change (done contents thread (Ok change)) refl refl
-
-  by_view : (thread : Thread) (base : ℕ) (met : View) → Q (step_at contents thread base met).contents
-  by_view thread base Unmapped = same
-  by_view thread base AtHome = same
-  by_view thread base Stray = same
-  by_view thread base (Bytes code) =
-      by_change thread (change_by contents.pieces (context_of thread) (decoded_from code))
-
-  by_end : (thread : Thread) (base : ℕ) (met : View) (ends : Bool)
-      → Q (if ends then exits contents thread else step_at contents thread base met).contents
-  by_end thread base met true = same
-  by_end thread base met false = by_view thread base met
-
-by_step : (Q : Contents → Type 0) (k : CallTable) → Q (contents_of k)
-    → ((start : ℕ) (bytes : List ℕ) → IsClear start (length bytes) k.pieces
-    → Q (after_write (contents_of k) start bytes))
-    → (thread : Thread) → Q (step_in k thread).contents
-unfolding step_in
-by_step Q k same writes thread =
-    by_end Q (contents_of k) same writes thread (base_of k thread.pc) (view_in k thread.pc) (thread.pc == 0xFFFF_0000)
 
 -- the laws of steps
 abbrev pub AllSteps : Type 0

@@ -1,9 +1,9 @@
 -- The table of the machine: what comes of it when functions are replaced, and when that is taken back.
 use Rattle.std.proofs.Common.{◌≡◌, ◌≢◌, ℕ, suc, ◌-◌, ◌<◌, ◌==◌, ◌||◌, Bool, true, false, cond, nat_eq, if◌then◌else◌}
-use Rattle.std.proofs.Common.{List, [], ◌∷◌, ◌++◌, map, length, take, None, Some, unwrap_or, refl, sym, ◌∙◌, ap, arith}
+use Rattle.std.proofs.Common.{List, [], ◌∷◌, ◌++◌, map, length, take, None, unwrap_or, refl, sym, ◌∙◌, ap, arith}
 use Rattle.std.proofs.Common.{subst, ne_eqb}
 use Rattle.std.proofs.Common.{length-append, Option}
-use Rattle.std.specs.List.{All, Any, AllPairs, fold, last_or}
+use Rattle.std.specs.List.{All, Any, AllPairs, fold}
 use Rattle.std.proofs.Math.Seq.{take-append_seam}
 use Rattle.std.proofs.lemmas.List.{length-map, get_or-map}
 use Rattle.std.proofs.lemmas.List.Elements.{All-head, All-tail, All-cons, All-map}
@@ -16,9 +16,10 @@ use Rattle.image_memory.specs.Contents.{Contents, IsValid}
 use Rattle.symbol_table.specs.Bodies.{newest}
 use Rattle.splice_jump.specs.Jump.{with_jump}
 use Rattle.splice_jump.specs.Jumps.{jumped, row_with, with_base, IsSpliced, AreSpliced}
-use Rattle.update_plan.specs.Sound.{is_replaced_at}
 use Rattle.update_stack.specs.CallTable.{Row, is_home, newest_in, bodies_in, with_replaced, jump_row, jump_rows}
 use Rattle.update_stack.specs.Undo.{without_last, shorter, without_base}
+use Rattle.update_stack.specs.StackedLaws.{last_more}
+use Rattle.update_stack.specs.TableLaws.{all_read, equal, more_of, homes_spliced}
 
 -- no home has two rows, and each row has a base
 pub record IsTable (table : List Row) : Type 0 where
@@ -52,17 +53,8 @@ pairs_read f R xs pairs i j d less within =
     rw (sym (get_or-map f xs i d (f d) (omega arith)), sym (get_or-map f xs j d (f d) within))
     (pairs i j (f d) less long)
 
-pub all_read : {X Y : Type 0} (f : X → Y) (P : Y → Type 0) (xs : List X) → All P (map f xs) → All (λ x. P (f x)) xs
-all_read f P xs all k d l =
-    let long : k < length (map f xs) = rw (length-map xs f) l in
-    rw (sym (get_or-map f xs k d (f d) l)) (all k (f d) long)
-
 none_listed : {X : Type 0} (P : X → Type 0) → All P []
 none_listed P k d l = absurd (omega arith)
-
--- what a test says
-equal : (a b : ℕ) → (a == b) ≡ true → a ≡ b
-equal a b test = grind (arith, nat_tests)
 
 unequal : (a b : ℕ) → (a == b) ≡ false → a ≢ b
 unequal a b test = grind (arith, nat_tests)
@@ -77,9 +69,6 @@ twice a b c first second = grind (arith, nat_tests)
 -- a home's first row, and a row with a base more
 abbrev new_row : Replaced → Row
 new_row new = record { home = new.home; bases = new.base ∷ [] }
-
-abbrev more_of : Row → Replaced → Row
-more_of row new = record row { bases = row.bases ++ new.base ∷ [] }
 
 -- What holds of each home of a table and of the new one holds of each afterwards, and the other way round.
 all_homes : (P : ℕ → Type 0) (table : List Row) (new : Replaced) → All (λ (row : Row). P row.home) table → P new.home
@@ -311,52 +300,6 @@ table_back table (new ∷ more) is once =
     ∙ ap (λ (rows : List Row). fold with_replaced rows more) (one_taken table new is.based))
     ∙ table_back table more is (pairs_tail R new more once)
 
--- which homes have rows
-or_across : (a b c : Bool) → (a || (b || c)) ≡ ((a || b) || c)
-or_across true b c = refl
-or_across false b c = refl
-
-or_again : (a b : Bool) → (a || b) ≡ ((a || b) || a)
-or_again true b = refl
-or_again false true = refl
-or_again false false = refl
-
-or_none : (a : Bool) → (a || false) ≡ a
-or_none true = refl
-or_none false = refl
-
-one_home : (table : List Row) (new : Replaced) (address : ℕ)
-    → is_home (with_replaced table new) address ≡ (is_home table address || (new.home == address))
-one_home [] new address = or_none (new.home == address)
-one_home (row ∷ rows) new address = by_home (row.home == new.home) refl (one_home rows new address)
-  where
-    by_home : (b : Bool) → (row.home == new.home) ≡ b
-        → is_home (with_replaced rows new) address ≡ (is_home rows address || (new.home == address))
-        → is_home (cond b (more_of row new ∷ rows) (row ∷ with_replaced rows new)) address
-        ≡ (((row.home == address) || is_home rows address) || (new.home == address))
-    by_home true same rest =
-        or_again (row.home == address) (is_home rows address)
-        ∙ ap (λ (h : ℕ). ((row.home == address) || is_home rows address) || (h == address))
-        (equal row.home new.home same)
-    by_home false other rest =
-        ap (λ (b : Bool). (row.home == address) || b) rest
-        ∙ or_across (row.home == address) (is_home rows address) (new.home == address)
-
--- a home has a row afterwards that had one or was replaced
-pub homes_after : (table : List Row) (replaced : List Replaced) (address : ℕ)
-    → is_home (fold with_replaced table replaced) address
-    ≡ (is_home table address || is_replaced_at replaced address)
-homes_after table [] address = sym (or_none (is_home table address))
-homes_after table (new ∷ more) address =
-    homes_after (with_replaced table new) more address
-    ∙ ap (λ (b : Bool). b || is_replaced_at more address) (one_home table new address)
-    ∙ sym (or_across (is_home table address) (new.home == address) (is_replaced_at more address))
-
--- the last of a list to which one was appended
-pub last_more : {X : Type 0} (o : Option X) (xs : List X) (x : X) → last_or o (xs ++ x ∷ []) ≡ Some x
-last_more o [] x = refl
-last_more o (y ∷ ys) x = last_more (Some y) ys x
-
 newest_more : (row : Row) (new : Replaced) → newest_in (more_of row new) ≡ (row.home, new.base)
 newest_more row new =
     ap (λ (o : Option ℕ). let pair : ℕ × ℕ = (row.home, unwrap_or o row.home) in pair)
@@ -508,11 +451,6 @@ table_spliced contents table each once = record {
   each = All-map (λ (row : ℕ × ℕ). IsSpliced contents row.0) newest_in table each;
   once = pairs_map newest_in (λ (a b : ℕ × ℕ). a.0 ≢ b.0) table once;
 }
-
-pub homes_spliced : (contents : Contents) (table : List Row) → AreSpliced contents (bodies_in table)
-    → All (λ (row : Row). IsSpliced contents row.home) table
-homes_spliced contents table spliced =
-    all_read newest_in (λ (row : ℕ × ℕ). IsSpliced contents row.0) table spliced.each
 
 homes_once : (contents : Contents) (table : List Row) → AreSpliced contents (bodies_in table) → AllPairs Differ table
 homes_once contents table spliced = pairs_read newest_in (λ (a b : ℕ × ℕ). a.0 ≢ b.0) table spliced.once

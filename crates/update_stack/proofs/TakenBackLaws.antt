@@ -15,14 +15,13 @@ use Rattle.ks_base.specs.declared.reports.Report.{Report}
 use Rattle.image_file.specs.Fields.{◌>>=◌}
 use Rattle.image_file.specs.Reading.{Contents as Image, image_of}
 use Rattle.image_memory.specs.declared.types.Kind.{Kind}
-use Rattle.image_memory.specs.declared.types.Kind.TheVariants.{Code, ReadOnly, Writable}
+use Rattle.image_memory.specs.declared.types.Kind.TheVariants.{Code}
 use Rattle.image_memory.specs.declared.types.Piece.{Piece}
 use Rattle.image_memory.specs.Ranges.{Ascends}
 use Rattle.image_memory.specs.Contents.{Contents, IsValid, piece_range, holding}
 use Rattle.image_memory.specs.Access.{kind_of, unwritable, first_fault, write_fault, overlaid_piece, written}
-use Rattle.image_memory.specs.Fetch.{is_code}
-use Rattle.image_memory.proofs.AccessLaws.{good_at, overlaid_outside, piece_apart}
-use Rattle.image_memory.proofs.RangeLaws.{within, found_here}
+use Rattle.image_memory.specs.AccessLaws.{good_at, overlaid_outside, piece_apart}
+use Rattle.image_memory.specs.RangeLaws.{within, found_here}
 use Rattle.splice_jump.specs.Jump.{jump_bytes}
 use Rattle.splice_jump.specs.Jumps.{with_row, jumped, AreSpliced}
 use Rattle.memory_changes.specs.Withdrawn.{is_based_at}
@@ -30,10 +29,11 @@ use Rattle.match_candidates.specs.Candidates.{Running}
 use Rattle.ia32_step.specs.declared.types.Thread.{Thread}
 use Rattle.image_threads.specs.Program.{IsStackRange, running_at}
 use Rattle.image_threads.specs.Spawning.{started, started_at, started_on, free_stack, first_bytes, first_thread}
-use Rattle.image_threads.proofs.StackLaws.{stack_listed}
+use Rattle.image_threads.specs.StackLaws.{stack_listed}
 use Rattle.symbol_table.specs.Symbols.{function_named}
 use Rattle.link_post.specs.Places.{unless_empty, without}
 use Rattle.stack_scan.specs.Standing.{thread_refusal}
+use Rattle.splice_jump.specs.CodeLaws.{only_code}
 use Rattle.update_plan.specs.declared.types.Plan.{Plan}
 use Rattle.update_plan.specs.Plan.{planned, unless}
 use Rattle.update_plan.specs.Sound.{AreGaps, CanBeMade}
@@ -48,10 +48,12 @@ use Rattle.update_stack.specs.Events.{apply_answered, undo_answered, answered, m
 use Rattle.update_stack.specs.TakenBack.{Lasting, is_text, lasting, earlier_by, befores}
 use Rattle.update_stack.specs.TakenBack.{TakenBackIsRestored, MachinesAreBuilt}
 use Rattle.update_stack.specs.Stacked.{IsSound, IsBuilt, Untouched, Updated}
-use Rattle.update_stack.proofs.TableLaws.{last_back, last_more}
-use Rattle.update_stack.proofs.BuiltLaws.{MemoryLaws, built_sound, built_write, built_commit, committed_back, wrote}
+use Rattle.update_stack.specs.StackedLaws.{last_more, built_sound}
+use Rattle.update_stack.specs.StepLaws.{by_step}
+use Rattle.update_stack.proofs.TableLaws.{last_back}
+use Rattle.update_stack.proofs.BuiltLaws.{MemoryLaws, built_write, built_commit, committed_back, wrote}
 use Rattle.update_stack.proofs.BuiltLaws.{withdrawn_wrote, fences_listed}
-use Rattle.update_stack.proofs.WriteLaws.{by_step, stack_clear}
+use Rattle.update_stack.proofs.WriteLaws.{stack_clear}
 
 -- the laws of plans and of an arena's gaps that are used here
 abbrev pub PlansCanBeMade : Type 0
@@ -82,11 +84,6 @@ pub record IsMoment (earlier : List CallTable) (k : CallTable) : Type 0 where
 abbrev KeepsText : (start : ℕ) → List ℕ → List Piece → Type 0
 KeepsText start bytes pieces = All (λ piece. is_text piece ≡ true → overlaid_piece start bytes piece ≡ piece) pieces
 
-code_kind : (kind : Kind) → is_code kind ≡ true → kind ≡ Code
-code_kind Code is = refl
-code_kind ReadOnly is = absurd (cc)
-code_kind Writable is = absurd (cc)
-
 inside_or_out : (start count a : ℕ) → ((start ≤ a) × (a < start + count)) ⊎ ((a < start) ⊎ (start + count ≤ a))
 inside_or_out start count a = grind arith
 
@@ -101,7 +98,7 @@ clear_keeps contents start bytes valid clear i d l is =
     barred : (a : ℕ) → holding contents.pieces a ≡ Some (get_or contents.pieces i d)
         → write_fault contents.pieces a ≡ None → ⊥
     barred a here none =
-        let kind : (get_or contents.pieces i d).kind ≡ Code = code_kind (get_or contents.pieces i d).kind is in
+        let kind : (get_or contents.pieces i d).kind ≡ Code = only_code (get_or contents.pieces i d).kind is in
         let fault : unwritable (Some (get_or contents.pieces i d).kind) ≡ None =
         subst (λ (o : Option Piece). unwritable (option_map kind_of o) ≡ None) here none in
         let code : unwritable (Some Code) ≡ None = subst (λ (k : Kind). unwritable (Some k) ≡ None) kind fault in

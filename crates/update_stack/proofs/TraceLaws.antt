@@ -15,6 +15,7 @@ use Rattle.ia32_step.specs.declared.types.Store.{Store}
 use Rattle.ia32_step.specs.declared.types.Traced.{Traced}
 use Rattle.ia32_step.specs.Operands.{spelled}
 use Rattle.ia32_step.specs.Step.{store_fault, after_store, stored, window_length, fetched_count}
+use Rattle.ia32_step.specs.OperandLaws.{length-spelled}
 use Rattle.image_threads.specs.Program.{Program, running_at}
 use Rattle.image_threads.specs.Stepping.{moved}
 use Rattle.update_stack.specs.declared.updates.Update.{Update as Shown}
@@ -24,9 +25,9 @@ use Rattle.update_stack.specs.Jumps.{CanJump}
 use Rattle.update_stack.specs.StandsFor.{Seen, patched}
 use Rattle.update_stack.specs.Systems.{machine_of, text_of, Holds}
 use Rattle.update_stack.specs.inside.Stepping.{ComesOfStep}
-use Rattle.update_stack.proofs.BuiltLaws.{built_sound}
+use Rattle.update_stack.specs.StackedLaws.{built_sound}
 use Rattle.update_stack.proofs.HoldsLaws.{Laws, sound_of, writes_beside}
-use Rattle.update_stack.proofs.LockStep.{spelled_length, home_spliced}
+use Rattle.update_stack.proofs.LockStep.{home_spliced}
 use Rattle.update_stack.proofs.StepLaws.{AllSteps, step_holds, step_seen, stepped_after, step_runs}
 use Rattle.update_stack.proofs.TextLaws.{clear_text}
 
@@ -43,7 +44,7 @@ store_seen laws arena gaps updates kept old new (Some s) holds is clear =
     ∙ ap (λ (memory : Contents). memory.pieces)
     (writes_beside laws updates kept old.contents s.address (spelled s.width s.value)
     (sound_of old arena gaps updates kept holds)
-    (ap (first_fault (write_fault old.contents.pieces) s.address) (spelled_length s.width s.value) ∙ clear)).text
+    (ap (first_fault (write_fault old.contents.pieces) s.address) (length-spelled s.width s.value) ∙ clear)).text
 
 -- and there it can be written
 store_clear : (arena : Range) (updates : List Shown) (kept : List Kept) (old : Program) (store : Option Store)

@@ -28,11 +28,12 @@ use Rattle.update_stack.specs.Systems.{text_of, replaced_by, table_of, live_upda
 use Rattle.update_stack.specs.Systems.{HasJumpCode, Holds}
 use Rattle.update_stack.specs.Stacked.{IsBuilt, AreKept, NoneKept, OneKept}
 use Rattle.update_stack.specs.inside.TakingBack.{CanBeTaken, after_taking, IsHeldBefore}
+use Rattle.update_stack.specs.StackedLaws.{HasNewest, built_newest}
 use Rattle.update_stack.proofs.LastLaws.{last_more, without_more, text_more, table_more, live_more}
 use Rattle.update_stack.proofs.TableLaws.{JumpsAdded, JumpsReplaced, first_table, table_stays, table_back, spliced_new}
 use Rattle.update_stack.proofs.TableLaws.{jumps_stacked}
 use Rattle.update_stack.proofs.BuiltLaws.{machine_is}
-use Rattle.update_stack.proofs.KeptLaws.{HasNewest, built_newest, HasKept, kept_newest, CodeWasThere, withdrawn_pieces}
+use Rattle.update_stack.proofs.KeptLaws.{HasKept, kept_newest, CodeWasThere, withdrawn_pieces}
 
 -- the laws of other crates that are used here
 abbrev pub ValidJumped : Type 0

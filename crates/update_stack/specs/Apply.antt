@@ -11,9 +11,9 @@ use Rattle.i386_reloc.specs.Normal.{same_bytes}
 use Rattle.i386_reloc.specs.Refused.{refused_where}
 use Rattle.image_file.specs.Fields.{◌>>=◌}
 use Rattle.image_memory.specs.declared.types.Piece.{Piece}
-use Rattle.image_memory.specs.Ranges.{put_in}
 use Rattle.image_memory.specs.Contents.{piece_range, fence_range}
 use Rattle.image_memory.specs.Changes.{with_piece}
+use Rattle.memory_changes.specs.Retired.{with_ranges}
 use Rattle.match_candidates.specs.Candidates.{Running}
 use Rattle.link_post.specs.Places.{unless_empty, without}
 use Rattle.stack_scan.specs.Standing.{thread_refusal}
@@ -62,10 +62,6 @@ update_as name plan =
       symbols = plan.symbols;
     }
 
--- a range put among ranges that ascend
-abbrev pub with_range : List Range → Range → List Range
-with_range ranges range = put_in (λ (one : Range). one) range ranges
-
 abbrev pub with_new_piece : List Piece → Piece → List Piece
 with_new_piece pieces piece = with_piece piece pieces
 
@@ -75,7 +71,7 @@ unfoldable pub committed : CallTable → List ℕ → Plan → CallTable
 committed k name plan = record k {
   pieces = fold with_new_piece k.pieces plan.pieces;
   table = fold with_replaced k.table plan.report.replaced;
-  retired = fold with_range k.retired (map fence_range plan.fences);
+  retired = with_ranges k.retired (map fence_range plan.fences);
   symbols = k.symbols ++ plan.symbols;
   updates = k.updates ++ update_as name plan ∷ [];
 }

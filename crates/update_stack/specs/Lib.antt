@@ -1,7 +1,8 @@
 -- Public clauses cite the machine that never patches code (CallTable and its Events, by Steps, Apply and Undo), that
 -- undoing restores what was (TakenBack), what stands for the machine (StandsFor), its steps beside those of a memory
 -- with its jumps (Jumps), and a system seen as it (Systems), with what holds of it and of what it keeps (Stacked).
--- What stands in inside is the code's own.
+-- StackedLaws, TableLaws, StepLaws and ViewLaws are laws of the machine, for the crates above. What stands in inside is
+-- the code's own.
 pub mod CallTable
 pub mod Steps
 pub mod Apply
@@ -12,4 +13,8 @@ pub mod StandsFor
 pub mod Jumps
 pub mod Stacked
 pub mod Systems
+pub mod StackedLaws
+pub mod TableLaws
+pub mod StepLaws
+pub mod ViewLaws
 pub mod inside

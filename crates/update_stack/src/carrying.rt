@@ -23,9 +23,9 @@ ghost use Rattle.update_plan.specs.Sound.{CanBeMade};
 
 use crate::updates::{Kept, KeptList, Update, Updates};
 use arena_gaps::gaps_of_pieces;
-use image_memory::{Fence, Piece, Pieces, Space};
+use image_memory::{Fence, Piece, Pieces, Space, sorted};
 use image_threads::Machine;
-use ks_base::{Name, Range, Ranges, Replaced, Report};
+use ks_base::{Name, Ranges, Replaced, Report};
 use memory_changes::{
     Jump, Jumps, add_pieces, changes_are_withdrawn, code_that_stays, note_old_code,
     pieces_are_added, pieces_are_added_past_code, ranges_are_retired, retire, write_jumps,
@@ -35,7 +35,6 @@ use splice_jump::{
     code_stays_code, homes_stay_spliced, jumps_are_added_and_replaced, jumps_are_taken_back,
     jumps_change_their_bytes_alone,
 };
-use stack_scan::sorted;
 use std::alloc::{AllocError, Global};
 use symbol_table::{Addresses, SymbolTable};
 use update_plan::Plan;
@@ -198,28 +197,6 @@ fn in_order(alloc: Global, plan: &Plan, ranges: &Ranges) -> Result<Ranges, Alloc
     ensures { IfOk result (λ sorted. IsPermutation (map piece_range plan.now.pieces) sorted) }
 {
     Ok(Ranges::from_vec(sorted(alloc, ranges.as_slice())?))
-}
-
-/// The ranges of pieces.
-pub(crate) fn piece_ranges(alloc: Global, pieces: &[Piece]) -> Result<Ranges, AllocError>
-    requires { All (λ piece. (piece_range piece).high < 2 ^ 32) pieces.now }
-    ensures { IfOk result (λ ranges. ranges ≡ map piece_range pieces.now) }
-{
-    let mut ranges = Ranges::new(alloc);
-    for piece in pieces {
-        ranges.push(range_of(piece))?;
-    }
-    Ok(ranges)
-}
-
-fn range_of(piece: &Piece) -> Range
-    requires { (piece_range piece.now).high < 2 ^ 32 }
-    ensures { result ≡ piece_range piece.now }
-{
-    Range {
-        low: piece.base,
-        high: piece.base + piece.bytes.len() as u32,
-    }
 }
 
 fn bases_of(alloc: Global, pieces: &[Piece]) -> Result<Addresses, AllocError>

@@ -1,22 +1,23 @@
 //! What holds of the machine that never patches code, and of the memory that stands for it.
-ghost use Rattle.std.specs.Prelude.{◌≡◌, ℕ, List, length, None};
-ghost use Rattle.ks_base.specs.declared.places.Range.{Range};
-ghost use Rattle.image_memory.specs.Access.{first_fault, write_fault, written};
+ghost use Rattle.std.specs.Prelude.{◌≡◌, ℕ, List, Ok};
+ghost use Rattle.image_memory.specs.Fetch.{HasCode};
 ghost use Rattle.ia32_step.specs.declared.types.Thread.{Thread};
-ghost use Rattle.image_threads.specs.Program.{Program};
-ghost use Rattle.update_stack.specs.declared.updates.Update.{Update};
-ghost use Rattle.update_stack.specs.declared.updates.Kept.{Kept};
-ghost use Rattle.update_stack.specs.CallTable.{CallTable};
+ghost use Rattle.update_plan.specs.declared.types.Plan.{Plan};
+ghost use Rattle.update_plan.specs.Sound.{CanBeMade};
+ghost use Rattle.update_stack.specs.CallTable.{CallTable, contents_of};
+ghost use Rattle.update_stack.specs.Apply.{planned_in, committed};
 ghost use Rattle.update_stack.specs.Jumps.{CanJump, StepsStand};
-ghost use Rattle.update_stack.specs.Systems.{text_of, Holds};
+ghost use Rattle.update_stack.specs.Stacked.{IsBuilt};
 
+use arena_gaps::gaps_are_free;
 use ia32_decode::jumps_decode;
 use ia32_step::code_bytes_have_no_say;
-use memory_changes::code_that_stays;
+use memory_changes::pieces_are_added;
 use splice_jump::{
     code_stays_code, data_are_written_past_jumps, homes_stay_spliced, jumps_leave_views,
     jumps_stand,
 };
+use update_plan::plans_can_be_made;
 
 /// Over the memory with the jumps a thread's step comes to what it comes to on the machine: at a home it goes on at the
 /// newest version, in a retired range it stops, and elsewhere it carries out the machine's text.
@@ -34,18 +35,18 @@ pub fn steps_stand()
     homes_stay_spliced();
 }
 
-/// Data that can be written are written past the old code of a system's updates: with that put back, memory has them as
-/// the machine has, and the code as it was.
-pub fn data_are_written_past_updates()
-    ensures { (program : Program) (arena : Range) (gaps : List Range) (updates : List Update)
-        (kept : List Kept) (start : ℕ) (bytes : List ℕ) → Holds program arena gaps updates kept →
-        first_fault (write_fault program.contents.pieces) start (length bytes) ≡ None →
-        text_of kept (written start bytes program.contents.pieces)
-        ≡ written start bytes (text_of kept program.contents.pieces) }
+/// On a machine whose updates lie each on what was there without it, an update that is planned can be made; and where
+/// it is made, code stays code.
+pub fn updates_can_be_made()
+    ensures can { (k : CallTable) (name pre_file post_file : List ℕ) (plan : Plan) → IsBuilt k →
+        planned_in k name pre_file post_file ≡ Ok plan → CanBeMade (contents_of k) plan }
+    ensures code { (k : CallTable) (name : List ℕ) (plan : Plan) (address count : ℕ) → IsBuilt k →
+        CanBeMade (contents_of k) plan → HasCode k.pieces address count →
+        HasCode (committed k name plan).pieces address count }
 {
-    // Nothing is done here: the laws say that data are written past jumps, and that code stays code.
-    data_are_written_past_jumps();
-    code_stays_code();
-    homes_stay_spliced();
-    code_that_stays();
+    // Nothing is done here: the laws say that plans can be made where gaps are free, and that code stays code where
+    // pieces are added.
+    plans_can_be_made();
+    gaps_are_free();
+    pieces_are_added();
 }

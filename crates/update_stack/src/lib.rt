@@ -10,7 +10,7 @@ mod taking_back;
 mod updates;
 mod withdrawing;
 
-pub use crate::laws::{data_are_written_past_updates, steps_stand};
+pub use crate::laws::{steps_stand, updates_can_be_made};
 pub use crate::taking_back::{machines_are_built, undo_restores};
 pub use system::System;
 pub use updates::{Update, Updates};

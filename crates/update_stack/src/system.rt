@@ -23,7 +23,7 @@ ghost use Rattle.update_stack.specs.inside.Stepping.{ComesOfStep};
 ghost use Rattle.update_stack.specs.inside.TakingBack.{undo_refusal, ComesOfUndo};
 
 use crate::carrying::{
-    change, jumps_of, kept_of, piece_ranges, plans_are_carried_out, push_both, reserve, shown_as,
+    change, jumps_of, kept_of, plans_are_carried_out, push_both, reserve, shown_as,
 };
 use crate::laws::steps_stand;
 use crate::live::{bodies_of, is_taken, retired_by};
@@ -31,7 +31,7 @@ use crate::updates::{KeptList, Updates};
 use crate::withdrawing::{take_back, updates_are_taken_back};
 use arena_gaps::{gaps_are_free, without_all};
 use ia32_step::{Outcome, Traced};
-use image_memory::Space;
+use image_memory::{Space, ranges_of, sorted};
 use image_threads::Machine;
 use ks_base::{Name, Range, Ranges, Refusal, Report};
 use memory_changes::code_that_stays;
@@ -39,7 +39,7 @@ use splice_jump::{
     code_stays_code, data_are_written_past_jumps, homes_stay_spliced,
     jumps_change_their_bytes_alone, jumps_leave_views,
 };
-use stack_scan::{check_threads, order_has_no_say, sorted};
+use stack_scan::{check_threads, order_has_no_say};
 use std::alloc::{AllocError, Global};
 use std::marker::Model;
 use update_plan::{Plan, alike_programs_have_one_plan, plan, plans_can_be_made};
@@ -328,7 +328,7 @@ impl<S: Space> System<S> {
         let update = shown_as(self.alloc, name, &plan.report)?;
         let replaced = plan.report.replaced.as_slice();
         let jumps = jumps_of(self.alloc, self.machine.space(), replaced)?;
-        let ranges = piece_ranges(self.alloc, plan.pieces.as_slice())?;
+        let ranges = ranges_of(self.alloc, plan.pieces.as_slice())?;
         let gaps = without_all(self.alloc, &self.gaps, ranges.as_slice())?;
         let kept = kept_of(self.alloc, &plan, &jumps, &ranges, &self.gaps)?;
         reserve(&mut self.machine, &plan)?;

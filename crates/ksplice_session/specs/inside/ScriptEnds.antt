@@ -1,10 +1,11 @@
 -- What comes of the lines of a script, one after another.
-use Rattle.std.specs.Prelude.{◌≡◌, ℕ, Bool, List, [], ◌∷◌, length, map, Option, None, Result, Ok, Err}
+use Rattle.std.specs.Prelude.{◌≡◌, ℕ, Bool, if◌then◌else◌, List, [], ◌∷◌, length, map, Option, None, Result, Ok, Err}
 use Rattle.ks_io.specs.Outside.{Counts, grown}
 use Rattle.ks_io.specs.Loads.{Told as ToldFiles, CameTo}
 use Rattle.script_lines.specs.declared.types.Command.{Command}
 use Rattle.ksplice_session.specs.Watching.{Watched}
 use Rattle.ksplice_session.specs.declared.types.SessionEnd.{SessionEnd}
+use Rattle.ksplice_session.specs.declared.types.SessionEnd.TheVariants.{Done, SomeRefused}
 use Rattle.ksplice_session.specs.Replies.{files_of}
 use Rattle.ksplice_session.specs.Session.{Ran, held_along, played, files_along, SessionEnds}
 
@@ -44,3 +45,8 @@ ScriptEnds files k script before after old new now (Ok refused) =
     HaveRun files k script before after old new now refused
 ScriptEnds files k script before after old new now (Err end) =
     SessionEnds files k script before after old new now end
+
+-- how the session ends whose lines were all run, or that a line ended
+abbrev pub script_end : Result Bool SessionEnd → SessionEnd
+script_end (Ok refused) = if refused then SomeRefused else Done
+script_end (Err end) = end

@@ -1,9 +1,6 @@
 -- The code that is met at an address.
-use Rattle.std.specs.Prelude.{ℕ, List, []}
-use Rattle.image_memory.specs.Fetch.{View, Unmapped, AtHome, Stray, Bytes}
+use Rattle.std.specs.Prelude.{ℕ, List, [], unwrap_or}
+use Rattle.image_memory.specs.Fetch.{View, bytes_met}
 
 abbrev pub code_met : View → List ℕ
-code_met Unmapped = []
-code_met AtHome = []
-code_met Stray = []
-code_met (Bytes code) = code
+code_met view = unwrap_or (bytes_met view) []

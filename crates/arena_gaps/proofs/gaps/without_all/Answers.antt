@@ -9,8 +9,7 @@ pub returns : goal.returns
 returns c =
     let free = c.args.free.now in
     let order =
-    order_has_none without commute free c.in_ok-from_slice.field-0.items c.in_order-taken.result.items
-    c.in_order-taken.ensures.same in
+    order_has_none without commute free c.args.taken.now c.in_ok-taken.taken.items c.in_ok-taken.ensures.same in
     let same : fold without c.as_slice.result.now c.as_slice-2.result.now ≡ fold without free c.args.taken.now =
-    cc (order, c.as_slice-2.ensures.value, c.in_ok-from_slice.ensures.items) in
+    cc (order, c.as_slice-2.ensures.value) in
     subst (λ (ranges : List Range). IfOk c.swept.result (λ left. left ≡ ranges)) same c.swept.ensures

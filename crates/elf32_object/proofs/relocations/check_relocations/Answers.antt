@@ -2,8 +2,8 @@ use Rattle.std.proofs.Common.{refl, arith}
 use Rattle.std.proofs.lemmas.Result.{err_from_is_err_and}
 use Rattle.elf32_object.specs.Fields.{section_count}
 use Rattle.elf32_object.specs.Rules.{relocations_fault}
+use Rattle.elf32_object.specs.BelowLaws.{first_at}
 use Rattle.elf32_object.proofs.Apart.{none_taken}
-use Rattle.elf32_object.proofs.Firsts.{first_at}
 use Rattle.elf32_object.proofs.relocations.check_relocations.Goals as goal
 
 pub loop-i-init : goal.loop-i-init

@@ -1,11 +1,16 @@
-use Rattle.std.proofs.Common.{[], refl, sym, subst}
+use Rattle.std.proofs.Common.{[], refl}
 use Rattle.script_lines.specs.declared.types.Command.TheVariants.{Spawn}
 use Rattle.update_stack.specs.Events.{Spawn as SpawnEvent}
-use Rattle.ksplice_session.specs.Replies.{Told, told_of}
-use Rattle.ksplice_session.specs.Answers.{MadeFront}
-use Rattle.ksplice_session.proofs.AnswerLaws.{told_answers, refused_answers, one_event, told_spawn}
+use Rattle.ksplice_session.specs.Replies.{told_of}
+use Rattle.ksplice_session.proofs.AnswerLaws.{told_answers, refused_answers, one_event}
 use Rattle.ksplice_session.proofs.AnswerLaws.{told_spawned, told_spawn_refused, front_told}
+use Rattle.ksplice_session.proofs.StartLaws.{started_within}
 use Rattle.ksplice_session.proofs.answers.answer_spawn.Goals as goal
+
+pub spawned_reply-requires : goal.spawned_reply-requires
+spawned_reply-requires c =
+    started_within c.args.session.now.machine c.spawn.new.self.machine c.args.name.now c.args.argument c.in-Ok.number
+    c.in-Ok.ensures.answered
 
 pub returns-in-Ok : goal.returns-in-Ok
 returns-in-Ok c =
@@ -24,8 +29,5 @@ returns-in-Err c =
     c.in-Err.ensures.refused
     (λ other. told_spawn_refused c.args.session.now c.args.name.now c.args.argument c.in-Err.refusal
     (c.in-Err.ensures.answered other))
-    (subst (λ (told : Told). MadeFront c.args.session.now told.events c.spawn.new.self)
-    (sym (told_spawn c.args.session.now c.args.name.now c.args.argument))
-    (front_told c.args.session.now c.spawn.new.self
-    (SpawnEvent c.args.name.now c.args.argument) c.in-Err.ensures.front))
+    (front_told c.args.session.now c.spawn.new.self c.args.name.now c.args.argument c.in-Err.ensures.front)
     c.refused.ensures

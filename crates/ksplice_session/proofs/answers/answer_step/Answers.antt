@@ -7,6 +7,7 @@ use Rattle.ksplice_session.specs.Running.{thread_steps}
 use Rattle.ksplice_session.specs.Replies.{told_of}
 use Rattle.ksplice_session.proofs.AnswerLaws.{told_answers, refused_answers, none_made, told_stepped, told_step_refused}
 use Rattle.ksplice_session.proofs.WatchedLaws.{machine_after_all}
+use Rattle.ksplice_session.proofs.RunLaws.{steps_leave}
 use Rattle.ksplice_session.proofs.answers.answer_step.Goals as goal
 
 pub returns-then-not-runs : goal.returns-then-not-runs
@@ -16,6 +17,14 @@ returns-then-not-runs c =
     (told_of k (Step c.args.thread c.args.count) []) (NoThread c.args.thread) c.refused.result (λ _. refl)
     (λ _. told_step_refused k c.args.thread c.args.count (sym c.runs.ensures ∙ c.if-not-runs.true))
     (none_made k k (told_of k (Step c.args.thread c.args.count) []).events refl) c.refused.ensures
+
+pub stepped_reply-requires : goal.stepped_reply-requires
+stepped_reply-requires c =
+    let k = c.args.session.now in
+    let machine = ap (λ (n : Watched). n.machine) c.run_thread-made.ensures.after
+    ∙ machine_after_all k (thread_steps k.machine c.args.thread c.args.count) in
+    steps_leave k.machine c.run_thread-made.new.self.machine c.args.thread c.args.count
+    (sym c.runs.ensures ∙ c.if-not-runs.false) machine
 
 pub returns : goal.returns
 returns c =

@@ -1,10 +1,15 @@
-use Rattle.std.proofs.Common.{◌≡◌, ℕ, List, map, ◌∙◌, ap, subst}
+use Rattle.std.proofs.Common.{◌≡◌, ℕ, List, length, map, ◌∙◌, ap, subst}
 use Rattle.std.specs.Global.{Vec}
 use Rattle.ks_io.specs.Loads.{needed_by, bytes_of}
 use Rattle.ksplice_session.specs.Replies.{told_of, files_of}
 use Rattle.ksplice_session.specs.inside.LineEnds.{ToldEnds}
 use Rattle.ksplice_session.proofs.SessionLaws.{line_held, line_lost}
 use Rattle.ksplice_session.proofs.running.run_line.Goals as goal
+
+pub reply-requires-clause-files : goal.reply-requires-clause-files
+reply-requires-clause-files g c =
+    ap length c.as_slice.ensures.value ∙ c.in-Ok.ensures.loads.0
+    ∙ ap length (ap (map needed_by) c.as_slice-wanted.ensures ∙ c.files_of-loads.ensures)
 
 pub returns-in-Ok-clause-ends : goal.returns-in-Ok-clause-ends
 returns-in-Ok-clause-ends g c =

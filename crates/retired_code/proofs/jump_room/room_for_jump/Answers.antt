@@ -1,4 +1,4 @@
-use Rattle.std.proofs.Common.{ℕ, ◌+◌, ◌-◌, min, length, Option, sym, ap, ◌∙◌}
+use Rattle.std.proofs.Common.{ℕ, ◌+◌, ◌-◌, min, Option, sym, ap, ◌∙◌}
 use Rattle.retired_code.specs.Room.{padding_end, up_to_symbol}
 use Rattle.retired_code.proofs.RoomLaws.{room_is}
 use Rattle.retired_code.proofs.jump_room.room_for_jump.Goals as goal
@@ -9,8 +9,7 @@ returns g c =
     let home = c.args.home in
     let long = c.args.length in
     let n = c.min-met.result in
-    let met = c.min-met.ensures ∙ ap (λ (n : ℕ). min n 5) (sym c.window_met.ensures.long ∙ ap length
-    c.window_met.ensures.met) in
+    let met = c.min-met.ensures ∙ ap (λ (n : ℕ). min n 5) c.length_met.ensures.met in
     c.saturating_sub.ensures
     ∙ ap (λ (e : ℕ). e - home) (c.up_to_symbol.ensures
     ∙ ap (λ (e : ℕ). up_to_symbol e c.next_address.result) c.padding_end-end.ensures

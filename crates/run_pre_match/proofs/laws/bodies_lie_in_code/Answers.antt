@@ -6,10 +6,8 @@ returns-clause-kept c = kept_where_decoded
 
 pub returns-clause-some : goal.returns-clause-some
 returns-clause-some c = λ candidate m valid some is.
-    (matched_ends c.instructions_have_bytes.ensures.some c.instructions_have_bytes.ensures.within candidate m valid some
-    is).0
+    (matched_ends c.run_code_goes_on.ensures.ends candidate m valid some is).0
 
 pub returns-clause-low : goal.returns-clause-low
 returns-clause-low c = λ candidate m valid some is.
-    (matched_ends c.instructions_have_bytes.ensures.some c.instructions_have_bytes.ensures.within candidate m valid some
-    is).1
+    (matched_ends c.run_code_goes_on.ensures.ends candidate m valid some is).1

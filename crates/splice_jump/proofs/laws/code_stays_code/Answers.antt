@@ -1,5 +1,5 @@
-use Rattle.splice_jump.proofs.CodeLaws.{code_kind, ends_below}
-use Rattle.splice_jump.proofs.KeepLaws.{code_written, code_added, bytes_added}
+use Rattle.splice_jump.specs.CodeLaws.{code_kind, ends_below, code_written}
+use Rattle.splice_jump.proofs.KeepLaws.{code_added, bytes_added}
 use Rattle.splice_jump.proofs.laws.code_stays_code.Goals as goal
 
 pub returns-clause-held : goal.returns-clause-held

@@ -4,8 +4,9 @@ use Rattle.std.specs.List.{All}
 use Rattle.image_memory.specs.Ranges.{Ascends}
 use Rattle.image_memory.specs.Contents.{piece_range}
 use Rattle.image_memory.specs.declared.types.Piece.{Piece}
-use Rattle.image_memory.proofs.RangeLaws.{one_after}
-use Rattle.image_memory.proofs.AccessLaws.{Ascends-written, ends-written, kept_as}
+use Rattle.image_memory.specs.RangeLaws.{one_after}
+use Rattle.image_memory.specs.AccessLaws.{Ascends-written}
+use Rattle.image_memory.proofs.AccessLaws.{ends-written, kept_as}
 use Rattle.image_memory.proofs.flat.FlatSpace.put_bytes.Goals as goal
 
 pub overlay_pieces-requires-clause-below : goal.overlay_pieces-requires-clause-below

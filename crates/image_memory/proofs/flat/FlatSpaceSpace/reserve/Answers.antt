@@ -1,5 +1,5 @@
 -- What the memory holds stays, and the new ranges are those of pieces that may be placed.
-use Rattle.std.proofs.Common.{◌≤◌, ◌∙◌, List, sym, subst}
+use Rattle.std.proofs.Common.{◌≤◌, ◌∙◌, List, map, sym, ap, subst}
 use Rattle.std.specs.List.{All}
 use Rattle.std.proofs.lemmas.List.Elements.{All-map}
 use Rattle.ks_base.specs.declared.places.Range.{Range}
@@ -23,5 +23,6 @@ invariant_of-self-2-clause-fenced c =
 pub invariant_of-self-2-clause-placeable : goal.invariant_of-self-2-clause-placeable
 invariant_of-self-2-clause-placeable c =
     let P : List Range → Type 0 = λ rs. All IsPlaceable rs in
-    subst P (sym (c.from_vec.ensures ∙ c.in_ok-ranges.ensures))
+    subst P
+    (sym (c.from_vec.ensures ∙ c.into_vec.ensures ∙ c.in_ok-ranges.ensures ∙ ap (map piece_range) c.as_slice.ensures))
     (All-map IsPlaceable piece_range c.args.pieces.now c.requires)

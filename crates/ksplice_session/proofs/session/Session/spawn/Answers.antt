@@ -90,11 +90,8 @@ returns-in_err-note_spawn_alone-clause-front c =
     now c.args.name.now c.args.argument c.in_ok-number.number
     c.in_ok-number.ensures.answered)))
 
-pub invariant_of-self-in_default : goal.invariant_of-self-in_default
-invariant_of-self-in_default c = absurd (nothing_lost (goal.at.invariant_of-self-in_default c).In_default)
-
-pub returns-in_default-clause-noted : goal.returns-in_default-clause-noted
-returns-in_default-clause-noted c = absurd (nothing_lost (goal.at.returns-in_default-clause-noted c).In_default)
+pub unreachable-requires : goal.unreachable-requires
+unreachable-requires c = nothing_lost (goal.at.unreachable-requires c).In_default
 
 pub invariant_of-self-2 : goal.invariant_of-self-2
 invariant_of-self-2 c =

@@ -107,8 +107,8 @@ note_traced-requires-clause-fetched c =
     c.in-Some.before traced.outcome traced.fetched c.machine.ensures.built c.machine-machine.ensures.built (got c)
     c.in-Ok.ensures.answered c.in-Ok.ensures.text many)
 
-pub invariant_of-self-in_default-get : goal.invariant_of-self-in_default-get
-invariant_of-self-in_default-get c = absurd (nothing_lost (goal.at.invariant_of-self-in_default-get c).In_default-get)
+pub unreachable-requires : goal.unreachable-requires
+unreachable-requires c = nothing_lost (goal.at.unreachable-requires c).In_default-get
 
 pub invariant_of-self-2 : goal.invariant_of-self-2
 invariant_of-self-2 c =
@@ -125,7 +125,3 @@ returns-clause-after c =
     now v c.args.thread c.in-Some.before c.in-Some-get.after.now
     c.in-Ok.traced.outcome c.in-Ok.ensures.answered
     (got here) (got_after here) (c.note_traced.ensures ∙ (made here).same))
-
-pub returns-in_default-get-clause-after : goal.returns-in_default-get-clause-after
-returns-in_default-get-clause-after c =
-    absurd (nothing_lost (goal.at.returns-in_default-get-clause-after c).In_default-get)

@@ -1,0 +1,11 @@
+mod BodyLaws
+mod CodeEnds
+mod FirstReferences
+mod LeastLaws
+mod Listed
+mod NamedLaws
+mod PreLists
+mod Rising
+mod RunLaws
+mod Splits
+mod Undecoded

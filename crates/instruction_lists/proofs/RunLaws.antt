@@ -1,0 +1,177 @@
+-- What is met in a memory, and how the running code goes on.
+use Rattle.std.proofs.Common.{◌≡◌, ℕ, ◌-◌, ◌^◌, ◌<◌, ◌≤◌, Bool, true, false, cond, List, [], ◌∷◌, map, Option, Some}
+use Rattle.std.proofs.Common.{None, option_map, MatchOption, IfSome, Result, Ok, Err, nat_lt, nat_le, All, refl, sym}
+use Rattle.std.proofs.Common.{ap, subst, ◌∙◌, ◌⊎◌, inl, inr, arith}
+use Rattle.std.specs.List.{list_any}
+use Rattle.std.specs.Result.{result_ok}
+use Rattle.std.proofs.lemmas.Bool.{ltb-true, and_parts}
+use Rattle.std.proofs.lemmas.List.Elements.{All-head, All-tail}
+use Rattle.ks_base.specs.declared.places.Range.{Range}
+use Rattle.ks_base.specs.declared.refusals.Fault.{Fault}
+use Rattle.image_memory.specs.declared.types.Piece.{Piece}
+use Rattle.image_memory.specs.declared.types.Window.{Window}
+use Rattle.image_memory.specs.Ranges.{lies_in}
+use Rattle.image_memory.specs.Contents.{Contents, IsValid, piece_range, fence_range, holding, spliced_at}
+use Rattle.image_memory.specs.Fetch.{View, Unmapped, AtHome, Stray, Bytes, seen_in, view, view_at, code_in, code_from}
+use Rattle.image_memory.specs.Fetch.{window_of, jump_at, fetched, Tells, TellsView}
+use Rattle.ia32_decode.specs.declared.types.Decoded.{Decoded}
+use Rattle.ia32_decode.specs.Decode.{decoded_from}
+use Rattle.instruction_lists.specs.Instructions.{Instruction, listed_on}
+use Rattle.instruction_lists.specs.RunCode.{run_instruction, run_instruction_in, run_instruction_at, run_code}
+use Rattle.instruction_lists.specs.inside.Met.{bytes_met}
+use Rattle.instruction_lists.proofs.Listed.{AreWithin, none_or_some, nothing_listed, rest_first}
+
+held_low : (p : Piece) (ps : List Piece) (pc : ℕ) (b : Bool) → lies_in pc (piece_range p) ≡ b →
+    (piece_range p).high ≤ 0xFFFF_0000
+    → (code_from ps pc ≡ None) ⊎ (pc < 0xFFFF_0000) → (code_from (p ∷ ps) pc ≡ None) ⊎ (pc < 0xFFFF_0000)
+held_low p ps pc true is here rest =
+    let below : pc < (piece_range p).high =
+    ltb-true pc (piece_range p).high (and_parts (nat_le (piece_range p).low pc)
+    (nat_lt pc (piece_range p).high) is).1 in inr (omega (arith, below, here))
+held_low p ps pc false is here (inl none) = inl (ap (λ b. code_in pc (cond b (Some p) (holding ps pc))) is ∙ none)
+held_low p ps pc false is here (inr low) = inr low
+
+-- code stands below 0xFFFF0000
+code_low : (pieces : List Piece) (pc : ℕ) → All (λ piece. (piece_range piece).high ≤ 0xFFFF_0000) pieces →
+    (code_from pieces pc ≡ None) ⊎ (pc < 0xFFFF_0000)
+code_low [] pc all = inl refl
+code_low (p ∷ ps) pc all =
+    held_low p ps pc (lies_in pc (piece_range p)) refl
+    (All-head (λ piece. (piece_range piece).high ≤ 0xFFFF_0000) p ps all)
+    (code_low ps pc (All-tail (λ piece. (piece_range piece).high ≤ 0xFFFF_0000) p ps all))
+
+pub met_low : (contents : Contents) (pc : ℕ) (bytes : List ℕ) → IsValid contents → view_at contents pc ≡ Bytes bytes →
+    pc < 0xFFFF_0000
+unfolding view
+met_low contents pc bytes valid is =
+    elim (code_low contents.pieces pc valid.placed.end_below) [
+      | inl none ↦
+          let unmapped : view_at contents pc ≡ Unmapped =
+          ap (seen_in (spliced_at contents.fences) (map fence_range contents.fences) pc) none in
+          absurd (cc)
+      | inr low ↦ low
+    ]
+
+home_met : (is_home : ℕ → Bool) (retired : List Range) (pc : ℕ) (code : Option (List ℕ)) → is_home pc ≡ true →
+    bytes_met (seen_in is_home retired pc code) ≡ None
+home_met is_home retired pc None home = refl
+home_met is_home retired pc (Some code) home = rw home refl
+
+-- no code is met at a spliced home
+pub none_at_home : (contents : Contents) (pc : ℕ) → spliced_at contents.fences pc ≡ true →
+    bytes_met (view_at contents pc) ≡ None
+unfolding view
+none_at_home contents pc home =
+    home_met (spliced_at contents.fences) (map fence_range contents.fences) pc (code_from contents.pieces pc) home
+
+stray_or_code : (b : Bool) (code : List ℕ) → cond b Stray (Bytes code) ≡ AtHome → ⊥
+stray_or_code true code is = absurd (cc)
+stray_or_code false code is = absurd (cc)
+
+not_home_seen : (is_home : ℕ → Bool) (retired : List Range) (pc : ℕ) (code : Option (List ℕ)) → is_home pc ≡ false →
+    seen_in is_home retired pc code ≡ AtHome → ⊥
+not_home_seen is_home retired pc None away is = absurd (cc)
+not_home_seen is_home retired pc (Some code) away is =
+    stray_or_code (list_any (lies_in pc) retired) (window_of retired pc code)
+    (sym (ap (λ b. cond b AtHome (cond (list_any (lies_in pc) retired) Stray (Bytes (window_of retired pc code)))) away)
+    ∙ is)
+
+not_home : (contents : Contents) (pc : ℕ) → spliced_at contents.fences pc ≡ false → view_at contents pc ≡ AtHome → ⊥
+unfolding view
+not_home contents pc away is = not_home_seen (spliced_at contents.fences) (map fence_range contents.fences) pc
+    (code_from contents.pieces pc) away is
+
+shows : (view : View) (jump : List ℕ) (r : Result Window Fault) → (view ≡ AtHome → ⊥) → Tells view jump r
+    → MatchOption (result_ok r) (bytes_met view ≡ None) (λ w. view ≡ Bytes (fetched w))
+shows view jump (Ok window) away (inl is) = is
+shows view jump (Ok window) away (inr (home, is)) = absurd (away home)
+shows view jump (Err fault) away (inl (is, because)) = ap bytes_met is
+shows view jump (Err fault) away (inr (is, because)) = ap bytes_met is
+
+-- what a window tells where no jump stands
+pub window_shows : (contents : Contents) (pc : ℕ) (r : Result Window Fault) → spliced_at contents.fences pc ≡ false →
+    TellsView contents pc r
+    → MatchOption (result_ok r) (bytes_met (view_at contents pc) ≡ None) (λ w. view_at contents pc ≡ Bytes (fetched w))
+window_shows contents pc r away tells =
+    shows (view_at contents pc) (jump_at contents.pieces pc) r (not_home contents pc away) tells
+
+-- the code and what it spells, where an instruction is met
+pub record Spelled (address : ℕ) (v : View) (i : Instruction) : Type 0 where
+  pub code : List ℕ
+  pub decoded : Decoded
+  pub met : v ≡ Bytes code
+  pub spells : decoded_from code ≡ Some decoded
+  pub same : run_instruction address code decoded ≡ i
+
+spelled_in : (address : ℕ) (code : List ℕ) (o : Option Decoded) (i : Instruction) → decoded_from code ≡ o →
+    option_map (run_instruction address code) o ≡ Some i → Spelled address (Bytes code) i
+spelled_in address code None i from is = absurd (cc)
+spelled_in address code (Some d) i from is = record { code = code; decoded = d; met = refl; spells = from; same = cc }
+
+spelled : (address : ℕ) (v : View) (i : Instruction) → run_instruction_in address v ≡ Some i → Spelled address v i
+spelled address Unmapped i is = absurd (cc)
+spelled address AtHome i is = absurd (cc)
+spelled address Stray i is = absurd (cc)
+spelled address (Bytes code) i is = spelled_in address code (decoded_from code) i refl is
+
+pub spelled_at : (contents : Contents) (address : ℕ) (i : Instruction) → run_instruction_at contents address ≡ Some i →
+    Spelled address (view_at contents address) i
+unfolding run_instruction_at
+spelled_at contents address i is = spelled address (view_at contents address) i is
+
+pub place_met : (contents : Contents) (address : ℕ) (i : Instruction) → run_instruction_at contents address ≡ Some i →
+    i.place ≡ address
+place_met contents address i is = sym (ap (λ (j : Instruction). j.place) (spelled_at contents address i is).same)
+
+pub instruction_low : (contents : Contents) (address : ℕ) (i : Instruction) → IsValid contents →
+    run_instruction_at contents address ≡ Some i → address < 0xFFFF_0000
+instruction_low contents address i valid is = let s =
+    spelled_at contents address i is in met_low contents address s.code valid s.met
+
+-- what decoding says of the length of every instruction
+abbrev pub HaveBytes : Type 0
+HaveBytes = (window : List ℕ) (d : Decoded) → decoded_from window ≡ Some d → 0 < d.length
+
+abbrev pub AreShort : Type 0
+AreShort = (window : List ℕ) (d : Decoded) → decoded_from window ≡ Some d → d.length ≤ 15
+
+pub has_bytes : HaveBytes → (contents : Contents) (address : ℕ) (i : Instruction) →
+    run_instruction_at contents address ≡ Some i → 0 < i.decoded.length
+has_bytes have contents address i is =
+    let s = spelled_at contents address i is in
+    subst (λ (j : Instruction). 0 < j.decoded.length) s.same (have s.code s.decoded s.spells)
+
+pub is_short : AreShort → (contents : Contents) (address : ℕ) (i : Instruction) →
+    run_instruction_at contents address ≡ Some i → i.decoded.length ≤ 15
+is_short short contents address i is =
+    let s = spelled_at contents address i is in
+    subst (λ (j : Instruction). j.decoded.length ≤ 15) s.same (short s.code s.decoded s.spells)
+
+within : HaveBytes → AreShort → (contents : Contents) → IsValid contents →
+    AreWithin (run_instruction_at contents) (2 ^ 32)
+within have short contents valid = record {
+  each = λ place i is.
+      let some = has_bytes have contents place i is in
+      let few = is_short short contents place i is in
+      let here = place_met contents place i is in
+      let low = instruction_low contents place i valid is in
+      (omega (arith, some, here), omega (arith, few, here, low));
+}
+
+pub goes_on : HaveBytes → AreShort → (contents : Contents) (address : ℕ) → IsValid contents → address < 2 ^ 32
+    → run_code contents address ≡ listed_on (run_instruction_at contents address) (run_code contents)
+unfolding run_code
+goes_on have short contents address valid low =
+    elim (none_or_some (run_instruction_at contents address)) [
+      | inl none ↦ nothing_listed (run_instruction_at contents) (2 ^ 32 - address) address none
+          ∙ sym (ap (λ o. listed_on o (run_code contents)) none)
+      | inr it ↦
+          rest_first (run_instruction_at contents) (2 ^ 32) (within have short contents valid) address it.0 it.1
+          ∙ sym (ap (λ o. listed_on o (run_code contents)) it.1)
+    ]
+
+pub low_where_met : (contents : Contents) (pc : ℕ) (o : Option Window) → IsValid contents
+    → MatchOption o (bytes_met (view_at contents pc) ≡ None) (λ w. view_at contents pc ≡ Bytes (fetched w)) →
+    IfSome o (λ _. pc < 0xFFFF_0000)
+low_where_met contents pc None valid met = tt
+low_where_met contents pc (Some w) valid met = met_low contents pc (fetched w) valid met

@@ -1,0 +1,10 @@
+-- What a command asks for, as the words' reading says it.
+use Rattle.ksplice_calls.specs.declared.command.Command.{Command}
+use Rattle.ksplice_calls.specs.declared.command.Command.TheVariants as commands
+use Rattle.ksplice_calls.specs.Words.{Asked, Diff, Code, Match, Run}
+
+abbrev pub asked_by : Command → Asked
+asked_by (commands.Diff pre post) = Diff pre.now post.now
+asked_by (commands.Code image name) = Code image.now name.now
+asked_by (commands.Match image pre) = Match image.now pre.now
+asked_by (commands.Run image script) = Run image.now script.now

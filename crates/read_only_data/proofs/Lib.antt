@@ -1,0 +1,4 @@
+mod Bounds
+mod Covered
+mod Ends
+mod Shared

@@ -1,0 +1,2 @@
+-- What the code keeps: no public clause cites it.
+pub mod Texts

@@ -1,6 +1,0 @@
-use Rattle.std.proofs.Common.{◌≡◌, map, take}
-use Rattle.image_memory.specs.Contents.{piece_range}
-use Rattle.update_stack.proofs.carrying.piece_ranges.Given as goal
-
-abbrev pub invariant-loop-piece : goal.invariant-loop-piece
-invariant-loop-piece l = l.ranges ≡ map piece_range (take l.piece-index l.pieces)
