@@ -7,8 +7,8 @@ use Rattle.std.proofs.Common.{arith, sym, ◌∙◌, ap, subst, inl, inr}
 use Rattle.std.proofs.lemmas.Bool.{and_parts, or_cases, ltb-true, eqb-true, eq-eqb}
 use Rattle.std.proofs.lemmas.Option.{same_Some}
 use Rattle.std.proofs.lemmas.List.{take_all}
-use Rattle.std.proofs.lemmas.List.Elements.{All-cons, All-contains}
-use Rattle.std.proofs.lemmas.List.Sums.{AllPass-from_list_all}
+use Rattle.std.proofs.lemmas.List.Elements.{All-cons}
+use Rattle.propagation.proofs.ListLaws.{list_all_has}
 use Rattle.propagation.specs.declared.choice.Claim.{Claim}
 use Rattle.propagation.specs.declared.choice.Choice.{Choice}
 use Rattle.propagation.specs.Choices.{Agree, IsChoice, ComesBefore, AreChoices}
@@ -46,12 +46,8 @@ rises (x ∷ y ∷ ys) each = λ k lt.
 -- claims of one unknown give it one value
 claims_agree : (claims : List Claim) → agree claims ≡ true → Agree claims
 claims_agree claims each = λ a b has_a has_b same.
-    let with_each : list_all (agree_with a) claims ≡ true =
-    All-contains (λ (c : Claim). list_all (agree_with c) claims ≡ true) claims a
-    (AllPass-from_list_all (λ (c : Claim). list_all (agree_with c) claims) claims each) has_a in
-    let with_b : agree_with a b ≡ true =
-    All-contains (λ (c : Claim). agree_with a c ≡ true) claims b
-    (AllPass-from_list_all (agree_with a) claims with_each) has_b in
+    let with_each = list_all_has (λ c. list_all (agree_with c) claims) claims a each has_a in
+    let with_b = list_all_has (agree_with a) claims b with_each has_b in
     elim (or_cases (not (a.unknown == b.unknown)) (a.value == b.value) with_b) [
       | inl other ↦ (let none = ap not (eq-eqb a.unknown b.unknown same) in absurd cc)
       | inr e ↦ eqb-true a.value b.value e
