@@ -1,6 +1,5 @@
 //! The list of the instructions that run from a base on.
-ghost use Rattle.std.specs.Prelude.{◌≡◌, ◌<◌, ◌^◌, ℕ, length, OnOk, IfOk};
-ghost use Rattle.image_memory.specs.Contents.{Contents};
+ghost use Rattle.std.specs.Prelude.{◌≡◌, ◌<◌, length, OnOk, IfOk};
 ghost use Rattle.instruction_lists.specs.Instructions.{after, end_of};
 ghost use Rattle.instruction_lists.specs.RunCode.{run_body};
 ghost use Rattle.instruction_lists.specs.Places.{AreBelow, with_place, places_of};

@@ -1,18 +1,16 @@
 //! The instructions of the running program.
 ghost use Rattle.std.specs.Prelude.{◌≡◌, ◌<◌, ◌≤◌, ◌^◌, ℕ, not, length, take, Some, None, option_map, IfSome};
-ghost use Rattle.std.specs.Prelude.{MatchOption};
 ghost use Rattle.ks_base.specs.declared.refusals.DifferenceKind.{DifferenceKind};
 ghost use Rattle.image_memory.specs.Contents.{Contents, IsValid};
-ghost use Rattle.image_memory.specs.Fetch.{Bytes, fetched, view_at};
+ghost use Rattle.image_memory.specs.Fetch.{fetched, view_at};
 ghost use Rattle.ia32_decode.specs.Decode.{decoded_from};
 ghost use Rattle.ia32_decode.specs.Padding.{is_padding_of};
 ghost use Rattle.instruction_lists.specs.Instructions.{Instruction, after, direct_branch, target_of, listed_on};
 ghost use Rattle.instruction_lists.specs.RunCode.{run_instruction, run_instruction_at, run_code, break_kind};
-ghost use Rattle.instruction_lists.specs.inside.Met.{bytes_met};
 
 use crate::instructions::displacement;
 use ia32_decode::{Branch, Decoded, decode, instructions_have_bytes, is_padding};
-use image_memory::{Space, Window};
+use image_memory::{Space, Window, window_met};
 use ks_base::DifferenceKind;
 use std::marker::Model;
 
@@ -106,19 +104,6 @@ impl RunInstruction {
     {
         self.after().wrapping_add(displacement(self.branch()))
     }
-}
-
-/// What is fetched at an address, where code is met there.
-fn window_met<S: Space>(space: &S, address: u32) -> Option<Window>
-    ensures met { MatchOption result (bytes_met (view_at (S.contents space.now) address) ≡ None)
-        (λ w. view_at (S.contents space.now) address ≡ Bytes (fetched w)) }
-    ensures short { IfSome result (λ w. w.length ≤ 15) }
-    ensures low { IfSome result (λ _. address < 0xFFFF_0000) }
-{
-    if space.spliced(address) {
-        return None;
-    }
-    space.window(address).ok()
 }
 
 /// The instruction that is met at an address of a memory. `None` exactly where there is no code, at a spliced home, in

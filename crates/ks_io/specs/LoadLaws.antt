@@ -107,4 +107,11 @@ stays_or_loses_one needed told held lost before now came = by (first_lacking (ne
     by first None is ends = inl ends
     by None (Some fault) is ends = absurd ends
     by (Some file) (Some fault) is ends =
-        inr (record { held = held; file = file; is_lacking = is; fault = fault; is_lost = ends })
+        inr (record {
+          held = held;
+          are_held = came.are_held;
+          file = file;
+          is_lacking = is;
+          fault = fault;
+          is_lost = ends;
+        })

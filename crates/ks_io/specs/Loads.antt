@@ -74,6 +74,7 @@ pub record CameTo (told : Told)
 -- outside.
 pub record LosesOne (needed : List (List ℕ) → List Needed) (told : Told) (before now : Counts) : Type 0 where
   pub held : List (List ℕ)
+  pub are_held : AreHeld told (needed held) held
   pub file : Needed
   pub is_lacking : first_lacking (needed held) held ≡ Some file
   pub fault : FileFault

@@ -1,6 +1,7 @@
 -- What the status of a call tells follows from its answer.
 use Rattle.std.proofs.Common.{◌≡◌, ◌⊎◌, inl, inr, ℕ, ◌<◌, Bool, true, false, List, [], ◌∷◌, ◌++◌, length}
 use Rattle.std.proofs.Common.{nat_eq, Option, Some, None, Result, Ok, Err, refl, sym, ◌∙◌, ap, subst, arith}
+use Rattle.std.proofs.Common.{le_of_suc-le-suc, not-suc-le-zero}
 use Rattle.std.specs.List.{list_any}
 use Rattle.std.proofs.lemmas.Option.{slice_get_within}
 use Rattle.ks_base.specs.declared.refusals.Refusal.{Refusal}
@@ -15,7 +16,7 @@ use Rattle.ksplice_session.specs.Watching.{Watched}
 use Rattle.ksplice_session.specs.Session.{lacking, lost_line, session_played}
 use Rattle.ksplice_calls.specs.Answer.{Answer, OneComesOut, Answered, NoMemory, ComesOut, usage_answer}
 use Rattle.ksplice_calls.specs.Calls.{named_files, line_files, session_files, needed, IsAnswer, IsAnswerBy, Answers}
-use Rattle.ksplice_calls.specs.Promises.{RepliesSome, EndsWithFile, CountsTellOf}
+use Rattle.ksplice_calls.specs.Promises.{RepliesSome, EndsWithFile, CountsTellOf, replies_before}
 use Rattle.ksplice_calls.specs.Reply.{code_reply, match_reply, reply_answer, session_of, session_status, session_answer}
 use Rattle.ksplice_calls.specs.Words.{Asked, Diff, Code, Match, Run}
 
@@ -105,80 +106,103 @@ not_four reply e =
 -- a session that lacks a file
 lines_at : (image script bytes lines : List ℕ) (k : Watched) (commands : List Command)
     (held : List (List ℕ)) (told : Told) (lost : Option FileFault) (before now : Counts) (old new : Option (List ℕ))
-    → session_of bytes lines ≡ Ok (k, commands) → EndsLoads told (lacking commands held) lost before now
+    → session_of bytes lines ≡ Ok (k, commands)
+    → AreHeld told (needed (Some (Run image script)) (bytes ∷ lines ∷ held)) (bytes ∷ lines ∷ held)
+    → EndsLoads told (lacking commands held) lost before now
     → (file : Option Needed)
     → lacking commands held ≡ file → 4 ≡ session_status file lost (session_played k commands held).refused
     → new ≡ grown old ((session_played k commands held).output ++ lost_line file lost)
     → EndsWithFile (Some (Run image script)) told before now old new
-lines_at image script bytes lines k commands held told lost before now old new read ends None lacks four taken =
+lines_at image script bytes lines k commands held told lost before now old new read are ends None lacks four taken =
     absurd (not_three (session_played k commands held).refused four)
   where
     not_three : (refused : Bool) → 4 ≡ session_status None lost refused → ⊥
     not_three true e = omega (arith, e)
     not_three false e = omega (arith, e)
-lines_at image script bytes lines k commands held told None before now old new read ends (Some file) lacks four taken =
+lines_at image script bytes lines k commands held told
+    None before now old new read are ends (Some file) lacks four taken =
     absurd (omega (arith, four))
 lines_at image script bytes lines k commands held told
-    (Some fault) before now old new read ends (Some file) lacks four taken = record {
+    (Some fault) before now old new read are ends (Some file) lacks four taken = record {
       held = bytes ∷ lines ∷ held;
+      are_held = are;
       file = file;
       is_needed = rw read lacks;
       fault = fault;
       lost = rw lacks at ends;
-      replies = (session_played k commands held).output;
-      line = taken;
+      line = rw read taken;
     }
 
 session_at : (image script bytes lines : List ℕ) (read : Result (Watched × List Command) Refusal)
     (held : List (List ℕ)) (told : Told) (lost : Option FileFault) (before now : Counts) (old new : Option (List ℕ))
-    → session_of bytes lines ≡ read → EndsLoads told (first_lacking (session_files read) held) lost before now
+    → session_of bytes lines ≡ read
+    → AreHeld told (needed (Some (Run image script)) (bytes ∷ lines ∷ held)) (bytes ∷ lines ∷ held)
+    → EndsLoads told (first_lacking (session_files read) held) lost before now
     → 4 ≡ (session_answer read held lost).status → new ≡ grown old (session_answer read held lost).output
     → EndsWithFile (Some (Run image script)) told before now old new
-session_at image script bytes lines (Err refusal) held told lost before now old new is ends four taken =
+session_at image script bytes lines (Err refusal) held told lost before now old new is are ends four taken =
     absurd (not_four (Err refusal) four)
-session_at image script bytes lines (Ok session) held told lost before now old new is ends four taken =
-    lines_at image script bytes lines session.0 session.1 held told lost before now old new is ends
+session_at image script bytes lines (Ok session) held told lost before now old new is are ends four taken =
+    lines_at image script bytes lines session.0 session.1 held told lost before now old new is are ends
     (lacking session.1 held) refl four taken
+
+-- before the files that the words name are held nothing is written
+no_replies : (command : Asked) (held : List (List ℕ)) → length held < length (named_files (Some command))
+    → replies_before (Some command) held ≡ []
+no_replies (Diff pre post) held less = refl
+no_replies (Code image name) held less = refl
+no_replies (Match image pre) held less = refl
+no_replies (Run image script) [] less = refl
+no_replies (Run image script) (bytes ∷ []) less = refl
+no_replies (Run image script) (bytes ∷ lines ∷ held) less =
+    absurd (not-suc-le-zero (le_of_suc-le-suc (le_of_suc-le-suc less)))
 
 file_at : (first : Option Needed) (command : Asked)
     (told : Told) (held : List (List ℕ)) (lost : Option FileFault) (before now : Counts) (old new : Option (List ℕ))
-    → first_lacking (named_files (Some command)) held ≡ first
+    → first_lacking (named_files (Some command)) held ≡ first → AreHeld told (needed (Some command) held) held
     → EndsLoads told (first_lacking (needed (Some command) held) held) lost before now
     → OneComesOut (IsAnswerBy first command held lost) old new 4 → EndsWithFile (Some command) told before now old new
-file_at first command told held lost before now old new is ends (NoMemory s n) = absurd (omega (arith, s))
-file_at (Some file) command told held None before now old new is ends (Answered answer one out) =
+file_at first command told held lost before now old new is are ends (NoMemory s n) = absurd (omega (arith, s))
+file_at (Some file) command told held None before now old new is are ends (Answered answer one out) =
     absurd (let four : 4 ≡ answer.status = out.0 in
     let six : answer.status ≡ 6 = ap (λ (a : Answer). a.status) one in omega arith)
-file_at (Some file) command told held (Some fault) before now old new is ends (Answered answer one out) =
+file_at (Some file) command told held (Some fault) before now old new is are ends (Answered answer one out) =
     let within : length held < length (named_files (Some command)) =
     slice_get_within (named_files (Some command)) (length held) file is in
     let first : first_lacking (needed (Some command) held) held ≡ Some file =
     first_lacking-within (named_files (Some command)) (line_files (Some command) held) held within ∙ is in
+    let none : replies_before (Some command) held ≡ [] = no_replies command held within in
     record {
       held = held;
+      are_held = are;
       file = file;
       is_needed = first;
       fault = fault;
       lost = rw first at ends;
-      replies = [];
-      line = out.1 ∙ ap (λ (a : Answer). grown old a.output) one;
+      line = rw none (out.1 ∙ ap (λ (a : Answer). grown old a.output) one);
     }
-file_at None (Diff pre post) told (bytes ∷ others ∷ held) lost before now old new is ends (Answered answer one out) =
+file_at None (Diff pre post) told (bytes ∷ others ∷ held) lost before now old new is are ends
+    (Answered answer one out) =
     absurd (not_four one.reply (out.0 ∙ ap (λ (a : Answer). a.status) one.told))
-file_at None (Code image name) told (bytes ∷ held) lost before now old new is ends (Answered answer one out) =
+file_at None (Code image name) told (bytes ∷ held) lost before now old new is are ends (Answered answer one out) =
     absurd (not_four (code_reply bytes name) (out.0 ∙ ap (λ (a : Answer). a.status) one))
-file_at None (Match image pre) told (bytes ∷ object ∷ held) lost before now old new is ends (Answered answer one out) =
+file_at None (Match image pre) told (bytes ∷ object ∷ held) lost before now old new is are ends
+    (Answered answer one out) =
     absurd (not_four (match_reply bytes object) (out.0 ∙ ap (λ (a : Answer). a.status) one))
-file_at None (Run image script) told (bytes ∷ lines ∷ held) lost before now old new is ends (Answered answer one out) =
-    session_at image script bytes lines (session_of bytes lines) held told lost before now old new refl ends
+file_at None (Run image script) told (bytes ∷ lines ∷ held) lost before now old new is are ends
+    (Answered answer one out) =
+    session_at image script bytes lines (session_of bytes lines) held told lost before now old new refl are ends
     (out.0 ∙ ap (λ (a : Answer). a.status) one) (out.1 ∙ ap (λ (a : Answer). grown old a.output) one)
-file_at None (Diff pre post) told [] lost before now old new is ends (Answered answer one out) = absurd one
-file_at None (Diff pre post) told (bytes ∷ []) lost before now old new is ends (Answered answer one out) = absurd one
-file_at None (Code image name) told [] lost before now old new is ends (Answered answer one out) = absurd one
-file_at None (Match image pre) told [] lost before now old new is ends (Answered answer one out) = absurd one
-file_at None (Match image pre) told (bytes ∷ []) lost before now old new is ends (Answered answer one out) = absurd one
-file_at None (Run image script) told [] lost before now old new is ends (Answered answer one out) = absurd one
-file_at None (Run image script) told (bytes ∷ []) lost before now old new is ends (Answered answer one out) = absurd one
+file_at None (Diff pre post) told [] lost before now old new is are ends (Answered answer one out) = absurd one
+file_at None (Diff pre post) told (bytes ∷ []) lost before now old new is are ends
+    (Answered answer one out) = absurd one
+file_at None (Code image name) told [] lost before now old new is are ends (Answered answer one out) = absurd one
+file_at None (Match image pre) told [] lost before now old new is are ends (Answered answer one out) = absurd one
+file_at None (Match image pre) told (bytes ∷ []) lost before now old new is are ends
+    (Answered answer one out) = absurd one
+file_at None (Run image script) told [] lost before now old new is are ends (Answered answer one out) = absurd one
+file_at None (Run image script) told (bytes ∷ []) lost before now old new is are ends
+    (Answered answer one out) = absurd one
 
 pub ends_with_file : (asked : Option Asked) (told : Told) (before now : Counts) (old new : Option (List ℕ))
     → Answers asked told before now old new 4 → EndsWithFile asked told before now old new
@@ -190,7 +214,7 @@ ends_with_file None told before now old new a = absurd (no_file a.answer)
     no_file (NoMemory s n) = omega (arith, s)
 ends_with_file (Some command) told before now old new a =
     file_at (first_lacking (named_files (Some command)) a.held)
-    command told a.held a.lost before now old new refl a.loads.ends a.answer
+    command told a.held a.lost before now old new refl a.loads.are_held a.loads.ends a.answer
 
 -- what the counts tell
 rises_at : (asked : Option Asked) (files : List ℕ → Option (List ℕ)) (held : List (List ℕ))

@@ -38,7 +38,8 @@ pub fn answers_tell()
         → Answers asked told before now old new status
         → (status ≡ 0) ⊎ (status ≡ 3) ⊎ (status ≡ 7) → RepliesSome asked told old new status }
 
-    // 4 comes only with the line of a file, whose fault shows in its count.
+    // 4 comes only with the line of the first file that the call lacks, behind the replies to the lines before it, and
+    // the file's fault shows in its count.
     ensures file { (asked : Option Asked) (told : Told) (before now : Counts) (old new : Option (List ℕ))
         → Answers asked told before now old new 4 → EndsWithFile asked told before now old new }
 
@@ -47,8 +48,8 @@ pub fn answers_tell()
         (files : List ℕ → Option (List ℕ)) (before now : Counts) (old new : Option (List ℕ)) (status : ℕ)
         → Answers asked (Some files) before now old new status → CountsTellOf asked files before now }
 
-    // With any status the counts of the files stay, or a file that the call needs was lost for a fault of the outside,
-    // which shows in them.
+    // With any status the counts of the files stay, or the first file that the call lacks was lost for a fault of the
+    // outside, which shows in them.
     ensures lost { (asked : Option Asked) (told : Told) (before now : Counts) (old new : Option (List ℕ)) (status : ℕ)
         → Answers asked told before now old new status → (now ≡ before) ⊎ LosesOne (needed asked) told before now }
 {}

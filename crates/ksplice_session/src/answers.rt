@@ -1,6 +1,6 @@
 //! What the lines of a script do to a session, and their replies.
-ghost use Rattle.std.specs.Prelude.{◌≡◌, ◌≢◌, ℕ, ◌≤◌, ◌<◌, ◌+◌, ◌-◌, ◌^◌, List, [], ◌∷◌, length, map};
-ghost use Rattle.std.specs.Prelude.{Ok, Err, true, false, IfOk, MatchResult};
+ghost use Rattle.std.specs.Prelude.{◌≡◌, ◌≢◌, ◌≤◌, ◌<◌, ◌+◌, ◌-◌, ◌^◌, [], length, map};
+ghost use Rattle.std.specs.Prelude.{Ok, Err, true, false, IfOk};
 ghost use Rattle.ks_base.specs.declared.refusals.Refusal.TheVariants.{Memory};
 ghost use Rattle.ks_base.specs.Refusals.{refusal_line};
 ghost use Rattle.script_lines.specs.declared.types.Command.TheVariants.{Spawn, Step, RoundRobin, Threads, Peek};

@@ -5,7 +5,7 @@ ghost use Rattle.script_lines.specs.Lines.{IsPrintable};
 ghost use Rattle.ksplice_session.specs.inside.Loading.{wanted_by};
 ghost use Rattle.ks_io.specs.Kept.{SinkKept};
 ghost use Rattle.ks_io.specs.Loads.{needed_by};
-ghost use Rattle.ks_io.specs.Outside.{Rose, TookPart, TookFront, grown};
+ghost use Rattle.ks_io.specs.Outside.{Rose, TookPart, grown};
 ghost use Rattle.ksplice_session.specs.Replies.{files_of, object_file};
 ghost use Rattle.ksplice_session.specs.Session.{file_fault_text, file_line};
 

@@ -6,7 +6,6 @@ ghost use Rattle.image_file.specs.Seen.{contents_of};
 ghost use Rattle.image_threads.specs.Program.{running_at};
 ghost use Rattle.update_stack.specs.CallTable.{shown_update};
 ghost use Rattle.update_stack.specs.Events.{Apply, Applied, Spawn, Spawned, Undo, Undone, happened, answered};
-ghost use Rattle.update_stack.specs.StandsFor.{StandsFor};
 ghost use Rattle.ksplice_session.specs.Watching.{first_watched, watched_after};
 ghost use Rattle.ksplice_session.specs.Answers.{MadeFront};
 

@@ -6,10 +6,11 @@ use Rattle.image_memory.specs.Fetch.{view_at}
 use Rattle.instruction_lists.specs.Instructions.{Instruction, kept_of, listed, stands_for, through_kept}
 use Rattle.instruction_lists.specs.RunCode.{run_instruction_in, run_instruction_at, run_code, run_body}
 use Rattle.instruction_lists.specs.PreCode.{pre_code}
-use Rattle.run_pre_match.specs.Candidate.{Candidate, pre_list, run_list, pairs_from, pairs, has_number, same_number}
+use Rattle.run_pre_match.specs.Candidate.{Candidate, pre_list, run_list, pairs_from, pairs}
+use Rattle.run_pre_match.specs.Candidate.{has_number, same_number, body_of}
 use Rattle.read_only_data.specs.Constants.{constant_at}
 use Rattle.run_pre_match.specs.Matched.{PreSection}
-use Rattle.run_pre_match.specs.Bodies.{body_at, body_of}
+use Rattle.run_pre_match.specs.Bodies.{body_at}
 use Rattle.run_pre_match.specs.Alike.{AreAlike, in_memory}
 
 pub same_views : (a b : Contents) → AreAlike a b → view_at a ≡ view_at b

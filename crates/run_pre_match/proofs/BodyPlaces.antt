@@ -5,8 +5,9 @@ use Rattle.std.specs.List.{slice_get}
 use Rattle.std.proofs.lemmas.List.{length-map}
 use Rattle.std.proofs.lemmas.Option.{slice_get-map}
 use Rattle.instruction_lists.specs.Instructions.{Instruction, place_of, kept_of, stands_for}
-use Rattle.run_pre_match.specs.Candidate.{has_number}
-use Rattle.run_pre_match.specs.Bodies.{Body, is_number_of, address_in, address_of}
+use Rattle.run_pre_match.specs.Candidate.{Candidate, Body, pre_list, run_list, body_of}
+use Rattle.run_pre_match.specs.Candidate.{has_number, is_number_of, same_number}
+use Rattle.run_pre_match.specs.Bodies.{address_in, address_of}
 use Rattle.instruction_lists.specs.Places.{Places, places_of, number_in}
 use Rattle.instruction_lists.specs.PlaceLaws.{stands_for_by}
 
@@ -15,18 +16,22 @@ pub number_by : (is : List Instruction) (p : Places) (place : ℕ) (o : Option �
 number_by is p place o found same =
     found ∙ ap (λ q. number_in q place) same ∙ sym (stands_for_by is place)
 
--- the number of an offset agrees with what an address stands for
-pub agrees_by : (body : Body) (p : Places) (offset address : ℕ) (o : Option ℕ) →
-    o ≡ stands_for body.pre offset → p ≡ places_of body.run →
-    is_number_of body offset address ≡ has_number (length p.kept) (number_in p address) o
-agrees_by body p offset address o found same =
-    let count : length (map place_of (kept_of body.run)) ≡ length (kept_of body.run) =
-    length-map (kept_of body.run) place_of in
-    ap (λ n. has_number n (stands_for body.run address) (stands_for body.pre offset))
-    (sym count ∙ ap (λ (q : Places). length q.kept) (sym same))
-    ∙ ap (λ there. has_number (length p.kept) there (stands_for body.pre offset))
-    (stands_for_by body.run address ∙ ap (λ q. number_in q address) (sym same))
-    ∙ ap (has_number (length p.kept) (number_in p address)) (sym found)
+-- whether an address stands for the number of an offset, by the places of both lists
+pub is_number_by : (body : Body) (pre run : Places) (offset address : ℕ) → pre ≡ places_of body.pre →
+    run ≡ places_of body.run →
+    is_number_of body offset address ≡ has_number (length run.kept) (number_in run address) (number_in pre offset)
+is_number_by body pre run offset address is_pre is_run =
+    rw (stands_for_by body.run address, stands_for_by body.pre offset, sym is_pre, sym is_run)
+    (let count : length (map place_of (kept_of body.run)) ≡ length (kept_of body.run) = simp length-map in
+    ap (λ n. has_number n (number_in run address) (number_in pre offset))
+    (sym count ∙ ap (λ (p : Places). length p.kept) (sym is_run)))
+
+pub same_number_by : (c : Candidate) (pre run : Places) (offset address : ℕ) → pre ≡ places_of (pre_list c) →
+    run ≡ places_of (run_list c) →
+    same_number c offset address ≡ has_number (length run.kept) (number_in run address) (number_in pre offset)
+unfolding same_number
+same_number_by c pre run offset address is_pre is_run =
+    is_number_by (body_of c) pre run offset address is_pre is_run
 
 pub address_by : (body : Body) (p : Places) (offset number : ℕ) (o : Option ℕ) →
     o ≡ slice_get p.kept number → number ≡ unwrap_or (stands_for body.pre offset) 0 → p ≡ places_of body.run →

@@ -19,7 +19,6 @@ mod Opened
 mod OutcomeLaws
 mod PairLaws
 mod Reached
-mod SameNumber
 mod Statements
 mod Stepwise
 mod Told

@@ -52,8 +52,19 @@ abbrev pub has_number : ℕ → Option ℕ → Option ℕ → Bool
 has_number count there None = false
 has_number count there (Some k) = nat_le count k || is_number k there
 
--- Whether an address stands in the run body for the number of an offset. Where the run list breaks off, a number that
+-- the instructions of a section's code, and those of a running body
+pub record Body : Type 0 where
+  pub pre : List Instruction
+  pub run : List Instruction
+
+abbrev pub body_of : Candidate → Body
+body_of c = record { pre = pre_list c; run = run_list c }
+
+-- Whether an address stands in a running body for the number of an offset. Where the run list breaks off, a number that
 -- is that of the break or a later one counts as agreeing; in a whole body there is none such.
+abbrev pub is_number_of : Body → ℕ → ℕ → Bool
+is_number_of body offset address =
+    has_number (length (kept_of body.run)) (stands_for body.run address) (stands_for body.pre offset)
+
 unfoldable pub same_number : Candidate → ℕ → ℕ → Bool
-same_number c offset address =
-    has_number (length (kept_of (run_list c))) (stands_for (run_list c) address) (stands_for (pre_list c) offset)
+same_number c offset address = is_number_of (body_of c) offset address

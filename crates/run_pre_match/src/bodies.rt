@@ -1,10 +1,12 @@
 //! The running body of a candidate, asked for where an offset of its section stands.
-ghost use Rattle.std.specs.Prelude.{◌≡◌, IfOk};
-ghost use Rattle.run_pre_match.specs.Bodies.{body_at, is_number_of, address_of};
+ghost use Rattle.std.specs.Prelude.{◌≡◌, IfOk, length};
+ghost use Rattle.instruction_lists.specs.Places.{number_in};
+ghost use Rattle.run_pre_match.specs.Bodies.{body_at, address_of};
+ghost use Rattle.run_pre_match.specs.Candidate.{has_number, is_number_of};
 
 use crate::code::PreCode;
 use image_memory::Space;
-use instruction_lists::{RunList, list_run};
+use instruction_lists::{Places, RunList, list_run};
 use std::alloc::{AllocError, Global};
 use std::marker::Model;
 
@@ -22,7 +24,8 @@ impl<'c, 'n, 'a, S: Space> Model for Body<'c, 'n, 'a, S> {
     ghost use Rattle.instruction_lists.specs.Instructions.{kept_of};
     ghost use Rattle.instruction_lists.specs.PreCode.{pre_code};
     ghost use Rattle.instruction_lists.specs.RunCode.{run_body};
-    ghost use Rattle.run_pre_match.specs.Bodies.{Body, body_at};
+    ghost use Rattle.run_pre_match.specs.Candidate.{Body};
+    ghost use Rattle.run_pre_match.specs.Bodies.{body_at};
     ghost use Rattle.instruction_lists.specs.Places.{places_of};
 
     ghost Value = { Body };
@@ -31,6 +34,20 @@ impl<'c, 'n, 'a, S: Space> Model for Body<'c, 'n, 'a, S> {
 
     ghost invariant = { λ b. b.run.places
         ≡ places_of (run_body (S.contents b.space.now) b.base (length (kept_of (pre_code b.code.now.section)))) };
+}
+
+/// Whether an address stands for the number of an offset, by the places of a section's code and of a running body. A
+/// number that the body doesn't reach counts as agreeing.
+pub(crate) fn has_number(pre: &Places, run: &Places, offset: u32, address: u32) -> bool
+    ensures { result ≡ has_number (length run.now.kept) (number_in run.now address) (number_in pre.now offset) }
+{
+    let Some(number) = pre.number_of(offset) else {
+        return false;
+    };
+    if run.kept_count() <= number as usize {
+        return true;
+    }
+    run.number_of(address) == Some(number)
 }
 
 impl<'n, 'a> PreCode<'n, 'a> {
@@ -43,7 +60,7 @@ impl<'n, 'a> PreCode<'n, 'a> {
     ) -> Result<Body<'c, 'n, 'a, S>, AllocError>
         ensures { IfOk result (λ body. body ≡ body_at self.now (S.contents space.now) base) }
     {
-        let run = list_run(alloc, space, base, self.kept_count())?;
+        let run = list_run(alloc, space, base, self.places().kept_count())?;
         Ok(Body {
             code: self,
             space,
@@ -56,17 +73,11 @@ impl<'n, 'a> PreCode<'n, 'a> {
 impl<'c, 'n, 'a, S: Space> Body<'c, 'n, 'a, S> {
     /// Whether an address stands in the body for the instruction at an offset of the section. An instruction that the
     /// body doesn't reach counts as agreeing.
-    #[tactic(auto, using(crate::proofs::BodyPlaces::agrees_by))]
+    #[tactic(auto, using(crate::proofs::BodyPlaces::is_number_by))]
     pub fn is_number_of(&self, offset: u32, address: u32) -> bool
         ensures { result ≡ is_number_of self.now offset address }
     {
-        let Some(number) = self.code.number_of(offset) else {
-            return false;
-        };
-        if self.run.places.kept_count() <= number as usize {
-            return true;
-        }
-        self.run.places.number_of(address) == Some(number)
+        has_number(self.code.places(), &self.run.places, offset, address)
     }
 
     /// Where the instruction at an offset of the section stands in the body: its address, and 0 where there is none.

@@ -3,14 +3,13 @@ ghost use Rattle.std.specs.Prelude.{◌≡◌, Some, IfSome};
 ghost use Rattle.std.specs.Option.{option_copied};
 ghost use Rattle.i386_reloc.specs.Normal.{HasFieldsInOrder};
 ghost use Rattle.std.specs.List.{slice_get};
-ghost use Rattle.std.specs.List.Sorted.{IsNonDecreasingBy};
 ghost use Rattle.i386_reloc.specs.declared.types.NormalSection.{NormalSection};
-ghost use Rattle.i386_reloc.specs.Places.{reference_at, place_of_target};
-ghost use Rattle.i386_reloc.specs.Texts.{HasTexts};
+ghost use Rattle.i386_reloc.specs.Places.{reference_at};
 ghost use Rattle.run_pre_match.specs.Candidate.{same_number};
 ghost use Rattle.run_pre_match.specs.inside.Texts.{HasText};
 ghost use Rattle.run_pre_match.specs.Goals.{goal_of, goal_at_place, goal_in_section, goal_in_code};
 
+use crate::bodies::has_number;
 use crate::goals::Goal;
 use i386_reloc::{Class, Normal, NormalSection, Ref, Span, Target};
 use image_memory::Space;
@@ -61,17 +60,11 @@ impl<'m, 'a, S: Space> Model for Candidate<'m, 'a, S> {
 impl<'m, 'a, S: Space> Candidate<'m, 'a, S> {
     /// Whether an address stands in the running body for the number of an offset of the section. A number that the
     /// running body doesn't reach counts as agreeing.
-    #[tactic(auto, using(crate::proofs::SameNumber::with_number))]
+    #[tactic(auto, using(crate::proofs::BodyPlaces::same_number_by))]
     pub(crate) fn same_number(&self, offset: u32, address: u32) -> bool
         ensures { result ≡ same_number self.now offset address }
     {
-        let Some(number) = self.pre.number_of(offset) else {
-            return false;
-        };
-        if self.run.places.kept_count() <= number as usize {
-            return true;
-        }
-        self.run.places.number_of(address) == Some(number)
+        has_number(self.pre, &self.run.places, offset, address)
     }
 }
 

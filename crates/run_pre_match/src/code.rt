@@ -6,7 +6,8 @@ ghost use Rattle.i386_reloc.specs.Classes.{is_code_class};
 ghost use Rattle.i386_reloc.specs.Normal.{HasFieldsInOrder};
 ghost use Rattle.i386_reloc.specs.Places.{place_named};
 ghost use Rattle.i386_reloc.specs.Reaches.{is_in};
-ghost use Rattle.instruction_lists.specs.Instructions.{kept_of, stands_for};
+ghost use Rattle.instruction_lists.specs.Instructions.{stands_for};
+ghost use Rattle.instruction_lists.specs.Places.{places_of};
 ghost use Rattle.instruction_lists.specs.PreCode.{pre_code};
 ghost use Rattle.run_pre_match.specs.Matched.{candidate, listed_code, outcome, answer, Comes};
 
@@ -161,11 +162,11 @@ impl<'n, 'a> PreCode<'n, 'a> {
         self.section
     }
 
-    /// How many of its instructions are kept.
-    pub(crate) fn kept_count(&self) -> usize
-        ensures { result ≡ length (kept_of (pre_code self.now.section)) }
+    /// The places of its instructions.
+    pub(crate) fn places(&self) -> &Places
+        ensures { result.now ≡ places_of (pre_code self.now.section) }
     {
-        self.places.kept_count()
+        &self.places
     }
 
     /// What an offset of the section stands for.

@@ -4,7 +4,7 @@ ghost use Rattle.i386_reloc.specs.Places.{reference_at};
 ghost use Rattle.instruction_lists.specs.Instructions.{direct_branch};
 ghost use Rattle.instruction_lists.specs.PreCode.{pre_instruction_at};
 ghost use Rattle.run_pre_match.specs.Found.{Found, given_in_pair, found_in};
-ghost use Rattle.run_pre_match.specs.Differences.{differs_in_landing, kind_of};
+ghost use Rattle.run_pre_match.specs.Differences.{differs_in_landing};
 ghost use Rattle.read_only_data.specs.Texts.{AreKnown};
 ghost use Rattle.run_pre_match.specs.inside.Texts.{HasText};
 ghost use Rattle.run_pre_match.specs.inside.Kept.{Keeps, Follows, no_marks, kind_marked, IsKind};

@@ -1,7 +1,6 @@
 //! What is found by the fields of an instruction, and by those of the read-only sections to which they lead.
 ghost use Rattle.std.specs.Prelude.{◌≡◌, List, Some, OnOk, IfOk};
 ghost use Rattle.i386_reloc.specs.Places.{reference_at};
-ghost use Rattle.run_pre_match.specs.Goals.{goal_of};
 ghost use Rattle.run_pre_match.specs.Found.{Found, found_by, given_in_constant};
 ghost use Rattle.run_pre_match.specs.Differences.{is_in_section};
 ghost use Rattle.read_only_data.specs.Texts.{AreKnown};

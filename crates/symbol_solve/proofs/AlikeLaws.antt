@@ -12,9 +12,9 @@ use Rattle.image_memory.specs.Contents.{Contents}
 use Rattle.run_pre_match.specs.declared.types.Interior.{Interior}
 use Rattle.run_pre_match.specs.declared.types.Matched.{Matched}
 use Rattle.run_pre_match.specs.declared.types.MatchFault.{MatchFault}
-use Rattle.run_pre_match.specs.Candidate.{Candidate, same_number}
+use Rattle.run_pre_match.specs.Candidate.{Candidate, same_number, Body, body_of}
 use Rattle.run_pre_match.specs.Matched.{spot_at, outcome}
-use Rattle.run_pre_match.specs.Bodies.{Body, body_of, address_of}
+use Rattle.run_pre_match.specs.Bodies.{address_of}
 use Rattle.run_pre_match.specs.Alike.{AreAlike, HasFieldsInside, in_memory}
 use Rattle.propagation.specs.Rounds.{forced, remaining}
 use Rattle.propagation.specs.RoundLaws.{Maps, both, forced_each, remaining_each, forced_maps, remaining_maps}

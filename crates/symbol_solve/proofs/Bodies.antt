@@ -10,9 +10,9 @@ use Rattle.image_memory.specs.Contents.{Contents}
 use Rattle.run_pre_match.specs.declared.types.Interior.{Interior}
 use Rattle.run_pre_match.specs.declared.types.Matched.{Matched}
 use Rattle.run_pre_match.specs.declared.types.MatchFault.{MatchFault}
-use Rattle.run_pre_match.specs.Candidate.{Candidate, same_number}
+use Rattle.run_pre_match.specs.Candidate.{Candidate, same_number, Body, body_of, is_number_of}
 use Rattle.run_pre_match.specs.Matched.{PreSection, outcome}
-use Rattle.run_pre_match.specs.Bodies.{Body, body_at, body_of, is_number_of}
+use Rattle.run_pre_match.specs.Bodies.{body_at}
 use Rattle.propagation.specs.Conflicts.{first_some}
 use Rattle.symbol_solve.specs.Clashes.{is_unmet, contradict, claims_in, claims_of}
 use Rattle.symbol_solve.specs.Conflicts.{claims_conflict, interior_conflict, conflict_of_claims}

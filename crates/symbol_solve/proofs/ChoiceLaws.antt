@@ -11,11 +11,11 @@ use Rattle.std.proofs.lemmas.Option.{slice_get_within, get_or_from_slice_get}
 use Rattle.std.proofs.lemmas.List.Elements.{filter_agree}
 use Rattle.i386_reloc.specs.declared.types.NormalSection.{NormalSection}
 use Rattle.image_memory.specs.Contents.{Contents}
-use Rattle.run_pre_match.specs.Bodies.{Body, body_at, body_of}
+use Rattle.run_pre_match.specs.Bodies.{body_at}
 use Rattle.run_pre_match.specs.declared.types.Matched.{Matched}
 use Rattle.run_pre_match.specs.declared.types.MatchFault.{MatchFault}
 use Rattle.run_pre_match.specs.Match.{Valuation, Match}
-use Rattle.run_pre_match.specs.Candidate.{Candidate, same_number}
+use Rattle.run_pre_match.specs.Candidate.{Candidate, same_number, Body, body_of}
 use Rattle.run_pre_match.specs.Matched.{PreSection, outcome}
 use Rattle.match_candidates.specs.declared.trials.Tried.{Tried}
 use Rattle.propagation.specs.declared.choice.Choice.{Choice}

@@ -14,7 +14,7 @@ use Rattle.std.proofs.lemmas.List.Kept.{IsSortedBy-filter}
 use Rattle.std.proofs.lemmas.List.MinMax.{IsStrictWeakOrder-by_number}
 use Rattle.std.proofs.lemmas.List.Sorted.{sorted_far}
 use Rattle.std.proofs.lemmas.Option.{slice_get-get_or, unwrap_or-slice_get}
-use Rattle.run_pre_match.specs.Bodies.{Body}
+use Rattle.run_pre_match.specs.Candidate.{Body}
 use Rattle.symbol_solve.specs.declared.numbers.Point.{Point}
 use Rattle.symbol_solve.specs.inside.Numbers.{is_at, stands, standing, AreListed}
 use Rattle.symbol_solve.specs.inside.Points.{AreInOrder, Ascend, LiesIn, address_in}

@@ -12,10 +12,9 @@ use Rattle.run_pre_match.specs.declared.types.MatchFault.{MatchFault}
 use Rattle.instruction_lists.specs.Instructions.{Instruction, after, end_of, listed, listed_on}
 use Rattle.instruction_lists.specs.Instructions.{through_kept, kept_of, begins_at, stands_for}
 use Rattle.instruction_lists.specs.RunCode.{run_instruction_at, run_code}
-use Rattle.run_pre_match.specs.Candidate.{Candidate, pre_list, run_list, has_number, is_number}
+use Rattle.run_pre_match.specs.Candidate.{Candidate, pre_list, run_list, has_number, is_number, body_of}
 use Rattle.run_pre_match.specs.Matched.{outcome, matched_unless}
 use Rattle.run_pre_match.specs.Match.{Valuation, Match}
-use Rattle.run_pre_match.specs.Bodies.{body_of}
 use Rattle.symbol_solve.specs.inside.Points.{LiesIn}
 
 -- instructions one behind another, from a place on

@@ -9,8 +9,8 @@ use Rattle.symbol_table.specs.declared.values.Unknown.{Unknown}
 use Rattle.symbol_table.specs.declared.values.Unknown.TheVariants.{Code, Data, Outside}
 use Rattle.run_pre_match.specs.declared.types.Claim.{Claim}
 use Rattle.run_pre_match.specs.declared.types.Interior.{Interior}
-use Rattle.run_pre_match.specs.Candidate.{Candidate}
-use Rattle.run_pre_match.specs.Bodies.{body_of, address_of}
+use Rattle.run_pre_match.specs.Candidate.{Candidate, body_of}
+use Rattle.run_pre_match.specs.Bodies.{address_of}
 use Rattle.run_pre_match.specs.Matched.{spot_at}
 use Rattle.propagation.specs.Rounds.{forced}
 use Rattle.propagation.specs.Conflicts.{first_some, conflict}

@@ -4,7 +4,6 @@ ghost use Rattle.run_pre_match.specs.Candidate.{Candidate};
 ghost use Rattle.run_pre_match.specs.Matched.{outcome};
 ghost use Rattle.match_candidates.specs.Candidates.{code_sections, candidates};
 ghost use Rattle.match_candidates.specs.OwnFaults.{AreTried, IsTried};
-ghost use Rattle.symbol_solve.specs.Clashes.{claims_in, interiors_in};
 ghost use Rattle.symbol_solve.specs.inside.Numbers.{claim_of, demand_of, point_of};
 ghost use Rattle.symbol_solve.specs.inside.Numbers.{IsNumbered, IsUnknownNumbered, IsInteriorNumbered, Grows};
 ghost use Rattle.symbol_solve.specs.inside.Left.{RunsIn};

@@ -1,9 +1,8 @@
 //! What is reported of two candidates that clash.
-ghost use Rattle.std.specs.Prelude.{◌≡◌, ◌<◌, length, IfOk};
+ghost use Rattle.std.specs.Prelude.{◌≡◌, ◌<◌, IfOk};
 ghost use Rattle.std.specs.Option.{option_copied, option_map};
 ghost use Rattle.std.specs.List.{find};
-ghost use Rattle.run_pre_match.specs.Bodies.{body_of};
-ghost use Rattle.run_pre_match.specs.Candidate.{Candidate};
+ghost use Rattle.run_pre_match.specs.Candidate.{Candidate, body_of};
 ghost use Rattle.run_pre_match.specs.Matched.{outcome};
 ghost use Rattle.propagation.specs.Conflicts.{first_some};
 ghost use Rattle.symbol_solve.specs.Clashes.{contradict, is_unmet, claims_in, interiors_in};

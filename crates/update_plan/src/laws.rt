@@ -1,6 +1,6 @@
 //! What holds of every plan.
 ghost use Rattle.std.specs.Prelude.{◌≡◌, ℕ, false, List, map, Ok};
-ghost use Rattle.std.specs.List.{All, Contains, list_any};
+ghost use Rattle.std.specs.List.{All, list_any};
 ghost use Rattle.ks_base.specs.declared.places.Range.{Range};
 ghost use Rattle.i386_reloc.specs.declared.types.NormalSection.{NormalSection};
 ghost use Rattle.object_sections.specs.Sections.{sections_of};

@@ -1,7 +1,7 @@
 //! The functions of the old object of an update, as they run.
 ghost use Rattle.std.specs.Prelude.{◌≡◌, ◌++◌, ◌∷◌, [], IfOk, OnOk};
 ghost use Rattle.extract_post.specs.declared.types.Extract.{Extract as Lists};
-ghost use Rattle.update_plan.specs.Olds.{fate_of, old_as, olds_of};
+ghost use Rattle.update_plan.specs.Olds.{old_as, olds_of};
 ghost use Rattle.update_plan.specs.inside.Fates.{AreFates, fate_at};
 
 use crate::fates::fates_of;

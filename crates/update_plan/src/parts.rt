@@ -1,6 +1,5 @@
 //! The sections of the new object that an update places.
 ghost use Rattle.std.specs.Prelude.{◌≡◌, ◌++◌, IfOk, OnOk};
-ghost use Rattle.extract_post.specs.declared.types.Extract.{Extract as Lists};
 ghost use Rattle.link_post.specs.Linked.{AreNamesInOrder};
 ghost use Rattle.section_roles.specs.Roles.{role_at};
 ghost use Rattle.update_plan.specs.Placing.{names_of, part_as, parts_of};

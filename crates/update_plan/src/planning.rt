@@ -1,7 +1,6 @@
 //! Plans an update from two objects and a running program.
 ghost use Rattle.std.specs.Prelude.{◌≡◌, ℕ, List, map, Ok, IfOk};
 ghost use Rattle.ks_base.specs.Gives.{Gives};
-ghost use Rattle.image_memory.specs.Contents.{Contents, spliced_at};
 ghost use Rattle.image_memory.specs.Ranges.{Ascends};
 ghost use Rattle.symbol_table.specs.declared.symbols.Symbol.{Symbol};
 ghost use Rattle.splice_jump.specs.Jumps.{AreSpliced};

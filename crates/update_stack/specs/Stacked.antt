@@ -1,6 +1,6 @@
 -- What holds of the machine at every moment, and of what a system keeps of its live updates: each of these lies on
 -- what was before it.
-use Rattle.std.specs.Prelude.{◌≡◌, ◌≢◌, ℕ, ◌≤◌, ◌<◌, false, List, [], ◌∷◌, ◌++◌, map, length, Some}
+use Rattle.std.specs.Prelude.{◌≡◌, ◌≢◌, ℕ, ◌≤◌, ◌<◌, false, List, [], ◌∷◌, ◌++◌, length, Some}
 use Rattle.std.specs.List.{fold, All, AllPairs, Contains}
 use Rattle.std.specs.List.Sorted.{IsPermutation}
 use Rattle.ks_base.specs.declared.places.Range.{Range}

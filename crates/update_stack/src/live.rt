@@ -1,10 +1,10 @@
 //! What live updates come to: the newest base of each home, the ranges that they retired, and their names.
-ghost use Rattle.std.specs.Prelude.{◌≡◌, ℕ, List, ◌++◌, IfOk, OnOk, nat_eq};
-ghost use Rattle.std.specs.List.{IsDistinct, flat_map, list_any};
+ghost use Rattle.std.specs.Prelude.{◌≡◌, ℕ, ◌++◌, IfOk, OnOk, nat_eq};
+ghost use Rattle.std.specs.List.{flat_map, list_any};
 ghost use Rattle.std.specs.List.Sorted.{IsPermutation};
 ghost use Rattle.indexmap.specs.IndexMap.{insert_all};
 ghost use Rattle.i386_reloc.specs.Normal.{same_bytes};
-ghost use Rattle.symbol_table.specs.Bodies.{homes, newest};
+ghost use Rattle.symbol_table.specs.Bodies.{newest};
 ghost use Rattle.update_stack.specs.CallTable.{bodies_in, jump_rows};
 ghost use Rattle.update_stack.specs.Systems.{table_of};
 

@@ -1,12 +1,6 @@
 //! What taking the newest update back does.
-ghost use Rattle.std.specs.Prelude.{◌≡◌, ℕ, List, ◌++◌, [], ◌∷◌, length, ◌≤◌, ◌+◌, ◌-◌, take, map};
-ghost use Rattle.std.specs.List.{All, AllPairs};
+ghost use Rattle.std.specs.Prelude.{◌≡◌, List, ◌++◌, [], ◌∷◌, ◌+◌};
 ghost use Rattle.ks_base.specs.declared.places.Range.{Range as RangeOf};
-ghost use Rattle.image_memory.specs.Changes.{HasPiece, IsRetired};
-ghost use Rattle.image_memory.specs.Ranges.{are_same};
-ghost use Rattle.image_memory.specs.Fetch.{HasCode};
-ghost use Rattle.memory_changes.specs.Rows.{olds_of};
-ghost use Rattle.memory_changes.specs.Withdrawn.{withdrawn_memory};
 ghost use Rattle.image_threads.specs.Program.{Program};
 ghost use Rattle.update_stack.specs.StandsFor.{seen};
 ghost use Rattle.update_stack.specs.Systems.{Holds};

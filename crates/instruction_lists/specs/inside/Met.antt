@@ -1,18 +1,10 @@
 -- The running code as the code of this crate reads it.
-use Rattle.std.specs.Prelude.{◌≡◌, ℕ, ◌-◌, ◌^◌, ◌<◌, ◌++◌, List, map, length, Option, Some, None}
+use Rattle.std.specs.Prelude.{◌≡◌, ℕ, ◌-◌, ◌^◌, ◌<◌, ◌++◌, List, map, length}
 use Rattle.std.specs.List.{filter}
 use Rattle.image_memory.specs.Contents.{Contents}
-use Rattle.image_memory.specs.Fetch.{View, Unmapped, AtHome, Stray, Bytes}
 use Rattle.instruction_lists.specs.Instructions.{Instruction, place_of, is_left_out, kept_of, end_of, through_kept}
 use Rattle.instruction_lists.specs.RunCode.{run_code, run_body}
 use Rattle.instruction_lists.specs.Places.{Places, places_of, AreBelow}
-
--- the code that is met, if there is any
-abbrev pub bytes_met : View → Option (List ℕ)
-bytes_met Unmapped = None
-bytes_met AtHome = None
-bytes_met Stray = None
-bytes_met (Bytes bytes) = Some bytes
 
 -- places, and those of further instructions
 abbrev pub followed_by : Places → List Instruction → Places

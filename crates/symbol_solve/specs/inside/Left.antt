@@ -4,8 +4,7 @@ use Rattle.std.specs.Prelude.{[], ◌∷◌, ◌++◌, take, length, Option, Som
 use Rattle.std.specs.List.{slice_get, AllZip}
 use Rattle.i386_reloc.specs.Normal.{same_bytes}
 use Rattle.run_pre_match.specs.declared.types.Interior.{Interior}
-use Rattle.run_pre_match.specs.Bodies.{Body, is_number_of}
-use Rattle.run_pre_match.specs.Candidate.{Candidate}
+use Rattle.run_pre_match.specs.Candidate.{Candidate, Body, is_number_of}
 use Rattle.run_pre_match.specs.Matched.{PreSection}
 use Rattle.match_candidates.specs.declared.trials.Tried.{Tried}
 use Rattle.match_candidates.specs.Candidates.{Running}

@@ -12,8 +12,7 @@ use Rattle.run_pre_match.specs.declared.types.Claim.{Claim}
 use Rattle.run_pre_match.specs.declared.types.Interior.{Interior}
 use Rattle.run_pre_match.specs.declared.types.Matched.{Matched}
 use Rattle.run_pre_match.specs.declared.types.MatchFault.{MatchFault}
-use Rattle.run_pre_match.specs.Candidate.{Candidate, same_number}
-use Rattle.run_pre_match.specs.Bodies.{Body, is_number_of}
+use Rattle.run_pre_match.specs.Candidate.{Candidate, same_number, Body, is_number_of}
 use Rattle.run_pre_match.specs.Matched.{outcome}
 use Rattle.propagation.specs.declared.choice.Choice.{Choice}
 use Rattle.propagation.specs.declared.choice.Claim as numbered

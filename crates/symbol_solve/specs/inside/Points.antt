@@ -2,7 +2,7 @@
 use Rattle.std.specs.Prelude.{◌≡◌, ℕ, ◌<◌, ◌≤◌, Bool, true, not, nat_lt, List, Option, Some, None}
 use Rattle.std.specs.List.{filter, slice_get}
 use Rattle.std.specs.List.Sorted.{IsNonDecreasingBy}
-use Rattle.run_pre_match.specs.Bodies.{Body, is_number_of}
+use Rattle.run_pre_match.specs.Candidate.{Body, is_number_of}
 use Rattle.symbol_solve.specs.declared.numbers.Point.{Point}
 
 -- that the addresses of points don't fall
