@@ -1,14 +1,14 @@
 -- Choices that pass the test are in the order in which they are propagated.
 use Rattle.std.specs.Prelude.{◌≡◌, ◌<◌, ◌+◌, ◌-◌, ℕ, zero, suc, Bool, true, not, ◌&&◌, ◌==◌, nat_lt}
 use Rattle.std.specs.Prelude.{List, [], ◌∷◌, length, All, Some, slice_get, slice_index, get_or, take, drop}
-use Rattle.std.specs.List.{list_all}
+use Rattle.std.specs.List.{list_all, Contains}
 use Rattle.std.specs.List.Sorted.{IsStrictlyIncreasing}
 use Rattle.std.proofs.Common.{arith, sym, ◌∙◌, ap, subst, inl, inr}
 use Rattle.std.proofs.lemmas.Bool.{and_parts, or_cases, ltb-true, eqb-true, eq-eqb}
 use Rattle.std.proofs.lemmas.Option.{same_Some}
 use Rattle.std.proofs.lemmas.List.{take_all}
-use Rattle.std.proofs.lemmas.List.Elements.{All-cons}
-use Rattle.propagation.proofs.ListLaws.{list_all_has}
+use Rattle.std.proofs.lemmas.List.Elements.{All-cons, All-contains}
+use Rattle.std.proofs.lemmas.List.Sums.{AllPass-from_list_all}
 use Rattle.propagation.specs.declared.choice.Claim.{Claim}
 use Rattle.propagation.specs.declared.choice.Choice.{Choice}
 use Rattle.propagation.specs.Choices.{Agree, IsChoice, ComesBefore, AreChoices}
@@ -43,11 +43,14 @@ rises (x ∷ y ∷ ys) each = λ k lt.
     let first = and_parts (nat_lt x y) (list_all (nat_lt x) ys) parts.0 in
     rises_with x y ys (ltb-true x y first.0) (rises (y ∷ ys) parts.1) k lt
 
+passes : {X : Type 0} (p : X → Bool) (xs : List X) (x : X) → list_all p xs ≡ true → Contains xs x → p x ≡ true
+passes p xs x each has = All-contains (λ y. p y ≡ true) xs x (AllPass-from_list_all p xs each) has
+
 -- claims of one unknown give it one value
 claims_agree : (claims : List Claim) → agree claims ≡ true → Agree claims
 claims_agree claims each = λ a b has_a has_b same.
-    let with_each = list_all_has (λ c. list_all (agree_with c) claims) claims a each has_a in
-    let with_b = list_all_has (agree_with a) claims b with_each has_b in
+    let with_each = passes (λ c. list_all (agree_with c) claims) claims a each has_a in
+    let with_b = passes (agree_with a) claims b with_each has_b in
     elim (or_cases (not (a.unknown == b.unknown)) (a.value == b.value) with_b) [
       | inl other ↦ (let none = ap not (eq-eqb a.unknown b.unknown same) in absurd cc)
       | inr e ↦ eqb-true a.value b.value e
