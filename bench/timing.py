@@ -9,6 +9,11 @@ PROGRAM = os.path.join(TOP, "crates", "ksplice_cli", "out", "ksplice_cli")
 LIMIT, LONG = 60, 10
 
 
+def prove():
+    """Makes the proved program, where it isn't there or older than its sources: what is timed has no checks."""
+    subprocess.run([os.path.join(TOP, "prove")], check=True)
+
+
 def timed(command, folder, out):
     """The shortest of three runs and what the last wrote, or None where a run took longer than the limit."""
     best = None
