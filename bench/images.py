@@ -1,4 +1,4 @@
-"""Makes the images that `bench/code` times: an encoder of images, which `bench/step` has, too, and a maker a case.
+"""Makes the images that `bench/code` times: an encoder of images, which other scripts have, too, and a maker a case.
 
 A maker takes a part of the limits (0.5 or 1.0). It answers the image's bytes, the name that `ksplice code` is asked
 for, the output's first and last line, and the bytes of code that are listed.
@@ -8,7 +8,8 @@ import struct
 
 REGIONS, SYMBOLS, STACKS, MEMORY, FILE = 1_024, 65_536, 64, 16_777_216, 33_554_432
 FUNCTION_BYTES = 1_048_576
-CODE, WRITABLE, FUNCTION, GLOBAL = 1, 3, 1, 1
+CODE, READ_ONLY, WRITABLE = 1, 2, 3
+FUNCTION, LOCAL, GLOBAL = 1, 0, 1
 BASE = 0x00100000
 
 # what a compiler's code is made of: MOV, ADD, CMP, TEST, LEA, short and near jumps, PUSH, POP, CALL, a padding LEA
@@ -18,25 +19,26 @@ MIXED = bytes.fromhex(
 )
 
 
-def encode(regions, symbols, writable=(), stacks=()):
-    """The image of regions of code (base, bytes), function symbols (address, name), writable regions above the code,
-    and stacks (low, high)."""
-    out = [b"KIM1", struct.pack("<5I", len(regions) + len(writable), len(symbols), len(stacks), 0, 0)]
-    for kind, listed in ((CODE, regions), (WRITABLE, writable)):
-        for base, content in listed:
-            out += [struct.pack("<3I", kind, base, len(content)), content]
-    for address, name in symbols:
-        out += [struct.pack("<4I", address, FUNCTION, GLOBAL, len(name)), name]
-    for low, high in stacks:
-        out.append(struct.pack("<2I", low, high))
-    return b"".join(out)
+def encode(regions, symbols, stacks=(), arena=(0, 0)):
+    """The image of regions (kind, base, bytes), symbols (address, kind, binding, name), and stacks and an arena
+    (low, high)."""
+    out = [b"KIM1", struct.pack("<5I", len(regions), len(symbols), len(stacks), *arena)]
+    for kind, base, content in regions:
+        out += [struct.pack("<3I", kind, base, len(content)), content]
+    for address, kind, binding, name in symbols:
+        out += [struct.pack("<4I", address, kind, binding, len(name)), name]
+    return b"".join(out + [struct.pack("<2I", *stack) for stack in stacks])
+
+
+def function_symbol(address, name, binding=GLOBAL):
+    return address, FUNCTION, binding, name
 
 
 def spread(part):
     """Regions of all the memory that may be, a page apart."""
     count = int(REGIONS * part)
     size = MEMORY // REGIONS
-    return [(BASE + i * (size + 4096), b"\x90" * size) for i in range(count)]
+    return [(CODE, BASE + i * (size + 4096), b"\x90" * size) for i in range(count)]
 
 
 def many(part, order):
@@ -47,7 +49,7 @@ def many(part, order):
     order(places)
     numbers = list(range(count))
     random.Random(2).shuffle(numbers)
-    symbols = [(place, b"%05d" % number + b"n" * 230) for place, number in zip(places, numbers)]
+    symbols = [function_symbol(place, b"%05d" % number + b"n" * 230) for place, number in zip(places, numbers)]
     line = "refused 31 no symbol nope"
     return encode(regions, symbols), "nope", line, line, 0
 
@@ -67,8 +69,8 @@ def shuffled(part):
 def one_address(part):
     """All symbols have one address and one name, as a stranger's may."""
     count = int(SYMBOLS * part)
-    regions = [(BASE, b"\xc3")]
-    return encode(regions, [(BASE, b"f")] * count), "f", f"0x{BASE:08x} 1 c3", f"end 0x{BASE + 1:08x}", 1
+    image = encode([(CODE, BASE, b"\xc3")], [function_symbol(BASE, b"f")] * count)
+    return image, "f", f"0x{BASE:08x} 1 c3", f"end 0x{BASE + 1:08x}", 1
 
 
 def listed(part, content):
@@ -77,7 +79,8 @@ def listed(part, content):
     code = (content * (size // len(content) + 1))[: size - size % len(content)]
     first = content[:4] if content is MIXED else content[:1]
     first_line = f"0x{BASE:08x} {len(first)} {first.hex(' ')}" + ("" if content is MIXED else " padding")
-    return encode([(BASE, code)], [(BASE, b"f")]), "f", first_line, f"end 0x{BASE + len(code):08x}", len(code)
+    image = encode([(CODE, BASE, code)], [function_symbol(BASE, b"f")])
+    return image, "f", first_line, f"end 0x{BASE + len(code):08x}", len(code)
 
 
 def function(part):

@@ -1,18 +1,18 @@
 """Makes the objects and images that `bench/match` times, a maker a case.
 
 A maker takes a part of the limits (0.5 or 1.0). One of `BODIES` answers the object's bytes, the image's, the name of
-the section whose function stands at `BASE`, and the line that `match_count` prints of it; one of `COMMANDS` the
+the section whose function stands at `BASE`, and the line that `bench_parts match` prints of it; one of `COMMANDS` the
 object's bytes, the image's, and what `ksplice match` prints of the two.
 """
 import random
 import struct
 from math import isqrt
 
-from images import BASE, CODE as CODE_REGION, FUNCTION as FUNCTION_SYMBOL, GLOBAL, MEMORY, MIXED, REGIONS
+from images import (BASE, CODE as CODE_REGION, MEMORY, MIXED, READ_ONLY as READ_ONLY_REGION, REGIONS, encode,
+                    function_symbol)
 from objects import (ABSOLUTE, CODE, FILE, LABEL, READ_ONLY, RELOCATIONS, SECTION, SECTIONS, SYMBOLS, TEXTS,
                      TEXT_SECTION, WRITABLE as DATA, Unit, body, call, push)
 
-READ_ONLY_REGION = 2
 # of other functions, of outside names, and of read-only data
 OTHERS, OUTSIDES, CONSTANTS = 0x02000000, 0x03000000, 0x04000000
 VARIABLES = 0x05000000
@@ -20,16 +20,6 @@ VARIABLES = 0x05000000
 CLAIMING = 2_040
 # what a file has besides the bytes of its sections and relocations, where it has few of them
 REST = 4_096
-
-
-def encode(regions, symbols):
-    """The image of regions (kind, base, bytes) and of global function symbols (address, name)."""
-    out = [b"KIM1", struct.pack("<5I", len(regions), len(symbols), 0, 0, 0)]
-    for kind, base, content in regions:
-        out += [struct.pack("<3I", kind, base, len(content)), bytes(content)]
-    for address, name in symbols:
-        out += [struct.pack("<4I", address, FUNCTION_SYMBOL, GLOBAL, len(name)), name]
-    return b"".join(out)
 
 
 def linked(unit, at, bases, outside=None):
@@ -56,7 +46,7 @@ def alone(code):
     unit = Unit()
     unit.section(".text.f", CODE, code)
     unit.symbol("f", 1, 0, len(code))
-    return case(unit, [(CODE_REGION, BASE, code)], [(BASE, b"f")])
+    return case(unit, [(CODE_REGION, BASE, code)], [function_symbol(BASE, b"f")])
 
 
 def code(part):
@@ -81,7 +71,8 @@ def over_texts(texts, places, running, values):
     for k, (place, value) in enumerate(zip(places, values)):
         push(function, k, text, place)
         struct.pack_into("<I", runs, 6 + 5 * k, CONSTANTS + value)
-    return case(unit, [(CODE_REGION, BASE, runs), (READ_ONLY_REGION, CONSTANTS, running)], [(BASE, b"f")])
+    regions = [(CODE_REGION, BASE, runs), (READ_ONLY_REGION, CONSTANTS, running)]
+    return case(unit, regions, [function_symbol(BASE, b"f")])
 
 
 def text_bytes(part):
@@ -141,7 +132,7 @@ def tables(part):
     for i in range(1, count + 1, each):
         regions.append((READ_ONLY_REGION, bases[i],
                         b"".join(linked(unit, j, bases) for j in range(i, min(i + each, count + 1)))))
-    return case(unit, regions, [(BASE, b"f")])
+    return case(unit, regions, [function_symbol(BASE, b"f")])
 
 
 def over_table(part, own):
@@ -163,7 +154,8 @@ def over_table(part, own):
     bases = [BASE, CONSTANTS, OTHERS]
     regions = [(kind, bases[at], linked(unit, at, bases))
                for kind, at in ((CODE_REGION, 0), (CODE_REGION, 2), (READ_ONLY_REGION, 1))]
-    return case(unit, regions, [(BASE, b"f"), (OTHERS, b"g")], interiors=0 if own else count)
+    symbols = [function_symbol(BASE, b"f"), function_symbol(OTHERS, b"g")]
+    return case(unit, regions, symbols, interiors=0 if own else count)
 
 
 def interiors(part):
@@ -187,7 +179,8 @@ def over_outsides(part, section, names):
         call(function, k, symbol[7_919 * k % len(symbol)])
     outside = {number: OUTSIDES + k for k, number in enumerate(symbol)}
     regions = [(CODE_REGION, BASE, linked(unit, 0, [BASE], outside)), (CODE_REGION, OUTSIDES, b"\xc3" * len(names))]
-    symbols = [(BASE, b"f")] + [(OUTSIDES + k, name.encode()) for k, name in enumerate(names)]
+    symbols = [function_symbol(BASE, b"f")]
+    symbols += [function_symbol(OUTSIDES + k, name.encode()) for k, name in enumerate(names)]
     return case(unit, regions, symbols, claims=count + 1)
 
 
@@ -225,7 +218,7 @@ def running(unit, count, outside, symbols):
         at += len(section.data)
     content = bytearray().join(linked(unit, i, bases, outside) for i in range(count))
     regions = [(CODE_REGION, BASE, content)] + ([(CODE_REGION, OUTSIDES, b"\xc3")] if outside else [])
-    functions = [(bases[i], f"function_{i}".encode()) for i in range(count)]
+    functions = [function_symbol(bases[i], f"function_{i}".encode()) for i in range(count)]
     return regions, functions + symbols, bases
 
 
@@ -263,7 +256,7 @@ def one_name(part):
     unit.section(".text.f", CODE, body(count - 1, 0))
     unit.symbol("f", 1, 0, 6)
     content = b"".join(body(i, 0) for i in range(count))
-    image = encode([(CODE_REGION, BASE, content)], [(BASE + 6 * i, b"f") for i in range(count)])
+    image = encode([(CODE_REGION, BASE, content)], [function_symbol(BASE + 6 * i, b"f") for i in range(count)])
     return unit.bytes(), image, f"code f {BASE + 6 * (count - 1):#010x}\n"
 
 
@@ -276,7 +269,7 @@ def one_outside(part):
     shared = unit.symbol("shared", 0, info=LABEL)
     for i in range(count):
         call(unit.sections[i], 0, shared)
-    regions, symbols, bases = running(unit, count, {shared: OUTSIDES}, [(OUTSIDES, b"shared")])
+    regions, symbols, bases = running(unit, count, {shared: OUTSIDES}, [function_symbol(OUTSIDES, b"shared")])
     lines = [function_line(i, bases[i]) for i in range(count)]
     lines.insert(1, f"outside shared {OUTSIDES:#010x}\n")
     return unit.bytes(), encode(regions, symbols), "".join(lines)

@@ -1,4 +1,5 @@
-"""Makes the pairs of objects that `bench/diff` times: an encoder of ELF32 objects for the i386, and a maker a case.
+"""Makes the pairs of objects that `bench/diff` times: an encoder of ELF32 objects for the i386, which other scripts
+have, too, and a maker a case.
 
 A maker takes a part of the limits (0.5 or 1.0) and a version (1 or 2). It answers the object's bytes and, for version
 2, the lines that `ksplice diff` prints of the two.
@@ -7,7 +8,7 @@ import random
 import struct
 
 FILE, SECTIONS, SYMBOLS, RELOCATIONS = 8_388_608, 4_096, 65_536, 262_144
-PROGBITS, SYMTAB, STRTAB, REL = 1, 2, 3, 9
+PROGBITS, SYMTAB, STRTAB, NOBITS, REL = 1, 2, 3, 8, 9
 CODE, WRITABLE, READ_ONLY, TEXTS = 6, 3, 2, 0x32
 ABSOLUTE, RELATIVE = 1, 2
 FUNCTION, SECTION, LABEL = 0x12, 0x03, 0x10
@@ -17,9 +18,9 @@ TEXT_SECTION = ".rodata.str1.1"
 class Section:
     """A section with the fields in it that relocations change."""
 
-    def __init__(self, name, flags, data, align, entry):
+    def __init__(self, name, flags, data, align, entry, kind):
         self.name, self.flags, self.data, self.align, self.entry = name, flags, bytearray(data), align, entry
-        self.entries = []
+        self.kind, self.entries = kind, []
 
     def refer(self, offset, kind, symbol, addend):
         """Makes the four bytes at the offset a field. A symbol is what `Unit.symbol` answered."""
@@ -33,8 +34,8 @@ class Unit:
     def __init__(self):
         self.sections, self.symbols, self.names, self.name_at = [], [(0, 0, 0, 0, 0, 0)], bytearray(b"\0"), {}
 
-    def section(self, name, flags, data, align=16, entry=0):
-        self.sections.append(Section(name, flags, data, align, entry))
+    def section(self, name, flags, data, align=16, entry=0, kind=PROGBITS):
+        self.sections.append(Section(name, flags, data, align, entry, kind))
         return self.sections[-1]
 
     def symbol(self, name, section, value=0, size=0, info=FUNCTION):
@@ -48,10 +49,10 @@ class Unit:
     def bytes(self):
         changed = [(at, section) for at, section in enumerate(self.sections, 1) if section.entries]
         symbol_table = len(self.sections) + len(changed) + 1
-        rows = [(s.name, PROGBITS, s.flags, bytes(s.data), 0, 0, s.align, s.entry) for s in self.sections]
+        rows = [(s.name, s.kind, s.flags, bytes(s.data), 0, 0, s.align, s.entry) for s in self.sections]
         for at, section in changed:
             content = b"".join(struct.pack("<II", o, symbol << 8 | kind) for o, symbol, kind in section.entries)
-            name = ".rel" + section.name[:16]  # such a name tells nothing, so a long one is cut
+            name = ".rel" + section.name[:64]  # such a name tells nothing, so a long one is cut
             rows.append((name, REL, 0, content, symbol_table, at, 4, 8))
         symbols = b"".join(struct.pack("<IIIBBH", *symbol) for symbol in self.symbols)
         local = sum(1 for symbol in self.symbols if symbol[3] >> 4 == 0)
@@ -61,7 +62,8 @@ class Unit:
 
 
 def encoded(rows):
-    """The file of these sections, their names in a last section of its own."""
+    """The file of these sections, their names in a last section of its own. A section of zeros (NOBITS) takes no bytes
+    there."""
     names, name_at = bytearray(b"\0"), {}
     for name in [row[0] for row in rows] + [".shstrtab"]:
         if name not in name_at:
@@ -70,9 +72,10 @@ def encoded(rows):
     rows = rows + [(".shstrtab", STRTAB, 0, bytes(names), 0, 0, 1, 0)]
     out, headers = bytearray(52), bytearray(40)
     for name, kind, flags, content, link, info, align, entry in rows:
-        out += bytes(-len(out) % align)
-        headers += struct.pack("<10I", name_at[name], kind, flags, 0, len(out), len(content), link, info, align, entry)
-        out += content
+        out += bytes(-len(out) % 4)
+        at = 0 if kind == NOBITS else len(out)
+        headers += struct.pack("<10I", name_at[name], kind, flags, 0, at, len(content), link, info, align, entry)
+        out += b"" if kind == NOBITS else content
     out += bytes(-len(out) % 4)
     struct.pack_into("<4sBBB9xHHIIIIIHHHHHH", out, 0, b"\x7fELF", 1, 1, 1, 1, 3, 1, 0, 0, len(out), 0, 52, 0, 0, 40,
                      len(rows) + 1, len(rows))

@@ -6,12 +6,20 @@ import time
 
 TOP = os.path.dirname(os.path.dirname(os.path.abspath(__file__)))
 PROGRAM = os.path.join(TOP, "crates", "ksplice_cli", "out", "ksplice_cli")
+PARTS = os.path.join(TOP, "crates", "bench_parts", "out", "bench_parts")
 LIMIT, LONG = 60, 10
 
 
 def prove():
     """Makes the proved program, where it isn't there or older than its sources: what is timed has no checks."""
     subprocess.run([os.path.join(TOP, "prove")], check=True)
+
+
+def prove_parts():
+    """Proves and builds the program that carries out parts by themselves, where it isn't there."""
+    if not os.path.exists(PARTS):
+        subprocess.run(["rt", "run", "--", "place", "64", "100"], cwd=os.path.join(TOP, "crates", "bench_parts"),
+                       stdout=subprocess.DEVNULL, check=True)
 
 
 def timed(command, folder, out):

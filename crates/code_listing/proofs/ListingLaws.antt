@@ -3,8 +3,8 @@ use Rattle.std.proofs.Common.{◌≡◌, ℕ, zero, suc, ◌-◌, ◌<◌, ◌�
 use Rattle.std.proofs.Common.{Bool, true, false, cond, Option, Some, None, nat_lt, refl, ap, sym, ◌∙◌, arith}
 use Rattle.std.proofs.lemmas.Bool.{leb-true, le-leb}
 use Rattle.image_memory.specs.Contents.{Contents}
-use Rattle.instruction_lists.specs.Instructions.{Instruction, after}
-use Rattle.instruction_lists.specs.RunCode.{run_instruction_at}
+use Rattle.match_instructions.specs.Instructions.{Instruction, after}
+use Rattle.match_instructions.specs.RunCode.{run_instruction_at}
 use Rattle.code_listing.specs.Lines.{instruction_line, end_line}
 use Rattle.code_listing.specs.Listing.{lines_by, lines_of, listing}
 

@@ -6,8 +6,8 @@ use Rattle.symbol_table.specs.Symbols.{function_named, next_address}
 use Rattle.image_memory.specs.declared.types.Piece.{Piece}
 use Rattle.image_memory.specs.Contents.{Contents, holding, piece_range}
 use Rattle.image_file.specs.Reading as image
-use Rattle.instruction_lists.specs.Instructions.{Instruction, after}
-use Rattle.instruction_lists.specs.RunCode.{run_instruction_at}
+use Rattle.match_instructions.specs.Instructions.{Instruction, after}
+use Rattle.match_instructions.specs.RunCode.{run_instruction_at}
 use Rattle.code_listing.specs.Lines.{instruction_line, end_line, undecoded_line}
 
 -- the lines from an address on, by the instruction that is met there and the lines from behind it on

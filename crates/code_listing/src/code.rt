@@ -5,8 +5,8 @@ ghost use Rattle.code_listing.specs.Listing.{listing, remaining};
 use crate::laws::lines_follow_one_another;
 use crate::lines::{put_end, put_instruction, put_undecoded};
 use image_memory::{FlatSpace, Space};
-use instruction_lists::instruction_at;
 use ks_base::Line;
+use match_instructions::instruction_at;
 use std::alloc::AllocError;
 use std::marker::Model;
 

@@ -1,11 +1,11 @@
 //! What holds of every listing.
 ghost use Rattle.std.specs.Prelude.{◌≡◌, ◌≤◌, ◌<◌, ℕ};
 ghost use Rattle.image_memory.specs.Contents.{Contents};
-ghost use Rattle.instruction_lists.specs.RunCode.{run_instruction_at};
+ghost use Rattle.match_instructions.specs.RunCode.{run_instruction_at};
 ghost use Rattle.code_listing.specs.Lines.{end_line};
 ghost use Rattle.code_listing.specs.Listing.{lines_by, listing};
 
-use instruction_lists::run_code_goes_on;
+use match_instructions::run_code_goes_on;
 
 /// Below its end a listing is the line of the instruction at its address and then the listing from behind that
 /// instruction on, or the one line that says that no instruction stands there; at its end, or behind it, it is its last

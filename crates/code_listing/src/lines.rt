@@ -4,8 +4,8 @@ ghost use Rattle.std.specs.List.{flat_map};
 ghost use Rattle.code_listing.specs.Lines.{spaced_byte, padding_word, instruction_line, end_line, undecoded_line};
 
 use ia32_decode::{Decoded, is_padding};
-use instruction_lists::RunInstruction;
 use ks_base::Line;
+use match_instructions::RunInstruction;
 use std::alloc::AllocError;
 
 fn put_bytes(page: &mut Line, bytes: &[u8]) -> Result<(), AllocError>

@@ -16,7 +16,7 @@ use Rattle.elf32_object.specs.Fields.{changes, relocation, relocations_below, Is
 use Rattle.elf32_object.specs.Rules.{object_fault, place_fault, section_fault, content_fault, loaded_size}
 use Rattle.elf32_object.specs.Rules.{symbol_fault, relocation_fault, relocations_fault, is_alignment}
 use Rattle.elf32_object.specs.Rules.{is_section_of_symbol, has_field, meets, is_met_by, is_met_before, is_placed}
-use Rattle.elf32_object.specs.BelowLaws.{none_first, none_second, none_below}
+use Rattle.elf32_object.specs.laws.BelowLaws.{none_first, none_second, none_below}
 use Rattle.elf32_object.proofs.Apart.{none_before, none_here}
 use Rattle.elf32_object.proofs.Entries.{patches}
 use Rattle.elf32_object.proofs.Rules.{sections_kept, symbols_kept, section_fault_at}

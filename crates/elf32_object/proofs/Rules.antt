@@ -12,7 +12,7 @@ use Rattle.elf32_object.specs.Rule.{first_broken, ◌orElse◌}
 use Rattle.elf32_object.specs.Rules.{is_section_of_symbol, object_fault, kind_fault, header_fault}
 use Rattle.elf32_object.specs.Rules.{section_fault, place_fault, only_where, symbol_table_fault}
 use Rattle.elf32_object.specs.Rules.{relocation_section_fault, content_fault, symbol_fault, relocations_fault}
-use Rattle.elf32_object.specs.BelowLaws.{none_first, none_second, none_below}
+use Rattle.elf32_object.specs.laws.BelowLaws.{none_first, none_second, none_below}
 
 placed : (bytes : List ℕ) (i : ℕ) → 0 < i → section_fault bytes i ≡ None → place_fault bytes i ≡ None
 unfolding section_fault

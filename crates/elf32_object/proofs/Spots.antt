@@ -14,7 +14,7 @@ use Rattle.elf32_object.specs.Below.{each_below, sum_below}
 use Rattle.elf32_object.specs.Fields.{section_count, section_header, patches_loaded, entry_count, changes}
 use Rattle.elf32_object.specs.Fields.{relocations_below, relocation, relocation_at, IsRelocation}
 use Rattle.elf32_object.specs.inside.Rows.{rows_of, spot_of, spots_below, AreRows}
-use Rattle.elf32_object.specs.BelowLaws.{length-each_below, get_or-each_below}
+use Rattle.elf32_object.specs.laws.BelowLaws.{length-each_below, get_or-each_below}
 
 -- a row after one place more
 pub row_set : (rows : List (Vec Spot)) (section : ℕ) (old new : Vec Spot) (spot : Spot) → section < length rows

@@ -8,7 +8,7 @@ use Rattle.elf32_object.specs.Below.{first_of, first_below, least_below}
 use Rattle.elf32_object.specs.Fields.{section_count, section_header, has_no_bytes, lies_in_file}
 use Rattle.elf32_object.specs.Fields.{is_string_table, is_section, is_symbol_table, symbol_table}
 use Rattle.elf32_object.specs.Rules.{section_fault, place_fault, symbol_table_fault}
-use Rattle.elf32_object.specs.BelowLaws.{none_first, none_second, none_below, first_at}
+use Rattle.elf32_object.specs.laws.BelowLaws.{none_first, none_second, none_below, first_at}
 use Rattle.elf32_object.proofs.Rules.{section_fault_at}
 
 -- the first of two is one of them

@@ -5,7 +5,7 @@ use Rattle.std.proofs.lemmas.Bool.{cases_Bool, leb-true}
 use Rattle.elf32_object.specs.Below.{first_below, sum_below}
 use Rattle.elf32_object.specs.Fields.{patches_loaded, entry_count, changes, relocations_below}
 use Rattle.elf32_object.specs.Rules.{only_where, section_fault, relocation_section_fault}
-use Rattle.elf32_object.specs.BelowLaws.{none_first, none_second}
+use Rattle.elf32_object.specs.laws.BelowLaws.{none_first, none_second}
 use Rattle.elf32_object.proofs.Rules.{section_fault_at}
 use Rattle.elf32_object.proofs.Loads.{null_entries}
 

@@ -1,10 +1,9 @@
 -- Public clauses cite Numbers (the numbers of the format, under their names), Fields (what a file says), Rule and Rules
--- (when one is refused) and Below (words of these); BelowLaws are laws of Below for the crates above. What stands in
--- inside is the code's own.
+-- (when one is refused) and Below (words of these). What stands in inside is the code's own.
 pub mod Below
-pub mod BelowLaws
 pub mod Fields
 pub mod Numbers
 pub mod Rule
 pub mod Rules
 pub mod inside
+pub mod laws

@@ -20,7 +20,7 @@ use Rattle.i386_reloc.specs.Places.{place_of_target}
 use Rattle.extract_post.specs.inside.Found.{FirstBroken, Broken}
 use Rattle.extract_post.specs.inside.Marks.{marked, TellEach, TellWhich, tests, TellDataOf, AreBoth, AreApart}
 use Rattle.extract_post.specs.inside.Marks.{Stays, breaks_at, breaks, breaks_in, NoBreakBelow, FirstBreak}
-use Rattle.i386_reloc.specs.NamedPlaces.{section_found}
+use Rattle.i386_reloc.specs.laws.NamedPlaces.{section_found}
 use Rattle.extract_post.proofs.Links.{option_cases, target_of_place, place_of_goes}
 use Rattle.extract_post.proofs.Tells.{tells_through}
 use Rattle.extract_post.proofs.ChangeLaws.{tells_true, true_tells}

@@ -25,8 +25,8 @@ use Rattle.extract_post.specs.inside.Seeds.{IsSeed, AreSeeds}
 use Rattle.extract_post.specs.inside.Closures.{ReachesSeed}
 use Rattle.extract_post.specs.inside.Marks.{marked, TellWhich, tests, TellReaching, TellChanged}
 use Rattle.extract_post.specs.inside.Marks.{AreBoth, AreEither, ArePart, marked_at, is_other}
-use Rattle.i386_reloc.specs.PlaceLaws.{section_named_at}
-use Rattle.i386_reloc.specs.NamedPlaces.{section_at_place, section_found}
+use Rattle.i386_reloc.specs.laws.PlaceLaws.{section_named_at}
+use Rattle.i386_reloc.specs.laws.NamedPlaces.{section_at_place, section_found}
 use Rattle.extract_post.proofs.Links.{option_cases}
 use Rattle.extract_post.proofs.Tells.{tells_through}
 use Rattle.extract_post.proofs.MarkLaws.{tells_test, tells_and, tells_or, tests_at}

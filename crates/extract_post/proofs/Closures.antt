@@ -15,7 +15,7 @@ use Rattle.i386_reloc.specs.Reaches.{is_constant_class, is_in, some_reference, g
 use Rattle.i386_reloc.specs.Reaches.Reaches.{Refers, Further}
 use Rattle.extract_post.specs.inside.Edges.{edge, Link, links_in, forward, backward}
 use Rattle.extract_post.specs.inside.Closures.{HasDistinctNames, SeedReaches, ReachesSeed}
-use Rattle.i386_reloc.specs.NamedPlaces.{section_found}
+use Rattle.i386_reloc.specs.laws.NamedPlaces.{section_found}
 use Rattle.extract_post.proofs.Links.{Among, item_found, option_cases, named_at, placed}
 use Rattle.extract_post.proofs.Links.{link_between, IsLink, link_is_in, link_of_edge, edge_of_link}
 

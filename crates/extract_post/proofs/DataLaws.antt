@@ -14,7 +14,7 @@ use Rattle.extract_post.specs.Members.{is_there, is_new_data, Member, IsCarried}
 use Rattle.extract_post.specs.inside.Closures.{HasDistinctNames, SeedReaches}
 use Rattle.extract_post.specs.inside.Marks.{marked, TellEach, TellWhich, tests}
 use Rattle.extract_post.specs.inside.Marks.{TellReached, TellDataOf, AreBoth, AreEither}
-use Rattle.i386_reloc.specs.NamedPlaces.{section_found}
+use Rattle.i386_reloc.specs.laws.NamedPlaces.{section_found}
 use Rattle.extract_post.proofs.Links.{option_cases}
 use Rattle.extract_post.proofs.Tells.{tells_through}
 use Rattle.extract_post.proofs.ChangeLaws.{tells_true, true_tells, reaches_to}

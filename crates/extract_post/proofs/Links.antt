@@ -16,8 +16,8 @@ use Rattle.i386_reloc.specs.declared.types.Ref.{Ref}
 use Rattle.i386_reloc.specs.declared.types.NormalSection.{NormalSection}
 use Rattle.i386_reloc.specs.Normal.{same_bytes, section_named, name_of}
 use Rattle.i386_reloc.specs.Places.{place_named}
-use Rattle.i386_reloc.specs.PlaceLaws.{section_named_at}
-use Rattle.i386_reloc.specs.NamedPlaces.{section_at_place}
+use Rattle.i386_reloc.specs.laws.PlaceLaws.{section_named_at}
+use Rattle.i386_reloc.specs.laws.NamedPlaces.{section_at_place}
 use Rattle.i386_reloc.specs.Reaches.{goes_to_target, goes_to, is_interior}
 use Rattle.extract_post.specs.inside.Closures.{HasDistinctNames}
 use Rattle.i386_reloc.specs.Places.{place_of_target}

@@ -17,7 +17,7 @@ use Rattle.extract_post.specs.inside.Closures.{HasDistinctNames}
 use Rattle.extract_post.specs.inside.Edges.{links_in, Numbers, member_node, joins, twins_from}
 use Rattle.extract_post.specs.inside.Edges.{pre_numbers, post_numbers, member_edges}
 use Rattle.extract_post.specs.inside.Seeds.{IsSeed, AreSeeds}
-use Rattle.i386_reloc.specs.NamedPlaces.{section_at_place}
+use Rattle.i386_reloc.specs.laws.NamedPlaces.{section_at_place}
 use Rattle.extract_post.proofs.Links.{option_cases}
 use Rattle.extract_post.proofs.Joins.{Kind, node_of, Fact, two_edges, two_ends, Hands, joins_hands}
 use Rattle.extract_post.proofs.Joins.Kind.{AsMember, AsFrom, AsInto}

@@ -17,7 +17,7 @@ use Rattle.extract_post.specs.inside.Edges.{twins_from, member_node, from_node, 
 use Rattle.extract_post.specs.inside.Seeds.{AreSeeds}
 use Rattle.extract_post.specs.inside.Marks.{TellMembers}
 use Rattle.extract_post.specs.inside.Fits.{IsNumbered}
-use Rattle.i386_reloc.specs.NamedPlaces.{section_at_place}
+use Rattle.i386_reloc.specs.laws.NamedPlaces.{section_at_place}
 use Rattle.extract_post.proofs.Links.{option_cases, link_found}
 use Rattle.extract_post.proofs.Walks.{is_outside, none_any, edges_within, link_places}
 use Rattle.extract_post.proofs.Tells.{member_tells_pre, member_tells_post}

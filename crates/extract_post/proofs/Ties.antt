@@ -16,7 +16,7 @@ use Rattle.extract_post.specs.Members.{points_into, PointsInto}
 use Rattle.extract_post.specs.Members.PointsInto.{Itself, Through}
 use Rattle.extract_post.specs.inside.Closures.{HasDistinctNames}
 use Rattle.extract_post.specs.inside.Edges.{edge, links_in, Numbers, member_node, from_node, into_node, joins}
-use Rattle.i386_reloc.specs.NamedPlaces.{section_found}
+use Rattle.i386_reloc.specs.laws.NamedPlaces.{section_found}
 use Rattle.extract_post.proofs.Links.{Among, item_found, option_cases, named_at, link_between, link_is_in, edge_of_link}
 use Rattle.extract_post.proofs.Closures.{first_edge, later_edge, reference_found}
 use Rattle.extract_post.proofs.Closures.{target_constant, along_reaches, back_reaches}

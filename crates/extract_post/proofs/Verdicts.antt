@@ -23,7 +23,7 @@ use Rattle.extract_post.specs.Extract.Extracts.{OtherData, Broken, NoMember, Ext
 use Rattle.extract_post.specs.inside.Found.{FirstBroken, HasNoOther}
 use Rattle.extract_post.specs.inside.Seeds.{IsSeed}
 use Rattle.extract_post.specs.inside.Marks.{marked, TellEach, TellWhich, TellMembers, ArePart}
-use Rattle.i386_reloc.specs.NamedPlaces.{section_found}
+use Rattle.i386_reloc.specs.laws.NamedPlaces.{section_found}
 use Rattle.extract_post.proofs.Links.{option_cases}
 use Rattle.extract_post.proofs.Firsts.{first_marked_section, no_marked_section}
 

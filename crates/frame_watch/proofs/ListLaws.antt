@@ -8,7 +8,7 @@ use Rattle.std.proofs.lemmas.List.{get_or_default}
 use Rattle.std.proofs.lemmas.Option.{slice_get_cases}
 use Rattle.ks_base.specs.declared.places.Range.{Range}
 use Rattle.image_memory.specs.declared.types.Piece.{Piece}
-use Rattle.image_memory.specs.RangeLaws.{one_after, each_above, found}
+use Rattle.image_memory.specs.laws.RangeLaws.{one_after, each_above, found}
 use Rattle.ia32_step.specs.declared.types.Thread.{Thread}
 use Rattle.ia32_step.specs.declared.types.Flow.{Flow}
 use Rattle.ia32_step.specs.declared.types.Outcome.{Outcome}

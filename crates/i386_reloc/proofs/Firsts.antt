@@ -3,7 +3,7 @@ use Rattle.std.proofs.Common.{◌≡◌, ◌≢◌, ℕ, ◌+◌, ◌<◌, Optio
 use Rattle.ks_base.specs.declared.refusals.Refusal.{Refusal}
 use Rattle.ks_base.specs.declared.refusals.Refusal.TheVariants as refusal
 use Rattle.elf32_object.specs.Below.{first_below}
-use Rattle.elf32_object.specs.BelowLaws.{first_at}
+use Rattle.elf32_object.specs.laws.BelowLaws.{first_at}
 
 pub first_below_more : {X : Type 0} (f : ℕ → Option X) (i : ℕ) → first_below f i ≡ None → f i ≡ None
     → first_below f (i + 1) ≡ None

@@ -14,7 +14,7 @@ use Rattle.i386_reloc.specs.Classes.{class_of, is_strings, is_strings_class}
 use Rattle.i386_reloc.specs.inside.Known.{known_section, known_at, named_symbol, named_at}
 use Rattle.i386_reloc.specs.Normal.{loaded_below, normal_section}
 use Rattle.elf32_object.specs.Below.{each_below}
-use Rattle.elf32_object.specs.BelowLaws.{length-each_below, get_or-each_below, each_below_more}
+use Rattle.elf32_object.specs.laws.BelowLaws.{length-each_below, get_or-each_below, each_below_more}
 
 and_false : (a : Bool) → a && false ≡ false
 and_false true = refl

@@ -5,13 +5,13 @@ use Rattle.std.proofs.lemmas.Bool.{cases_lt}
 use Rattle.std.proofs.lemmas.Cmp.{nat_list_eq_equiv}
 use Rattle.elf32_object.specs.Below.{first_of, first_below}
 use Rattle.elf32_object.specs.Fields.{section_name, is_loaded}
-use Rattle.elf32_object.specs.BelowLaws.{none_first, none_below}
+use Rattle.elf32_object.specs.laws.BelowLaws.{none_first, none_below}
 use Rattle.i386_reloc.specs.declared.types.NormalSection.{NormalSection}
 use Rattle.i386_reloc.specs.Normal.{same_bytes, section_named, loaded_below, normal_section}
 use Rattle.i386_reloc.specs.Places.{place_named}
 use Rattle.i386_reloc.specs.Refused.{name_fault_at}
-use Rattle.i386_reloc.specs.PlaceLaws.{section_named_at}
-use Rattle.i386_reloc.specs.NameLaws.{unplaced, place_named_push}
+use Rattle.i386_reloc.specs.laws.PlaceLaws.{section_named_at}
+use Rattle.i386_reloc.specs.laws.NameLaws.{unplaced, place_named_push}
 use Rattle.i386_reloc.proofs.Places.{no_place}
 
 -- one more section

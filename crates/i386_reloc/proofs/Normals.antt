@@ -4,7 +4,7 @@ use Rattle.std.proofs.Common.{Option, Some, None, IsSome, is_none, option_map, r
 use Rattle.std.proofs.lemmas.List.Elements.{All-append}
 use Rattle.elf32_object.specs.Below.{first_below}
 use Rattle.elf32_object.specs.Fields.{section_count, section_header, is_loaded, symbol_name}
-use Rattle.elf32_object.specs.BelowLaws.{both_none}
+use Rattle.elf32_object.specs.laws.BelowLaws.{both_none}
 use Rattle.ks_base.specs.declared.refusals.Refusal.{Refusal}
 use Rattle.i386_reloc.specs.declared.types.Class.{Class}
 use Rattle.i386_reloc.specs.declared.types.Class.TheVariants.{Code}
@@ -13,7 +13,7 @@ use Rattle.i386_reloc.specs.Normal.{function_symbol, has_inner_function, normal_
 use Rattle.i386_reloc.specs.Normal.{loaded_sections, IsFunction, is_not_one_function}
 use Rattle.i386_reloc.specs.Refused.{function_fault_at, name_fault}
 use Rattle.i386_reloc.specs.Refused.{function_fault, relocation_fault, normal_fault}
-use Rattle.i386_reloc.specs.NameLaws.{not_refused}
+use Rattle.i386_reloc.specs.laws.NameLaws.{not_refused}
 
 -- a loaded code section with which nothing is wrong is a function
 code_class : (class : Class) → class ≡ Code → is_code_class class ≡ true

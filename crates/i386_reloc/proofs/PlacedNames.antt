@@ -11,7 +11,7 @@ use Rattle.i386_reloc.specs.inside.Loaded.{IsLoadedSection}
 use Rattle.i386_reloc.specs.Normal.{same_bytes, loaded_below, normal_section}
 use Rattle.i386_reloc.specs.inside.NamePlaces.{HasPlaces, named}
 use Rattle.i386_reloc.specs.Refused.{refused_where, name_fault_at}
-use Rattle.i386_reloc.specs.NameLaws.{name_fault_loaded, not_refused}
+use Rattle.i386_reloc.specs.laws.NameLaws.{name_fault_loaded, not_refused}
 use Rattle.i386_reloc.proofs.LoadedBelow.{loaded_below_more, loaded_below_same}
 use Rattle.i386_reloc.proofs.Places.{no_place, has_places_push}
 

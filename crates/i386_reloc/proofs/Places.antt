@@ -14,7 +14,7 @@ use Rattle.i386_reloc.specs.Normal.{same_bytes}
 use Rattle.i386_reloc.specs.Places.{place_named, place_of_target, reference_in, reference_at, place_of_reference}
 use Rattle.i386_reloc.specs.inside.NamePlaces.{named, HasPlaces}
 use Rattle.i386_reloc.specs.inside.Targets.{targets_of, targets_in}
-use Rattle.i386_reloc.specs.NameLaws.{place_named_push}
+use Rattle.i386_reloc.specs.laws.NameLaws.{place_named_push}
 
 -- a map from names to places, with one more name
 first_of_none : (o : Option ℕ) → first_of o None ≡ o

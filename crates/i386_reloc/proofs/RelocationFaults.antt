@@ -15,7 +15,7 @@ use Rattle.elf32_object.specs.Below.{first_of}
 use Rattle.elf32_object.specs.Fields.{section_header, section_name, section_bytes, symbol_name, is_loaded, ends_in}
 use Rattle.elf32_object.specs.Rule.{◌orElse◌, first_broken}
 use Rattle.elf32_object.specs.Rules.{has_field}
-use Rattle.elf32_object.specs.BelowLaws.{none_first, none_second}
+use Rattle.elf32_object.specs.laws.BelowLaws.{none_first, none_second}
 use Rattle.ks_base.specs.declared.refusals.Refusal.{Refusal}
 use Rattle.ks_base.specs.declared.refusals.Refusal.TheVariants as refusal
 use Rattle.i386_reloc.specs.declared.types.Class.{Class}

@@ -9,7 +9,7 @@ use Rattle.elf32_object.specs.Below.{sum_below, each_below, all_below}
 use Rattle.elf32_object.specs.Fields.{section_count, is_section, patches_loaded, entry_count}
 use Rattle.elf32_object.specs.Fields.{changes, relocation, relocations_below, IsRelocation}
 use Rattle.i386_reloc.specs.References.{relocations_of}
-use Rattle.elf32_object.specs.BelowLaws.{length-each_below, get_or-each_below}
+use Rattle.elf32_object.specs.laws.BelowLaws.{length-each_below, get_or-each_below}
 
 abbrev entries_of : List ℕ → ℕ → ℕ → List Reloc
 entries_of bytes i j = if changes bytes i j then each_below (relocation bytes j) (entry_count bytes j) else []

@@ -8,7 +8,7 @@ use Rattle.elf32_object.specs.declared.types.Reloc.{Reloc}
 use Rattle.elf32_object.specs.Below.{all_below}
 use Rattle.elf32_object.specs.Fields.{section_count, section_header, is_loaded}
 use Rattle.elf32_object.specs.Rules.{has_field}
-use Rattle.elf32_object.specs.BelowLaws.{none_below}
+use Rattle.elf32_object.specs.laws.BelowLaws.{none_below}
 use Rattle.i386_reloc.specs.Classes.{is_strings}
 use Rattle.i386_reloc.specs.References.{changes_at, by_offset, relocations_of, fields_of}
 use Rattle.i386_reloc.specs.Refused.{relocation_fault_of, relocation_fault_at, relocation_fault}

@@ -4,6 +4,7 @@
 mod blanking;
 mod checks;
 mod fields;
+mod file_sections;
 mod functions;
 mod known;
 mod loaded;
@@ -23,6 +24,7 @@ mod texts;
 mod types;
 mod value;
 
+pub use crate::file_sections::read_sections;
 pub use crate::reading::normalise;
 pub use crate::refused::object_refusal;
 pub use crate::sections::Normal;

@@ -56,7 +56,7 @@ pub fn normalise<'a>(alloc: Global, object: &Object<'a>) -> Result<Normal<'a>, R
     let source = Source::new(alloc, object)?;
     let functions = gather(alloc, &source)?;
     check_functions(alloc, source.object, &functions)?;
-    let Read { sections, targets } = read_sections(alloc, &source, &functions)?;
+    let Read { sections, targets } = read_all(alloc, &source, &functions)?;
     Ok(Normal::new(sections, places, targets))
 }
 
@@ -68,7 +68,7 @@ struct Read<'a> {
 }
 
 #[tactic(auto, using(crate::proofs::Firsts::first_below_more, crate::proofs::Parts::loaded_below_step, crate::proofs::Parts::few_loaded, crate::proofs::RelocationFaults::order_more), unfolding(crate::specs::Normal::loaded_sections, crate::specs::Refused::relocation_fault))]
-fn read_sections<'a>(
+fn read_all<'a>(
     alloc: Global,
     source: &Source<'_, 'a>,
     functions: &[Functions],

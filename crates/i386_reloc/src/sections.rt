@@ -111,7 +111,7 @@ impl<'a> Normal<'a> {
     }
 
     /// The section of a name, `None` exactly where there is none.
-    #[tactic(auto, using(crate::specs::PlaceLaws::section_named_at))]
+    #[tactic(auto, using(crate::specs::laws::PlaceLaws::section_named_at))]
     pub fn find(&self, name: &[u8]) -> Option<&NormalSection<'a>>
         ensures { option_copied result ≡ section_named self.now name.now }
     {

@@ -103,7 +103,7 @@ impl<'o, 'a> Source<'o, 'a> {
     }
 }
 
-#[tactic(auto, using(elf32_object::specs::BelowLaws::each_below_more))]
+#[tactic(auto, using(elf32_object::specs::laws::BelowLaws::each_below_more))]
 fn known_sections<'a>(
     alloc: Global,
     object: &Object<'a>,
@@ -181,7 +181,7 @@ fn texts(alloc: Global, class: Class, bytes: &[u8]) -> Result<Texts<'_>, AllocEr
     }
 }
 
-#[tactic(auto, using(elf32_object::specs::BelowLaws::each_below_more))]
+#[tactic(auto, using(elf32_object::specs::laws::BelowLaws::each_below_more))]
 fn named_symbols<'a>(alloc: Global, object: &Object<'a>) -> Result<Vec<Named<'a>>, AllocError>
     ensures { IfOk result (λ symbols. symbols.items ≡ each_below (named_at object.now) (symbol_count object.now)) }
 {

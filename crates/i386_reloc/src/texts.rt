@@ -81,7 +81,7 @@ fn first_from(places: &[u32], offset: u32) -> usize
 }
 
 /// The places of the zeros.
-#[tactic(auto, using(elf32_object::specs::BelowLaws::all_below_more), unfolding(crate::specs::inside::Zeros::zeros_of))]
+#[tactic(auto, using(elf32_object::specs::laws::BelowLaws::all_below_more), unfolding(crate::specs::inside::Zeros::zeros_of))]
 fn zeros(alloc: Global, bytes: &[u8]) -> Result<Vec<u32>, AllocError>
     requires { length bytes.now < 2 ^ 32 }
     ensures { IfOk result (λ zeros. zeros.items ≡ zeros_of bytes.now) }

@@ -19,7 +19,7 @@ use Rattle.image_memory.specs.Contents.{Contents, ArePlaced, piece_range, holdin
 use Rattle.image_memory.specs.Fetch.{is_code}
 use Rattle.image_memory.specs.Access.{kind_of, unreadable, unwritable, read_fault, write_fault, first_fault, byte_at}
 use Rattle.image_memory.specs.Access.{bytes_at, new_byte, overlaid, overlaid_piece, written}
-use Rattle.image_memory.specs.AccessLaws.{length-overlaid, new_outside}
+use Rattle.image_memory.specs.laws.AccessLaws.{length-overlaid, new_outside}
 use Rattle.ia32_step.specs.declared.types.Context.{Context}
 use Rattle.ia32_step.specs.declared.types.Store.{Store}
 use Rattle.ia32_step.specs.declared.types.Thread.{Thread}
@@ -30,7 +30,7 @@ use Rattle.ia32_step.specs.Exec.{executed}
 use Rattle.ia32_step.specs.Step.{context_of, store_fault, after_store, unless_barred, done, change_by, carried_out}
 use Rattle.ia32_step.specs.Step.{next_change, exits, stepped}
 use Rattle.ia32_step.specs.Code.{code_pieces, KeepsCode, data_bytes, without_code, SameData, SameLeft}
-use Rattle.ia32_step.specs.OperandLaws.{length-spelled}
+use Rattle.ia32_step.specs.laws.OperandLaws.{length-spelled}
 
 -- no byte among those tested is bad
 pub each_good : (f : ℕ → Option Fault) (start n a : ℕ) → first_fault f start n ≡ None → start ≤ a → a < start + n

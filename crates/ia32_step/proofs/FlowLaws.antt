@@ -20,7 +20,7 @@ use Rattle.image_memory.specs.Contents.{Contents, ArePlaced, piece_range, holdin
 use Rattle.image_memory.specs.Fetch.{fetched, window_at}
 use Rattle.image_memory.specs.Access.{kind_of, unreadable, unwritable, read_fault, write_fault, first_fault, byte_at}
 use Rattle.image_memory.specs.Access.{bytes_at, overlaid, overlaid_piece, written, dword_at}
-use Rattle.image_memory.specs.AccessLaws.{length-overlaid, new_inside, length-bytes_at, get_or-bytes_at, all_good}
+use Rattle.image_memory.specs.laws.AccessLaws.{length-overlaid, new_inside, length-bytes_at, get_or-bytes_at, all_good}
 use Rattle.ia32_alu.specs.declared.types.Flags.{Flags}
 use Rattle.ia32_alu.specs.Arithmetic.{binary_of}
 use Rattle.ia32_alu.specs.declared.types.Binary.TheVariants as binary

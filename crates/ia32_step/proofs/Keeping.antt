@@ -7,7 +7,7 @@ use Rattle.image_memory.specs.declared.types.Kind.{Kind}
 use Rattle.image_memory.specs.declared.types.Piece.{Piece}
 use Rattle.image_memory.specs.Contents.{Contents, shape_of}
 use Rattle.image_memory.specs.Access.{overlaid_piece, written}
-use Rattle.image_memory.specs.AccessLaws.{length-overlaid}
+use Rattle.image_memory.specs.laws.AccessLaws.{length-overlaid}
 use Rattle.ia32_step.specs.declared.types.Store.{Store}
 use Rattle.ia32_step.specs.declared.types.Thread.{Thread}
 use Rattle.ia32_step.specs.declared.types.Change.{Change}

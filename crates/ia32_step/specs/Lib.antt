@@ -1,9 +1,7 @@
 -- Public clauses cite `Step` (what a step leaves, by the files before it), `Threads`, `Code` and `Frames`: these and
--- the files before them are what a reader has to believe. OperandLaws has a law of spelled numbers, for the crates
--- above. What is `inside` only the code's own clauses cite.
+-- the files before them are what a reader has to believe. What is `inside` only the code's own clauses cite.
 pub mod Registers
 pub mod Operands
-pub mod OperandLaws
 pub mod Changes
 pub mod Arithmetic
 pub mod Moves
@@ -15,3 +13,4 @@ pub mod Threads
 pub mod Code
 pub mod Frames
 pub mod inside
+pub mod laws

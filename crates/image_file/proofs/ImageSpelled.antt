@@ -17,7 +17,7 @@ use Rattle.image_file.specs.Reading.{Contents, header_at, region_at, region_widt
 use Rattle.image_file.specs.Reading.{symbol_width, stack_at, stack_width, image_of}
 use Rattle.image_file.specs.Spelling.{number, region_spelling, symbol_spelling}
 use Rattle.image_file.specs.Spelling.{stack_spelling, header_spelling, spelling}
-use Rattle.image_file.specs.FieldLaws.{after_bind, ok_is, all_kept}
+use Rattle.image_file.specs.laws.FieldLaws.{after_bind, ok_is, all_kept}
 use Rattle.image_file.proofs.Takes.{IsBytes, Takes, Takes-then}
 use Rattle.image_file.proofs.Takes.{AreTaken, field_taken, items_taken}
 use Rattle.image_file.proofs.PartsSpelled.{region_back, symbol_back, stack_back}

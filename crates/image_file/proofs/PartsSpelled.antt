@@ -13,7 +13,7 @@ use Rattle.image_file.specs.Rules.{stack_high_rules}
 use Rattle.image_file.specs.Keeps.{all_hold}
 use Rattle.image_file.specs.Reading.{region_after, name_at, symbol_among, stack_after}
 use Rattle.image_file.specs.Spelling.{number, kind_number, region_spelling, symbol_spelling, stack_spelling}
-use Rattle.image_file.specs.FieldLaws.{after_bind, ok_is, content_long, all_kept}
+use Rattle.image_file.specs.laws.FieldLaws.{after_bind, ok_is, content_long, all_kept}
 use Rattle.image_file.proofs.Takes.{IsBytes, Takes, Takes-then}
 use Rattle.image_file.proofs.Takes.{content_taken, field_taken}
 

@@ -13,7 +13,7 @@ use Rattle.ks_base.specs.declared.refusals.Refusal.{Refusal}
 use Rattle.image_file.specs.Fields.{Rule, checked, content_at, number_at, field, items_at}
 use Rattle.image_file.specs.Keeps.{all_hold}
 use Rattle.image_file.specs.Spelling.{number}
-use Rattle.image_file.specs.FieldLaws.{bind_ok, ok_is, content_cut, content_long, all_kept}
+use Rattle.image_file.specs.laws.FieldLaws.{bind_ok, ok_is, content_cut, content_long, all_kept}
 
 abbrev pub IsBytes : List ℕ → Type 0
 IsBytes bytes = (i : ℕ) → get_or bytes i 0 < 256

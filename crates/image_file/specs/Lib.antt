@@ -1,9 +1,9 @@
--- Public clauses cite Reading (what a file says, by Fields and Rules), Keeps, Spelling and Seen: all are what a
--- reader has to believe. FieldLaws are laws of what is read step by step, for the crates above.
+-- Public clauses cite Reading (what a file says, by Fields and Rules), Keeps, Spelling and Seen: all are what a reader
+-- has to believe.
 pub mod Fields
 pub mod Rules
 pub mod Reading
 pub mod Seen
 pub mod Keeps
 pub mod Spelling
-pub mod FieldLaws
+pub mod laws

@@ -15,9 +15,9 @@ use Rattle.image_memory.specs.declared.types.Access.TheVariants.{Read, Write}
 use Rattle.ks_base.specs.declared.refusals.Fault.TheVariants.{Unmapped}
 use Rattle.image_memory.specs.declared.types.Piece.{Piece}
 use Rattle.ks_base.specs.declared.refusals.Fault.{Fault}
-use Rattle.image_memory.specs.AccessLaws.{good_at, all_good, length-overlaid, get_or-overlaid, new_inside, new_outside}
-use Rattle.image_memory.specs.AccessLaws.{piece_apart}
-use Rattle.image_memory.specs.RangeLaws.{found_along}
+use Rattle.image_memory.specs.laws.AccessLaws.{good_at, all_good, length-overlaid, get_or-overlaid, new_inside, new_outside}
+use Rattle.image_memory.specs.laws.AccessLaws.{piece_apart}
+use Rattle.image_memory.specs.laws.RangeLaws.{found_along}
 
 -- the bytes before are good and this one is bad
 pub fault_stops : (f : ℕ → Option Fault) (a m n : ℕ) (x : Fault) → first_fault f a m ≡ None → f (a + m) ≡ Some x → m < n

@@ -10,7 +10,7 @@ use Rattle.std.proofs.lemmas.List.Elements.{All-cons, All-head, All-tail}
 use Rattle.ks_base.specs.declared.places.Range.{Range}
 use Rattle.image_memory.specs.Ranges.{Ascends, are_same}
 use Rattle.image_memory.specs.Changes.{without_first}
-use Rattle.image_memory.specs.RangeLaws.{each_above, one_after}
+use Rattle.image_memory.specs.laws.RangeLaws.{each_above, one_after}
 
 module _ {X : Type 0} (range : X → Range) where
   ascends_lower : (floor low : ℕ) (xs : List X) → low ≤ floor → Ascends range floor xs → Ascends range low xs

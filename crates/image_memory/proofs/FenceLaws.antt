@@ -8,7 +8,7 @@ use Rattle.std.proofs.lemmas.List.Folds.{list_any_none}
 use Rattle.image_memory.specs.Ranges.{lies_in, Ascends}
 use Rattle.image_memory.specs.Contents.{fence_range, spliced_at}
 use Rattle.image_memory.specs.declared.types.Fence.{Fence}
-use Rattle.image_memory.specs.RangeLaws.{inside, within, each_above}
+use Rattle.image_memory.specs.laws.RangeLaws.{inside, within, each_above}
 
 not_low : (jump : Bool) (low pc : ℕ) → low ≢ pc → (jump && (low == pc)) ≡ false
 not_low jump low pc h = elim jump as (λ b. (b && (low == pc)) ≡ false) [

@@ -10,7 +10,7 @@ use Rattle.image_memory.specs.declared.types.Kind.{Kind}
 use Rattle.image_memory.specs.declared.types.Piece.{Piece}
 use Rattle.image_memory.specs.Contents.{shape_of}
 use Rattle.image_memory.specs.Access.{written}
-use Rattle.image_memory.specs.AccessLaws.{length-overlaid}
+use Rattle.image_memory.specs.laws.AccessLaws.{length-overlaid}
 use Rattle.ia32_step.specs.declared.types.Thread.{Thread}
 use Rattle.image_threads.specs.Program.{IsStackRange}
 use Rattle.image_memory.specs.Ranges.{are_same}

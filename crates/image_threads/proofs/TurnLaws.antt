@@ -9,7 +9,7 @@ use Rattle.image_threads.specs.declared.turns.Turn.{Turn}
 use Rattle.ia32_step.specs.Threads.{runs}
 use Rattle.image_threads.specs.Program.{running_at, number_of, running_numbers, AreNumbered}
 use Rattle.image_threads.specs.Turning.{Schedule, begun, longer, first_turn, turn_after, turn_from, next_turn}
-use Rattle.image_threads.specs.StackLaws.{found_in}
+use Rattle.image_threads.specs.laws.StackLaws.{found_in}
 
 abbrev RunsAt : ℕ → List Thread → ℕ → Type 0
 RunsAt m threads n = (m ≤ n) × IsSome (running_at threads (n - m))

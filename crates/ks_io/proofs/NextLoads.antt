@@ -7,7 +7,7 @@ use Rattle.ks_io.specs.Outside.{Counts, CountsTell}
 use Rattle.ks_io.specs.Answered.{LoadGives, ShowsIn}
 use Rattle.ks_io.specs.Kept.{FilesKept}
 use Rattle.ks_io.specs.Loads.{Needed, Told, needed_by, CameTo, outside_fault, IsLostAfter}
-use Rattle.ks_io.specs.LoadLaws.{CameTo-then, CameTo-within}
+use Rattle.ks_io.specs.laws.LoadLaws.{CameTo-then, CameTo-within}
 use Rattle.ks_io.specs.declared.types.FileFault.{FileFault}
 use Rattle.ks_io.specs.declared.types.FileFault.TheVariants.{Missing, TooLong, Failed, Memory}
 use Rattle.ks_io.specs.declared.types.Wanted.{Wanted}

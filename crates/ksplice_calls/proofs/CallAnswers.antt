@@ -6,7 +6,7 @@ use Rattle.std.proofs.lemmas.List.{length_push}
 use Rattle.std.specs.Global.{Vec}
 use Rattle.ks_io.specs.Outside.{Counts}
 use Rattle.ks_io.specs.Loads.{Needed, Told, CameTo, IsLostAfter, first_lacking, needed_by, outside_fault, bytes_of}
-use Rattle.ks_io.specs.LoadLaws.{CameTo-then, CameTo-within, CameTo-nothing}
+use Rattle.ks_io.specs.laws.LoadLaws.{CameTo-then, CameTo-within, CameTo-nothing}
 use Rattle.ks_io.specs.declared.types.Lost.{Lost}
 use Rattle.ks_io.specs.declared.types.Wanted.{Wanted}
 use Rattle.ksplice_calls.specs.Answer.{Answer, ComesOut, OneComesOut, Answered, NoMemory, lost_answer, usage_answer}

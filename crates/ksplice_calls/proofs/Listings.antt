@@ -2,8 +2,8 @@
 use Rattle.std.proofs.Common.{◌≡◌, ℕ, List, Option, ap}
 use Rattle.i386_reloc.specs.declared.types.NormalSection.{NormalSection}
 use Rattle.extract_post.specs.declared.types.Extract.{Extract}
-use Rattle.section_roles.specs.declared.role.Role.{Role}
-use Rattle.section_roles.specs.Roles.{role_of}
+use Rattle.extract_post.specs.declared.role.Role.{Role}
+use Rattle.extract_post.specs.Roles.{role_of}
 use Rattle.ksplice_calls.specs.Difference.{listing_by, listing}
 
 pub same_listing : (roles : List ℕ → Option Role) (pre post : List NormalSection) (extract : Extract)

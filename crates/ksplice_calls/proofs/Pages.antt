@@ -1,7 +1,7 @@
 -- How pages that come out one after another are the whole that comes out.
 use Rattle.std.proofs.Common.{◌≡◌, ℕ, Bool, true, false, ◌||◌, ◌==◌, List, ◌++◌, Option, MatchBool, refl, ◌∙◌}
 use Rattle.ks_io.specs.Outside.{TookFront, grown}
-use Rattle.ks_io.specs.Fronts.{grown-append, TookFront-after}
+use Rattle.ks_io.specs.laws.Fronts.{grown-append, TookFront-after}
 use Rattle.ksplice_calls.specs.Answer.{ComesOut, answer_of}
 
 comes_by : (broken : Bool) (old now : Option (List ℕ)) (page rest : List ℕ) (status : ℕ)

@@ -6,10 +6,10 @@ use Rattle.std.specs.List.{list_any}
 use Rattle.std.proofs.lemmas.Option.{slice_get_within}
 use Rattle.ks_base.specs.declared.refusals.Refusal.{Refusal}
 use Rattle.ks_base.specs.declared.refusals.Refusal.TheVariants.{BadImage, BadLine}
-use Rattle.ks_io.specs.Fronts.{nothing_taken}
+use Rattle.ks_io.specs.laws.Fronts.{nothing_taken}
 use Rattle.ks_io.specs.Outside.{Counts, TookFront, grown}
 use Rattle.ks_io.specs.Loads.{Needed, Told, AreHeld, EndsLoads, RoseFor, LosesOne, first_lacking}
-use Rattle.ks_io.specs.LoadLaws.{first_lacking-within, stays_or_loses_one}
+use Rattle.ks_io.specs.laws.LoadLaws.{first_lacking-within, stays_or_loses_one}
 use Rattle.ks_io.specs.declared.types.FileFault.{FileFault}
 use Rattle.script_lines.specs.declared.types.Command.{Command}
 use Rattle.ksplice_session.specs.Watching.{Watched}

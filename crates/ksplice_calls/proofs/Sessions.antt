@@ -5,7 +5,7 @@ use Rattle.ks_base.specs.declared.refusals.Refusal.{Refusal}
 use Rattle.ks_base.specs.declared.refusals.Refusal.TheVariants.{Memory}
 use Rattle.ks_io.specs.Outside.{Counts, TookFront, grown}
 use Rattle.ks_io.specs.Loads.{Told}
-use Rattle.ks_io.specs.LoadLaws.{CameTo-nothing}
+use Rattle.ks_io.specs.laws.LoadLaws.{CameTo-nothing}
 use Rattle.ks_io.specs.declared.types.FileFault.{FileFault}
 use Rattle.script_lines.specs.declared.types.Command.{Command}
 use Rattle.ksplice_session.specs.Watching.{Watched}

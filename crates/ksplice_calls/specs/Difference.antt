@@ -5,9 +5,9 @@ use Rattle.ks_base.specs.Text.{shown_name}
 use Rattle.i386_reloc.specs.declared.types.NormalSection.{NormalSection}
 use Rattle.i386_reloc.specs.Normal.{section_named, function_name}
 use Rattle.extract_post.specs.declared.types.Extract.{Extract}
-use Rattle.section_roles.specs.declared.role.Role.{Role}
-use Rattle.section_roles.specs.declared.role.Role.TheVariants.{Changed, Added, Carried, NewData}
-use Rattle.section_roles.specs.Roles.{role_of}
+use Rattle.extract_post.specs.declared.role.Role.{Role}
+use Rattle.extract_post.specs.declared.role.Role.TheVariants.{Changed, Added, Carried, NewData}
+use Rattle.extract_post.specs.Roles.{role_of}
 
 -- the name of the function that a section is, where there is one
 abbrev pub function_of : Option NormalSection → List ℕ

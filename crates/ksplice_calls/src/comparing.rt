@@ -6,9 +6,8 @@ ghost use Rattle.ksplice_calls.specs.Reply.{IsDifference, Listed, both_sections}
 
 use crate::listing::list_extract;
 use extract_post::extract;
-use i386_reloc::Normal;
+use i386_reloc::{Normal, read_sections};
 use ks_base::{Line, Refusal};
-use object_sections::read_sections;
 use std::alloc::Global;
 
 /// The difference of two object files: the lines of what an update from `pre` to `post` is made of. Refuses what is

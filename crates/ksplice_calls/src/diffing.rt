@@ -41,7 +41,7 @@ pub fn diff<F: Files, O: Sink>(
 }
 
 /// Writes the reply of a comparison, or its refusal.
-#[tactic(auto, using(ks_io::specs::Fronts::nothing_taken))]
+#[tactic(auto, using(ks_io::specs::laws::Fronts::nothing_taken))]
 fn print_difference<O: Sink>(alloc: Global, pre: &[u8], post: &[u8], out: &mut O) -> Status
     ensures answer { OneComesOut (IsReply pre.now post.now) (O.taken out.old) (O.taken out.new) result.code }
     ensures status { is_carried_out result.code ≡ true }

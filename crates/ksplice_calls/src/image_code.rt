@@ -46,7 +46,7 @@ pub fn code<F: Files, O: Sink>(
 }
 
 /// Writes the instructions of a function of an image, or why there are none.
-#[tactic(auto, using(ks_io::specs::Fronts::nothing_taken))]
+#[tactic(auto, using(ks_io::specs::laws::Fronts::nothing_taken))]
 fn print_code<O: Sink>(alloc: Global, bytes: &[u8], name: &str, out: &mut O) -> Status
     ensures status { is_carried_out result.code ≡ true }
     ensures answer { OneComesOut
@@ -89,7 +89,7 @@ fn print_listing<O: Sink>(alloc: Global, listing: &mut Listing, out: &mut O) -> 
 }
 
 /// Writes the next page of a listing; the status, where the listing ends with it.
-#[tactic(auto, using(ks_io::specs::Fronts::nothing_taken, ks_io::specs::Fronts::front_of_part, crate::proofs::Pages::page_came_out))]
+#[tactic(auto, using(ks_io::specs::laws::Fronts::nothing_taken, ks_io::specs::laws::Fronts::front_of_part, crate::proofs::Pages::page_came_out))]
 fn print_page<O: Sink>(alloc: Global, listing: &mut Listing, out: &mut O) -> Option<Status>
     ensures status { IfSome result (λ status. is_carried_out status.code ≡ true) }
     ensures last { IfSome result

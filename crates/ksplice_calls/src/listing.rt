@@ -4,12 +4,11 @@ ghost use Rattle.std.specs.Option.{option_copied};
 ghost use Rattle.std.specs.List.{flat_map};
 ghost use Rattle.ksplice_calls.specs.Difference.{function_of, verb_line, section_line};
 ghost use Rattle.ksplice_calls.specs.Difference.{line_in, dropped_line, listing_by, listing};
-ghost use Rattle.section_roles.specs.Roles.{role_at};
+ghost use Rattle.extract_post.specs.Roles.{role_at};
 
-use extract_post::Extract;
+use extract_post::{Extract, Role, roles_of};
 use i386_reloc::{Normal, NormalSection};
 use ks_base::{Line, Name, Names};
-use section_roles::{Role, roles_of};
 use std::alloc::{AllocError, Global};
 use std::collections::BTreeMap;
 

@@ -53,7 +53,7 @@ pub fn match_object<F: Files, O: Sink>(
 }
 
 /// Writes the values of an object in an image, or why there are none.
-#[tactic(auto, using(ks_io::specs::Fronts::nothing_taken))]
+#[tactic(auto, using(ks_io::specs::laws::Fronts::nothing_taken))]
 fn print_solution<O: Sink>(alloc: Global, image: Vec<u8>, pre: &[u8], out: &mut O) -> Status
     ensures answer { OneComesOut
         (λ answer. answer ≡ match_answer image.items pre.now) (O.taken out.old) (O.taken out.new)

@@ -58,7 +58,7 @@ pub fn run<F: Files, O: Sink>(
 }
 
 /// Runs the session of an image file and a script file, or writes why there is none.
-#[tactic(auto, using(ks_io::specs::Fronts::nothing_taken))]
+#[tactic(auto, using(ks_io::specs::laws::Fronts::nothing_taken))]
 fn print_session<F: Files, O: Sink>(
     alloc: Global,
     image: Vec<u8>,

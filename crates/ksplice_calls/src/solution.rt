@@ -9,11 +9,10 @@ ghost use Rattle.ksplice_calls.specs.Reply.{match_reply, matched_in};
 ghost use Rattle.ksplice_calls.specs.Solution.{unknown_text, value_line, value_lines};
 
 use crate::listing::function_of;
-use i386_reloc::Normal;
+use i386_reloc::{Normal, read_sections};
 use image_file::{Image, read_image};
 use image_memory::FlatSpace;
 use ks_base::{Line, Name, Refusal};
-use object_sections::read_sections;
 use std::alloc::{AllocError, Global};
 use symbol_solve::solve;
 use symbol_table::{Bodies, Solved, Unknown, Values};

@@ -9,8 +9,8 @@ use Rattle.image_memory.specs.Ranges.{lies_in}
 use Rattle.image_memory.specs.Contents.{piece_range, holding, byte_in}
 use Rattle.image_memory.specs.Access.{kind_of, unreadable, read_fault, first_fault, byte_at}
 use Rattle.image_memory.specs.Access.{bytes_at, dword_at, overlaid_piece, new_byte, written}
-use Rattle.image_memory.specs.RangeLaws.{inside}
-use Rattle.image_memory.specs.AccessLaws.{good_at, length-overlaid, get_or-overlaid, new_outside}
+use Rattle.image_memory.specs.laws.RangeLaws.{inside}
+use Rattle.image_memory.specs.laws.AccessLaws.{good_at, length-overlaid, get_or-overlaid, new_outside}
 use Rattle.ia32_step.specs.Frames.{holds_dword}
 
 -- at an address two memories have a piece of the same kind, and where it can be read the same byte

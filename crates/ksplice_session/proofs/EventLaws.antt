@@ -14,9 +14,9 @@ use Rattle.image_threads.specs.Program.{if_running, running_at}
 use Rattle.stack_scan.specs.Standing.{in_one}
 use Rattle.update_stack.specs.CallTable.{CallTable, view_in}
 use Rattle.update_stack.specs.Events.{Event, Step}
-use Rattle.frame_safety.specs.Windows.{SameWindows, KeepsWindows}
-use Rattle.frame_safety.specs.Slots.{KeepsSlots}
-use Rattle.frame_safety.specs.Clear.{IsOutside}
+use Rattle.update_safety.specs.Windows.{SameWindows, KeepsWindows}
+use Rattle.update_safety.specs.Slots.{KeepsSlots}
+use Rattle.update_safety.specs.Clear.{IsOutside}
 use Rattle.frame_watch.specs.declared.types.Verdict.TheVariants.{Disciplined}
 use Rattle.frame_watch.specs.Frames.{Watched as WatchedThread, Watching, started, with_started, watched_at}
 use Rattle.frame_watch.specs.Frames.{frames_in, frames_at, keeps_slots}

@@ -13,7 +13,7 @@ use Rattle.ia32_step.specs.declared.types.Outcome.TheVariants.{Moved}
 use Rattle.ia32_step.specs.declared.types.Thread.{Thread}
 use Rattle.image_threads.specs.Program.{running_at}
 use Rattle.update_stack.specs.Events.{Event, Spawn, Step, Apply, Undo}
-use Rattle.frame_safety.specs.Windows.{window_in}
+use Rattle.update_safety.specs.Windows.{window_in}
 use Rattle.frame_watch.specs.Frames.{frame}
 use Rattle.ksplice_session.specs.Watching.{Watched, first_watched, watched_after, watched_after_all, IsDisciplined}
 use Rattle.ksplice_session.specs.Safety.{frames_of, depth_of, return_address, stays_open, step_outcome, is_step_of}

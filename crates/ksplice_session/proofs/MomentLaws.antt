@@ -22,10 +22,10 @@ use Rattle.image_threads.specs.Program.{running_at}
 use Rattle.update_stack.specs.CallTable.{first_machine}
 use Rattle.update_stack.specs.Events.{Event, Step, after_events}
 use Rattle.update_stack.specs.Stacked.{IsBuilt}
-use Rattle.frame_safety.specs.Windows.{window_in, StartsKeepWindows, StepsKeepWindows}
-use Rattle.frame_safety.specs.Windows.{UpdatesKeepWindows, UndosKeepWindows}
-use Rattle.frame_safety.specs.Slots.{UpdatesKeepSlots, UndosKeepSlots}
-use Rattle.frame_safety.specs.Clear.{KeepSlots, AcceptedIsClear, TakenBackIsClear}
+use Rattle.update_safety.specs.Windows.{window_in, StartsKeepWindows, StepsKeepWindows}
+use Rattle.update_safety.specs.Windows.{UpdatesKeepWindows, UndosKeepWindows}
+use Rattle.update_safety.specs.Slots.{UpdatesKeepSlots, UndosKeepSlots}
+use Rattle.update_safety.specs.Clear.{KeepSlots, AcceptedIsClear, TakenBackIsClear}
 use Rattle.frame_watch.specs.declared.types.Verdict.TheVariants.{Disciplined}
 use Rattle.frame_watch.specs.Frames.{Watched as WatchedThread, frame}
 use Rattle.frame_watch.specs.Frames.{watched_at, frames_in, frames_at, closed}

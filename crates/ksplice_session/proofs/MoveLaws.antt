@@ -22,7 +22,7 @@ use Rattle.ia32_step.specs.Frames.{instruction_at, IsCalled, is_slot, holds_dwor
 use Rattle.ia32_step.specs.Operands.{spelled}
 use Rattle.ia32_step.specs.Step.{Left, after_store, stepped, fetched_count}
 use Rattle.ia32_step.specs.Threads.{esp_of}
-use Rattle.ia32_step.specs.OperandLaws.{length-spelled}
+use Rattle.ia32_step.specs.laws.OperandLaws.{length-spelled}
 use Rattle.image_threads.specs.Program.{if_running, running_at, AreNumbered}
 use Rattle.splice_jump.specs.Jumps.{jumped_memory}
 use Rattle.update_stack.specs.CallTable.{CallTable, bodies_in, contents_of}
@@ -31,8 +31,8 @@ use Rattle.update_stack.specs.Jumps.{CanJump, StepsStand, jumped_left}
 use Rattle.update_stack.specs.Stacked.{IsBuilt}
 use Rattle.update_stack.specs.StandsFor.{patched}
 use Rattle.update_stack.specs.Steps.{step_in, after_step, moved_by, moved}
-use Rattle.update_stack.specs.StackedLaws.{built_sound}
-use Rattle.frame_safety.specs.Windows.{StepsKeepWindows, FetchedHaveWindows}
+use Rattle.update_stack.specs.laws.StackedLaws.{built_sound}
+use Rattle.update_safety.specs.Windows.{StepsKeepWindows, FetchedHaveWindows}
 use Rattle.frame_watch.specs.Conditions.{HasPushed, IsStepOf, IsStep, touches, HoldBut, HaveWindows}
 use Rattle.frame_watch.specs.Discipline.{sight_of, step_noted}
 use Rattle.frame_watch.specs.Frames.{Watched as WatchedThread, Watching, without_thread, keeps_slots}

@@ -13,7 +13,7 @@ use Rattle.update_stack.specs.Events.{Event, Spawn, Step, Apply, Undo, Answer, S
 use Rattle.update_stack.specs.Events.{Happened, happened}
 use Rattle.update_stack.specs.Events.{answered}
 use Rattle.update_stack.specs.Stacked.{IsBuilt}
-use Rattle.frame_safety.specs.Clear.{newest_retired, newest_pieces}
+use Rattle.update_safety.specs.Clear.{newest_retired, newest_pieces}
 use Rattle.frame_watch.specs.declared.types.Verdict.TheVariants.{Disciplined}
 use Rattle.frame_watch.specs.Frames.{Watching}
 use Rattle.frame_watch.specs.Discipline.{spawn_noted, step_noted, counted}

@@ -16,7 +16,7 @@ use Rattle.image_threads.specs.Program.{running_at}
 use Rattle.update_stack.specs.Steps.{moved_by, moved}
 use Rattle.update_stack.specs.Events.{Event, Step, step_answered, answered}
 use Rattle.update_stack.specs.Stacked.{IsBuilt}
-use Rattle.frame_safety.specs.Windows.{window_in}
+use Rattle.update_safety.specs.Windows.{window_in}
 use Rattle.frame_watch.specs.declared.types.Verdict.TheVariants.{Disciplined}
 use Rattle.ksplice_session.specs.Watching.{Watched, first_watched, watched_after, watched_after_all, IsDisciplined}
 use Rattle.ksplice_session.specs.Safety.{frames_of, depth_of, address_of, return_address, stays_open, outcome_by}

@@ -13,7 +13,7 @@ use Rattle.image_threads.specs.Program.{running_at}
 use Rattle.update_stack.specs.CallTable.{CallTable, contents_of, view_in, base_of}
 use Rattle.update_stack.specs.Steps.{step_at, step_in, moved_by, moved}
 use Rattle.update_stack.specs.Events.{Step, step_answered, answered}
-use Rattle.frame_safety.specs.Windows.{window_in}
+use Rattle.update_safety.specs.Windows.{window_in}
 use Rattle.ksplice_session.specs.Watching.{Watched, first_watched, watched_after_all}
 use Rattle.ksplice_session.specs.Safety.{outcome_by, step_outcome, ReturnedNowhere, MetNothing, StopsAtFetch}
 use Rattle.ksplice_session.specs.Safety.{NoReturnIsLost}

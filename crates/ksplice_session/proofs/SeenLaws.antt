@@ -16,8 +16,8 @@ use Rattle.update_stack.specs.CallTable.{CallTable, bodies_in, contents_of}
 use Rattle.update_stack.specs.Jumps.{CanJump}
 use Rattle.update_stack.specs.Stacked.{IsBuilt}
 use Rattle.update_stack.specs.StandsFor.{Seen, StandsFor, patched}
-use Rattle.update_stack.specs.StackedLaws.{built_sound}
-use Rattle.update_stack.specs.ViewLaws.{met_alike}
+use Rattle.update_stack.specs.laws.StackedLaws.{built_sound}
+use Rattle.update_stack.specs.laws.ViewLaws.{met_alike}
 use Rattle.ksplice_session.specs.Watching.{sight_in}
 use Rattle.ksplice_session.proofs.ByteLaws.{IsAlikeAt, alike_back, dword_same, holds_same}
 use Rattle.ksplice_session.proofs.SightLaws.{IsAlike}

@@ -13,15 +13,15 @@ use Rattle.std.proofs.lemmas.Grind.{flat_map-append, common_steps}
 use Rattle.std.proofs.lemmas.Bool.{false≢true}
 use Rattle.std.proofs.lemmas.Bool.Decides.{nat_tests}
 use Rattle.ks_io.specs.Outside.{Counts, grown, TookFront, TookPart}
-use Rattle.ks_io.specs.Fronts.{grown-append, grown-nothing, nothing_taken, front_of_part}
-use Rattle.ks_io.specs.Fronts.{TookFront-whole, TookFront-after, TookFront-before}
+use Rattle.ks_io.specs.laws.Fronts.{grown-append, grown-nothing, nothing_taken, front_of_part}
+use Rattle.ks_io.specs.laws.Fronts.{TookFront-whole, TookFront-after, TookFront-before}
 use Rattle.ks_io.specs.Loads.{Needed, Told as ToldFiles, CameTo, IsLostAfter}
 use Rattle.ks_io.specs.Loads.{first_lacking, needed_by, bytes_of, outside_fault}
 use Rattle.std.specs.Global.{Vec}
 use Rattle.ks_io.specs.declared.types.Wanted.{Wanted}
 use Rattle.ks_io.specs.declared.types.Lost.{Lost}
-use Rattle.ks_io.specs.LoadLaws.{CameTo-nothing, CameTo-then, CameTo-within, first_lacking-append}
-use Rattle.ks_io.specs.LoadLaws.{first_lacking-within, first_lacking-none, stays_where_all_held}
+use Rattle.ks_io.specs.laws.LoadLaws.{CameTo-nothing, CameTo-then, CameTo-within, first_lacking-append}
+use Rattle.ks_io.specs.laws.LoadLaws.{first_lacking-within, first_lacking-none, stays_where_all_held}
 use Rattle.ks_io.specs.declared.types.FileFault.{FileFault}
 use Rattle.ks_io.specs.declared.types.FileFault.TheVariants.{Missing, TooLong, Failed, Memory}
 use Rattle.ks_io.specs.declared.types.SinkFault.{SinkFault}

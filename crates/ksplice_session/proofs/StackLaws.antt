@@ -10,7 +10,7 @@ use Rattle.std.proofs.lemmas.List.Folds.{list_any_at}
 use Rattle.ks_base.specs.declared.places.Range.{Range}
 use Rattle.image_memory.specs.declared.types.Piece.{Piece}
 use Rattle.image_memory.specs.Ranges.{Ascends}
-use Rattle.image_memory.specs.RangeLaws.{one_after}
+use Rattle.image_memory.specs.laws.RangeLaws.{one_after}
 use Rattle.ia32_step.specs.declared.types.Frame.{Frame}
 use Rattle.ia32_step.specs.Frames.{is_slot, holds_dword, keeps_slot}
 use Rattle.frame_watch.specs.Frames.{Watched, keeps_slots}

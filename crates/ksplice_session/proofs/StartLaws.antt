@@ -18,7 +18,7 @@ use Rattle.ia32_step.specs.Frames.{is_slot, holds_dword}
 use Rattle.ia32_step.specs.Threads.{runs}
 use Rattle.image_threads.specs.Program.{if_running, IsStackRange, WellPlaced}
 use Rattle.image_threads.specs.Spawning.{is_taken, free_stack, first_top, first_bytes, first_thread}
-use Rattle.image_threads.specs.StackLaws.{length-first_bytes}
+use Rattle.image_threads.specs.laws.StackLaws.{length-first_bytes}
 use Rattle.update_stack.specs.CallTable.{CallTable}
 use Rattle.update_stack.specs.Events.{Spawn, Spawned, happened, answered, machine_after, after_event, after_events}
 use Rattle.update_stack.specs.Stacked.{IsBuilt}

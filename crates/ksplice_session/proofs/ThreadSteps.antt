@@ -14,7 +14,7 @@ use Rattle.ia32_step.specs.Threads.{esp_of, runs}
 use Rattle.image_threads.specs.Program.{if_running, running_at}
 use Rattle.update_stack.specs.CallTable.{CallTable}
 use Rattle.update_stack.specs.Events.{Event, Step}
-use Rattle.frame_safety.specs.Windows.{SameWindows}
+use Rattle.update_safety.specs.Windows.{SameWindows}
 use Rattle.frame_watch.specs.declared.types.Verdict.TheVariants.{Disciplined}
 use Rattle.frame_watch.specs.Frames.{Watched as WatchedThread, Watching, frame, watched_at, frames_in, frames_at}
 use Rattle.frame_watch.specs.Frames.{with_frames, without_thread, opened, closed}

@@ -7,7 +7,7 @@ use Rattle.ia32_step.specs.Frames.{keeps_slot}
 use Rattle.ia32_step.specs.declared.types.Thread.{Thread}
 use Rattle.update_stack.specs.CallTable.{CallTable}
 use Rattle.update_stack.specs.Events.{Apply, Undo, Applied, Undone, happened, answered}
-use Rattle.frame_safety.specs.Slots.{KeepsSlots, SameThreads}
+use Rattle.update_safety.specs.Slots.{KeepsSlots, SameThreads}
 use Rattle.frame_watch.specs.Discipline.{update_noted}
 use Rattle.frame_watch.specs.Frames.{Watching, keeps_slots}
 use Rattle.ksplice_session.specs.Answers.{watched}

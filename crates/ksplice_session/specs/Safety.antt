@@ -18,7 +18,7 @@ use Rattle.image_threads.specs.Program.{running_at}
 use Rattle.update_stack.specs.CallTable.{CallTable, view_in}
 use Rattle.update_stack.specs.Events.{Event, Spawn, Step, Answer, Stepped, Happened, answered, after_events}
 use Rattle.frame_watch.specs.Frames.{frames_at}
-use Rattle.frame_safety.specs.Windows.{window_in}
+use Rattle.update_safety.specs.Windows.{window_in}
 use Rattle.ksplice_session.specs.Watching.{Watched, first_watched, watched_after, watched_after_all, IsDisciplined}
 
 -- the frames of a thread, how many they are, and the address of the last

@@ -1,11 +1,11 @@
 //! What a disciplined run is spared.
 ghost use Rattle.ksplice_session.specs.Safety.{OpenFramesKeepWindows, NoReturnIsLost};
 
-use frame_safety::{
+use ia32_step::instructions_are_never_stray;
+use update_safety::{
     accepted_updates_are_clear, threads_keep_windows, undone_updates_are_clear, updates_keep_slots,
     updates_keep_windows,
 };
-use ia32_step::instructions_are_never_stray;
 use update_stack::machines_are_built;
 
 /// In every list of events from the start of an image that keeps the discipline, an open frame whose address had a

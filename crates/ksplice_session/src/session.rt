@@ -10,7 +10,6 @@ ghost use Rattle.ksplice_session.specs.Watching.{first_watched, watched_after};
 ghost use Rattle.ksplice_session.specs.Answers.{MadeFront};
 
 use crate::memory::all_pieces;
-use frame_safety::updates_keep_slots;
 use frame_watch::{Verdict, Watch};
 use ia32_step::{State, Thread};
 use image_file::{Image, image_keeps_rules};
@@ -21,6 +20,7 @@ use splice_jump::{jumps_change_their_bytes_alone, jumps_leave_views};
 use std::alloc::{AllocError, Global};
 use std::marker::Model;
 use symbol_table::SymbolTable;
+use update_safety::updates_keep_slots;
 use update_stack::{System, Update};
 
 /// A program that runs, and what was seen of its events. A clause sees it as the machine that never patches code, with

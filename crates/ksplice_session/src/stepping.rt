@@ -8,10 +8,10 @@ ghost use Rattle.ksplice_session.specs.Watching.{watched_after, watched_after_al
 ghost use Rattle.ksplice_session.specs.inside.InStep.{watched_taken};
 
 use crate::session::Session;
-use frame_safety::{fetched_bytes_have_windows, threads_keep_windows};
 use ia32_step::{ESP, calls_and_returns};
 use image_threads::Turns;
 use splice_jump::{homes_stay_spliced, jumps_change_their_bytes_alone, jumps_leave_views};
+use update_safety::{fetched_bytes_have_windows, threads_keep_windows};
 use update_stack::steps_stand;
 
 impl Session {

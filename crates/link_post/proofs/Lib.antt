@@ -10,3 +10,8 @@ pub mod Apart
 pub mod Orders
 pub mod Telling
 pub mod Ready
+pub mod FoldLaws
+pub mod CutLaws
+pub mod GapLaws
+pub mod PieceLaws
+pub mod SweepLaws

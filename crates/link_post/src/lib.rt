@@ -1,6 +1,9 @@
-//! Values of what the references of new code go to, places for its sections, and their bytes at these places.
+//! Values of what the references of new code go to, places for its sections, their bytes at these places, and what is
+//! free of an arena.
 #![tactic(auto)]
 
+mod arena;
+mod arena_laws;
 mod blocks;
 mod gaps;
 mod laws;
@@ -11,6 +14,8 @@ mod resolving;
 mod rooms;
 mod types;
 
+pub use crate::arena::without_all;
+pub use crate::arena_laws::{gaps_are_free, gaps_of_pieces, order_has_no_say};
 pub use crate::laws::{
     needed_targets_have_addresses, places_keep_the_order, places_lie_apart, values_are_found,
 };

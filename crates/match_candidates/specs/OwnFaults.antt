@@ -10,7 +10,7 @@ use Rattle.run_pre_match.specs.declared.types.Matched.{Matched}
 use Rattle.run_pre_match.specs.declared.types.MatchFault.{MatchFault}
 use Rattle.run_pre_match.specs.declared.types.MatchFault.TheVariants.{Differs, Undecoded, Memory}
 use Rattle.run_pre_match.specs.Candidate.{Candidate}
-use Rattle.instruction_lists.specs.Landing.{undecoded_offset}
+use Rattle.match_instructions.specs.Landing.{undecoded_offset}
 use Rattle.run_pre_match.specs.Matched.{PreSection, candidate, outcome}
 use Rattle.i386_reloc.specs.Normal.{function_name}
 use Rattle.propagation.specs.Conflicts.{first_some}

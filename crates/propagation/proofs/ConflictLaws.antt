@@ -11,7 +11,7 @@ use Rattle.std.proofs.lemmas.List.{length-map}
 use Rattle.std.proofs.lemmas.Option.{slice_get-map, get_or_from_slice_get}
 use Rattle.propagation.specs.declared.choice.Choice.{Choice}
 use Rattle.propagation.specs.Rounds.{is_forced, forced_among, clashes_with_one, left_in, remaining, forced, is_among}
-use Rattle.propagation.specs.RoundLaws.{remaining_is_kept}
+use Rattle.propagation.specs.laws.RoundLaws.{remaining_is_kept}
 use Rattle.propagation.specs.Conflicts.{first_some, first_of_two, clashing, conflict}
 use Rattle.propagation.specs.Choices.{AreChoices, ComesBefore, can_be_chosen, claims_clash, demands_clash, same_section}
 use Rattle.propagation.specs.Choices.{same_choice, clash, choice_rules, is_of, by_section, pair_of, pair_at}

@@ -10,7 +10,7 @@ use Rattle.std.specs.Option.{option_map}
 use Rattle.propagation.specs.declared.choice.Choice.{Choice}
 use Rattle.propagation.specs.Rounds.{Rules, is_forced, forced_among, clashes_with_one}
 use Rattle.propagation.specs.Rounds.{left_in, remaining, forced, is_among}
-use Rattle.propagation.specs.RoundLaws.{remaining_is_kept}
+use Rattle.propagation.specs.laws.RoundLaws.{remaining_is_kept}
 use Rattle.propagation.specs.Choices.{ComesBefore, same_section, same_choice, can_be_chosen, clash, choice_rules}
 use Rattle.propagation.specs.inside.Engine.{is_left}
 use Rattle.propagation.specs.inside.State.{At, IsLeft, IsAlone, IsClosed}

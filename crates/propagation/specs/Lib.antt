@@ -1,8 +1,7 @@
 -- Public clauses cite Rounds (which items are left), Conflicts (which of them are in each other's way) and Choices (the
--- same for choices whose claims and demands are numbers); RoundLaws are laws for the crates above. What stands in
--- inside is the code's own.
+-- same for choices whose claims and demands are numbers). What stands in inside is the code's own.
 pub mod Rounds
 pub mod Conflicts
 pub mod Choices
-pub mod RoundLaws
 pub mod inside
+pub mod laws

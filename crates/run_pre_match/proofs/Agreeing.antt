@@ -6,8 +6,8 @@ use Rattle.std.proofs.lemmas.Bool.{and_from, and_parts}
 use Rattle.i386_reloc.specs.Normal.{same_bytes}
 use Rattle.ia32_decode.specs.declared.types.Branch.{Branch}
 use Rattle.ia32_decode.specs.Branches.{same_kind}
-use Rattle.instruction_lists.specs.Instructions.{direct_branch, target_of}
-use Rattle.instruction_lists.specs.Landing.{has_no_reference}
+use Rattle.match_instructions.specs.Instructions.{direct_branch, target_of}
+use Rattle.match_instructions.specs.Landing.{has_no_reference}
 use Rattle.run_pre_match.specs.Candidate.{Candidate, Pair, same_number}
 use Rattle.run_pre_match.specs.Differences.{prefix_bytes, opcode_bytes, blanked, differs_in_opcode, differs_in_operand}
 use Rattle.run_pre_match.specs.Differences.{differs_in_landing}

@@ -8,14 +8,14 @@ use Rattle.i386_reloc.specs.declared.types.Target.TheVariants as target
 use Rattle.i386_reloc.specs.Classes.{is_code_class}
 use Rattle.i386_reloc.specs.Reaches.{is_read_only_class, is_interior}
 use Rattle.i386_reloc.specs.Texts.{StandsAt, StandsIn, HasTexts}
-use Rattle.i386_reloc.specs.PlaceLaws.{section_named_at}
+use Rattle.i386_reloc.specs.laws.PlaceLaws.{section_named_at}
 use Rattle.i386_reloc.specs.declared.types.Ref.{Ref}
 use Rattle.i386_reloc.specs.declared.types.NormalSection.{NormalSection}
 use Rattle.i386_reloc.specs.Places.{place_named, at_place, place_of_target, place_of_reference, reference_in}
 use Rattle.i386_reloc.specs.Places.{reference_at, bytes_of, bytes_at}
 use Rattle.run_pre_match.specs.declared.goals.Goal.{Goal}
 use Rattle.run_pre_match.specs.declared.goals.Goal.TheVariants.{Entry, Inside, Variable, Constant}
-use Rattle.instruction_lists.specs.Landing.{interior_offset}
+use Rattle.match_instructions.specs.Landing.{interior_offset}
 use Rattle.run_pre_match.specs.inside.Texts.{IsPart, HasText}
 use Rattle.run_pre_match.specs.Goals.{goal_of, goal_to, goal_at_place, goal_in_code}
 

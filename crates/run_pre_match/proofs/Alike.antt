@@ -15,9 +15,9 @@ use Rattle.ia32_decode.specs.declared.types.Branch.{Branch}
 use Rattle.run_pre_match.specs.declared.goals.Goal.{Goal}
 use Rattle.run_pre_match.specs.declared.goals.Goal.TheVariants.{Entry, Inside, Variable, Constant, Outside, Text}
 use Rattle.run_pre_match.specs.declared.types.Matched.{Matched}
-use Rattle.instruction_lists.specs.Instructions.{Instruction, end_of, kept_of, direct_branch, target_of}
-use Rattle.instruction_lists.specs.Landing.{has_no_reference}
-use Rattle.instruction_lists.specs.RunCode.{break_kind}
+use Rattle.match_instructions.specs.Instructions.{Instruction, end_of, kept_of, direct_branch, target_of}
+use Rattle.match_instructions.specs.Landing.{has_no_reference}
+use Rattle.match_instructions.specs.RunCode.{break_kind}
 use Rattle.run_pre_match.specs.Candidate.{Candidate, Pair, pre_list, pairs}
 use Rattle.run_pre_match.specs.Found.{Found, first_value, section_lies, section_stands, found_in, found_from, own_home}
 use Rattle.run_pre_match.specs.Found.{all_found}

@@ -20,13 +20,13 @@ use Rattle.run_pre_match.specs.declared.goals.Given.{Given}
 use Rattle.run_pre_match.specs.declared.goals.Verdict.TheVariants.{Holds, Refused, Absent}
 use Rattle.run_pre_match.specs.Candidate.{Candidate, Pair}
 use Rattle.run_pre_match.specs.Goals.{given_by, interior_address}
-use Rattle.read_only_data.specs.Constants.{all_below, constant_in, constant_byte, constant_at, is_byte}
-use Rattle.read_only_data.specs.Constants.{is_byte_or_field, lie_in_constants}
+use Rattle.match_constants.specs.Constants.{all_below, constant_in, constant_byte, constant_at, is_byte}
+use Rattle.match_constants.specs.Constants.{is_byte_or_field, lie_in_constants}
 use Rattle.run_pre_match.specs.Found.{Found, first_value, is_refused, is_absent, section_stands, section_lies}
 use Rattle.run_pre_match.specs.Found.{verdict_on, judged, given_in_constant, given_there, opened_by, found_by_all}
 use Rattle.run_pre_match.specs.Found.{found_by, given_in_pair, found_in, found_from}
 use Rattle.run_pre_match.specs.Alike.{AreAlike, HasFieldsInside, in_memory}
-use Rattle.read_only_data.specs.BelowLaws.{all_below_at}
+use Rattle.match_constants.specs.laws.BelowLaws.{all_below_at}
 use Rattle.run_pre_match.proofs.AlikeRuns.{same_constants, same_number_of}
 
 -- where a byte stands in read-only memory, it is the byte there

@@ -3,12 +3,12 @@ use Rattle.std.proofs.Common.{◌≡◌, ℕ, ◌-◌, ◌^◌, List, length, Op
 use mathlib.Core.Path.{fun_ext}
 use Rattle.image_memory.specs.Contents.{Contents}
 use Rattle.image_memory.specs.Fetch.{view_at}
-use Rattle.instruction_lists.specs.Instructions.{Instruction, kept_of, listed, stands_for, through_kept}
-use Rattle.instruction_lists.specs.RunCode.{run_instruction_in, run_instruction_at, run_code, run_body}
-use Rattle.instruction_lists.specs.PreCode.{pre_code}
+use Rattle.match_instructions.specs.Instructions.{Instruction, kept_of, listed, stands_for, through_kept}
+use Rattle.match_instructions.specs.RunCode.{run_instruction_in, run_instruction_at, run_code, run_body}
+use Rattle.match_instructions.specs.PreCode.{pre_code}
 use Rattle.run_pre_match.specs.Candidate.{Candidate, pre_list, run_list, pairs_from, pairs}
 use Rattle.run_pre_match.specs.Candidate.{has_number, same_number, body_of}
-use Rattle.read_only_data.specs.Constants.{constant_at}
+use Rattle.match_constants.specs.Constants.{constant_at}
 use Rattle.run_pre_match.specs.Matched.{PreSection}
 use Rattle.run_pre_match.specs.Bodies.{body_at}
 use Rattle.run_pre_match.specs.Alike.{AreAlike, in_memory}

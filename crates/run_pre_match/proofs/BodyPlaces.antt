@@ -4,12 +4,12 @@ use Rattle.std.specs.Prelude.{unwrap_or}
 use Rattle.std.specs.List.{slice_get}
 use Rattle.std.proofs.lemmas.List.{length-map}
 use Rattle.std.proofs.lemmas.Option.{slice_get-map}
-use Rattle.instruction_lists.specs.Instructions.{Instruction, place_of, kept_of, stands_for}
+use Rattle.match_instructions.specs.Instructions.{Instruction, place_of, kept_of, stands_for}
 use Rattle.run_pre_match.specs.Candidate.{Candidate, Body, pre_list, run_list, body_of}
 use Rattle.run_pre_match.specs.Candidate.{has_number, is_number_of, same_number}
 use Rattle.run_pre_match.specs.Bodies.{address_in, address_of}
-use Rattle.instruction_lists.specs.Places.{Places, places_of, number_in}
-use Rattle.instruction_lists.specs.PlaceLaws.{stands_for_by}
+use Rattle.match_instructions.specs.Places.{Places, places_of, number_in}
+use Rattle.match_instructions.specs.laws.PlaceLaws.{stands_for_by}
 
 pub number_by : (is : List Instruction) (p : Places) (place : ℕ) (o : Option ℕ) →
     o ≡ number_in p place → p ≡ places_of is → o ≡ stands_for is place

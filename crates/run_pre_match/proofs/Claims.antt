@@ -27,10 +27,10 @@ use Rattle.run_pre_match.specs.declared.goals.Verdict.{Verdict}
 use Rattle.run_pre_match.specs.declared.goals.Verdict.TheVariants.{Holds, Refused, Absent}
 use Rattle.run_pre_match.specs.declared.types.Claim.{Claim}
 use Rattle.run_pre_match.specs.declared.types.Matched.{Matched}
-use Rattle.instruction_lists.specs.Instructions.{direct_branch}
-use Rattle.instruction_lists.specs.Landing.{interior_offset}
+use Rattle.match_instructions.specs.Instructions.{direct_branch}
+use Rattle.match_instructions.specs.Landing.{interior_offset}
 use Rattle.run_pre_match.specs.Goals.{goal_in_code, goal_at_place, goal_to, same_goal}
-use Rattle.read_only_data.specs.Constants.{constant_at, is_byte_or_field}
+use Rattle.match_constants.specs.Constants.{constant_at, is_byte_or_field}
 use Rattle.run_pre_match.specs.Candidate.{Candidate, Pair, pairs}
 use Rattle.run_pre_match.specs.Found.{Found, is_for, value_of, first_value, section_stands, section_lies, verdict_on}
 use Rattle.run_pre_match.specs.Found.{given_in_pair, given_in_constant, found_in, found_from, own_home, all_found}
@@ -42,7 +42,7 @@ use Rattle.run_pre_match.specs.Matched.{Statement, stated_in_pair, stated_by_pai
 use Rattle.run_pre_match.specs.Matched.{stated_from, statements, name_in, name_at, unknown_of, claim_about, claim_of}
 use Rattle.run_pre_match.specs.Matched.{home_claim, matched_by, matched_unless, outcome}
 use Rattle.run_pre_match.specs.Match.{is_valued}
-use Rattle.read_only_data.specs.BelowLaws.{all_below_at, all_below_from}
+use Rattle.match_constants.specs.laws.BelowLaws.{all_below_at, all_below_from}
 use Rattle.run_pre_match.proofs.Stepwise.{given_of, givens, kept_by_pairs}
 use Rattle.run_pre_match.proofs.FirstValues.{Holding, Stands, StandsIn, AllStand, Anything, stands_keeping, home_stands}
 use Rattle.run_pre_match.proofs.Opened.{Has, has_right, has_head, has_pairs, all_opened}

@@ -10,12 +10,12 @@ use Rattle.i386_reloc.specs.declared.types.NormalSection.{NormalSection}
 use Rattle.i386_reloc.specs.declared.types.Class.{Class}
 use Rattle.i386_reloc.specs.Normal.{section_named}
 use Rattle.i386_reloc.specs.Places.{place_named, at_place}
-use Rattle.i386_reloc.specs.PlaceLaws.{section_named_at}
-use Rattle.i386_reloc.specs.NamedPlaces.{section_at_place}
+use Rattle.i386_reloc.specs.laws.PlaceLaws.{section_named_at}
+use Rattle.i386_reloc.specs.laws.NamedPlaces.{section_at_place}
 use Rattle.i386_reloc.specs.Reaches.{has_class, is_in}
-use Rattle.instruction_lists.specs.Landing.{offsets_named, undecoded_offset}
+use Rattle.match_instructions.specs.Landing.{offsets_named, undecoded_offset}
 use Rattle.run_pre_match.specs.Matched.{PreSection, code_unless, listed_code}
-use Rattle.instruction_lists.specs.Landing.{offsets_for, all_offsets}
+use Rattle.match_instructions.specs.Landing.{offsets_for, all_offsets}
 
 -- a section that is in an object has a place
 pub place_there : (wanted : Class → Bool) (object : List NormalSection) (name : List ℕ) (o : Option ℕ) →

@@ -7,7 +7,7 @@ use Rattle.ks_base.specs.declared.refusals.DifferenceKind.TheVariants.{Opcode, O
 use Rattle.ia32_decode.specs.declared.types.Branch.{Branch}
 use Rattle.run_pre_match.specs.declared.values.Marks.{Marks}
 use Rattle.run_pre_match.specs.declared.values.Values.{Values}
-use Rattle.instruction_lists.specs.Instructions.{direct_branch}
+use Rattle.match_instructions.specs.Instructions.{direct_branch}
 use Rattle.run_pre_match.specs.Candidate.{Candidate, Pair}
 use Rattle.run_pre_match.specs.Found.{Found, found_in}
 use Rattle.run_pre_match.specs.Differences.{differs_in_opcode, differs_in_operand, differs_in_landing}

@@ -5,11 +5,11 @@ use Rattle.std.specs.List.{reduce}
 use Rattle.i386_reloc.specs.declared.types.NormalSection.{NormalSection}
 use Rattle.image_memory.specs.Contents.{Contents, IsValid}
 use Rattle.run_pre_match.specs.declared.types.Matched.{Matched}
-use Rattle.instruction_lists.specs.Instructions.{Instruction, after, end_of, listed_on, listed, kept_of, through_kept}
-use Rattle.instruction_lists.specs.PreCode.{pre_code}
-use Rattle.instruction_lists.specs.RunCode.{run_instruction_at, run_code}
-use Rattle.instruction_lists.specs.Landing.{broken_offsets, misplaced_offsets, astray_offsets, unmet_offsets}
-use Rattle.instruction_lists.specs.Landing.{empty_offsets, offsets_named, undecoded_offset}
+use Rattle.match_instructions.specs.Instructions.{Instruction, after, end_of, listed_on, listed, kept_of, through_kept}
+use Rattle.match_instructions.specs.PreCode.{pre_code}
+use Rattle.match_instructions.specs.RunCode.{run_instruction_at, run_code}
+use Rattle.match_instructions.specs.Landing.{broken_offsets, misplaced_offsets, astray_offsets, unmet_offsets}
+use Rattle.match_instructions.specs.Landing.{empty_offsets, offsets_named, undecoded_offset}
 use Rattle.run_pre_match.specs.Candidate.{Candidate, pre_list, run_list}
 use Rattle.run_pre_match.specs.Matched.{outcome}
 use Rattle.run_pre_match.proofs.Claims.{no_difference}

@@ -12,10 +12,10 @@ use Rattle.symbol_table.specs.Symbols.{global_addresses}
 use Rattle.run_pre_match.specs.declared.goals.Goal.{Goal}
 use Rattle.run_pre_match.specs.declared.goals.Goal.TheVariants.{Entry, Inside, Variable, Constant, Outside, Text}
 use Rattle.run_pre_match.specs.declared.goals.Verdict.TheVariants.{Holds, Refused, Absent}
-use Rattle.instruction_lists.specs.Instructions.{Instruction, begins_at, kept_of, stands_for}
+use Rattle.match_instructions.specs.Instructions.{Instruction, begins_at, kept_of, stands_for}
 use Rattle.run_pre_match.specs.Candidate.{Candidate, pre_list, run_list, is_number, has_number, same_number}
 use Rattle.run_pre_match.specs.Goals.{interior_address}
-use Rattle.read_only_data.specs.Constants.{stand_at, stand_but_for_fields}
+use Rattle.match_constants.specs.Constants.{stand_at, stand_but_for_fields}
 use Rattle.run_pre_match.specs.Found.{is_listed, is_off, section_stands, verdict_on}
 use Rattle.run_pre_match.specs.Match.{StandForOne, IsMet}
 

@@ -7,11 +7,11 @@ use Rattle.std.proofs.lemmas.List.Elements.{All-nil, All-cons, All-head, All-tai
 use Rattle.std.proofs.lemmas.Option.{slice_get-map, slice_get_within, get_or_from_slice_get}
 use Rattle.i386_reloc.specs.declared.types.NormalSection.{NormalSection}
 use Rattle.image_memory.specs.Contents.{Contents}
-use Rattle.instruction_lists.specs.PreCode.{pre_instruction_at, pre_code}
-use Rattle.instruction_lists.specs.RunCode.{run_instruction_at, run_code}
+use Rattle.match_instructions.specs.PreCode.{pre_instruction_at, pre_code}
+use Rattle.match_instructions.specs.RunCode.{run_instruction_at, run_code}
 use Rattle.run_pre_match.specs.Candidate.{Candidate, pre_list, run_list}
-use Rattle.instruction_lists.specs.Places.{Places, places_of}
-use Rattle.instruction_lists.specs.Instructions.{Instruction, is_kept, place_of, after, listed, kept_of, through_kept}
+use Rattle.match_instructions.specs.Places.{Places, places_of}
+use Rattle.match_instructions.specs.Instructions.{Instruction, is_kept, place_of, after, listed, kept_of, through_kept}
 
 abbrev pub StandsThere : (ℕ → Option Instruction) → Instruction → Type 0
 StandsThere there i = there i.place ≡ Some i

@@ -5,7 +5,7 @@ use Rattle.std.proofs.lemmas.List.Elements.{filter_map-append}
 use Rattle.run_pre_match.specs.declared.types.Claim.{Claim}
 use Rattle.run_pre_match.specs.declared.types.Interior.{Interior}
 use Rattle.run_pre_match.specs.declared.types.Matched.{Matched}
-use Rattle.instruction_lists.specs.Instructions.{end_of}
+use Rattle.match_instructions.specs.Instructions.{end_of}
 use Rattle.run_pre_match.specs.Candidate.{Candidate, run_list, pairs}
 use Rattle.run_pre_match.specs.Found.{own_home, all_found}
 use Rattle.run_pre_match.specs.Differences.{difference_from}

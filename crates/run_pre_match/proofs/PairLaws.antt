@@ -9,14 +9,14 @@ use Rattle.std.proofs.lemmas.List.Elements.{filter_map-append}
 use Rattle.std.proofs.Math.Seq.{drop-cons}
 use Rattle.std.proofs.lemmas.Grind.{flat_map-append}
 use Rattle.std.specs.List.{slice_get, filter_map, flat_map}
-use Rattle.instruction_lists.specs.Instructions.{Instruction, kept_of}
+use Rattle.match_instructions.specs.Instructions.{Instruction, kept_of}
 use Rattle.run_pre_match.specs.Candidate.{Candidate, Pair, pairs_from, pairs, pre_list, run_list}
 use Rattle.ks_base.specs.declared.refusals.DifferenceKind.{DifferenceKind}
 use Rattle.ks_base.specs.declared.refusals.Difference.{Difference}
 use Rattle.run_pre_match.specs.declared.stating.Said.{Said}
 use Rattle.run_pre_match.specs.declared.values.Values.{Values}
 use Rattle.run_pre_match.specs.Matched.{claim_of, interior_of, stated_by_pair}
-use Rattle.read_only_data.specs.Texts.{AreKnown}
+use Rattle.match_constants.specs.Texts.{AreKnown}
 use Rattle.run_pre_match.specs.inside.Kept.{Keeps, IsKind, Compared}
 use Rattle.run_pre_match.specs.Found.{Found, own_home, found_in, found_from}
 use Rattle.run_pre_match.specs.Differences.{kind_of, difference_at, break_of, difference_from}

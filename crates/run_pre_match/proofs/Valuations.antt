@@ -16,10 +16,10 @@ use Rattle.run_pre_match.specs.declared.goals.Given.{Given}
 use Rattle.run_pre_match.specs.declared.goals.Verdict.{Verdict}
 use Rattle.run_pre_match.specs.declared.goals.Verdict.TheVariants.{Holds}
 use Rattle.run_pre_match.specs.declared.types.Matched.{Matched}
-use Rattle.instruction_lists.specs.Instructions.{end_of, Instruction, direct_branch, kept_of, through_kept}
+use Rattle.match_instructions.specs.Instructions.{end_of, Instruction, direct_branch, kept_of, through_kept}
 use Rattle.ia32_decode.specs.declared.types.Branch.{Branch}
-use Rattle.read_only_data.specs.Constants.{lie_in_constants}
-use Rattle.instruction_lists.specs.RunCode.{run_code}
+use Rattle.match_constants.specs.Constants.{lie_in_constants}
+use Rattle.match_instructions.specs.RunCode.{run_code}
 use Rattle.run_pre_match.specs.Candidate.{Candidate, Pair, pre_list, run_list, pairs}
 use Rattle.run_pre_match.specs.Found.{Found, first_value, is_other, contradicts, opened_by, given_there}
 use Rattle.run_pre_match.specs.Found.{judged, given_in_pair, given_in_constant, found_in, own_home}

@@ -24,8 +24,8 @@ use Rattle.run_pre_match.specs.declared.values.First.{First}
 use Rattle.run_pre_match.specs.declared.values.Values.{Values}
 use Rattle.run_pre_match.specs.Candidate.{Candidate}
 use Rattle.run_pre_match.specs.Goals.{same_goal, interior_address}
-use Rattle.read_only_data.specs.Constants.{stand_at}
-use Rattle.read_only_data.specs.declared.constants.Lies.{Lies}
+use Rattle.match_constants.specs.Constants.{stand_at}
+use Rattle.match_constants.specs.declared.constants.Lies.{Lies}
 use Rattle.run_pre_match.specs.Found.{Found, first_value, is_other, is_listed, is_off, section_stands, section_lies}
 use Rattle.run_pre_match.specs.Found.{given_there, judged}
 use Rattle.run_pre_match.specs.inside.Kept.{first_of, taken_at, standing, listed, IsKept, Keeps, Judges, given}

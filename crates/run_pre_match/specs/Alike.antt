@@ -3,7 +3,7 @@ use Rattle.std.specs.Prelude.{◌≡◌, ◌≤◌, ℕ, ◌+◌, length, All}
 use Rattle.i386_reloc.specs.declared.types.NormalSection.{NormalSection}
 use Rattle.image_memory.specs.Contents.{Contents}
 use Rattle.image_memory.specs.Fetch.{view_at}
-use Rattle.read_only_data.specs.Constants.{constant_at}
+use Rattle.match_constants.specs.Constants.{constant_at}
 use Rattle.run_pre_match.specs.Candidate.{Candidate}
 
 -- The same is met at each address of both, and the same byte of read-only memory stands there, or none. A jump at a

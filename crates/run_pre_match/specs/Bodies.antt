@@ -3,9 +3,9 @@ use Rattle.std.specs.Prelude.{ℕ, List, length}
 use Rattle.std.specs.Option.{option_map, unwrap_or}
 use Rattle.std.specs.List.{slice_get}
 use Rattle.image_memory.specs.Contents.{Contents}
-use Rattle.instruction_lists.specs.Instructions.{Instruction, place_of, kept_of, stands_for}
-use Rattle.instruction_lists.specs.PreCode.{pre_code}
-use Rattle.instruction_lists.specs.RunCode.{run_body}
+use Rattle.match_instructions.specs.Instructions.{Instruction, place_of, kept_of, stands_for}
+use Rattle.match_instructions.specs.PreCode.{pre_code}
+use Rattle.match_instructions.specs.RunCode.{run_body}
 use Rattle.run_pre_match.specs.Candidate.{Body}
 use Rattle.run_pre_match.specs.Matched.{PreSection}
 

@@ -3,9 +3,9 @@ use Rattle.std.specs.Prelude.{ℕ, suc, Bool, false, ◌||◌, ◌==◌, nat_le,
 use Rattle.i386_reloc.specs.declared.types.NormalSection.{NormalSection}
 use Rattle.image_memory.specs.Contents.{Contents}
 use Rattle.symbol_table.specs.declared.symbols.Symbol.{Symbol}
-use Rattle.instruction_lists.specs.Instructions.{Instruction, kept_of, stands_for}
-use Rattle.instruction_lists.specs.PreCode.{pre_code}
-use Rattle.instruction_lists.specs.RunCode.{run_body}
+use Rattle.match_instructions.specs.Instructions.{Instruction, kept_of, stands_for}
+use Rattle.match_instructions.specs.PreCode.{pre_code}
+use Rattle.match_instructions.specs.RunCode.{run_body}
 
 -- What may be the function that a code section of an object is: the object, the section and its place among the
 -- object's sections, the memory and the symbols of the running program, the address of the function's first version,

@@ -14,11 +14,11 @@ use Rattle.ia32_decode.specs.declared.types.Branch.{Branch}
 use Rattle.ia32_decode.specs.Branches.{same_kind}
 use Rattle.run_pre_match.specs.declared.goals.Goal.{Goal}
 use Rattle.run_pre_match.specs.declared.goals.Goal.TheVariants.{Entry, Inside, Variable, Constant, Outside, Text}
-use Rattle.instruction_lists.specs.Instructions.{Instruction, end_of, kept_of, direct_branch, target_of}
-use Rattle.instruction_lists.specs.Landing.{has_no_reference}
-use Rattle.instruction_lists.specs.RunCode.{break_kind}
+use Rattle.match_instructions.specs.Instructions.{Instruction, end_of, kept_of, direct_branch, target_of}
+use Rattle.match_instructions.specs.Landing.{has_no_reference}
+use Rattle.match_instructions.specs.RunCode.{break_kind}
 use Rattle.run_pre_match.specs.Candidate.{Candidate, pre_list, run_list, Pair, pairs, same_number}
-use Rattle.read_only_data.specs.Constants.{covers}
+use Rattle.match_constants.specs.Constants.{covers}
 use Rattle.run_pre_match.specs.declared.goals.Verdict.{Verdict}
 use Rattle.run_pre_match.specs.declared.goals.Verdict.TheVariants.{Holds, Refused, Absent}
 use Rattle.run_pre_match.specs.Found.{Found, found_in}

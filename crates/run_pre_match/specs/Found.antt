@@ -17,10 +17,10 @@ use Rattle.run_pre_match.specs.declared.goals.Goal.TheVariants.{Entry, Inside, V
 use Rattle.run_pre_match.specs.declared.goals.Given.{Given}
 use Rattle.run_pre_match.specs.declared.goals.Verdict.{Verdict}
 use Rattle.run_pre_match.specs.declared.goals.Verdict.TheVariants.{Holds, Refused, Absent}
-use Rattle.instruction_lists.specs.Instructions.{direct_branch, target_of}
+use Rattle.match_instructions.specs.Instructions.{direct_branch, target_of}
 use Rattle.run_pre_match.specs.Candidate.{Candidate, Pair, pairs, same_number}
 use Rattle.run_pre_match.specs.Goals.{same_goal, minus, interior_address, given_by}
-use Rattle.read_only_data.specs.Constants.{lie_in_constants, stand_at, stand_but_for_fields}
+use Rattle.match_constants.specs.Constants.{lie_in_constants, stand_at, stand_but_for_fields}
 
 -- A value that was found for a goal: by a field of the instruction itself or by one of a read-only section, and what is
 -- said of it.

@@ -14,7 +14,7 @@ use Rattle.i386_reloc.specs.Reaches.{is_read_only_class, is_interior}
 use Rattle.run_pre_match.specs.declared.goals.Goal.{Goal}
 use Rattle.run_pre_match.specs.declared.goals.Goal.TheVariants.{Entry, Inside, Variable, Constant, Outside, Text}
 use Rattle.run_pre_match.specs.declared.goals.Given.{Given}
-use Rattle.instruction_lists.specs.Landing.{interior_offset}
+use Rattle.match_instructions.specs.Landing.{interior_offset}
 
 abbrev pub goal_in_code : Ref → ℕ → Goal
 goal_in_code r place = if is_interior r then Inside place (interior_offset r) else Entry place

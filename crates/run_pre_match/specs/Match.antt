@@ -15,11 +15,11 @@ use Rattle.symbol_table.specs.declared.values.Unknown.{Unknown}
 use Rattle.run_pre_match.specs.declared.types.Claim.{Claim}
 use Rattle.run_pre_match.specs.declared.types.Interior.{Interior}
 use Rattle.run_pre_match.specs.declared.types.Matched.{Matched}
-use Rattle.instruction_lists.specs.Instructions.{kept_of, stands_for, direct_branch, target_of}
-use Rattle.instruction_lists.specs.Landing.{has_no_reference}
+use Rattle.match_instructions.specs.Instructions.{kept_of, stands_for, direct_branch, target_of}
+use Rattle.match_instructions.specs.Landing.{has_no_reference}
 use Rattle.run_pre_match.specs.Candidate.{Candidate, Pair, pre_list, run_list, pairs}
 use Rattle.run_pre_match.specs.Goals.{interior_address}
-use Rattle.read_only_data.specs.Constants.{stand_at, stand_but_for_fields}
+use Rattle.match_constants.specs.Constants.{stand_at, stand_but_for_fields}
 use Rattle.run_pre_match.specs.Differences.{prefix_bytes, opcode_bytes, blanked}
 use Rattle.run_pre_match.specs.Found.{given_in_pair, given_in_constant}
 use Rattle.run_pre_match.specs.Matched.{name_at, unknown_of}

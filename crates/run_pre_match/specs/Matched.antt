@@ -20,8 +20,8 @@ use Rattle.run_pre_match.specs.declared.types.Matched.{Matched}
 use Rattle.run_pre_match.specs.declared.types.MatchFault.{MatchFault}
 use Rattle.run_pre_match.specs.declared.types.MatchFault.TheVariants.{Differs, Undecoded, Memory}
 use Rattle.run_pre_match.specs.declared.goals.Given.{Given}
-use Rattle.instruction_lists.specs.Instructions.{end_of}
-use Rattle.instruction_lists.specs.Landing.{undecoded_offset}
+use Rattle.match_instructions.specs.Instructions.{end_of}
+use Rattle.match_instructions.specs.Landing.{undecoded_offset}
 use Rattle.run_pre_match.specs.Candidate.{Candidate, run_list, Pair, pairs}
 use Rattle.run_pre_match.specs.Goals.{interior_address}
 use Rattle.run_pre_match.specs.Found.{Found, first_value, given_in_pair, given_in_constant, own_home, all_found}

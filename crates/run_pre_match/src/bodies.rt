@@ -1,12 +1,12 @@
 //! The running body of a candidate, asked for where an offset of its section stands.
 ghost use Rattle.std.specs.Prelude.{◌≡◌, IfOk, length};
-ghost use Rattle.instruction_lists.specs.Places.{number_in};
+ghost use Rattle.match_instructions.specs.Places.{number_in};
 ghost use Rattle.run_pre_match.specs.Bodies.{body_at, address_of};
 ghost use Rattle.run_pre_match.specs.Candidate.{has_number, is_number_of};
 
 use crate::code::PreCode;
 use image_memory::Space;
-use instruction_lists::{Places, RunList, list_run};
+use match_instructions::{Places, RunList, list_run};
 use std::alloc::{AllocError, Global};
 use std::marker::Model;
 
@@ -21,12 +21,12 @@ pub struct Body<'c, 'n, 'a, S: Space> {
 
 impl<'c, 'n, 'a, S: Space> Model for Body<'c, 'n, 'a, S> {
     ghost use Rattle.std.specs.Prelude.{◌≡◌, length};
-    ghost use Rattle.instruction_lists.specs.Instructions.{kept_of};
-    ghost use Rattle.instruction_lists.specs.PreCode.{pre_code};
-    ghost use Rattle.instruction_lists.specs.RunCode.{run_body};
+    ghost use Rattle.match_instructions.specs.Instructions.{kept_of};
+    ghost use Rattle.match_instructions.specs.PreCode.{pre_code};
+    ghost use Rattle.match_instructions.specs.RunCode.{run_body};
     ghost use Rattle.run_pre_match.specs.Candidate.{Body};
     ghost use Rattle.run_pre_match.specs.Bodies.{body_at};
-    ghost use Rattle.instruction_lists.specs.Places.{places_of};
+    ghost use Rattle.match_instructions.specs.Places.{places_of};
 
     ghost Value = { Body };
 

@@ -13,8 +13,8 @@ use crate::bodies::has_number;
 use crate::goals::Goal;
 use i386_reloc::{Class, Normal, NormalSection, Ref, Span, Target};
 use image_memory::Space;
-use instruction_lists::{Places, RunList, interior_offset};
-use read_only_data::Endings;
+use match_constants::Endings;
+use match_instructions::{Places, RunList, interior_offset};
 use std::marker::Model;
 use symbol_table::SymbolTable;
 
@@ -37,10 +37,10 @@ impl<'m, 'a, S: Space> Model for Candidate<'m, 'a, S> {
     ghost use Rattle.std.specs.Prelude.{◌≡◌, Some};
     ghost use Rattle.std.specs.List.{slice_get};
     ghost use Rattle.run_pre_match.specs.Candidate.{Candidate, pre_list, run_list};
-    ghost use Rattle.instruction_lists.specs.Places.{places_of};
+    ghost use Rattle.match_instructions.specs.Places.{places_of};
     ghost use Rattle.run_pre_match.specs.inside.Candidates.{parts};
-    ghost use Rattle.read_only_data.specs.Endings.{AreEndings};
-    ghost use Rattle.instruction_lists.specs.Instructions.{end_of};
+    ghost use Rattle.match_constants.specs.Endings.{AreEndings};
+    ghost use Rattle.match_instructions.specs.Instructions.{end_of};
 
     ghost Value = { Candidate };
 

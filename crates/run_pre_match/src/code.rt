@@ -6,18 +6,18 @@ ghost use Rattle.i386_reloc.specs.Classes.{is_code_class};
 ghost use Rattle.i386_reloc.specs.Normal.{HasFieldsInOrder};
 ghost use Rattle.i386_reloc.specs.Places.{place_named};
 ghost use Rattle.i386_reloc.specs.Reaches.{is_in};
-ghost use Rattle.instruction_lists.specs.Instructions.{stands_for};
-ghost use Rattle.instruction_lists.specs.Places.{places_of};
-ghost use Rattle.instruction_lists.specs.PreCode.{pre_code};
+ghost use Rattle.match_instructions.specs.Instructions.{stands_for};
+ghost use Rattle.match_instructions.specs.Places.{places_of};
+ghost use Rattle.match_instructions.specs.PreCode.{pre_code};
 ghost use Rattle.run_pre_match.specs.Matched.{candidate, listed_code, outcome, answer, Comes};
 
 use crate::candidate::Candidate;
 use crate::types::{MatchFault, Matched};
 use i386_reloc::{Normal, NormalSection};
 use image_memory::Space;
-use instruction_lists::{Offsets, Places, list_pre, list_run, offsets_named, undecoded_offset};
 use ks_base::Name;
-use read_only_data::Endings;
+use match_constants::Endings;
+use match_instructions::{Offsets, Places, list_pre, list_run, offsets_named, undecoded_offset};
 use std::alloc::{AllocError, Global};
 use std::marker::Model;
 use std::rc::Rc;
@@ -35,8 +35,8 @@ pub struct PreObject<'n, 'a> {
 impl<'n, 'a> Model for PreObject<'n, 'a> {
     ghost use Rattle.std.specs.Prelude.{◌≡◌, List};
     ghost use Rattle.i386_reloc.specs.declared.types.NormalSection.{NormalSection};
-    ghost use Rattle.instruction_lists.specs.Landing.{all_offsets};
-    ghost use Rattle.read_only_data.specs.Endings.{AreEndings};
+    ghost use Rattle.match_instructions.specs.Landing.{all_offsets};
+    ghost use Rattle.match_constants.specs.Endings.{AreEndings};
 
     ghost Value = { List NormalSection };
 
@@ -60,10 +60,10 @@ pub struct PreCode<'n, 'a> {
 impl<'n, 'a> Model for PreCode<'n, 'a> {
     ghost use Rattle.std.specs.Prelude.{◌≡◌, Some};
     ghost use Rattle.std.specs.List.{slice_get};
-    ghost use Rattle.instruction_lists.specs.PreCode.{pre_code};
+    ghost use Rattle.match_instructions.specs.PreCode.{pre_code};
     ghost use Rattle.run_pre_match.specs.Matched.{PreSection};
-    ghost use Rattle.read_only_data.specs.Endings.{AreEndings};
-    ghost use Rattle.instruction_lists.specs.Places.{places_of};
+    ghost use Rattle.match_constants.specs.Endings.{AreEndings};
+    ghost use Rattle.match_instructions.specs.Places.{places_of};
 
     ghost Value = { PreSection };
 

@@ -1,11 +1,11 @@
 //! In what two instructions differ.
 ghost use Rattle.std.specs.Prelude.{◌≡◌, List, Some, OnOk, IfOk};
 ghost use Rattle.i386_reloc.specs.Places.{reference_at};
-ghost use Rattle.instruction_lists.specs.Instructions.{direct_branch};
-ghost use Rattle.instruction_lists.specs.PreCode.{pre_instruction_at};
+ghost use Rattle.match_instructions.specs.Instructions.{direct_branch};
+ghost use Rattle.match_instructions.specs.PreCode.{pre_instruction_at};
 ghost use Rattle.run_pre_match.specs.Found.{Found, given_in_pair, found_in};
 ghost use Rattle.run_pre_match.specs.Differences.{differs_in_landing};
-ghost use Rattle.read_only_data.specs.Texts.{AreKnown};
+ghost use Rattle.match_constants.specs.Texts.{AreKnown};
 ghost use Rattle.run_pre_match.specs.inside.Texts.{HasText};
 ghost use Rattle.run_pre_match.specs.inside.Kept.{Keeps, Follows, no_marks, kind_marked, IsKind};
 
@@ -15,8 +15,8 @@ use crate::pair::Pair;
 use crate::values::{Marks, Values};
 use i386_reloc::Ref;
 use image_memory::Space;
-use instruction_lists::first_reference;
 use ks_base::DifferenceKind;
+use match_instructions::first_reference;
 use std::alloc::{AllocError, Global};
 
 impl Marks {

@@ -3,7 +3,7 @@ ghost use Rattle.std.specs.Prelude.{◌≡◌, List, Some, OnOk, IfOk};
 ghost use Rattle.i386_reloc.specs.Places.{reference_at};
 ghost use Rattle.run_pre_match.specs.Found.{Found, found_by, given_in_constant};
 ghost use Rattle.run_pre_match.specs.Differences.{is_in_section};
-ghost use Rattle.read_only_data.specs.Texts.{AreKnown};
+ghost use Rattle.match_constants.specs.Texts.{AreKnown};
 ghost use Rattle.run_pre_match.specs.inside.Texts.{HasText};
 ghost use Rattle.run_pre_match.specs.inside.Kept.{Keeps, Judges, Follows, marks_for, joined};
 
@@ -13,7 +13,7 @@ use crate::judging::Judged;
 use crate::values::{Marks, Values};
 use i386_reloc::Ref;
 use image_memory::Space;
-use read_only_data::{TextPlace, dword_at};
+use match_constants::{TextPlace, dword_at};
 use std::alloc::{AllocError, Global};
 
 impl Goal<'_> {

@@ -11,7 +11,7 @@ ghost use Rattle.run_pre_match.specs.Goals.{interior_address};
 ghost use Rattle.run_pre_match.specs.declared.values.Values.{Values};
 ghost use Rattle.run_pre_match.specs.declared.goals.Verdict.TheVariants.{Holds, Absent};
 ghost use Rattle.run_pre_match.specs.declared.goals.Goal.TheVariants.{Entry, Inside, Variable, Constant, Outside, Text};
-ghost use Rattle.read_only_data.specs.Texts.{AreKnown};
+ghost use Rattle.match_constants.specs.Texts.{AreKnown};
 ghost use Rattle.run_pre_match.specs.inside.Kept.{first_of, Keeps, Judges, given};
 
 use crate::candidate::Candidate;
@@ -20,7 +20,7 @@ use crate::values::{First, Values, verdict};
 use i386_reloc::Span;
 use image_memory::Space;
 use ks_base::Name;
-use read_only_data::{Lies, TextPlace, lies_at, text_stands};
+use match_constants::{Lies, TextPlace, lies_at, text_stands};
 use std::alloc::{AllocError, Global};
 use std::collections::BTreeMap;
 

@@ -7,16 +7,16 @@ ghost use Rattle.image_memory.specs.Contents.{Contents, IsValid};
 ghost use Rattle.run_pre_match.specs.Alike.{AreAlike, HasFieldsInside, in_memory};
 ghost use Rattle.run_pre_match.specs.Bodies.{body_at};
 ghost use Rattle.run_pre_match.specs.Candidate.{Candidate, body_of};
-ghost use Rattle.instruction_lists.specs.Instructions.{kept_of};
-ghost use Rattle.instruction_lists.specs.Landing.{undecoded_offset};
+ghost use Rattle.match_instructions.specs.Instructions.{kept_of};
+ghost use Rattle.match_instructions.specs.Landing.{undecoded_offset};
 ghost use Rattle.run_pre_match.specs.Match.{Valuation, Match, Says};
 ghost use Rattle.run_pre_match.specs.Matched.{PreSection, home_claim, outcome};
-ghost use Rattle.instruction_lists.specs.PreCode.{pre_code};
+ghost use Rattle.match_instructions.specs.PreCode.{pre_code};
 ghost use Rattle.run_pre_match.specs.declared.goals.Goal.{Goal};
 ghost use Rattle.run_pre_match.specs.declared.types.Claim.{Claim};
 ghost use Rattle.run_pre_match.specs.declared.types.Matched.{Matched};
 
-use instruction_lists::run_code_goes_on;
+use match_instructions::run_code_goes_on;
 
 /// The claims of a match in an object whose names are distinct give one thing one value, and the own home is the first
 /// of them.

@@ -1,12 +1,12 @@
 //! Whether a candidate matches, and what it says then.
 ghost use Rattle.std.specs.Prelude.{◌≡◌, ◌++◌, ◌∷◌, [], Some, OnOk, IfOk, length};
 ghost use Rattle.std.specs.List.{filter_map};
-ghost use Rattle.instruction_lists.specs.PreCode.{pre_instruction_at};
+ghost use Rattle.match_instructions.specs.PreCode.{pre_instruction_at};
 ghost use Rattle.run_pre_match.specs.Candidate.{pairs};
 ghost use Rattle.run_pre_match.specs.Found.{own_home};
 ghost use Rattle.run_pre_match.specs.Differences.{break_of};
 ghost use Rattle.run_pre_match.specs.Matched.{claim_of, interior_of, stated_by_pair, outcome, Comes};
-ghost use Rattle.read_only_data.specs.Texts.{AreKnown};
+ghost use Rattle.match_constants.specs.Texts.{AreKnown};
 ghost use Rattle.run_pre_match.specs.inside.Kept.{Keeps, Compared};
 
 use crate::candidate::Candidate;
@@ -15,8 +15,8 @@ use crate::stating::Said;
 use crate::types::{MatchFault, Matched};
 use crate::values::Values;
 use image_memory::Space;
-use instruction_lists::{break_kind, first_reference};
 use ks_base::Difference;
+use match_instructions::{break_kind, first_reference};
 use std::alloc::{AllocError, Global};
 
 impl<'m, 'a, S: Space> Candidate<'m, 'a, S> {

@@ -1,13 +1,13 @@
 //! The kept instructions by their numbers.
 ghost use Rattle.std.specs.Prelude.{◌≡◌, ◌≤◌, Some, IfSome};
 ghost use Rattle.std.specs.List.{slice_get};
-ghost use Rattle.instruction_lists.specs.Instructions.{kept_of};
-ghost use Rattle.instruction_lists.specs.PreCode.{pre_instruction_at};
+ghost use Rattle.match_instructions.specs.Instructions.{kept_of};
+ghost use Rattle.match_instructions.specs.PreCode.{pre_instruction_at};
 ghost use Rattle.run_pre_match.specs.Candidate.{pre_list, run_list};
 
 use crate::candidate::Candidate;
 use image_memory::Space;
-use instruction_lists::{
+use match_instructions::{
     PreInstruction, RunInstruction, instruction_at, instructions_lie_within, pre_instruction_at,
     run_code_goes_on,
 };

@@ -4,15 +4,15 @@ ghost use Rattle.std.specs.List.{list_any};
 ghost use Rattle.i386_reloc.specs.Normal.{same_bytes};
 ghost use Rattle.ia32_decode.specs.Branches.{same_kind};
 ghost use Rattle.ia32_decode.specs.Encoding.{byte_in, dword_in};
-ghost use Rattle.instruction_lists.specs.Instructions.{direct_branch};
-ghost use Rattle.read_only_data.specs.Constants.{covers};
+ghost use Rattle.match_instructions.specs.Instructions.{direct_branch};
+ghost use Rattle.match_constants.specs.Constants.{covers};
 ghost use Rattle.run_pre_match.specs.Found.{held_with};
 ghost use Rattle.run_pre_match.specs.Differences.{differs_in_opcode, blanked, differs_in_operand, difference_at};
 
 use i386_reloc::{FIELD_LENGTH, Ref};
 use ia32_decode::{Branch, BranchKind};
-use instruction_lists::{PreInstruction, RunInstruction};
 use ks_base::{Difference, DifferenceKind};
+use match_instructions::{PreInstruction, RunInstruction};
 use std::marker::Model;
 
 /// Two instructions that are compared, and their number.

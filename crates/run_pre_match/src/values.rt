@@ -3,11 +3,11 @@ ghost use Rattle.std.specs.Prelude.{◌≡◌, List, []};
 ghost use Rattle.i386_reloc.specs.declared.types.NormalSection.{NormalSection};
 ghost use Rattle.image_memory.specs.declared.types.Piece.{Piece};
 ghost use Rattle.run_pre_match.specs.Candidate.{Candidate};
-ghost use Rattle.read_only_data.specs.Texts.{AreKnown};
+ghost use Rattle.match_constants.specs.Texts.{AreKnown};
 ghost use Rattle.run_pre_match.specs.inside.Kept.{Keeps, verdict_by};
 
 use crate::goals::Verdict;
-use read_only_data::KnownTexts;
+use match_constants::KnownTexts;
 use std::alloc::Global;
 use std::collections::BTreeMap;
 

@@ -24,7 +24,7 @@ use Rattle.i386_reloc.specs.Normal.{same_bytes}
 use Rattle.i386_reloc.specs.Places.{place_named, at_place, place_of_target}
 use Rattle.i386_reloc.specs.Places.{reference_in, reference_at, place_of_reference, bytes_of, bytes_at, references_in}
 use Rattle.i386_reloc.specs.Texts.{StandsAt, StandsIn, HasTexts}
-use Rattle.i386_reloc.specs.PlaceLaws.{section_named_at}
+use Rattle.i386_reloc.specs.laws.PlaceLaws.{section_named_at}
 use Rattle.section_equal.specs.Same.{same_class, same_reference, is_same}
 use Rattle.section_equal.specs.declared.texts.Ends.{Ends}
 use Rattle.section_equal.specs.inside.Texts.{Agree, AgreeFor, IsKnown, AreKnown}

@@ -5,8 +5,8 @@ use Rattle.std.proofs.lemmas.Option.{slice_get-map, unwrap_or-slice_get}
 use Rattle.i386_reloc.specs.declared.types.NormalSection.{NormalSection}
 use Rattle.i386_reloc.specs.Normal.{section_named}
 use Rattle.i386_reloc.specs.Places.{place_named, at_place}
-use Rattle.i386_reloc.specs.PlaceLaws.{section_named_at}
-use Rattle.i386_reloc.specs.NamedPlaces.{section_at_place}
+use Rattle.i386_reloc.specs.laws.PlaceLaws.{section_named_at}
+use Rattle.i386_reloc.specs.laws.NamedPlaces.{section_at_place}
 use Rattle.section_equal.specs.Same.{are_same, same_in, same_names}
 use Rattle.section_equal.specs.inside.Texts.{mark_at}
 

@@ -11,14 +11,14 @@ use Rattle.image_memory.specs.Ranges.{MeetsNone}
 use Rattle.image_memory.specs.Contents.{Contents, IsValid, piece_range}
 use Rattle.image_memory.specs.Access.{new_byte, byte_at}
 use Rattle.image_memory.specs.Changes.{with_piece, without_piece}
-use Rattle.image_memory.specs.AccessLaws.{length-bytes_at, get_or-bytes_at, new_inside, new_outside}
+use Rattle.image_memory.specs.laws.AccessLaws.{length-bytes_at, get_or-bytes_at, new_inside, new_outside}
 use Rattle.splice_jump.specs.Jump.{jump_bytes, five_at, with_jump, with_old}
 use Rattle.splice_jump.specs.Jumps.{with_row, jumped, row_with, with_base, old_at, olds_at, unjumped, AreSpliced}
-use Rattle.splice_jump.specs.CodeLaws.{not_held_twice, code_at}
-use Rattle.splice_jump.specs.WriteLaws.{byte_after, piece_after, Misses, Away, jump_of, jumps_of, jumped-is, jumped_as}
-use Rattle.splice_jump.specs.WriteLaws.{byte_outside, byte_inside, byte_after-append, in_or_out, IsWritten}
-use Rattle.splice_jump.specs.WriteLaws.{written_or_not, all_outside, unjumped-append, same_left}
-use Rattle.splice_jump.specs.RowLaws.{writes_apart, misses_jumps}
+use Rattle.splice_jump.specs.laws.CodeLaws.{not_held_twice, code_at}
+use Rattle.splice_jump.specs.laws.WriteLaws.{byte_after, piece_after, Misses, Away, jump_of, jumps_of, jumped-is, jumped_as}
+use Rattle.splice_jump.specs.laws.WriteLaws.{byte_outside, byte_inside, byte_after-append, in_or_out, IsWritten}
+use Rattle.splice_jump.specs.laws.WriteLaws.{written_or_not, all_outside, unjumped-append, same_left}
+use Rattle.splice_jump.specs.laws.RowLaws.{writes_apart, misses_jumps}
 use Rattle.splice_jump.proofs.RowLaws.{homes_apart}
 use Rattle.splice_jump.proofs.DataLaws.{last_write, last_byte}
 

@@ -5,7 +5,7 @@ use Rattle.image_memory.specs.declared.types.Piece.{Piece}
 use Rattle.image_memory.specs.Fetch.{code_from}
 use Rattle.image_memory.specs.Access.{byte_at, bytes_at}
 use Rattle.splice_jump.specs.Jump.{five_at}
-use Rattle.splice_jump.specs.CodeLaws.{IsHeld}
+use Rattle.splice_jump.specs.laws.CodeLaws.{IsHeld}
 
 -- the five bytes one by one
 pub five_are : (pieces : List Piece) (home : ℕ)

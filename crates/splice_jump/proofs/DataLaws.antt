@@ -12,15 +12,15 @@ use Rattle.image_memory.specs.Ranges.{lies_in, Ascends}
 use Rattle.image_memory.specs.Contents.{Contents, IsValid, piece_range, holding, byte_in, kind_and_byte, look_at}
 use Rattle.image_memory.specs.Access.{kind_of, unwritable, write_fault, first_fault, new_byte, byte_at, written}
 use Rattle.image_memory.specs.Fetch.{is_code, code_in, code_from, HasCode}
-use Rattle.image_memory.specs.RangeLaws.{found as found_at}
-use Rattle.image_memory.specs.AccessLaws.{good_at, new_outside}
+use Rattle.image_memory.specs.laws.RangeLaws.{found as found_at}
+use Rattle.image_memory.specs.laws.AccessLaws.{good_at, new_outside}
 use Rattle.splice_jump.specs.Jump.{with_old}
 use Rattle.splice_jump.specs.Jumps.{jumped, AreSpliced, with_old_row, unjumped}
-use Rattle.splice_jump.specs.WriteLaws.{same_left, one_write, byte_after, piece_after, Misses, length-bytes_after}
-use Rattle.splice_jump.specs.WriteLaws.{jumps_of, jumped-is, jumped_as, in_or_out, byte_outside, byte_after-append}
-use Rattle.splice_jump.specs.WriteLaws.{holding-after, byte_in_after}
-use Rattle.splice_jump.specs.CodeLaws.{code_at}
-use Rattle.splice_jump.specs.RowLaws.{misses_jumps}
+use Rattle.splice_jump.specs.laws.WriteLaws.{same_left, one_write, byte_after, piece_after, Misses, length-bytes_after}
+use Rattle.splice_jump.specs.laws.WriteLaws.{jumps_of, jumped-is, jumped_as, in_or_out, byte_outside, byte_after-append}
+use Rattle.splice_jump.specs.laws.WriteLaws.{holding-after, byte_in_after}
+use Rattle.splice_jump.specs.laws.CodeLaws.{code_at}
+use Rattle.splice_jump.specs.laws.RowLaws.{misses_jumps}
 use Rattle.splice_jump.proofs.CodeLaws.{no_data}
 
 -- the pieces' kinds and ranges

@@ -11,9 +11,9 @@ use Rattle.image_memory.specs.Fetch.{AtHome, Stray, Bytes, code_from, cut_before
 use Rattle.image_memory.specs.Fetch.{jump_at}
 use Rattle.splice_jump.specs.Jump.{jump_bytes}
 use Rattle.splice_jump.specs.Jumps.{jumped, jumped_memory, AreSpliced}
-use Rattle.splice_jump.specs.WriteLaws.{all_outside, bytes_after, Misses, Away, length-bytes_after, get_or-bytes_after}
-use Rattle.splice_jump.specs.WriteLaws.{jump_of, jumps_of, jumped-is, byte_outside, byte_inside, code_from-after}
-use Rattle.splice_jump.specs.RowLaws.{Before}
+use Rattle.splice_jump.specs.laws.WriteLaws.{all_outside, bytes_after, Misses, Away, length-bytes_after, get_or-bytes_after}
+use Rattle.splice_jump.specs.laws.WriteLaws.{jump_of, jumps_of, jumped-is, byte_outside, byte_inside, code_from-after}
+use Rattle.splice_jump.specs.laws.RowLaws.{Before}
 use Rattle.splice_jump.proofs.RowLaws.{homes_apart, before_jumps}
 
 -- code that no write reaches

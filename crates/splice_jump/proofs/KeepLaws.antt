@@ -14,10 +14,10 @@ use Rattle.image_memory.specs.Contents.{Contents, ArePlaced, IsValid, piece_rang
 use Rattle.image_memory.specs.Access.{byte_at, bytes_at}
 use Rattle.image_memory.specs.Fetch.{HasCode}
 use Rattle.image_memory.specs.Changes.{with_piece, with_fence, after_add, after_fence}
-use Rattle.image_memory.specs.RangeLaws.{above, below}
+use Rattle.image_memory.specs.laws.RangeLaws.{above, below}
 use Rattle.splice_jump.specs.Jumps.{jumped_memory, IsFenced, IsSpliced, AreSpliced}
-use Rattle.splice_jump.specs.CodeLaws.{still_spliced, code_after, code_at, not_held_twice}
-use Rattle.splice_jump.specs.WriteLaws.{piece_after, length-bytes_after, jumps_of, jumped-is, in_or_out}
+use Rattle.splice_jump.specs.laws.CodeLaws.{still_spliced, code_after, code_at, not_held_twice}
+use Rattle.splice_jump.specs.laws.WriteLaws.{piece_after, length-bytes_after, jumps_of, jumped-is, in_or_out}
 
 -- pieces stay in their places
 Ascends-after : (ws : List (ℕ × List ℕ)) (floor : ℕ) (ps : List Piece) → Ascends piece_range floor ps

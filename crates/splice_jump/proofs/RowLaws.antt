@@ -7,10 +7,10 @@ use Rattle.ks_base.specs.declared.places.Range.{Range}
 use Rattle.image_memory.specs.declared.types.Fence.{Fence}
 use Rattle.image_memory.specs.Ranges.{lies_in, Ascends}
 use Rattle.image_memory.specs.Contents.{Contents, IsValid, fence_range}
-use Rattle.image_memory.specs.RangeLaws.{each_above}
+use Rattle.image_memory.specs.laws.RangeLaws.{each_above}
 use Rattle.splice_jump.specs.Jumps.{AreSpliced}
-use Rattle.splice_jump.specs.RowLaws.{fence_at, writes_apart, misses_jumps, Before}
-use Rattle.splice_jump.specs.WriteLaws.{Misses, Away, jump_of, jumps_of}
+use Rattle.splice_jump.specs.laws.RowLaws.{fence_at, writes_apart, misses_jumps, Before}
+use Rattle.splice_jump.specs.laws.WriteLaws.{Misses, Away, jump_of, jumps_of}
 
 pub homes_apart : (contents : Contents) (rows : List (ℕ × ℕ)) → IsValid contents → AreSpliced contents rows
     → AllPairs Away (jumps_of rows)

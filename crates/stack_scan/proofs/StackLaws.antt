@@ -8,7 +8,7 @@ use Rattle.image_memory.specs.declared.types.Piece.{Piece}
 use Rattle.image_memory.specs.Ranges.{lies_in, Ascends}
 use Rattle.image_memory.specs.Contents.{piece_range, holding}
 use Rattle.image_memory.specs.Access.{first_fault, read_fault}
-use Rattle.image_memory.specs.AccessLaws.{all_good, good_at}
+use Rattle.image_memory.specs.laws.AccessLaws.{all_good, good_at}
 use Rattle.stack_scan.specs.Standing.{IsStack, LiesInWritable}
 
 later_above : (floor : ℕ) (ps : List Piece) (i : ℕ) (d : Piece) → Ascends piece_range floor ps → i < length ps

@@ -17,8 +17,8 @@ use Rattle.run_pre_match.specs.Matched.{spot_at, outcome}
 use Rattle.run_pre_match.specs.Bodies.{address_of}
 use Rattle.run_pre_match.specs.Alike.{AreAlike, HasFieldsInside, in_memory}
 use Rattle.propagation.specs.Rounds.{forced, remaining}
-use Rattle.propagation.specs.RoundLaws.{Maps, both, forced_each, remaining_each, forced_maps, remaining_maps}
-use Rattle.propagation.specs.RoundLaws.{conflict_maps}
+use Rattle.propagation.specs.laws.RoundLaws.{Maps, both, forced_each, remaining_each, forced_maps, remaining_maps}
+use Rattle.propagation.specs.laws.RoundLaws.{conflict_maps}
 use Rattle.propagation.specs.Conflicts.{first_some, conflict}
 use Rattle.match_candidates.specs.Alike.{RunAlike}
 use Rattle.match_candidates.specs.Candidates.{Running, candidates, is_match, is_of}

@@ -19,9 +19,9 @@ use Rattle.symbol_table.specs.Unknowns.{same_unknown}
 use Rattle.run_pre_match.specs.declared.types.Claim.{Claim}
 use Rattle.run_pre_match.specs.declared.types.Matched.{Matched}
 use Rattle.run_pre_match.specs.declared.types.MatchFault.{MatchFault}
-use Rattle.instruction_lists.specs.Instructions.{kept_of}
-use Rattle.instruction_lists.specs.Landing.{undecoded_offset}
-use Rattle.instruction_lists.specs.PreCode.{pre_code}
+use Rattle.match_instructions.specs.Instructions.{kept_of}
+use Rattle.match_instructions.specs.Landing.{undecoded_offset}
+use Rattle.match_instructions.specs.PreCode.{pre_code}
 use Rattle.run_pre_match.specs.Candidate.{Candidate}
 use Rattle.run_pre_match.specs.Matched.{PreSection, outcome}
 use Rattle.match_candidates.specs.Candidates.{Running, code_sections, is_gone, homes_of, candidate_at}

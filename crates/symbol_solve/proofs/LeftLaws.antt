@@ -14,7 +14,7 @@ use Rattle.run_pre_match.specs.Matched.{outcome}
 use Rattle.propagation.specs.declared.choice.Choice.{Choice}
 use Rattle.propagation.specs.Rounds.{Rules, remaining, forced, is_among}
 use Rattle.propagation.specs.Conflicts.{first_some, first_of_two, first_between, clashing, conflict}
-use Rattle.propagation.specs.RoundLaws.{both, remaining_maps, remaining_each, forced_maps, forced_each, conflict_maps}
+use Rattle.propagation.specs.laws.RoundLaws.{both, remaining_maps, remaining_each, forced_maps, forced_each, conflict_maps}
 use Rattle.propagation.specs.Choices as chosen
 use Rattle.propagation.specs.Choices.{AreChoices, choice_rules, by_section}
 use Rattle.match_candidates.specs.Candidates.{Running, candidate_at, candidates, is_of}

@@ -15,7 +15,7 @@ use Rattle.std.specs.Cmp.Lexicographic.{bytes_decides}
 use Rattle.i386_reloc.specs.declared.types.NormalSection.{NormalSection}
 use Rattle.i386_reloc.specs.Normal.{same_bytes}
 use Rattle.i386_reloc.specs.Places.{place_named}
-use Rattle.i386_reloc.specs.NamedPlaces.{section_at_place}
+use Rattle.i386_reloc.specs.laws.NamedPlaces.{section_at_place}
 use Rattle.symbol_table.specs.declared.values.Unknown.{Unknown}
 use Rattle.symbol_table.specs.declared.values.Unknown.TheVariants.{Code, Data, Outside}
 use Rattle.symbol_table.specs.Unknowns.{same_unknown}
@@ -23,7 +23,7 @@ use Rattle.run_pre_match.specs.declared.types.Claim.{Claim}
 use Rattle.run_pre_match.specs.declared.types.Interior.{Interior}
 use Rattle.run_pre_match.specs.Candidate.{Candidate, same_number}
 use Rattle.run_pre_match.specs.Matched.{outcome}
-use Rattle.propagation.specs.RoundLaws.{Maps}
+use Rattle.propagation.specs.laws.RoundLaws.{Maps}
 use Rattle.propagation.specs.Choices as chosen
 use Rattle.propagation.specs.Choices.{choice_rules, clash}
 use Rattle.match_candidates.specs.Candidates.{Running, matches}

@@ -11,7 +11,7 @@ use Rattle.symbol_table.specs.declared.values.Unknown.{Unknown}
 use Rattle.symbol_table.specs.declared.values.Unknown.TheVariants.{Code, Data, Outside}
 use Rattle.symbol_table.specs.Unknowns.{same_unknown}
 use Rattle.symbol_table.specs.contracts.values.UnknownPartialEq.TheImpl as unknowns
-use Rattle.i386_reloc.specs.NamedPlaces.{section_at_place}
+use Rattle.i386_reloc.specs.laws.NamedPlaces.{section_at_place}
 use Rattle.i386_reloc.specs.Places.{place_named}
 use Rattle.std.proofs.lemmas.Option.{slice_get_within, get_or_from_slice_get}
 use Rattle.run_pre_match.specs.declared.types.Claim.{Claim}

@@ -24,7 +24,7 @@ use Rattle.match_candidates.specs.Candidates.{Running, candidates_of, candidates
 use Rattle.match_candidates.specs.Candidates.{code_sections, is_of, is_match, matches}
 use Rattle.match_candidates.specs.OwnFaults.{missing_in, mismatch_in, difference_in, first_missing}
 use Rattle.match_candidates.specs.OwnFaults.{first_mismatch, first_undecoded, own_fault}
-use Rattle.propagation.specs.RoundLaws.{remaining_is_kept}
+use Rattle.propagation.specs.laws.RoundLaws.{remaining_is_kept}
 use Rattle.propagation.specs.Rounds.{left_in, remaining, forced, is_forced, forced_among, clashes_with_one}
 use Rattle.propagation.specs.Conflicts.{first_some, first_of_two, first_between, clashing, conflict}
 use Rattle.symbol_solve.specs.Clashes.{clashes, claims_clash, interiors_clash, claims_of}

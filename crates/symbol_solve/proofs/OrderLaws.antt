@@ -15,7 +15,7 @@ use Rattle.i386_reloc.specs.declared.types.NormalSection.{NormalSection}
 use Rattle.i386_reloc.specs.Classes.{is_code_class}
 use Rattle.i386_reloc.specs.Normal.{same_bytes, name_of, function_name}
 use Rattle.symbol_table.specs.Symbols.{address_of, is_function_named, function_addresses}
-use Rattle.symbol_table.specs.AscendingLaws.{Above, Ascends, ascends-ascending}
+use Rattle.symbol_table.specs.laws.AscendingLaws.{Above, Ascends, ascends-ascending}
 use Rattle.run_pre_match.specs.declared.types.Claim.{Claim}
 use Rattle.run_pre_match.specs.declared.types.Matched.{Matched}
 use Rattle.run_pre_match.specs.declared.types.MatchFault.{MatchFault}

@@ -6,7 +6,7 @@ use Rattle.ks_base.specs.declared.refusals.Refusal.TheVariants.{Mismatch, Ambigu
 use Rattle.i386_reloc.specs.declared.types.NormalSection.{NormalSection}
 use Rattle.run_pre_match.specs.Candidate.{Candidate}
 use Rattle.run_pre_match.specs.Matched.{PreSection}
-use Rattle.instruction_lists.specs.Landing.{undecoded_offset}
+use Rattle.match_instructions.specs.Landing.{undecoded_offset}
 use Rattle.propagation.specs.Conflicts.{first_some}
 use Rattle.match_candidates.specs.Candidates.{Running, candidates, candidates_of, code_sections}
 use Rattle.match_candidates.specs.OwnFaults.{undecoded_in, first_undecoded, missing_in}

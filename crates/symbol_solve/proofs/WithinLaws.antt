@@ -9,9 +9,9 @@ use Rattle.ks_base.specs.declared.refusals.Difference.{Difference}
 use Rattle.image_memory.specs.Contents.{Contents}
 use Rattle.run_pre_match.specs.declared.types.Matched.{Matched}
 use Rattle.run_pre_match.specs.declared.types.MatchFault.{MatchFault}
-use Rattle.instruction_lists.specs.Instructions.{Instruction, after, end_of, listed, listed_on}
-use Rattle.instruction_lists.specs.Instructions.{through_kept, kept_of, begins_at, stands_for}
-use Rattle.instruction_lists.specs.RunCode.{run_instruction_at, run_code}
+use Rattle.match_instructions.specs.Instructions.{Instruction, after, end_of, listed, listed_on}
+use Rattle.match_instructions.specs.Instructions.{through_kept, kept_of, begins_at, stands_for}
+use Rattle.match_instructions.specs.RunCode.{run_instruction_at, run_code}
 use Rattle.run_pre_match.specs.Candidate.{Candidate, pre_list, run_list, has_number, is_number, body_of}
 use Rattle.run_pre_match.specs.Matched.{outcome, matched_unless}
 use Rattle.run_pre_match.specs.Match.{Valuation, Match}

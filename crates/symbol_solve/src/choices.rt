@@ -17,9 +17,9 @@ use crate::points::{points_by_section, points_of};
 use crate::ranges::points_within;
 use i386_reloc::Normal;
 use image_memory::Space;
-use instruction_lists::run_code_goes_on;
 use ks_base::ListOf;
 use match_candidates::{Running, Trials, Tried, outcome_of};
+use match_instructions::run_code_goes_on;
 use propagation::{Choice, Demand};
 use run_pre_match::{
     Body, Claim, Interior, MatchFault, Matched, PreCode, matches_have_one_valuation,

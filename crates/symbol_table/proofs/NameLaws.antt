@@ -31,7 +31,7 @@ use Rattle.symbol_table.specs.inside.Entries.{name_of, order_of, order_at, addre
 use Rattle.symbol_table.specs.inside.Names.{is_before, is_not_after, is_named_at, stands_at}
 use Rattle.symbol_table.specs.inside.Names.{kind_address, found_at, is_entry_of}
 use Rattle.symbol_table.proofs.BlockLaws.{drop_between}
-use Rattle.symbol_table.specs.AscendingLaws.{has, same_members, has-ascending, ascends-ascending}
+use Rattle.symbol_table.specs.laws.AscendingLaws.{has, same_members, has-ascending, ascends-ascending}
 use Rattle.symbol_table.proofs.EntryLaws.{entry_laws, any_entry}
 
 -- ---- what a search by halving finds

@@ -10,7 +10,7 @@ use Rattle.ia32_step.specs.declared.types.Thread.{Thread}
 use Rattle.image_threads.specs.Program.{WellPlaced, IsStackRange}
 use Rattle.image_threads.specs.Spawning.{is_writable, is_stack, AreStacks}
 use Rattle.stack_scan.specs.Standing.{IsStack, LiesInWritable}
-use Rattle.image_threads.specs.StackLaws.{same_ends, writable_kind}
+use Rattle.image_threads.specs.laws.StackLaws.{same_ends, writable_kind}
 
 lies : (stack : Range) (piece : Piece)
     → (is_writable piece.kind && are_same (piece_range piece) stack) ≡ true → LiesInWritable stack piece

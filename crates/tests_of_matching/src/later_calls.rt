@@ -3,8 +3,8 @@
 use crate::trying::{CODE, HOME, Part, at_home, normal_of, put_answer, space_of, table_of};
 use i386_reloc::Normal;
 use image_memory::FlatSpace;
-use instruction_lists::{instruction_at, run_code_goes_on};
 use ks_base::Line;
+use match_instructions::{instruction_at, run_code_goes_on};
 use object_builder::{Kind, Section, object};
 use run_pre_match::{PreCode, PreObject};
 use std::alloc::Global;

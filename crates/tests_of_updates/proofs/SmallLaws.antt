@@ -10,10 +10,10 @@ use Rattle.image_memory.specs.Ranges.{meets, MeetsNone}
 use Rattle.image_memory.specs.Contents.{piece_range, fence_range}
 use Rattle.image_memory.specs.Changes.{IsPlaceable, ArePlaceable}
 use Rattle.image_memory.specs.Fetch.{HasCode}
-use Rattle.memory_changes.specs.Added.{AreAddable, with_pieces}
-use Rattle.memory_changes.specs.Retired.{AreRetirable, with_fences}
-use Rattle.memory_changes.specs.declared.types.Jump.{Jump}
-use Rattle.memory_changes.specs.Rows.{row_of}
+use Rattle.update_memory.specs.Added.{AreAddable, with_pieces}
+use Rattle.update_memory.specs.Retired.{AreRetirable, with_fences}
+use Rattle.update_memory.specs.declared.types.Jump.{Jump}
+use Rattle.update_memory.specs.Rows.{row_of}
 use Rattle.tests_of_updates.specs.Small.{running, small, variable, newer, added, body, retired}
 
 AllPairs-nil : {X : Type 0} (R : X → X → Type 0) → AllPairs R []

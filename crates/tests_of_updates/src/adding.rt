@@ -6,14 +6,14 @@ use i386_reloc::{Class, Normal, NormalSection, ObjectSymbol, Objects, Refs, Span
 use image_memory::{Kind, Pieces};
 use ks_base::{Added, Bytes, ListOf, Name, Names, Replaced, Report};
 use link_post::{Placed, Placement, ascend, in_order, place};
-use new_code::{NewSymbols, Part, Role, new_pieces, new_symbols, report_of, sizes};
 use object_builder::Kind::{Global as Function, Strings, Zeros};
 use object_builder::{ABSOLUTE, RELATIVE, Section, object};
-use retired_code::Fate;
 use std::alloc::{AllocError, Global};
 use std::process::Abort;
 use std::test::Fail;
 use symbol_table::{Solved, Symbol, Unknown, Values};
+use update_pieces::{NewSymbols, Part, Role, new_pieces, new_symbols, report_of, sizes};
+use update_retired::Fate;
 
 /// A function that calls another one, reads a variable, takes the address of the text `hi` and calls an outside name.
 const SECTIONS: [Section; 4] = [

@@ -1,16 +1,16 @@
 //! What an update does to a small memory: pieces are added, a range is retired, and a jump is written.
 ghost use Rattle.std.specs.Prelude.{◌≡◌, ◌≤◌, ◌∷◌, [], map, IfOk};
 ghost use Rattle.image_memory.specs.Contents.{piece_range};
-ghost use Rattle.memory_changes.specs.Added.{with_pieces};
-ghost use Rattle.memory_changes.specs.Retired.{with_fences};
+ghost use Rattle.update_memory.specs.Added.{with_pieces};
+ghost use Rattle.update_memory.specs.Retired.{with_fences};
 ghost use Rattle.tests_of_updates.specs.Small.{small, added, retired};
 
 use image_memory::{Fence, FlatSpace, Kind, Piece, Pieces, Space, are_placed};
 use ks_base::{Bytes, Range};
-use memory_changes::{Jump, add_pieces, note_old_code, retire, write_jumps};
 use std::alloc::{AllocError, Global};
 use std::process::Abort;
 use std::test::Fail;
+use update_memory::{Jump, add_pieces, note_old_code, retire, write_jumps};
 
 const HOME: u32 = 0x0010_0000;
 

@@ -3,11 +3,11 @@ ghost use Rattle.std.specs.Prelude.{◌≡◌, [], IfOk};
 
 use image_memory::{FlatSpace, Kind, Piece, Pieces, Space, are_placed};
 use ks_base::{Bytes, Name, Range, Ranges, Refusal};
-use retired_code::{Fate, OldFunction, are_bodies, code_refusal, guarded_ranges, retired_ranges};
 use std::alloc::{AllocError, Global};
 use std::process::Abort;
 use std::test::Fail;
 use symbol_table::{Symbol, SymbolTable};
+use update_retired::{Fate, OldFunction, are_bodies, code_refusal, guarded_ranges, retired_ranges};
 
 const HOME: u32 = 0x0010_0000;
 

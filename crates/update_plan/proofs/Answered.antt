@@ -19,8 +19,8 @@ use Rattle.symbol_solve.specs.Solve.{Value}
 use Rattle.symbol_solve.specs.Answered.{IsAnswered, is_about}
 use Rattle.link_post.specs.Values.{solved_as}
 use Rattle.splice_jump.specs.Jumps.{AreSpliced}
-use Rattle.splice_jump.specs.CodeLaws.{ends_below}
-use Rattle.retired_code.specs.Retired.{AreBodies, IsBody}
+use Rattle.splice_jump.specs.laws.CodeLaws.{ends_below}
+use Rattle.update_retired.specs.Retired.{AreBodies, IsBody}
 use Rattle.update_plan.specs.Olds.{is_function, old_as, old_in, olds_of}
 use Rattle.update_plan.proofs.SoundOlds.{first_or_spliced}
 

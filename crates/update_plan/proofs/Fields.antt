@@ -13,7 +13,7 @@ use Rattle.elf32_object.specs.Fields.{changes, entry_count, is_loaded, patches_l
 use Rattle.elf32_object.specs.Fields.{section_header}
 use Rattle.elf32_object.specs.Rules.{has_field, is_placed, object_fault, relocation_fault}
 use Rattle.elf32_object.specs.Rules.{relocations_fault}
-use Rattle.elf32_object.specs.BelowLaws.{none_below, none_first, none_second}
+use Rattle.elf32_object.specs.laws.BelowLaws.{none_below, none_first, none_second}
 use Rattle.i386_reloc.specs.declared.types.Class.TheVariants.{Zero, Code, Writable, Strings, ReadOnly}
 use Rattle.i386_reloc.specs.declared.types.NormalSection.{NormalSection}
 use Rattle.i386_reloc.specs.declared.types.Ref.{Ref}
@@ -22,9 +22,9 @@ use Rattle.i386_reloc.specs.Classes.{class_of, is_strings}
 use Rattle.i386_reloc.specs.Normal.{loaded_below, loaded_sections, normal_section}
 use Rattle.i386_reloc.specs.References.{by_offset, changes_at, fields_of, is_outside, is_section_symbol, reference_of}
 use Rattle.i386_reloc.specs.References.{reference_to, references_of, relocations_of, symbol_of}
-use Rattle.object_sections.specs.Sections.{sections_of}
+use Rattle.i386_reloc.specs.Sections.{sections_of}
 use Rattle.run_pre_match.specs.Alike.{HasFieldsInside}
-use Rattle.new_code.specs.Apart.{AreWhole, IsWhole}
+use Rattle.update_pieces.specs.Apart.{AreWhole, IsWhole}
 use Rattle.update_plan.proofs.SoundLists.{Has, all_of, each_has, filter_has, has_either, map_has}
 use Rattle.update_plan.proofs.SoundFile.{is_file}
 

@@ -9,8 +9,8 @@ use Rattle.ks_base.specs.declared.places.Range.{Range}
 use Rattle.image_memory.specs.Ranges.{lies_in}
 use Rattle.image_memory.specs.Contents.{fence_range, spliced_at}
 use Rattle.match_candidates.specs.Candidates.{Running}
-use Rattle.retired_code.specs.declared.types.OldFunction.{OldFunction}
-use Rattle.retired_code.specs.Retired.{is_retired, retired_range, retired_by, jump_range, is_guarded, guarded}
+use Rattle.update_retired.specs.declared.types.OldFunction.{OldFunction}
+use Rattle.update_retired.specs.Retired.{is_retired, retired_range, retired_by, jump_range, is_guarded, guarded}
 use Rattle.update_plan.specs.declared.types.Plan.{Plan}
 use Rattle.update_plan.specs.Olds.{olds_of}
 use Rattle.update_plan.specs.Plan.{fence_of, fences_of, planned}

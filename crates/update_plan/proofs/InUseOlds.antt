@@ -23,8 +23,8 @@ use Rattle.symbol_solve.specs.Solve.{solved, values, values_of, values_unless, v
 use Rattle.symbol_solve.specs.Solution.{IsChoice, IsSolution}
 use Rattle.extract_post.specs.declared.types.Extract.{Extract}
 use Rattle.link_post.specs.Values.{ValueList, solved_as}
-use Rattle.retired_code.specs.declared.types.OldFunction.{OldFunction}
-use Rattle.retired_code.specs.Retired.{AreInUse, body_range}
+use Rattle.update_retired.specs.declared.types.OldFunction.{OldFunction}
+use Rattle.update_retired.specs.Retired.{AreInUse, body_range}
 use Rattle.update_plan.specs.Olds.{is_function, old_as, old_in, olds_of}
 use Rattle.update_plan.proofs.SoundLists.{Has, all_of, flat_has, has_either, has_of, map_has}
 use Rattle.update_plan.proofs.InUse.{AreWithin, matched_in_use}

@@ -12,7 +12,7 @@ use Rattle.image_memory.specs.Fetch.{jump_length, view_at}
 use Rattle.symbol_table.specs.declared.symbols.Symbol.{Symbol}
 use Rattle.i386_reloc.specs.declared.types.NormalSection.{NormalSection}
 use Rattle.i386_reloc.specs.Refused.{first_among, refused_where}
-use Rattle.object_sections.specs.Sections.{sections_of}
+use Rattle.i386_reloc.specs.Sections.{sections_of}
 use Rattle.extract_post.specs.Extracted.{extracted}
 use Rattle.run_pre_match.specs.Alike.{HasFieldsInside}
 use Rattle.match_candidates.specs.Alike.{RunAlike}
@@ -21,14 +21,14 @@ use Rattle.symbol_solve.specs.Solve.{solved}
 use Rattle.link_post.specs.declared.types.Placed.{Placed}
 use Rattle.link_post.specs.Values.{ValueList, resolved}
 use Rattle.link_post.specs.Places.{placed}
-use Rattle.retired_code.specs.declared.types.OldFunction.{OldFunction}
-use Rattle.retired_code.specs.Room.{HaveOneShape, room}
-use Rattle.retired_code.specs.Retired.{guarded, takes_jump}
-use Rattle.retired_code.specs.Overlaps.{code_refusal, overlap_refusal, room_refusal}
-use Rattle.new_code.specs.Parts.{NewPart, size_of}
-use Rattle.new_code.specs.Pieces.{new_pieces}
-use Rattle.new_code.specs.NewSymbols.{new_symbols}
-use Rattle.new_code.specs.Reports.{report_of}
+use Rattle.update_retired.specs.declared.types.OldFunction.{OldFunction}
+use Rattle.update_retired.specs.Room.{HaveOneShape, room}
+use Rattle.update_retired.specs.Retired.{guarded, takes_jump}
+use Rattle.update_retired.specs.Overlaps.{code_refusal, overlap_refusal, room_refusal}
+use Rattle.update_pieces.specs.Parts.{NewPart, size_of}
+use Rattle.update_pieces.specs.Pieces.{new_pieces}
+use Rattle.update_pieces.specs.NewSymbols.{new_symbols}
+use Rattle.update_pieces.specs.Reports.{report_of}
 use Rattle.update_plan.specs.declared.types.Plan.{Plan}
 use Rattle.update_plan.specs.Olds.{olds_of}
 use Rattle.update_plan.specs.Placing.{names_of, parts_of}

@@ -13,14 +13,14 @@ use Rattle.i386_reloc.specs.declared.types.NormalSection.{NormalSection}
 use Rattle.i386_reloc.specs.Normal.{same_bytes, name_of}
 use Rattle.i386_reloc.specs.Places.{place_named}
 use Rattle.extract_post.specs.declared.types.Extract.{Extract}
+use Rattle.extract_post.specs.declared.role.Role.{Role}
+use Rattle.extract_post.specs.Roles.{role_of}
 use Rattle.image_memory.specs.Ranges.{Ascends}
 use Rattle.link_post.specs.declared.types.Placed.{Placed}
 use Rattle.link_post.specs.declared.types.SectionSize.{SectionSize}
 use Rattle.link_post.specs.Places.{name_of as name_of_size, placed}
 use Rattle.link_post.specs.Linked.{AreInOrder, AreNamesInOrder, Rise, place_in}
-use Rattle.section_roles.specs.declared.role.Role.{Role}
-use Rattle.section_roles.specs.Roles.{role_of}
-use Rattle.new_code.specs.Parts.{NewPart, size_of}
+use Rattle.update_pieces.specs.Parts.{NewPart, size_of}
 use Rattle.update_plan.specs.Placing.{names_of, part_as, part_in, parts_of}
 
 -- ---- numbers that rise

@@ -5,15 +5,15 @@ use Rattle.ks_base.specs.declared.places.Range.{Range}
 use Rattle.ks_base.specs.declared.refusals.Refusal.{Refusal}
 use Rattle.image_file.specs.Fields.{◌>>=◌}
 use Rattle.i386_reloc.specs.declared.types.NormalSection.{NormalSection}
-use Rattle.object_sections.specs.Sections.{sections_of}
+use Rattle.i386_reloc.specs.Sections.{sections_of}
 use Rattle.extract_post.specs.declared.types.Extract.{Extract}
 use Rattle.extract_post.specs.Extracted.{extracted}
 use Rattle.match_candidates.specs.Candidates.{Running}
 use Rattle.symbol_solve.specs.Solve.{solved}
 use Rattle.link_post.specs.Values.{ValueList, resolved}
-use Rattle.retired_code.specs.declared.types.OldFunction.{OldFunction}
-use Rattle.retired_code.specs.Overlaps.{code_refusal}
-use Rattle.new_code.specs.Parts.{NewPart}
+use Rattle.update_retired.specs.declared.types.OldFunction.{OldFunction}
+use Rattle.update_retired.specs.Overlaps.{code_refusal}
+use Rattle.update_pieces.specs.Parts.{NewPart}
 use Rattle.update_plan.specs.declared.types.Plan.{Plan}
 use Rattle.update_plan.specs.Olds.{olds_of}
 use Rattle.update_plan.specs.Placing.{parts_of, names_of}

@@ -9,11 +9,11 @@ use Rattle.image_memory.specs.declared.types.Fence.{Fence}
 use Rattle.image_memory.specs.Ranges.{meets, MeetsNone, from_to}
 use Rattle.image_memory.specs.Contents.{Contents, fence_range}
 use Rattle.splice_jump.specs.Jumps.{IsFenced}
-use Rattle.retired_code.specs.declared.types.OldFunction.{OldFunction}
-use Rattle.retired_code.specs.Retired.{body_range, is_first, is_replaced, is_retired, retired_by}
-use Rattle.retired_code.specs.Retired.{retired_range, takes_jump}
-use Rattle.retired_code.specs.Overlaps.{LieApart}
-use Rattle.image_memory.specs.RangeLaws.{meet_where}
+use Rattle.update_retired.specs.declared.types.OldFunction.{OldFunction}
+use Rattle.update_retired.specs.Retired.{body_range, is_first, is_replaced, is_retired, retired_by}
+use Rattle.update_retired.specs.Retired.{retired_range, takes_jump}
+use Rattle.update_retired.specs.Overlaps.{LieApart}
+use Rattle.image_memory.specs.laws.RangeLaws.{meet_where}
 use Rattle.update_plan.specs.Plan.{fence_of, fences_of}
 use Rattle.update_plan.specs.Sound.{AreListed}
 use Rattle.update_plan.proofs.SoundLists.{Has, Pairs, all_has, all_of, all_pairs, any_false, any_none, has_filter}

@@ -10,8 +10,8 @@ use Rattle.elf32_object.specs.Rules.{object_fault}
 use Rattle.i386_reloc.specs.declared.types.NormalSection.{NormalSection}
 use Rattle.i386_reloc.specs.Normal.{loaded_sections, name_of, same_bytes, section_named}
 use Rattle.i386_reloc.specs.Refused.{normal_fault}
-use Rattle.i386_reloc.specs.NameLaws.{distinct_names, all_named}
-use Rattle.object_sections.specs.Sections.{sections_of, sections_unless}
+use Rattle.i386_reloc.specs.laws.NameLaws.{distinct_names, all_named}
+use Rattle.i386_reloc.specs.Sections.{sections_of, sections_unless}
 use Rattle.update_plan.proofs.SoundLists.{Has, Pairs, all_has, pairs_of, map_pairs}
 
 pub record IsFile (bytes : List ℕ) (sections : List NormalSection) : Type 0 where

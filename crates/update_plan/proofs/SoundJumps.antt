@@ -12,7 +12,7 @@ use Rattle.ks_base.specs.declared.places.Range.{Range}
 use Rattle.ks_base.specs.declared.refusals.Refusal.{Refusal}
 use Rattle.ks_base.specs.declared.refusals.Refusal.TheVariants.{TooSmall}
 use Rattle.ks_base.specs.declared.reports.Replaced.{Replaced}
-use Rattle.elf32_object.specs.BelowLaws.{none_first}
+use Rattle.elf32_object.specs.laws.BelowLaws.{none_first}
 use Rattle.symbol_table.specs.declared.symbols.Symbol.{Symbol}
 use Rattle.image_memory.specs.declared.types.Fence.{Fence}
 use Rattle.symbol_table.specs.Bodies.{newest}
@@ -23,19 +23,19 @@ use Rattle.splice_jump.specs.Jumps.{AreSpliced, IsFenced, IsSpliced}
 use Rattle.i386_reloc.specs.Normal.{same_bytes}
 use Rattle.i386_reloc.specs.Refused.{first_among, refused_where}
 use Rattle.extract_post.specs.declared.types.Extract.{Extract}
-use Rattle.section_roles.specs.declared.role.Role.{Role}
-use Rattle.section_roles.specs.declared.role.Role.TheVariants.{Changed, Added, Carried, NewData}
-use Rattle.section_roles.specs.Roles.{is_among, role_of}
-use Rattle.retired_code.specs.declared.types.Fate.{Fate}
-use Rattle.retired_code.specs.declared.types.Fate.TheVariants.{Kept, Replaced as WasReplaced, Dropped}
-use Rattle.retired_code.specs.declared.types.OldFunction.{OldFunction}
-use Rattle.retired_code.specs.Room.{room}
-use Rattle.retired_code.specs.Retired.{AreInUse, body_range, is_first, is_replaced, is_retired, retired_by}
-use Rattle.retired_code.specs.Retired.{retired_range, takes_jump}
-use Rattle.retired_code.specs.Overlaps.{LieApart, code_refusal, overlap_refusal, room_refusal}
-use Rattle.image_memory.specs.RangeLaws.{meet_where}
-use Rattle.new_code.specs.Parts.{AtPlace}
-use Rattle.new_code.specs.Reports.{replaced_as, replaced_by, replaced_of}
+use Rattle.extract_post.specs.declared.role.Role.{Role}
+use Rattle.extract_post.specs.declared.role.Role.TheVariants.{Changed, Added, Carried, NewData}
+use Rattle.extract_post.specs.Roles.{is_among, role_of}
+use Rattle.update_retired.specs.declared.types.Fate.{Fate}
+use Rattle.update_retired.specs.declared.types.Fate.TheVariants.{Kept, Replaced as WasReplaced, Dropped}
+use Rattle.update_retired.specs.declared.types.OldFunction.{OldFunction}
+use Rattle.update_retired.specs.Room.{room}
+use Rattle.update_retired.specs.Retired.{AreInUse, body_range, is_first, is_replaced, is_retired, retired_by}
+use Rattle.update_retired.specs.Retired.{retired_range, takes_jump}
+use Rattle.update_retired.specs.Overlaps.{LieApart, code_refusal, overlap_refusal, room_refusal}
+use Rattle.image_memory.specs.laws.RangeLaws.{meet_where}
+use Rattle.update_pieces.specs.Parts.{AtPlace}
+use Rattle.update_pieces.specs.Reports.{replaced_as, replaced_by, replaced_of}
 use Rattle.update_plan.specs.Olds.{fate_of}
 use Rattle.update_plan.specs.Plan.{fence_of, fences_of}
 use Rattle.update_plan.specs.Sound.{IsJumpTo, is_replaced_at}

@@ -24,8 +24,8 @@ use Rattle.image_memory.specs.Contents.{Contents}
 use Rattle.splice_jump.specs.Jumps.{AreSpliced, IsSpliced}
 use Rattle.extract_post.specs.declared.types.Extract.{Extract}
 use Rattle.link_post.specs.Values.{ValueList, solved_as}
-use Rattle.retired_code.specs.declared.types.OldFunction.{OldFunction}
-use Rattle.retired_code.specs.Retired.{section_of}
+use Rattle.update_retired.specs.declared.types.OldFunction.{OldFunction}
+use Rattle.update_retired.specs.Retired.{section_of}
 use Rattle.update_plan.specs.Olds.{fate_of, is_function, old_as, old_in, olds_of}
 use Rattle.update_plan.proofs.SoundLists.{Has, IsShort, Pairs, all_has, all_pairs, filter_has, flat_has}
 use Rattle.update_plan.proofs.SoundLists.{pairs_filter, pairs_flat, pairs_map}

@@ -8,13 +8,13 @@ use Rattle.ks_base.specs.declared.places.Range.{Range}
 use Rattle.i386_reloc.specs.declared.types.NormalSection.{NormalSection}
 use Rattle.i386_reloc.specs.Normal.{section_named}
 use Rattle.extract_post.specs.declared.types.Extract.{Extract}
-use Rattle.section_roles.specs.declared.role.Role.{Role}
-use Rattle.section_roles.specs.declared.role.Role.TheVariants.{Changed, Added, Carried, NewData}
-use Rattle.section_roles.specs.Roles.{is_among, role_of}
+use Rattle.extract_post.specs.declared.role.Role.{Role}
+use Rattle.extract_post.specs.declared.role.Role.TheVariants.{Changed, Added, Carried, NewData}
+use Rattle.extract_post.specs.Roles.{is_among, role_of}
 use Rattle.link_post.specs.declared.types.Placed.{Placed}
 use Rattle.link_post.specs.Places.{IsPlace}
-use Rattle.new_code.specs.Parts.{AtPlace, NewPart, at_places, new_part, placed_part, size_of}
-use Rattle.new_code.specs.Apart.{ArePartsOf, AreWhole, IsPartOf, IsWhole}
+use Rattle.update_pieces.specs.Parts.{AtPlace, NewPart, at_places, new_part, placed_part, size_of}
+use Rattle.update_pieces.specs.Apart.{ArePartsOf, AreWhole, IsPartOf, IsWhole}
 use Rattle.update_plan.specs.Placing.{part_as, part_in, parts_of}
 use Rattle.update_plan.proofs.SoundLists.{Has, IsShort, Pairs, each_has, each_of, flat_has, has_flat, pairs_flat}
 

@@ -10,9 +10,9 @@ use Rattle.image_memory.specs.Contents.{Contents, piece_range}
 use Rattle.image_memory.specs.Changes.{ArePlaceable, IsPlaceable}
 use Rattle.link_post.specs.declared.types.Placed.{Placed}
 use Rattle.link_post.specs.Places.{AreApart, LiesInOne}
-use Rattle.new_code.specs.Parts.{NewPart}
-use Rattle.new_code.specs.Apart.{AreNewPieces, IsInGap}
-use Rattle.image_memory.specs.RangeLaws.{they_meet, meet_where}
+use Rattle.update_pieces.specs.Parts.{NewPart}
+use Rattle.update_pieces.specs.Apart.{AreNewPieces, IsInGap}
+use Rattle.image_memory.specs.laws.RangeLaws.{they_meet, meet_where}
 use Rattle.update_plan.specs.Sound.{AreGaps}
 use Rattle.update_plan.proofs.SoundLists.{Has, Pairs, all_has, all_of, all_pairs, any_false, any_none, each_has}
 use Rattle.update_plan.proofs.SoundLists.{map_pairs}

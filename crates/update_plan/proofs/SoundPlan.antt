@@ -17,8 +17,8 @@ use Rattle.image_memory.specs.Fetch.{HasCode}
 use Rattle.splice_jump.specs.Jumps.{AreSpliced}
 use Rattle.extract_post.specs.declared.types.Extract.{Extract}
 use Rattle.extract_post.specs.Extracted.{is_changed, lists_of}
-use Rattle.section_roles.specs.declared.role.Role.TheVariants.{Changed}
-use Rattle.section_roles.specs.Roles.{is_among}
+use Rattle.extract_post.specs.declared.role.Role.TheVariants.{Changed}
+use Rattle.extract_post.specs.Roles.{is_among}
 use Rattle.match_candidates.specs.Candidates.{Running, code_sections}
 use Rattle.symbol_solve.specs.Solve.{Value, solved}
 use Rattle.symbol_solve.specs.Answered.{IsAnswered}
@@ -26,13 +26,13 @@ use Rattle.link_post.specs.declared.types.Placed.{Placed}
 use Rattle.link_post.specs.declared.types.SectionSize.{SectionSize}
 use Rattle.link_post.specs.Values.{ValueList}
 use Rattle.link_post.specs.Places.{ArePlaces, placed}
-use Rattle.retired_code.specs.declared.types.OldFunction.{OldFunction}
-use Rattle.retired_code.specs.Room.{room}
-use Rattle.retired_code.specs.Retired.{AreInUse, retired_by, section_of}
-use Rattle.retired_code.specs.Overlaps.{LieApart, code_refusal}
-use Rattle.new_code.specs.Parts.{AtPlace, NewPart, at_places, new_part, placed_part, size_of}
-use Rattle.new_code.specs.Pieces.{new_piece, new_pieces}
-use Rattle.new_code.specs.Apart.{AreNewPieces, ArePartsOf, AreWhole}
+use Rattle.update_retired.specs.declared.types.OldFunction.{OldFunction}
+use Rattle.update_retired.specs.Room.{room}
+use Rattle.update_retired.specs.Retired.{AreInUse, retired_by, section_of}
+use Rattle.update_retired.specs.Overlaps.{LieApart, code_refusal}
+use Rattle.update_pieces.specs.Parts.{AtPlace, NewPart, at_places, new_part, placed_part, size_of}
+use Rattle.update_pieces.specs.Pieces.{new_piece, new_pieces}
+use Rattle.update_pieces.specs.Apart.{AreNewPieces, ArePartsOf, AreWhole}
 use Rattle.update_plan.specs.declared.types.Plan.{Plan}
 use Rattle.update_plan.specs.Olds.{olds_of}
 use Rattle.update_plan.specs.Placing.{parts_of}

@@ -8,7 +8,7 @@ use Rattle.ks_base.specs.declared.refusals.Refusal.TheVariants.{NoChange}
 use Rattle.image_file.specs.Fields.{◌>>=◌}
 use Rattle.i386_reloc.specs.declared.types.Ref.{Ref}
 use Rattle.i386_reloc.specs.declared.types.NormalSection.{NormalSection}
-use Rattle.object_sections.specs.Sections.{sections_of}
+use Rattle.i386_reloc.specs.Sections.{sections_of}
 use Rattle.extract_post.specs.declared.types.Extract.{Extract}
 use Rattle.extract_post.specs.Extract.{places}
 use Rattle.extract_post.specs.Extracted.{data_differs, extracted, extracted_by, extracted_with, is_broken}
@@ -18,10 +18,10 @@ use Rattle.symbol_solve.specs.Solve.{solved}
 use Rattle.link_post.specs.declared.types.Placed.{Placed}
 use Rattle.link_post.specs.Values.{ValueList, resolved}
 use Rattle.link_post.specs.Places.{placed}
-use Rattle.image_file.specs.FieldLaws.{bind_ok}
-use Rattle.retired_code.specs.declared.types.OldFunction.{OldFunction}
-use Rattle.retired_code.specs.Overlaps.{code_refusal}
-use Rattle.new_code.specs.Parts.{size_of}
+use Rattle.image_file.specs.laws.FieldLaws.{bind_ok}
+use Rattle.update_retired.specs.declared.types.OldFunction.{OldFunction}
+use Rattle.update_retired.specs.Overlaps.{code_refusal}
+use Rattle.update_pieces.specs.Parts.{size_of}
 use Rattle.update_plan.specs.declared.types.Plan.{Plan}
 use Rattle.update_plan.specs.Olds.{olds_of}
 use Rattle.update_plan.specs.Placing.{parts_of, names_of}

@@ -8,8 +8,8 @@ use Rattle.std.proofs.lemmas.List.Concat.{flat_map-append}
 use Rattle.std.proofs.lemmas.List.Elements.{filter-append}
 use Rattle.i386_reloc.specs.declared.types.NormalSection.{NormalSection}
 use Rattle.extract_post.specs.declared.types.Extract.{Extract}
+use Rattle.extract_post.specs.Roles.{role_of}
 use Rattle.link_post.specs.Values.{ValueList}
-use Rattle.section_roles.specs.Roles.{role_of}
 use Rattle.update_plan.specs.Olds.{is_function, old_in, olds_of}
 use Rattle.update_plan.specs.Placing.{part_as, part_in, parts_of}
 

@@ -8,11 +8,11 @@ use Rattle.i386_reloc.specs.declared.types.NormalSection.{NormalSection}
 use Rattle.i386_reloc.specs.Classes.{is_code_class}
 use Rattle.i386_reloc.specs.Normal.{function_name}
 use Rattle.extract_post.specs.declared.types.Extract.{Extract}
-use Rattle.section_roles.specs.Roles.{is_among}
+use Rattle.extract_post.specs.Roles.{is_among}
 use Rattle.link_post.specs.Values.{ValueList, solved_as}
-use Rattle.retired_code.specs.declared.types.Fate.{Fate}
-use Rattle.retired_code.specs.declared.types.Fate.TheVariants.{Kept, Replaced, Dropped}
-use Rattle.retired_code.specs.declared.types.OldFunction.{OldFunction}
+use Rattle.update_retired.specs.declared.types.Fate.{Fate}
+use Rattle.update_retired.specs.declared.types.Fate.TheVariants.{Kept, Replaced, Dropped}
+use Rattle.update_retired.specs.declared.types.OldFunction.{OldFunction}
 
 -- what an update does with the function that is the section of a name of its old object
 abbrev pub fate_of : Extract → List ℕ → Fate

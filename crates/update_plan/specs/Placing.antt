@@ -3,9 +3,9 @@ use Rattle.std.specs.Prelude.{ℕ, List, [], ◌∷◌, map, Option, Some, None}
 use Rattle.std.specs.List.{flat_map}
 use Rattle.i386_reloc.specs.declared.types.NormalSection.{NormalSection}
 use Rattle.extract_post.specs.declared.types.Extract.{Extract}
-use Rattle.section_roles.specs.declared.role.Role.{Role}
-use Rattle.section_roles.specs.Roles.{role_of}
-use Rattle.new_code.specs.Parts.{NewPart, new_part}
+use Rattle.extract_post.specs.declared.role.Role.{Role}
+use Rattle.extract_post.specs.Roles.{role_of}
+use Rattle.update_pieces.specs.Parts.{NewPart, new_part}
 
 -- a section is placed where it has a role
 abbrev pub part_as : NormalSection → Option Role → List NewPart

@@ -1,14 +1,14 @@
 //! What an update does with each function of its old object.
 ghost use Rattle.std.specs.Prelude.{◌≡◌, ℕ, List, if◌then◌else◌, IfOk, OnOk};
 ghost use Rattle.i386_reloc.specs.Normal.{same_bytes};
-ghost use Rattle.section_roles.specs.Roles.{is_among};
+ghost use Rattle.extract_post.specs.Roles.{is_among};
 ghost use Rattle.update_plan.specs.inside.Fates.{AreFates, fate_at};
 
 use extract_post::Extract;
 use ks_base::Names;
-use retired_code::Fate;
 use std::alloc::{AllocError, Global};
 use std::collections::BTreeMap;
+use update_retired::Fate;
 
 /// The fate of each function that the update doesn't keep, by the name of its section.
 pub(crate) fn fates_of<'e>(

@@ -3,7 +3,7 @@ ghost use Rattle.std.specs.Prelude.{◌≡◌, ℕ, false, List, map, Ok};
 ghost use Rattle.std.specs.List.{All, list_any};
 ghost use Rattle.ks_base.specs.declared.places.Range.{Range};
 ghost use Rattle.i386_reloc.specs.declared.types.NormalSection.{NormalSection};
-ghost use Rattle.object_sections.specs.Sections.{sections_of};
+ghost use Rattle.i386_reloc.specs.Sections.{sections_of};
 ghost use Rattle.image_memory.specs.Ranges.{lies_in};
 ghost use Rattle.image_memory.specs.Contents.{IsValid, fence_range, spliced_at};
 ghost use Rattle.run_pre_match.specs.Alike.{HasFieldsInside};
@@ -13,8 +13,8 @@ ghost use Rattle.symbol_solve.specs.Solve.{solved};
 ghost use Rattle.link_post.specs.Values.{ValueList};
 ghost use Rattle.extract_post.specs.declared.types.Extract.{Extract as Lists};
 ghost use Rattle.splice_jump.specs.Jumps.{AreSpliced};
-ghost use Rattle.retired_code.specs.Retired.{AreInUse};
-ghost use Rattle.retired_code.specs.Room.{HaveOneShape};
+ghost use Rattle.update_retired.specs.Retired.{AreInUse};
+ghost use Rattle.update_retired.specs.Room.{HaveOneShape};
 ghost use Rattle.update_plan.specs.declared.types.Plan.{Plan};
 ghost use Rattle.update_plan.specs.Olds.{olds_of};
 ghost use Rattle.update_plan.specs.Plan.{planned};
@@ -22,11 +22,11 @@ ghost use Rattle.update_plan.specs.Sound.{AreGaps, AreListed, CanBeMade};
 
 use ia32_decode::instructions_have_bytes;
 use link_post::places_lie_apart;
-use new_code::{new_pieces_lie_apart, sections_are_whole};
-use retired_code::{retired_code_lies_apart, room_is_code, room_is_met};
 use symbol_solve::{
     alike_programs_have_one_answer, answer_is_only_solution, answers_tell_each_body,
 };
+use update_pieces::{new_pieces_lie_apart, sections_are_whole};
+use update_retired::{retired_code_lies_apart, room_is_code, room_is_met};
 
 /// The functions of an old object as they run are in use: no address of a body that was matched is retired, since each
 /// instruction of it was met.

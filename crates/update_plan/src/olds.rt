@@ -9,10 +9,10 @@ use extract_post::Extract;
 use i386_reloc::{Normal, NormalSection};
 use ks_base::Name;
 use link_post::solved_as;
-use retired_code::{Fate, OldFunction};
 use std::alloc::{AllocError, Global};
 use std::collections::BTreeMap;
 use symbol_table::{Solved, Unknown, Values};
+use update_retired::{Fate, OldFunction};
 
 /// The functions of the old object as they run, in its order: each code section that has a body among the values, with
 /// what the update does with it. `Err` comes for want of memory alone. The time is n log n in the sections.

@@ -1,16 +1,15 @@
 //! The sections of the new object that an update places.
 ghost use Rattle.std.specs.Prelude.{◌≡◌, ◌++◌, IfOk, OnOk};
 ghost use Rattle.link_post.specs.Linked.{AreNamesInOrder};
-ghost use Rattle.section_roles.specs.Roles.{role_at};
+ghost use Rattle.extract_post.specs.Roles.{role_at};
 ghost use Rattle.update_plan.specs.Placing.{names_of, part_as, parts_of};
 
-use extract_post::Extract;
+use extract_post::{Extract, Role, roles_of};
 use i386_reloc::{Normal, NormalSection};
 use ks_base::{Name, Names};
-use new_code::Part;
-use section_roles::{Role, roles_of};
 use std::alloc::{AllocError, Global};
 use std::collections::BTreeMap;
+use update_pieces::Part;
 
 /// The sections of the new object that are placed, in its order: those that have a role. `Err` comes for want of memory
 /// alone. The time is n log n in the sections.

@@ -9,9 +9,9 @@ ghost use Rattle.symbol_solve.specs.Solve.{solved};
 ghost use Rattle.link_post.specs.Linked.{AreInOrder, AreNamesInOrder};
 ghost use Rattle.link_post.specs.Places.{placed};
 ghost use Rattle.link_post.specs.Values.{resolved};
-ghost use Rattle.new_code.specs.Parts.{size_of};
-ghost use Rattle.retired_code.specs.Overlaps.{code_refusal};
-ghost use Rattle.retired_code.specs.Retired.{AreBodies};
+ghost use Rattle.update_pieces.specs.Parts.{size_of};
+ghost use Rattle.update_retired.specs.Overlaps.{code_refusal};
+ghost use Rattle.update_retired.specs.Retired.{AreBodies};
 ghost use Rattle.update_plan.specs.Olds.{olds_of};
 ghost use Rattle.update_plan.specs.Placing.{names_of};
 ghost use Rattle.update_plan.specs.Plan.{fences_of, plan_of, planned, unless};
@@ -22,16 +22,15 @@ use crate::olds::olds_of;
 use crate::parts::{names_of, parts_of};
 use crate::types::{Fences, Plan};
 use extract_post::{Extract, extract, extract_is_computed};
-use i386_reloc::Normal;
+use i386_reloc::{Normal, read_sections};
 use image_memory::{Fence, Space};
 use ks_base::{Ranges, Refusal};
 use link_post::{Placement, place, places_keep_the_order, resolve_post};
-use new_code::{Part, new_pieces, new_symbols, report_of, sizes};
-use object_sections::read_sections;
-use retired_code::{OldFunction, code_refusal, guarded_ranges};
 use std::alloc::{AllocError, Global};
 use symbol_solve::{answers_tell_each_body, solve};
 use symbol_table::{Bodies, SymbolTable, Values};
+use update_pieces::{Part, new_pieces, new_symbols, report_of, sizes};
+use update_retired::{OldFunction, code_refusal, guarded_ranges};
 
 /// What an update from the object file `pre` to the object file `post` would do to a running program. The bodies are
 /// the newest bases of homes at which a jump stands, and the retired ranges come the oldest first; the new sections are

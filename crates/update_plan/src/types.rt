@@ -1,7 +1,7 @@
 //! What an update would do.
 use image_memory::{Fence, Pieces};
 use ks_base::{ListOf, Ranges, Report};
-use new_code::NewSymbols;
+use update_pieces::NewSymbols;
 
 /// Ranges that are to be retired, in order.
 pub type Fences = ListOf<Fence>;

@@ -12,7 +12,7 @@ use Rattle.std.proofs.lemmas.List.Sorted.{IsPermutation-append_right}
 use Rattle.image_memory.specs.declared.types.Piece.{Piece}
 use Rattle.image_memory.specs.Contents.{piece_range}
 use Rattle.image_memory.specs.Changes.{with_piece}
-use Rattle.memory_changes.specs.Withdrawn.{is_based_at, without_pieces}
+use Rattle.update_memory.specs.Withdrawn.{is_based_at, without_pieces}
 use Rattle.update_stack.specs.Apply.{with_new_piece}
 
 module _ (p : Piece → Bool) where

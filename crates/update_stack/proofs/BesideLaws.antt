@@ -15,22 +15,22 @@ use Rattle.image_memory.specs.Contents.{Contents, IsValid, piece_range, holding,
 use Rattle.image_memory.specs.Access.{kind_of, unwritable, write_fault, first_fault, byte_at, bytes_at}
 use Rattle.image_memory.specs.Access.{overlaid, overlaid_piece, written}
 use Rattle.image_memory.specs.Fetch.{HasCode}
-use Rattle.image_memory.specs.RangeLaws.{found as found_at}
-use Rattle.image_memory.specs.AccessLaws.{good_at, length-overlaid, new_outside}
+use Rattle.image_memory.specs.laws.RangeLaws.{found as found_at}
+use Rattle.image_memory.specs.laws.AccessLaws.{good_at, length-overlaid, new_outside}
 use Rattle.ia32_step.specs.declared.types.Thread.{Thread}
 use Rattle.link_post.specs.Places.{unless_empty, without}
 use Rattle.splice_jump.specs.Jump.{five_at}
 use Rattle.splice_jump.specs.Jumps.{jumped, unjumped, olds_at, AreSpliced}
-use Rattle.splice_jump.specs.CodeLaws.{IsHeld, code_at, code_kind}
-use Rattle.splice_jump.specs.WriteLaws.{Misses, byte_after, piece_after, jumps_of, jumped_as, jumped-is, unjumped-is}
-use Rattle.splice_jump.specs.WriteLaws.{holding-after, byte_in_after, in_or_out}
-use Rattle.memory_changes.specs.Withdrawn.{is_based_at}
+use Rattle.splice_jump.specs.laws.CodeLaws.{IsHeld, code_at, code_kind}
+use Rattle.splice_jump.specs.laws.WriteLaws.{Misses, byte_after, piece_after, jumps_of, jumped_as, jumped-is, unjumped-is}
+use Rattle.splice_jump.specs.laws.WriteLaws.{holding-after, byte_in_after, in_or_out}
+use Rattle.update_memory.specs.Withdrawn.{is_based_at}
 use Rattle.update_stack.specs.declared.updates.Kept.{Kept}
 use Rattle.update_stack.specs.CallTable.{CallTable, Row, Update, bodies_in, contents_of, jump_rows}
 use Rattle.update_stack.specs.Apply.{gaps_of}
 use Rattle.update_stack.specs.Undo.{withdrawn}
 use Rattle.update_stack.specs.Stacked.{IsBuilt, AreKept, NoneKept, OneKept}
-use Rattle.update_stack.specs.StackedLaws.{built_newest}
+use Rattle.update_stack.specs.laws.StackedLaws.{built_newest}
 use Rattle.update_stack.proofs.TableLaws.{spliced_new}
 use Rattle.update_stack.proofs.BuiltLaws.{wrote, withdrawn_wrote}
 use Rattle.update_stack.proofs.KeptLaws.{CodeWasThere, withdrawn_pieces}

@@ -20,12 +20,12 @@ use Rattle.image_memory.specs.Contents.{Contents, IsValid, ArePlaced, piece_rang
 use Rattle.image_memory.specs.Access.{overlaid_piece, written}
 use Rattle.image_memory.specs.Changes.{ArePlaceable, HasPiece, with_piece, with_fence, after_add, after_fence}
 use Rattle.image_memory.specs.Fetch.{HasCode}
-use Rattle.image_memory.specs.AccessLaws.{length-overlaid, Ascends-written}
+use Rattle.image_memory.specs.laws.AccessLaws.{length-overlaid, Ascends-written}
 use Rattle.splice_jump.specs.Jumps.{IsFenced, IsSpliced, AreSpliced}
-use Rattle.splice_jump.specs.CodeLaws.{spliced_written}
-use Rattle.memory_changes.specs.Added.{AreAddable, with_pieces}
-use Rattle.memory_changes.specs.Retired.{AreRetirable, with_fences, with_ranges}
-use Rattle.memory_changes.specs.Withdrawn.{is_based_at, without_pieces, is_one_of, ranges_but}
+use Rattle.splice_jump.specs.laws.CodeLaws.{spliced_written}
+use Rattle.update_memory.specs.Added.{AreAddable, with_pieces}
+use Rattle.update_memory.specs.Retired.{AreRetirable, with_fences, with_ranges}
+use Rattle.update_memory.specs.Withdrawn.{is_based_at, without_pieces, is_one_of, ranges_but}
 use Rattle.ia32_step.specs.declared.types.Thread.{Thread}
 use Rattle.image_threads.specs.Spawning.{is_writable, is_stack}
 use Rattle.update_plan.specs.declared.types.Plan.{Plan}
@@ -35,9 +35,9 @@ use Rattle.update_stack.specs.CallTable.{contents_of}
 use Rattle.update_stack.specs.Apply.{with_new_piece, update_as, committed, retired_of}
 use Rattle.update_stack.specs.Undo.{without_last, withdrawn, newest_update}
 use Rattle.update_stack.specs.Stacked.{IsSound, IsOnTop, IsBuilt, Untouched, Updated}
-use Rattle.update_stack.specs.StackedLaws.{built_sound, last_more}
-use Rattle.update_stack.specs.TableLaws.{homes_after, homes_spliced}
-use Rattle.update_stack.specs.ViewLaws.{ranges_back}
+use Rattle.update_stack.specs.laws.StackedLaws.{built_sound, last_more}
+use Rattle.update_stack.specs.laws.TableLaws.{homes_after, homes_spliced}
+use Rattle.update_stack.specs.laws.ViewLaws.{ranges_back}
 use Rattle.update_stack.proofs.TableLaws.{IsTable, first_table, table_stays, table_back, last_back}
 use Rattle.update_stack.proofs.TableLaws.{pairs_map, all_homes_more, bases_after, table_spliced}
 

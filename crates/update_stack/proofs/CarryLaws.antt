@@ -16,16 +16,16 @@ use Rattle.image_memory.specs.Contents.{Contents, IsValid, piece_range, fence_ra
 use Rattle.image_memory.specs.Access.{bytes_at, written}
 use Rattle.image_memory.specs.Changes.{ArePlaceable, after_fence}
 use Rattle.image_memory.specs.Fetch.{HasCode}
-use Rattle.image_memory.specs.RangeLaws.{list_any-map}
+use Rattle.image_memory.specs.laws.RangeLaws.{list_any-map}
 use Rattle.symbol_table.specs.declared.symbols.Symbol.{Symbol}
 use Rattle.link_post.specs.Places.{unless_empty, without}
 use Rattle.splice_jump.specs.Jump.{five_at}
 use Rattle.splice_jump.specs.Jumps.{jumped, jumped_memory, olds_at, unjumped, AreSpliced}
-use Rattle.memory_changes.specs.declared.types.Jump.{Jump}
-use Rattle.memory_changes.specs.Added.{AreAddable, with_pieces}
-use Rattle.memory_changes.specs.Retired.{with_fences}
-use Rattle.memory_changes.specs.Rows.{row_of, rows_of, old_of, olds_of}
-use Rattle.memory_changes.specs.Withdrawn.{without_pieces}
+use Rattle.update_memory.specs.declared.types.Jump.{Jump}
+use Rattle.update_memory.specs.Added.{AreAddable, with_pieces}
+use Rattle.update_memory.specs.Retired.{with_fences}
+use Rattle.update_memory.specs.Rows.{row_of, rows_of, old_of, olds_of}
+use Rattle.update_memory.specs.Withdrawn.{without_pieces}
 use Rattle.image_threads.specs.Program.{Program}
 use Rattle.update_plan.specs.declared.types.Plan.{Plan}
 use Rattle.update_plan.specs.Sound.{IsJumpTo, CanBeMade}
@@ -40,8 +40,8 @@ use Rattle.update_stack.specs.Systems.{text_of, HasJumpCode, Holds, live_update,
 use Rattle.update_stack.specs.Stacked.{IsBuilt, AreKept, OneKept}
 use Rattle.update_stack.specs.inside.Carrying.{bare_jump, shown_as, EndsLow, FitsIn, IsKeptOf}
 use Rattle.update_stack.specs.inside.Carrying.{IsCarriedOut, gaps_after, HoldsAfter}
-use Rattle.update_stack.specs.StackedLaws.{built_sound}
-use Rattle.update_stack.specs.ViewLaws.{ranges_back}
+use Rattle.update_stack.specs.laws.StackedLaws.{built_sound}
+use Rattle.update_stack.specs.laws.ViewLaws.{ranges_back}
 use Rattle.update_stack.proofs.LastLaws.{last_more, text_more, table_more, live_more}
 use Rattle.update_stack.proofs.TableLaws.{JumpsAdded, JumpsReplaced, spliced_new, jumps_stacked}
 use Rattle.update_stack.proofs.BuiltLaws.{MemoryLaws, machine_is, pieces_made, pieces_fit, ranges_fit}

@@ -21,7 +21,7 @@ use Rattle.image_file.specs.Rules.{length_rules, stack_low_rules, stack_high_rul
 use Rattle.image_file.specs.Keeps.{all_hold}
 use Rattle.image_file.specs.Reading.{Contents as Image, header_at, region_after, region_at, region_width, symbol_at}
 use Rattle.image_file.specs.Reading.{symbol_width, stack_after, stack_at, stack_width, image_of}
-use Rattle.image_file.specs.FieldLaws.{bind_ok, after_bind, ok_is, content_long, all_kept}
+use Rattle.image_file.specs.laws.FieldLaws.{bind_ok, after_bind, ok_is, content_long, all_kept}
 use Rattle.image_threads.specs.Program.{IsStackRange}
 use Rattle.image_threads.specs.Spawning.{is_stack, AreStacks, is_writable}
 use Rattle.update_stack.specs.CallTable.{stack_piece, all_pieces, first_machine}

@@ -14,7 +14,7 @@ use Rattle.image_threads.specs.Program.{IsStackRange, WellPlaced}
 use Rattle.image_threads.specs.Spawning.{is_writable, is_stack, AreStacks}
 use Rattle.link_post.specs.Places.{unless_empty, cut, without}
 use Rattle.stack_scan.specs.Standing.{LiesInWritable, HasStack}
-use Rattle.image_threads.specs.StackLaws.{same_ends, writable_kind}
+use Rattle.image_threads.specs.laws.StackLaws.{same_ends, writable_kind}
 use Rattle.update_plan.specs.Sound.{AreGaps}
 use Rattle.update_stack.specs.declared.updates.Update.{Update as Shown}
 use Rattle.update_stack.specs.declared.updates.Kept.{Kept}

@@ -20,7 +20,7 @@ use Rattle.update_stack.specs.CallTable.{CallTable, fence_in, bodies_in, shown_u
 use Rattle.update_stack.specs.StandsFor.{Seen, StandsFor, patched}
 use Rattle.update_stack.specs.Systems.{text_of, table_of, machine_of, live_updates, gaps_in, Holds}
 use Rattle.update_stack.specs.Stacked.{IsBuilt, Untouched, AreKept, NoneKept}
-use Rattle.update_stack.specs.StackedLaws.{built_sound}
+use Rattle.update_stack.specs.laws.StackedLaws.{built_sound}
 use Rattle.update_stack.proofs.TextLaws.{PastOldCode, CodeStays, IsClear, HasOldCode, placed_stays}
 use Rattle.update_stack.proofs.TextLaws.{clear_text, clear_under, old_code_stays, past_text}
 use Rattle.update_stack.proofs.FreshLaws.{arena_free}

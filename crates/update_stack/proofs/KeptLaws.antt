@@ -4,7 +4,7 @@ use Rattle.std.specs.List.{last_or}
 use Rattle.ks_base.specs.declared.places.Range.{Range}
 use Rattle.image_memory.specs.Contents.{Contents, IsValid}
 use Rattle.image_memory.specs.Fetch.{HasCode}
-use Rattle.memory_changes.specs.Withdrawn.{without_pieces}
+use Rattle.update_memory.specs.Withdrawn.{without_pieces}
 use Rattle.update_stack.specs.declared.updates.Kept.{Kept}
 use Rattle.update_stack.specs.CallTable.{CallTable, Update}
 use Rattle.update_stack.specs.Apply.{gaps_of}

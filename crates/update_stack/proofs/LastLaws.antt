@@ -5,13 +5,13 @@ use Rattle.std.specs.List.{last_or, fold, flat_map}
 use Rattle.std.proofs.lemmas.List.{length-append, append_assoc, append-nil}
 use Rattle.image_memory.specs.declared.types.Piece.{Piece}
 use Rattle.splice_jump.specs.Jumps.{unjumped}
-use Rattle.memory_changes.specs.Rows.{olds_of}
+use Rattle.update_memory.specs.Rows.{olds_of}
 use Rattle.update_stack.specs.declared.updates.Update.{Update as Shown}
 use Rattle.update_stack.specs.declared.updates.Kept.{Kept}
 use Rattle.update_stack.specs.CallTable.{Update, with_replaced}
 use Rattle.update_stack.specs.Undo.{without_last}
 use Rattle.update_stack.specs.Systems.{text_of, replaced_by, table_of, live_update, live_updates}
-use Rattle.update_stack.specs.StackedLaws.{last_more as last_from}
+use Rattle.update_stack.specs.laws.StackedLaws.{last_more as last_from}
 
 pub last_more : {X : Type 0} (xs : List X) (x : X) → last_or None (xs ++ x ∷ []) ≡ Some x
 last_more xs x = last_from None xs x

@@ -15,7 +15,7 @@ use Rattle.update_stack.specs.declared.updates.Kept.{Kept}
 use Rattle.update_stack.specs.CallTable.{Row, Update, newest_in, bodies_in, jump_rows, with_replaced}
 use Rattle.update_stack.specs.Apply.{has_name}
 use Rattle.update_stack.specs.Systems.{replaced_by, table_of, live_updates}
-use Rattle.update_stack.specs.StackedLaws.{last_more}
+use Rattle.update_stack.specs.laws.StackedLaws.{last_more}
 use Rattle.update_stack.proofs.LastLaws.{table_more}
 use Rattle.update_stack.proofs.TableLaws.{IsTable, pairs_map, first_table, table_stays}
 

@@ -28,14 +28,14 @@ use Rattle.ia32_step.specs.Exec.{executed, is_stepped, refuses_prefixes, change_
 use Rattle.ia32_step.specs.Code.{SameData}
 use Rattle.ia32_step.specs.Step.{Left, left_by, context_of, exits, done, store_fault, after_store, unless_barred}
 use Rattle.ia32_step.specs.Step.{resumed, change_by, change_in, next_change, stepped}
-use Rattle.ia32_step.specs.OperandLaws.{length-spelled}
+use Rattle.ia32_step.specs.laws.OperandLaws.{length-spelled}
 use Rattle.splice_jump.specs.Jump.{displacement, jump_bytes}
 use Rattle.splice_jump.specs.Jumps.{jumped, jumped_memory, IsSpliced, AreSpliced}
 use Rattle.update_stack.specs.CallTable.{CallTable, is_home, bodies_in, contents_of}
 use Rattle.update_stack.specs.CallTable.{view_in, base_of}
 use Rattle.update_stack.specs.Steps.{step_at, step_in}
 use Rattle.update_stack.specs.Jumps.{jumped_left}
-use Rattle.update_stack.specs.ViewLaws.{home_row, met_alike}
+use Rattle.update_stack.specs.laws.ViewLaws.{home_row, met_alike}
 
 -- the jump at a home leads to the base
 jump_leads : (home base : ℕ) → base < 2 ^ 32 → above (above home 5) (displacement home base) ≡ base

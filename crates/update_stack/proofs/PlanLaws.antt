@@ -26,8 +26,8 @@ use Rattle.link_post.specs.Places.{unless_empty, without}
 use Rattle.match_candidates.specs.Candidates.{Running}
 use Rattle.match_candidates.specs.Alike.{RunAlike}
 use Rattle.run_pre_match.specs.Alike.{AreAlike}
-use Rattle.read_only_data.specs.Constants.{constant_byte, constant_at}
-use Rattle.retired_code.specs.Room.{HaveOneShape}
+use Rattle.match_constants.specs.Constants.{constant_byte, constant_at}
+use Rattle.update_retired.specs.Room.{HaveOneShape}
 use Rattle.splice_jump.specs.Jumps.{jumped, jumped_memory, IsSpliced, AreSpliced}
 use Rattle.symbol_table.specs.declared.symbols.Symbol.{Symbol}
 use Rattle.symbol_table.specs.Bodies.{home_of, homes, newest}
@@ -39,7 +39,7 @@ use Rattle.update_stack.specs.CallTable.{CallTable, bodies_in, contents_of}
 use Rattle.update_stack.specs.Apply.{name_refusal, running_of, retired_of, gaps_of, planned_in}
 use Rattle.update_stack.specs.StandsFor.{Seen, StandsFor, patched}
 use Rattle.update_stack.specs.Stacked.{IsSound, IsBuilt}
-use Rattle.update_stack.specs.StackedLaws.{built_sound}
+use Rattle.update_stack.specs.laws.StackedLaws.{built_sound}
 use Rattle.update_stack.proofs.BuiltLaws.{fences_listed}
 use Rattle.update_stack.proofs.TableLaws.{pairs_map, pairs_read}
 

@@ -24,7 +24,7 @@ use Rattle.update_stack.specs.Undo.{ranges_in, newest_update}
 use Rattle.update_stack.specs.Systems.{machine_of, Holds}
 use Rattle.update_stack.specs.Stacked.{IsKept, AreKept, NoneKept, OneKept}
 use Rattle.update_stack.specs.inside.TakingBack.{refusal_of, undo_refusal}
-use Rattle.update_stack.specs.StackedLaws.{built_sound}
+use Rattle.update_stack.specs.laws.StackedLaws.{built_sound}
 use Rattle.update_stack.proofs.LastLaws.{last_more}
 use Rattle.update_stack.proofs.FreshLaws.{all_have_stacks}
 use Rattle.update_stack.proofs.ThreadLaws.{DataStay, threads_stay}

@@ -13,7 +13,7 @@ use Rattle.image_memory.specs.Access.{written}
 use Rattle.image_threads.specs.Program.{Program, IsStackRange}
 use Rattle.image_threads.specs.Spawning.{started, started_at, started_on, with_started, free_stack}
 use Rattle.image_threads.specs.Spawning.{first_bytes, is_stack, AreStacks, first_thread, spawned as program_spawned}
-use Rattle.image_threads.specs.StackLaws.{stack_written, length-first_bytes, stack_listed}
+use Rattle.image_threads.specs.laws.StackLaws.{stack_written, length-first_bytes, stack_listed}
 use Rattle.symbol_table.specs.Symbols.{function_named}
 use Rattle.update_stack.specs.declared.updates.Update.{Update as Shown}
 use Rattle.update_stack.specs.declared.updates.Kept.{Kept}
@@ -21,7 +21,7 @@ use Rattle.update_stack.specs.CallTable.{CallTable, contents_of}
 use Rattle.update_stack.specs.Steps.{after_start, spawned}
 use Rattle.update_stack.specs.Events.{Spawn, Spawned, Happened, happened, spawn_answered, answered}
 use Rattle.update_stack.specs.Systems.{text_of, machine_of, Holds}
-use Rattle.update_stack.specs.StackedLaws.{built_sound}
+use Rattle.update_stack.specs.laws.StackedLaws.{built_sound}
 use Rattle.update_stack.proofs.TextLaws.{IsClear, clear_under}
 use Rattle.update_stack.proofs.BesideLaws.{clear_avoids}
 use Rattle.update_stack.proofs.HoldsLaws.{Laws, Sound, IsKeptOver, over_wrote, sound_of, over_of, writes_beside}

@@ -21,8 +21,8 @@ use Rattle.update_stack.specs.StandsFor.{patched}
 use Rattle.update_stack.specs.Events.{Step, Stepped, happened}
 use Rattle.update_stack.specs.Events.{step_answered, answered, machine_after, after_event}
 use Rattle.update_stack.specs.Systems.{text_of, machine_of, Holds}
-use Rattle.update_stack.specs.StackedLaws.{built_sound}
-use Rattle.update_stack.specs.StepLaws.{by_step}
+use Rattle.update_stack.specs.laws.StackedLaws.{built_sound}
+use Rattle.update_stack.specs.laws.StepLaws.{by_step}
 use Rattle.update_stack.proofs.HoldsLaws.{Laws, Sound, IsKeptOver, Follows, rows_in, machine_by, sound_of, over_of}
 use Rattle.update_stack.proofs.HoldsLaws.{follows_itself, follows_write, holds_again}
 

@@ -18,8 +18,8 @@ use Rattle.splice_jump.specs.Jump.{with_jump}
 use Rattle.splice_jump.specs.Jumps.{jumped, row_with, with_base, IsSpliced, AreSpliced}
 use Rattle.update_stack.specs.CallTable.{Row, is_home, newest_in, bodies_in, with_replaced, jump_row, jump_rows}
 use Rattle.update_stack.specs.Undo.{without_last, shorter, without_base}
-use Rattle.update_stack.specs.StackedLaws.{last_more}
-use Rattle.update_stack.specs.TableLaws.{all_read, equal, more_of, homes_spliced}
+use Rattle.update_stack.specs.laws.StackedLaws.{last_more}
+use Rattle.update_stack.specs.laws.TableLaws.{all_read, equal, more_of, homes_spliced}
 
 -- no home has two rows, and each row has a base
 pub record IsTable (table : List Row) : Type 0 where

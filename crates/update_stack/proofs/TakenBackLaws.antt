@@ -20,20 +20,20 @@ use Rattle.image_memory.specs.declared.types.Piece.{Piece}
 use Rattle.image_memory.specs.Ranges.{Ascends}
 use Rattle.image_memory.specs.Contents.{Contents, IsValid, piece_range, holding}
 use Rattle.image_memory.specs.Access.{kind_of, unwritable, first_fault, write_fault, overlaid_piece, written}
-use Rattle.image_memory.specs.AccessLaws.{good_at, overlaid_outside, piece_apart}
-use Rattle.image_memory.specs.RangeLaws.{within, found_here}
+use Rattle.image_memory.specs.laws.AccessLaws.{good_at, overlaid_outside, piece_apart}
+use Rattle.image_memory.specs.laws.RangeLaws.{within, found_here}
 use Rattle.splice_jump.specs.Jump.{jump_bytes}
 use Rattle.splice_jump.specs.Jumps.{with_row, jumped, AreSpliced}
-use Rattle.memory_changes.specs.Withdrawn.{is_based_at}
+use Rattle.update_memory.specs.Withdrawn.{is_based_at}
 use Rattle.match_candidates.specs.Candidates.{Running}
 use Rattle.ia32_step.specs.declared.types.Thread.{Thread}
 use Rattle.image_threads.specs.Program.{IsStackRange, running_at}
 use Rattle.image_threads.specs.Spawning.{started, started_at, started_on, free_stack, first_bytes, first_thread}
-use Rattle.image_threads.specs.StackLaws.{stack_listed}
+use Rattle.image_threads.specs.laws.StackLaws.{stack_listed}
 use Rattle.symbol_table.specs.Symbols.{function_named}
 use Rattle.link_post.specs.Places.{unless_empty, without}
 use Rattle.stack_scan.specs.Standing.{thread_refusal}
-use Rattle.splice_jump.specs.CodeLaws.{only_code}
+use Rattle.splice_jump.specs.laws.CodeLaws.{only_code}
 use Rattle.update_plan.specs.declared.types.Plan.{Plan}
 use Rattle.update_plan.specs.Plan.{planned, unless}
 use Rattle.update_plan.specs.Sound.{AreGaps, CanBeMade}
@@ -48,8 +48,8 @@ use Rattle.update_stack.specs.Events.{apply_answered, undo_answered, answered, m
 use Rattle.update_stack.specs.TakenBack.{Lasting, is_text, lasting, earlier_by, befores}
 use Rattle.update_stack.specs.TakenBack.{TakenBackIsRestored, MachinesAreBuilt}
 use Rattle.update_stack.specs.Stacked.{IsSound, IsBuilt, Untouched, Updated}
-use Rattle.update_stack.specs.StackedLaws.{last_more, built_sound}
-use Rattle.update_stack.specs.StepLaws.{by_step}
+use Rattle.update_stack.specs.laws.StackedLaws.{last_more, built_sound}
+use Rattle.update_stack.specs.laws.StepLaws.{by_step}
 use Rattle.update_stack.proofs.TableLaws.{last_back}
 use Rattle.update_stack.proofs.BuiltLaws.{MemoryLaws, built_write, built_commit, committed_back, wrote}
 use Rattle.update_stack.proofs.BuiltLaws.{withdrawn_wrote, fences_listed}

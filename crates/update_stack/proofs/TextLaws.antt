@@ -13,11 +13,11 @@ use Rattle.image_memory.specs.Ranges.{lies_in, meets, MeetsNone}
 use Rattle.image_memory.specs.Contents.{Contents, IsValid, ArePlaced, piece_range, holding}
 use Rattle.image_memory.specs.Access.{kind_of, unwritable, first_fault, write_fault, overlaid_piece, written}
 use Rattle.image_memory.specs.Fetch.{HasCode}
-use Rattle.image_memory.specs.AccessLaws.{length-overlaid, Ascends-written}
+use Rattle.image_memory.specs.laws.AccessLaws.{length-overlaid, Ascends-written}
 use Rattle.splice_jump.specs.Jump.{with_old}
 use Rattle.splice_jump.specs.Jumps.{with_old_row, unjumped}
-use Rattle.memory_changes.specs.declared.types.Jump.{Jump}
-use Rattle.memory_changes.specs.Rows.{old_of, olds_of}
+use Rattle.update_memory.specs.declared.types.Jump.{Jump}
+use Rattle.update_memory.specs.Rows.{old_of, olds_of}
 use Rattle.update_plan.specs.Sound.{AreGaps}
 use Rattle.update_stack.specs.declared.updates.Kept.{Kept}
 use Rattle.update_stack.specs.Systems.{text_of, HasJumpCode}

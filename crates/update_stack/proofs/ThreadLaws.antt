@@ -17,7 +17,7 @@ use Rattle.image_memory.specs.Ranges.{lies_in}
 use Rattle.image_memory.specs.Contents.{Contents, IsValid, piece_range, holding}
 use Rattle.image_memory.specs.Access.{byte_at, bytes_at, dword_at}
 use Rattle.image_memory.specs.Fetch.{code_in, code_from}
-use Rattle.image_memory.specs.RangeLaws.{within, found_here}
+use Rattle.image_memory.specs.laws.RangeLaws.{within, found_here}
 use Rattle.ia32_step.specs.declared.types.State.{State}
 use Rattle.ia32_step.specs.declared.types.State.TheVariants.{Running, Exited, Stopped}
 use Rattle.ia32_step.specs.declared.types.Thread.{Thread}

@@ -15,7 +15,7 @@ use Rattle.ia32_step.specs.declared.types.Store.{Store}
 use Rattle.ia32_step.specs.declared.types.Traced.{Traced}
 use Rattle.ia32_step.specs.Operands.{spelled}
 use Rattle.ia32_step.specs.Step.{store_fault, after_store, stored, window_length, fetched_count}
-use Rattle.ia32_step.specs.OperandLaws.{length-spelled}
+use Rattle.ia32_step.specs.laws.OperandLaws.{length-spelled}
 use Rattle.image_threads.specs.Program.{Program, running_at}
 use Rattle.image_threads.specs.Stepping.{moved}
 use Rattle.update_stack.specs.declared.updates.Update.{Update as Shown}
@@ -25,7 +25,7 @@ use Rattle.update_stack.specs.Jumps.{CanJump}
 use Rattle.update_stack.specs.StandsFor.{Seen, patched}
 use Rattle.update_stack.specs.Systems.{machine_of, text_of, Holds}
 use Rattle.update_stack.specs.inside.Stepping.{ComesOfStep}
-use Rattle.update_stack.specs.StackedLaws.{built_sound}
+use Rattle.update_stack.specs.laws.StackedLaws.{built_sound}
 use Rattle.update_stack.proofs.HoldsLaws.{Laws, sound_of, writes_beside}
 use Rattle.update_stack.proofs.LockStep.{home_spliced}
 use Rattle.update_stack.proofs.StepLaws.{AllSteps, step_holds, step_seen, stepped_after, step_runs}

@@ -14,9 +14,9 @@ use Rattle.image_memory.specs.Access.{bytes_at, written}
 use Rattle.image_memory.specs.Fetch.{HasCode}
 use Rattle.splice_jump.specs.Jump.{five_at, jump_bytes}
 use Rattle.splice_jump.specs.Jumps.{jumped, jumped_memory, with_row, old_at, olds_at, unjumped, AreSpliced}
-use Rattle.memory_changes.specs.declared.types.Jump.{Jump}
-use Rattle.memory_changes.specs.Rows.{row_of, rows_of, old_of, olds_of}
-use Rattle.memory_changes.specs.Withdrawn.{is_one_of, without_pieces, ranges_but, without_ranges, withdrawn_memory}
+use Rattle.update_memory.specs.declared.types.Jump.{Jump}
+use Rattle.update_memory.specs.Rows.{row_of, rows_of, old_of, olds_of}
+use Rattle.update_memory.specs.Withdrawn.{is_one_of, without_pieces, ranges_but, without_ranges, withdrawn_memory}
 use Rattle.image_threads.specs.Program.{Program}
 use Rattle.update_stack.specs.declared.updates.Update.{Update as Shown}
 use Rattle.update_stack.specs.declared.updates.Kept.{Kept}
@@ -28,7 +28,7 @@ use Rattle.update_stack.specs.Systems.{text_of, replaced_by, table_of, live_upda
 use Rattle.update_stack.specs.Systems.{HasJumpCode, Holds}
 use Rattle.update_stack.specs.Stacked.{IsBuilt, AreKept, NoneKept, OneKept}
 use Rattle.update_stack.specs.inside.TakingBack.{CanBeTaken, after_taking, IsHeldBefore}
-use Rattle.update_stack.specs.StackedLaws.{HasNewest, built_newest}
+use Rattle.update_stack.specs.laws.StackedLaws.{HasNewest, built_newest}
 use Rattle.update_stack.proofs.LastLaws.{last_more, without_more, text_more, table_more, live_more}
 use Rattle.update_stack.proofs.TableLaws.{JumpsAdded, JumpsReplaced, first_table, table_stays, table_back, spliced_new}
 use Rattle.update_stack.proofs.TableLaws.{jumps_stacked}

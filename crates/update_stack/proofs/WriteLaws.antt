@@ -9,7 +9,7 @@ use Rattle.image_memory.specs.Contents.{Contents, IsValid}
 use Rattle.image_memory.specs.Access.{first_fault, write_fault}
 use Rattle.image_threads.specs.Program.{IsStackRange}
 use Rattle.image_threads.specs.Spawning.{first_bytes, is_stack, AreStacks}
-use Rattle.image_threads.specs.StackLaws.{stack_written, length-first_bytes}
+use Rattle.image_threads.specs.laws.StackLaws.{stack_written, length-first_bytes}
 
 -- the bytes of a stack can be written
 pub stack_clear : (contents : Contents) (stacks : List Range) (stack : Range) (argument : ℕ) → IsValid contents

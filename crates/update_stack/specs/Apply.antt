@@ -13,7 +13,7 @@ use Rattle.image_file.specs.Fields.{◌>>=◌}
 use Rattle.image_memory.specs.declared.types.Piece.{Piece}
 use Rattle.image_memory.specs.Contents.{piece_range, fence_range}
 use Rattle.image_memory.specs.Changes.{with_piece}
-use Rattle.memory_changes.specs.Retired.{with_ranges}
+use Rattle.update_memory.specs.Retired.{with_ranges}
 use Rattle.match_candidates.specs.Candidates.{Running}
 use Rattle.link_post.specs.Places.{unless_empty, without}
 use Rattle.stack_scan.specs.Standing.{thread_refusal}

@@ -1,8 +1,7 @@
 -- Public clauses cite the machine that never patches code (CallTable and its Events, by Steps, Apply and Undo), that
 -- undoing restores what was (TakenBack), what stands for the machine (StandsFor), its steps beside those of a memory
--- with its jumps (Jumps), and a system seen as it (Systems), with what holds of it and of what it keeps (Stacked).
--- StackedLaws, TableLaws, StepLaws and ViewLaws are laws of the machine, for the crates above. What stands in inside is
--- the code's own.
+-- with its jumps (Jumps), and a system seen as it (Systems), with what holds of it and of what it keeps (Stacked). What
+-- stands in inside is the code's own.
 pub mod CallTable
 pub mod Steps
 pub mod Apply
@@ -13,8 +12,5 @@ pub mod StandsFor
 pub mod Jumps
 pub mod Stacked
 pub mod Systems
-pub mod StackedLaws
-pub mod TableLaws
-pub mod StepLaws
-pub mod ViewLaws
 pub mod inside
+pub mod laws

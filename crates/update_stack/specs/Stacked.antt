@@ -8,7 +8,7 @@ use Rattle.ks_base.specs.declared.reports.Replaced.{Replaced}
 use Rattle.image_memory.specs.Ranges.{are_same}
 use Rattle.image_memory.specs.Changes.{HasPiece}
 use Rattle.splice_jump.specs.Jumps.{jumped, olds_at}
-use Rattle.memory_changes.specs.Rows.{rows_of, olds_of}
+use Rattle.update_memory.specs.Rows.{rows_of, olds_of}
 use Rattle.image_threads.specs.Spawning.{AreStacks}
 use Rattle.update_stack.specs.declared.updates.Kept.{Kept}
 use Rattle.update_stack.specs.CallTable.{CallTable, Update, is_home, bodies_in, contents_of, jump_rows, with_replaced}

@@ -8,8 +8,8 @@ use Rattle.image_memory.specs.declared.types.Piece.{Piece}
 use Rattle.image_memory.specs.Contents.{fence_range}
 use Rattle.image_memory.specs.Fetch.{HasCode}
 use Rattle.splice_jump.specs.Jumps.{unjumped}
-use Rattle.memory_changes.specs.declared.types.Jump.{Jump}
-use Rattle.memory_changes.specs.Rows.{olds_of}
+use Rattle.update_memory.specs.declared.types.Jump.{Jump}
+use Rattle.update_memory.specs.Rows.{olds_of}
 use Rattle.link_post.specs.Places.{unless_empty}
 use Rattle.image_threads.specs.Program.{Program}
 use Rattle.update_stack.specs.declared.updates.Update.{Update as Shown}

@@ -8,7 +8,7 @@ use Rattle.ks_base.specs.declared.refusals.Refusal.TheVariants.{NothingApplied}
 use Rattle.ks_base.specs.declared.reports.Replaced.{Replaced}
 use Rattle.image_file.specs.Fields.{◌>>=◌}
 use Rattle.image_memory.specs.Contents.{piece_range}
-use Rattle.memory_changes.specs.Withdrawn.{is_based_at, without_pieces, ranges_but}
+use Rattle.update_memory.specs.Withdrawn.{is_based_at, without_pieces, ranges_but}
 use Rattle.stack_scan.specs.Standing.{thread_refusal}
 use Rattle.update_plan.specs.Plan.{unless}
 use Rattle.update_stack.specs.CallTable.{CallTable, Row, Update}

@@ -5,9 +5,9 @@ ghost use Rattle.std.specs.List.Sorted.{IsPermutation};
 ghost use Rattle.image_memory.specs.Contents.{piece_range, fence_range};
 ghost use Rattle.image_memory.specs.Changes.{ArePlaceable};
 ghost use Rattle.splice_jump.specs.Jumps.{jumped_memory, olds_at};
-ghost use Rattle.memory_changes.specs.Added.{AreAddable, with_pieces};
-ghost use Rattle.memory_changes.specs.Retired.{AreRetirable, with_fences};
-ghost use Rattle.memory_changes.specs.Rows.{olds_of, rows_of};
+ghost use Rattle.update_memory.specs.Added.{AreAddable, with_pieces};
+ghost use Rattle.update_memory.specs.Retired.{AreRetirable, with_fences};
+ghost use Rattle.update_memory.specs.Rows.{olds_of, rows_of};
 ghost use Rattle.update_stack.specs.StandsFor.{seen};
 ghost use Rattle.update_stack.specs.CallTable.{contents_of, jump_rows};
 ghost use Rattle.update_stack.specs.declared.updates.Update.{Update as Shown};
@@ -17,26 +17,26 @@ ghost use Rattle.update_stack.specs.inside.Carrying.{HoldsAfter, IsCarriedOut, I
 ghost use Rattle.update_stack.specs.declared.updates.Kept.{Kept as KeptOf};
 ghost use Rattle.ks_base.specs.declared.places.Range.{Range as RangeOf};
 ghost use Rattle.image_threads.specs.Program.{Program};
-ghost use Rattle.memory_changes.specs.declared.types.Jump.{Jump as Jumped};
+ghost use Rattle.update_memory.specs.declared.types.Jump.{Jump as Jumped};
 ghost use Rattle.update_plan.specs.declared.types.Plan.{Plan as Planned};
 ghost use Rattle.update_plan.specs.Sound.{CanBeMade};
 
 use crate::updates::{Kept, KeptList, Update, Updates};
-use arena_gaps::gaps_of_pieces;
 use image_memory::{Fence, Piece, Pieces, Space, sorted};
 use image_threads::Machine;
 use ks_base::{Name, Ranges, Replaced, Report};
-use memory_changes::{
-    Jump, Jumps, add_pieces, changes_are_withdrawn, code_that_stays, note_old_code,
-    pieces_are_added, pieces_are_added_past_code, ranges_are_retired, retire, write_jumps,
-};
-use new_code::NewSymbols;
+use link_post::gaps_of_pieces;
 use splice_jump::{
     code_stays_code, homes_stay_spliced, jumps_are_added_and_replaced, jumps_are_taken_back,
     jumps_change_their_bytes_alone,
 };
 use std::alloc::{AllocError, Global};
 use symbol_table::{Addresses, SymbolTable};
+use update_memory::{
+    Jump, Jumps, add_pieces, changes_are_withdrawn, code_that_stays, note_old_code,
+    pieces_are_added, pieces_are_added_past_code, ranges_are_retired, retire, write_jumps,
+};
+use update_pieces::NewSymbols;
 use update_plan::Plan;
 
 /// Makes room in a program for pieces, retired ranges and symbols to come. What is seen of the program stays.

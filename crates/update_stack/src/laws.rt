@@ -9,14 +9,14 @@ ghost use Rattle.update_stack.specs.Apply.{planned_in, committed};
 ghost use Rattle.update_stack.specs.Jumps.{CanJump, StepsStand};
 ghost use Rattle.update_stack.specs.Stacked.{IsBuilt};
 
-use arena_gaps::gaps_are_free;
 use ia32_decode::jumps_decode;
 use ia32_step::code_bytes_have_no_say;
-use memory_changes::pieces_are_added;
+use link_post::gaps_are_free;
 use splice_jump::{
     code_stays_code, data_are_written_past_jumps, homes_stay_spliced, jumps_leave_views,
     jumps_stand,
 };
+use update_memory::pieces_are_added;
 use update_plan::plans_can_be_made;
 
 /// Over the memory with the jumps a thread's step comes to what it comes to on the machine: at a home it goes on at the

@@ -29,12 +29,11 @@ use crate::laws::steps_stand;
 use crate::live::{bodies_of, is_taken, retired_by};
 use crate::updates::{KeptList, Updates};
 use crate::withdrawing::{take_back, updates_are_taken_back};
-use arena_gaps::{gaps_are_free, without_all};
 use ia32_step::{Outcome, Traced};
 use image_memory::{Space, ranges_of, sorted};
 use image_threads::Machine;
 use ks_base::{Name, Range, Ranges, Refusal, Report};
-use memory_changes::code_that_stays;
+use link_post::{gaps_are_free, without_all};
 use splice_jump::{
     code_stays_code, data_are_written_past_jumps, homes_stay_spliced,
     jumps_change_their_bytes_alone, jumps_leave_views,
@@ -42,6 +41,7 @@ use splice_jump::{
 use stack_scan::{check_threads, order_has_no_say};
 use std::alloc::{AllocError, Global};
 use std::marker::Model;
+use update_memory::code_that_stays;
 use update_plan::{Plan, alike_programs_have_one_plan, plan, plans_can_be_made};
 
 /// So many updates may be live.

@@ -1,9 +1,9 @@
 //! What is restored when an update is taken back.
 ghost use Rattle.update_stack.specs.TakenBack.{TakenBackIsRestored, MachinesAreBuilt};
 
-use arena_gaps::gaps_are_free;
 use image_memory::pieces_stay_placed;
-use memory_changes::{changes_are_withdrawn, pieces_are_added, ranges_are_retired};
+use link_post::gaps_are_free;
+use update_memory::{changes_are_withdrawn, pieces_are_added, ranges_are_retired};
 use update_plan::plans_can_be_made;
 
 /// In every list of events from the start of an image, an undo leaves the machine's text, the system's code with its

@@ -1,8 +1,8 @@
 //! The updates of a running system.
 use ks_base::{ListOf, Name, Ranges, Report};
-use memory_changes::Jumps;
-use new_code::NewSymbols;
 use symbol_table::Addresses;
+use update_memory::Jumps;
+use update_pieces::NewSymbols;
 
 /// An update that is live.
 #[derive(Clone, PartialEq, Eq, Debug, Drop)]

@@ -11,13 +11,13 @@ ghost use Rattle.update_stack.specs.inside.TakingBack.{CanBeTaken, after_taking,
 use crate::updates::Kept;
 use image_memory::Space;
 use image_threads::Machine;
-use memory_changes::{
-    changes_are_withdrawn, code_that_stays, dropping_goes_past_writes, memory_stays_memory,
-    withdraw,
-};
 use splice_jump::{
     code_stays_code, homes_stay_spliced, jumps_are_added_and_replaced, jumps_are_taken_back,
     jumps_change_their_bytes_alone,
+};
+use update_memory::{
+    changes_are_withdrawn, code_that_stays, dropping_goes_past_writes, memory_stays_memory,
+    withdraw,
 };
 
 /// Takes away what an update changed: its jumps, its retired ranges, its pieces and its symbols. It takes no memory.

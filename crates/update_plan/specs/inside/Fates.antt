@@ -5,8 +5,8 @@ use Rattle.std.specs.Cmp.Lexicographic.{slice_cmp}
 use Rattle.std.specs.BTreeMap.{BTreeMap, get_by}
 use denote.Ref.{Bor}
 use Rattle.extract_post.specs.declared.types.Extract.{Extract}
-use Rattle.retired_code.specs.declared.types.Fate.{Fate}
-use Rattle.retired_code.specs.declared.types.Fate.TheVariants.{Kept}
+use Rattle.update_retired.specs.declared.types.Fate.{Fate}
+use Rattle.update_retired.specs.declared.types.Fate.TheVariants.{Kept}
 use Rattle.update_plan.specs.Olds.{fate_of}
 
 -- what a map says of the function that is the section of a name

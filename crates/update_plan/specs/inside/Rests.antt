@@ -11,9 +11,9 @@ use Rattle.match_candidates.specs.Candidates.{Running}
 use Rattle.symbol_solve.specs.Solve.{solved}
 use Rattle.link_post.specs.Values.{ValueList, resolved}
 use Rattle.link_post.specs.Places.{placed}
-use Rattle.retired_code.specs.declared.types.OldFunction.{OldFunction}
-use Rattle.retired_code.specs.Overlaps.{code_refusal}
-use Rattle.new_code.specs.Parts.{NewPart, size_of}
+use Rattle.update_retired.specs.declared.types.OldFunction.{OldFunction}
+use Rattle.update_retired.specs.Overlaps.{code_refusal}
+use Rattle.update_pieces.specs.Parts.{NewPart, size_of}
 use Rattle.update_plan.specs.declared.types.Plan.{Plan}
 use Rattle.update_plan.specs.Olds.{olds_of}
 use Rattle.update_plan.specs.Placing.{parts_of, names_of}

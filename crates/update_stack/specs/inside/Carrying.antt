@@ -9,10 +9,10 @@ use Rattle.image_memory.specs.declared.types.Piece.{Piece}
 use Rattle.image_memory.specs.Contents.{Contents, piece_range, fence_range}
 use Rattle.image_memory.specs.Fetch.{HasCode}
 use Rattle.splice_jump.specs.Jumps.{jumped_memory, olds_at}
-use Rattle.memory_changes.specs.declared.types.Jump.{Jump}
-use Rattle.memory_changes.specs.Added.{AreAddable, with_pieces}
-use Rattle.memory_changes.specs.Retired.{AreRetirable, with_fences}
-use Rattle.memory_changes.specs.Rows.{rows_of, olds_of}
+use Rattle.update_memory.specs.declared.types.Jump.{Jump}
+use Rattle.update_memory.specs.Added.{AreAddable, with_pieces}
+use Rattle.update_memory.specs.Retired.{AreRetirable, with_fences}
+use Rattle.update_memory.specs.Rows.{rows_of, olds_of}
 use Rattle.link_post.specs.Places.{without}
 use Rattle.image_threads.specs.Program.{Program}
 use Rattle.update_plan.specs.declared.types.Plan.{Plan}

@@ -7,9 +7,9 @@ use Rattle.ks_base.specs.declared.refusals.Refusal.TheVariants.{NothingApplied}
 use Rattle.image_memory.specs.Ranges.{are_same}
 use Rattle.image_memory.specs.Changes.{HasPiece, IsRetired}
 use Rattle.image_memory.specs.Fetch.{HasCode}
-use Rattle.memory_changes.specs.declared.types.Jump.{Jump}
-use Rattle.memory_changes.specs.Rows.{olds_of}
-use Rattle.memory_changes.specs.Withdrawn.{withdrawn_memory}
+use Rattle.update_memory.specs.declared.types.Jump.{Jump}
+use Rattle.update_memory.specs.Rows.{olds_of}
+use Rattle.update_memory.specs.Withdrawn.{withdrawn_memory}
 use Rattle.image_threads.specs.Program.{Program}
 use Rattle.stack_scan.specs.Standing.{thread_refusal}
 use Rattle.update_stack.specs.declared.updates.Update.{Update as Shown}

@@ -3,7 +3,7 @@ use Rattle.std.proofs.lemmas.Result.{err_from_is_err_and}
 use Rattle.elf32_object.specs.Fields.{entry_count}
 use Rattle.elf32_object.specs.Rules.{relocation_fault, relocations_fault}
 use Rattle.elf32_object.specs.inside.Taken.{AreTaken}
-use Rattle.elf32_object.specs.BelowLaws.{first_at}
+use Rattle.elf32_object.specs.laws.BelowLaws.{first_at}
 use Rattle.elf32_object.proofs.Apart.{next_taken}
 use Rattle.elf32_object.proofs.Entries.{entry_in_file, target_within}
 use Rattle.elf32_object.proofs.relocations.check_entries.Goals as goal

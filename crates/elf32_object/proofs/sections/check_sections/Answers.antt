@@ -2,7 +2,7 @@ use Rattle.std.proofs.Common.{refl, arith}
 use Rattle.std.proofs.lemmas.Result.{err_from_is_err_and}
 use Rattle.elf32_object.specs.Fields.{section_count}
 use Rattle.elf32_object.specs.Rules.{section_fault}
-use Rattle.elf32_object.specs.BelowLaws.{first_at}
+use Rattle.elf32_object.specs.laws.BelowLaws.{first_at}
 use Rattle.elf32_object.proofs.Loads.{null_totals}
 use Rattle.elf32_object.proofs.sections.check_sections.Goals as goal
 

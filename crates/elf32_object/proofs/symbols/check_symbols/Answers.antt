@@ -2,7 +2,7 @@ use Rattle.std.proofs.Common.{◌≡◌, ap, refl, arith}
 use Rattle.std.proofs.lemmas.Result.{err_from_is_err_and}
 use Rattle.elf32_object.specs.Fields.{symbol_count}
 use Rattle.elf32_object.specs.Rules.{symbol_fault}
-use Rattle.elf32_object.specs.BelowLaws.{first_at}
+use Rattle.elf32_object.specs.laws.BelowLaws.{first_at}
 use Rattle.elf32_object.proofs.symbols.check_symbols.Goals as goal
 
 pub loop-k-init : goal.loop-k-init

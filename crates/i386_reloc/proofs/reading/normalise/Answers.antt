@@ -6,7 +6,7 @@ use Rattle.i386_reloc.specs.Refused.{function_fault, relocation_fault}
 use Rattle.elf32_object.specs.Fields.{section_count}
 use Rattle.i386_reloc.specs.inside.Targets.{places_below}
 use Rattle.i386_reloc.specs.References.{HasOrder}
-use Rattle.i386_reloc.specs.NameLaws.{distinct_names, all_named}
+use Rattle.i386_reloc.specs.laws.NameLaws.{distinct_names, all_named}
 use Rattle.i386_reloc.proofs.FieldOrder.{all_in_order}
 use Rattle.i386_reloc.proofs.Going.{all_going}
 use Rattle.i386_reloc.proofs.Normals.{no_fault, relocation_refused, all_functions}

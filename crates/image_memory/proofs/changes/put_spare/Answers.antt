@@ -1,7 +1,7 @@
 -- The place behind all pieces that begin at or below the new one.
 use Rattle.std.proofs.Common.{◌∙◌, arith}
 use Rattle.image_memory.specs.Contents.{piece_range}
-use Rattle.image_memory.specs.PutLaws.{insert_is_put}
+use Rattle.image_memory.specs.laws.PutLaws.{insert_is_put}
 use Rattle.image_memory.proofs.changes.put_spare.Goals as goal
 
 pub returns-clause-items : goal.returns-clause-items

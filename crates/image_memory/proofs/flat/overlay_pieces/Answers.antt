@@ -3,8 +3,8 @@ use Rattle.std.proofs.Common.{◌≡◌, ◌≤◌, ◌∙◌, ap, arith, sym, r
 use Rattle.std.proofs.lemmas.List.{get_or_read}
 use Rattle.image_memory.specs.Contents.{piece_range}
 use Rattle.image_memory.specs.declared.types.Piece.{Piece}
-use Rattle.image_memory.specs.RangeLaws.{lows_rise}
-use Rattle.image_memory.specs.AccessLaws.{piece_apart}
+use Rattle.image_memory.specs.laws.RangeLaws.{lows_rise}
+use Rattle.image_memory.specs.laws.AccessLaws.{piece_apart}
 use Rattle.image_memory.proofs.AccessLaws.{written_is}
 use Rattle.image_memory.proofs.flat.overlay_pieces.Goals as goal
 

@@ -1,6 +1,6 @@
 use Rattle.std.proofs.Common.{◌≤◌, arith}
 use Rattle.image_memory.specs.Contents.{piece_range}
-use Rattle.image_memory.specs.PutLaws.{Ascends-put, All-put}
+use Rattle.image_memory.specs.laws.PutLaws.{Ascends-put, All-put}
 use Rattle.image_memory.proofs.laws.pieces_stay_placed.Goals as goal
 
 pub returns : goal.returns

@@ -3,7 +3,7 @@ use Rattle.std.proofs.Common.{rules, arith, leb, leb-true, leb-false}
 use Rattle.std.proofs.lemmas.List.Sorted.{IsPartitionPoint-from_clause, IsPartitionedBy-leb}
 use Rattle.image_memory.specs.Contents.{piece_range}
 use Rattle.image_memory.specs.declared.types.Piece.{Piece}
-use Rattle.image_memory.specs.RangeLaws.{lows_rise}
+use Rattle.image_memory.specs.laws.RangeLaws.{lows_rise}
 use Rattle.image_memory.proofs.lookup.begun.Goals as goal
 
 pub returns : goal.returns

@@ -3,7 +3,7 @@ use Rattle.std.proofs.Common.{◌≡◌, ◌-◌, ◌<◌, arith, sym, true, len
 use Rattle.std.proofs.lemmas.List.{get_or_read}
 use Rattle.image_memory.specs.Ranges.{lies_in}
 use Rattle.image_memory.specs.Contents.{piece_range}
-use Rattle.image_memory.specs.RangeLaws.{found_here, found_nowhere}
+use Rattle.image_memory.specs.laws.RangeLaws.{found_here, found_nowhere}
 use Rattle.image_memory.proofs.lookup.piece_at.Goals as goal
 
 pub returns-then-begun-eq0-clause-piece : goal.returns-then-begun-eq0-clause-piece

@@ -1,4 +1,4 @@
-use Rattle.image_threads.specs.StackLaws.{stack_written}
+use Rattle.image_threads.specs.laws.StackLaws.{stack_written}
 use Rattle.image_threads.proofs.stacks.fill_stack.Goals as goal
 
 pub unreachable-requires : goal.unreachable-requires

@@ -1,6 +1,6 @@
 use Rattle.std.proofs.Common.{ℕ, ◌∙◌, ◌+◌, length, ap}
 use Rattle.std.proofs.lemmas.List.{length-map, length_push, map-append}
-use Rattle.ks_io.specs.KeptLaws.{FilesKept-trans}
+use Rattle.ks_io.specs.laws.KeptLaws.{FilesKept-trans}
 use Rattle.ks_io.specs.Loads.{bytes_of}
 use Rattle.ks_io.proofs.NextLoads.{stopped, went_on, not_kept}
 use Rattle.ks_io.proofs.loading.load_all.Goals as goal

@@ -3,8 +3,8 @@ use Rattle.std.proofs.Common.{◌≡◌, ◌++◌, ℕ, List, take, drop, ◌∙
 use Rattle.std.proofs.lemmas.List.{take-append-drop}
 use Rattle.std.proofs.lemmas.Grind.{common_steps}
 use Rattle.ks_io.specs.Outside.{grown}
-use Rattle.ks_io.specs.Fronts.{grown-append}
-use Rattle.ks_io.specs.KeptLaws.{SinkKept-trans}
+use Rattle.ks_io.specs.laws.Fronts.{grown-append}
+use Rattle.ks_io.specs.laws.KeptLaws.{SinkKept-trans}
 use Rattle.ks_io.proofs.writing.write_all.Goals as goal
 
 splits_further : (front rest piece : List ℕ) (n : ℕ)

@@ -1,4 +1,4 @@
-use Rattle.ks_io.specs.KeptLaws.{SinkKept-trans}
+use Rattle.ks_io.specs.laws.KeptLaws.{SinkKept-trans}
 use Rattle.ksplice_calls.proofs.image_code.print_listing.Goals as goal
 
 pub returns-in-Some-clause-out : goal.returns-in-Some-clause-out

@@ -1,7 +1,7 @@
 use Rattle.std.proofs.Common.{◌≡◌, ◌++◌, drop}
 use Rattle.std.specs.List.{flat_map}
 use Rattle.ksplice_calls.specs.Difference.{line_in}
-use Rattle.section_roles.specs.Roles.{role_at}
+use Rattle.extract_post.specs.Roles.{role_at}
 use Rattle.ksplice_calls.proofs.listing.put_sections.Given as goal
 
 -- the lines so far, and then those of the other sections, are those of all

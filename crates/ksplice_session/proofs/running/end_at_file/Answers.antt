@@ -1,4 +1,4 @@
-use Rattle.ks_io.specs.Fronts.{nothing_taken}
+use Rattle.ks_io.specs.laws.Fronts.{nothing_taken}
 use Rattle.ks_io.specs.Loads.{needed_by}
 use Rattle.ksplice_session.specs.inside.LineEnds.{MemoryLost}
 use Rattle.ksplice_session.proofs.SessionLaws.{file_exit}

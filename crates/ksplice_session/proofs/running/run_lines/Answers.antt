@@ -3,7 +3,7 @@ use Rattle.std.specs.Prelude.{is_ok}
 use Rattle.std.proofs.lemmas.Bool.{false≢true}
 use Rattle.std.proofs.lemmas.List.{take_more}
 use Rattle.std.proofs.lemmas.Result.{err_from_is_err_and}
-use Rattle.ks_io.specs.KeptLaws.{FilesKept-refl, FilesKept-trans, SinkKept-refl, SinkKept-trans}
+use Rattle.ks_io.specs.laws.KeptLaws.{FilesKept-refl, FilesKept-trans, SinkKept-refl, SinkKept-trans}
 use Rattle.ks_io.specs.Loads.{Told as ToldFiles}
 use Rattle.script_lines.specs.declared.types.Command.{Command}
 use Rattle.ksplice_session.specs.inside.LineEnds.{LineEnds}

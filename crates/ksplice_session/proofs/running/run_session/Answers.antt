@@ -1,4 +1,4 @@
-use Rattle.ks_io.specs.LoadLaws.{stays_or_loses_one}
+use Rattle.ks_io.specs.laws.LoadLaws.{stays_or_loses_one}
 use Rattle.ksplice_session.specs.Session.{files_along}
 use Rattle.ksplice_session.proofs.RanLaws.{ran_safely}
 use Rattle.ksplice_session.proofs.SessionLaws.{script_ends, stays_where_all_ran}

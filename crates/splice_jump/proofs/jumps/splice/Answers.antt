@@ -1,5 +1,5 @@
 use Rattle.std.proofs.Common.{arith}
-use Rattle.splice_jump.specs.CodeLaws.{ends_below}
+use Rattle.splice_jump.specs.laws.CodeLaws.{ends_below}
 use Rattle.splice_jump.proofs.jumps.splice.Goals as goal
 
 pub five_at-old-requires : goal.five_at-old-requires

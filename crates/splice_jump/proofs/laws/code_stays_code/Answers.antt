@@ -1,4 +1,4 @@
-use Rattle.splice_jump.specs.CodeLaws.{code_kind, ends_below, code_written}
+use Rattle.splice_jump.specs.laws.CodeLaws.{code_kind, ends_below, code_written}
 use Rattle.splice_jump.proofs.KeepLaws.{code_added, bytes_added}
 use Rattle.splice_jump.proofs.laws.code_stays_code.Goals as goal
 

@@ -1,4 +1,4 @@
-use Rattle.splice_jump.specs.CodeLaws.{spliced_written}
+use Rattle.splice_jump.specs.laws.CodeLaws.{spliced_written}
 use Rattle.splice_jump.proofs.KeepLaws.{valid_jumped, spliced_jumped, spliced_added, spliced_fenced}
 use Rattle.splice_jump.proofs.KeepLaws.{spliced_appended, spliced_before}
 use Rattle.splice_jump.proofs.ChangeLaws.{spliced_with_base}

@@ -1,6 +1,6 @@
 use Rattle.std.proofs.Common.{eqb}
 use Rattle.std.proofs.lemmas.List.Filters.{dedup_is}
-use Rattle.symbol_table.specs.AscendingLaws.{dedup_is_ascending}
+use Rattle.symbol_table.specs.laws.AscendingLaws.{dedup_is_ascending}
 use Rattle.symbol_table.proofs.addresses.put_in_order.Goals as goal
 
 pub returns : goal.returns

@@ -1,5 +1,5 @@
 use Rattle.splice_jump.specs.Jump.{jump_bytes}
-use Rattle.splice_jump.specs.CodeLaws.{code_written}
+use Rattle.splice_jump.specs.laws.CodeLaws.{code_written}
 use Rattle.tests_of_images.proofs.jumps.there_and_back.Goals as goal
 
 pub restore-requires : goal.restore-requires

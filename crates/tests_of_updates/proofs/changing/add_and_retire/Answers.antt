@@ -1,8 +1,8 @@
 use Rattle.std.proofs.Common.{List, ap, sym, subst, ◌∙◌}
 use Rattle.image_memory.specs.declared.types.Piece.{Piece}
 use Rattle.image_memory.specs.Contents.{Contents}
-use Rattle.memory_changes.specs.Added.{AreAddable, with_pieces}
-use Rattle.memory_changes.specs.Retired.{AreRetirable}
+use Rattle.update_memory.specs.Added.{AreAddable, with_pieces}
+use Rattle.update_memory.specs.Retired.{AreRetirable}
 use Rattle.tests_of_updates.specs.Small.{small, retired}
 use Rattle.tests_of_updates.proofs.SmallLaws.{addable, retirable}
 use Rattle.tests_of_updates.proofs.changing.add_and_retire.Goals as goal

@@ -1,7 +1,7 @@
 use Rattle.std.proofs.Common.{sym, subst, All}
 use Rattle.image_memory.specs.Contents.{Contents}
 use Rattle.image_memory.specs.Fetch.{HasCode}
-use Rattle.memory_changes.specs.declared.types.Jump.{Jump}
+use Rattle.update_memory.specs.declared.types.Jump.{Jump}
 use Rattle.tests_of_updates.proofs.SmallLaws.{jump_fits}
 use Rattle.tests_of_updates.proofs.changing.jump_over.Goals as goal
 

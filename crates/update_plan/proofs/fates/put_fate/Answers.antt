@@ -5,7 +5,7 @@ use Rattle.std.specs.Cmp.Lexicographic.{slice_cmp}
 use Rattle.std.specs.BTreeMap.{get_by}
 use Rattle.std.proofs.lemmas.Map.Text.{btree_map_updates_str}
 use Rattle.i386_reloc.specs.Normal.{same_bytes}
-use Rattle.retired_code.specs.declared.types.Fate.TheVariants.{Kept}
+use Rattle.update_retired.specs.declared.types.Fate.TheVariants.{Kept}
 use Rattle.update_plan.proofs.Choices.{chosen}
 use Rattle.update_plan.proofs.fates.put_fate.Goals as goal
 

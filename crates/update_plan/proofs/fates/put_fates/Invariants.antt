@@ -1,5 +1,5 @@
 use Rattle.std.proofs.Common.{◌≡◌, ℕ, cond, List, drop}
-use Rattle.section_roles.specs.Roles.{is_among}
+use Rattle.extract_post.specs.Roles.{is_among}
 use Rattle.update_plan.specs.inside.Fates.{fate_at}
 use Rattle.update_plan.proofs.fates.put_fates.Given as goal
 

@@ -1,9 +1,9 @@
 use Rattle.std.proofs.Common.{◌≡◌, ◌++◌, List, Option, take, sym, ap, ◌∙◌, subst, arith}
 use Rattle.std.proofs.lemmas.List.{take_all}
 use Rattle.link_post.specs.Linked.{AreNamesInOrder}
-use Rattle.section_roles.specs.declared.role.Role.{Role}
-use Rattle.section_roles.specs.Roles.{role_at, role_of}
-use Rattle.new_code.specs.Parts.{NewPart}
+use Rattle.extract_post.specs.declared.role.Role.{Role}
+use Rattle.extract_post.specs.Roles.{role_at, role_of}
+use Rattle.update_pieces.specs.Parts.{NewPart}
 use Rattle.update_plan.specs.Placing.{names_of, part_as, parts_of}
 use Rattle.update_plan.proofs.Orders.{parts_in_order}
 use Rattle.update_plan.proofs.Steps.{parts_more}

@@ -2,8 +2,8 @@ use Rattle.std.proofs.Common.{List, sym, ap, ◌∙◌, subst}
 use Rattle.std.proofs.lemmas.Result.{err_from_is_err_and}
 use Rattle.ks_base.specs.Gives.{Gives}
 use Rattle.match_candidates.specs.Candidates.{Running}
-use Rattle.retired_code.specs.declared.types.OldFunction.{OldFunction}
-use Rattle.new_code.specs.Parts.{NewPart}
+use Rattle.update_retired.specs.declared.types.OldFunction.{OldFunction}
+use Rattle.update_pieces.specs.Parts.{NewPart}
 use Rattle.update_plan.specs.declared.types.Plan.{Plan}
 use Rattle.update_plan.specs.inside.Rests.{planned_at}
 use Rattle.update_plan.proofs.Planned.{values_end, olds_end, olds_go_on}

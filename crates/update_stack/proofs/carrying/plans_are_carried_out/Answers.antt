@@ -1,6 +1,6 @@
 use Rattle.update_stack.specs.CallTable.{contents_of}
 use Rattle.update_stack.specs.Systems.{machine_of}
-use Rattle.update_stack.specs.StackedLaws.{built_sound}
+use Rattle.update_stack.specs.laws.StackedLaws.{built_sound}
 use Rattle.update_stack.proofs.CarryLaws.{Laws, plan_fits, homes_end, holds_after}
 use Rattle.update_stack.proofs.carrying.plans_are_carried_out.Goals as goal
 

@@ -1,5 +1,5 @@
 use Rattle.std.proofs.Common.{◌≤◌, ◌<◌, ◌++◌, ap, sym, ◌∙◌, arith}
-use Rattle.instruction_lists.specs.RunCode.{run_instruction_at}
+use Rattle.match_instructions.specs.RunCode.{run_instruction_at}
 use Rattle.code_listing.specs.inside.Extent.{Extent}
 use Rattle.code_listing.specs.Lines.{instruction_line}
 use Rattle.code_listing.specs.Listing.{lines_by, listing}

@@ -3,7 +3,7 @@ use Rattle.std.proofs.Common.{◌≡◌, rules, leb, true, false}
 use Rattle.std.proofs.lemmas.Bool.{leb-true, leb-false}
 use Rattle.std.specs.List.Sorted.{IsPartitionedBy, IsPartitionPoint}
 use Rattle.std.proofs.lemmas.List.Sorted.{IsPartitionPoint-from_clause, IsPartitionedBy-leb}
-use Rattle.image_memory.specs.RangeLaws.{lows_rise}
+use Rattle.image_memory.specs.laws.RangeLaws.{lows_rise}
 use Rattle.frame_watch.specs.Frames.{Watched, stack_of}
 use Rattle.frame_watch.proofs.list.ThreadList.begun.Goals as goal
 

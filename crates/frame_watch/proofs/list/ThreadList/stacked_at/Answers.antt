@@ -2,7 +2,7 @@
 use Rattle.std.proofs.Common.{◌≡◌, ◌-◌, ◌<◌, ◌∙◌, arith, List, length, get_or, ap, sym, subst, true, Some}
 use Rattle.std.proofs.lemmas.List.{get_or_default}
 use Rattle.image_memory.specs.Ranges.{Ascends, lies_in}
-use Rattle.image_memory.specs.RangeLaws.{found_here, found_nowhere, nowhere, below}
+use Rattle.image_memory.specs.laws.RangeLaws.{found_here, found_nowhere, nowhere, below}
 use Rattle.frame_watch.specs.Frames.{Watched, stack_of}
 use Rattle.frame_watch.proofs.list.ThreadList.stacked_at.Goals as goal
 

@@ -2,7 +2,7 @@
 use Rattle.std.proofs.Common.{◌≡◌, ◌∙◌, arith, List, ap, sym, subst, Some, None}
 use Rattle.std.specs.List.{insert}
 use Rattle.image_memory.specs.Ranges.{Ascends}
-use Rattle.image_memory.specs.PutLaws.{insert_is_put, Ascends-put}
+use Rattle.image_memory.specs.laws.PutLaws.{insert_is_put, Ascends-put}
 use Rattle.ia32_step.specs.Threads.{esp_of}
 use Rattle.frame_watch.specs.Frames.{Watched, stack_of, started, with_started}
 use Rattle.frame_watch.specs.inside.Kept.{AreApart, IsTouched, first_store}

@@ -2,7 +2,7 @@
 use Rattle.std.proofs.Common.{◌≡◌, ◌∙◌, List, ap, sym, arith, nat_lt}
 use Rattle.std.specs.List.{find, slice_get}
 use Rattle.image_memory.specs.declared.types.Fence.{Fence}
-use Rattle.image_memory.specs.PutLaws.{not_above, is_above}
+use Rattle.image_memory.specs.laws.PutLaws.{not_above, is_above}
 use Rattle.image_memory.proofs.FenceLaws.{found_parted}
 use Rattle.image_memory.proofs.flat.FlatSpace.fence_after.Goals as goal
 

@@ -5,8 +5,8 @@ use Rattle.std.specs.List.Sorted.{IsPartitionedBy}
 use Rattle.std.proofs.lemmas.List.Sorted.{IsPartitionPoint-from_clause, IsPartitionedBy-leb}
 use Rattle.image_memory.specs.Contents.{fence_range}
 use Rattle.image_memory.specs.declared.types.Fence.{Fence}
-use Rattle.image_memory.specs.RangeLaws.{lows_rise}
-use Rattle.image_memory.specs.PutLaws.{insert_is_put}
+use Rattle.image_memory.specs.laws.RangeLaws.{lows_rise}
+use Rattle.image_memory.specs.laws.PutLaws.{insert_is_put}
 use Rattle.image_memory.proofs.flat.FlatSpace.fences_begun.Goals as goal
 
 pub returns : goal.returns

@@ -4,8 +4,8 @@ use Rattle.std.specs.List.{All}
 use Rattle.image_memory.specs.Ranges.{Ascends}
 use Rattle.image_memory.specs.Contents.{piece_range}
 use Rattle.image_memory.specs.declared.types.Piece.{Piece}
-use Rattle.image_memory.specs.RangeLaws.{one_after}
-use Rattle.image_memory.specs.AccessLaws.{Ascends-written}
+use Rattle.image_memory.specs.laws.RangeLaws.{one_after}
+use Rattle.image_memory.specs.laws.AccessLaws.{Ascends-written}
 use Rattle.image_memory.proofs.AccessLaws.{ends-written, kept_as}
 use Rattle.image_memory.proofs.flat.FlatSpace.put_bytes.Goals as goal
 

@@ -3,7 +3,7 @@ use Rattle.std.proofs.Common.{List, ◌∙◌, refl, sym, subst, arith}
 use Rattle.image_memory.specs.Ranges.{Ascends}
 use Rattle.image_memory.specs.Contents.{fence_range}
 use Rattle.image_memory.specs.declared.types.Fence.{Fence}
-use Rattle.image_memory.specs.PutLaws.{Ascends-put}
+use Rattle.image_memory.specs.laws.PutLaws.{Ascends-put}
 use Rattle.image_memory.proofs.flat.FlatSpaceSpace.fence.Goals as goal
 
 pub invariant_of-self-clause-fenced : goal.invariant_of-self-clause-fenced

@@ -4,7 +4,7 @@ use Rattle.std.specs.List.{find, list_any}
 use Rattle.image_memory.specs.Ranges.{lies_in}
 use Rattle.image_memory.specs.Contents.{fence_range}
 use Rattle.image_memory.specs.Fetch.{window_at, view, code_from, shown, window_of}
-use Rattle.image_memory.specs.RangeLaws.{list_any-map}
+use Rattle.image_memory.specs.laws.RangeLaws.{list_any-map}
 use Rattle.image_memory.proofs.FenceLaws.{spliced_found, spliced_nowhere, any_found, any_nowhere}
 use Rattle.image_memory.proofs.WindowLaws.{window_tells}
 use Rattle.image_memory.proofs.flat.FlatSpaceSpace.window.Goals as goal

@@ -2,7 +2,7 @@ use Rattle.std.proofs.Common.{◌+◌, ◌≤◌, ◌≡◌, false, IfSome, Cont
 use Rattle.ks_base.specs.declared.places.Range.{Range}
 use Rattle.image_threads.specs.Program.{Program}
 use Rattle.image_threads.specs.Spawning.{is_taken}
-use Rattle.image_threads.specs.StackLaws.{stack_listed}
+use Rattle.image_threads.specs.laws.StackLaws.{stack_listed}
 use Rattle.image_threads.proofs.StackLaws.{stack_has, stack_free, all_tall}
 use Rattle.image_threads.proofs.machine.Machine.free_stack.Goals as goal
 

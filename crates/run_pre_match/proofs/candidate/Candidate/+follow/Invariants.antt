@@ -1,7 +1,7 @@
 -- What is found by the fields so far is kept and marked.
 use Rattle.std.proofs.Common.{◌-◌, List, map, take}
 use Rattle.run_pre_match.specs.Found.{Found, given_in_constant}
-use Rattle.read_only_data.specs.Texts.{AreKnown}
+use Rattle.match_constants.specs.Texts.{AreKnown}
 use Rattle.run_pre_match.specs.inside.Kept.{Keeps, Follows}
 use Rattle.run_pre_match.proofs.Following.{found_after}
 use Rattle.run_pre_match.proofs.candidate.Candidate.+follow.Given as goal

@@ -1,6 +1,6 @@
 -- Pair by pair.
 use Rattle.std.proofs.Common.{subst, arith}
-use Rattle.instruction_lists.specs.Instructions.{kept_of}
+use Rattle.match_instructions.specs.Instructions.{kept_of}
 use Rattle.run_pre_match.specs.Candidate.{pre_list, run_list}
 use Rattle.run_pre_match.specs.inside.Kept.{IsKind}
 use Rattle.run_pre_match.proofs.PairLaws.{pair_of, length-pairs_from, none_within, pair_there, compared_none}

@@ -1,7 +1,7 @@
 -- What is found by the fields so far is kept and marked.
 use Rattle.std.proofs.Common.{true, List, map, take}
 use Rattle.run_pre_match.specs.Found.{Found, given_in_pair, found_by, found_by_all}
-use Rattle.read_only_data.specs.Texts.{AreKnown}
+use Rattle.match_constants.specs.Texts.{AreKnown}
 use Rattle.run_pre_match.specs.inside.Kept.{Keeps, Follows, no_marks}
 use Rattle.run_pre_match.proofs.candidate.Candidate.find_pair.Given as goal
 

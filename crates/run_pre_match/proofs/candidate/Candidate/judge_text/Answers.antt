@@ -1,7 +1,7 @@
 use Rattle.std.proofs.Common.{ap, ◌∙◌, take, drop}
 use Rattle.i386_reloc.specs.Places.{bytes_at}
 use Rattle.run_pre_match.specs.Candidate.{Candidate}
-use Rattle.read_only_data.specs.Constants.{stand_at}
+use Rattle.match_constants.specs.Constants.{stand_at}
 use Rattle.run_pre_match.proofs.Verdicts.{text_here}
 use Rattle.run_pre_match.proofs.candidate.Candidate.judge_text.Goals as goal
 

@@ -1,7 +1,7 @@
 -- The section at the place, or none.
 use Rattle.std.proofs.Common.{◌∙◌, ap, length}
 use Rattle.run_pre_match.specs.Candidate.{Candidate}
-use Rattle.read_only_data.specs.Constants.{lie_in_constants, stand_but_for_fields}
+use Rattle.match_constants.specs.Constants.{lie_in_constants, stand_but_for_fields}
 use Rattle.run_pre_match.specs.Found.{section_lies, section_stands}
 use Rattle.run_pre_match.proofs.candidate.Candidate.lies.Goals as goal
 

@@ -1,6 +1,6 @@
 use Rattle.std.proofs.Common.{◌≡◌, ◌∙◌, ap, sym, subst, [], ◌∷◌, ◌-◌}
 use Rattle.std.specs.List.{flat_map}
-use Rattle.instruction_lists.specs.Instructions.{end_of}
+use Rattle.match_instructions.specs.Instructions.{end_of}
 use Rattle.run_pre_match.specs.Candidate.{Candidate, run_list, pairs}
 use Rattle.run_pre_match.specs.Found.{all_found}
 use Rattle.run_pre_match.specs.Matched.{claim_of, interior_of, home_claim, stated_by_pair, stated_from, statements}

@@ -1,7 +1,7 @@
 use Rattle.std.proofs.Common.{◌≡◌, ◌∙◌, ap, sym, subst, length, List}
-use Rattle.instruction_lists.specs.Instructions.{Instruction, kept_of}
+use Rattle.match_instructions.specs.Instructions.{Instruction, kept_of}
 use Rattle.run_pre_match.specs.Candidate.{Candidate, pre_list, run_list}
-use Rattle.instruction_lists.specs.Places.{Places, places_of}
+use Rattle.match_instructions.specs.Places.{Places, places_of}
 use Rattle.std.proofs.lemmas.List.{length-map}
 use Rattle.run_pre_match.proofs.PairLaws.{length-pairs_from}
 use Rattle.run_pre_match.proofs.candidate.Candidate.pair_count.Goals as goal

@@ -1,8 +1,8 @@
 use Rattle.std.proofs.Common.{◌≡◌, ◌∙◌, ap, sym, subst}
 use Rattle.i386_reloc.specs.declared.types.NormalSection.{NormalSection}
-use Rattle.instruction_lists.specs.PreCode.{pre_instruction_at}
+use Rattle.match_instructions.specs.PreCode.{pre_instruction_at}
 use Rattle.run_pre_match.specs.Candidate.{Candidate, pre_list}
-use Rattle.instruction_lists.specs.Places.{places_of}
+use Rattle.match_instructions.specs.Places.{places_of}
 use Rattle.run_pre_match.proofs.Numbered.{pre_met}
 use Rattle.run_pre_match.proofs.candidate.Candidate.pre_at.Goals as goal
 

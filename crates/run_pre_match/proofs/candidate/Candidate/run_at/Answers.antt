@@ -1,7 +1,7 @@
 use Rattle.std.proofs.Common.{◌≡◌, ◌∙◌, ap, sym, subst}
-use Rattle.instruction_lists.specs.RunCode.{run_instruction_at}
+use Rattle.match_instructions.specs.RunCode.{run_instruction_at}
 use Rattle.run_pre_match.specs.Candidate.{Candidate, run_list}
-use Rattle.instruction_lists.specs.Places.{places_of}
+use Rattle.match_instructions.specs.Places.{places_of}
 use Rattle.run_pre_match.proofs.Numbered.{run_met}
 use Rattle.run_pre_match.proofs.candidate.Candidate.run_at.Goals as goal
 

@@ -1,5 +1,5 @@
 use Rattle.std.proofs.Common.{ap, ◌∙◌, Some}
-use Rattle.instruction_lists.specs.Landing.{all_offsets}
+use Rattle.match_instructions.specs.Landing.{all_offsets}
 use Rattle.run_pre_match.proofs.CodeLaws.{offsets_here, comes_code}
 use Rattle.run_pre_match.proofs.code.PreObject.code.Goals as goal
 

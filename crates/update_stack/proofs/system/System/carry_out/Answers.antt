@@ -7,9 +7,9 @@ use Rattle.image_memory.specs.declared.types.Fence.{Fence}
 use Rattle.image_memory.specs.Contents.{Contents, piece_range}
 use Rattle.link_post.specs.Places.{without}
 use Rattle.splice_jump.specs.Jumps.{olds_at}
-use Rattle.memory_changes.specs.declared.types.Jump.{Jump}
-use Rattle.memory_changes.specs.Added.{AreAddable, with_pieces}
-use Rattle.memory_changes.specs.Retired.{AreRetirable, with_fences}
+use Rattle.update_memory.specs.declared.types.Jump.{Jump}
+use Rattle.update_memory.specs.Added.{AreAddable, with_pieces}
+use Rattle.update_memory.specs.Retired.{AreRetirable, with_fences}
 use Rattle.update_plan.specs.Sound.{CanBeMade}
 use Rattle.update_stack.specs.CallTable.{CallTable, contents_of, jump_rows}
 use Rattle.update_stack.specs.Systems.{machine_of, Holds}

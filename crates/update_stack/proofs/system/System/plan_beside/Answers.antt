@@ -15,7 +15,7 @@ use Rattle.update_stack.specs.declared.updates.Kept.{Kept}
 use Rattle.update_stack.specs.CallTable.{CallTable, bodies_in, contents_of}
 use Rattle.update_stack.specs.Apply.{running_of, retired_of, gaps_of}
 use Rattle.update_stack.specs.Systems.{machine_of, table_of}
-use Rattle.update_stack.specs.StackedLaws.{built_sound}
+use Rattle.update_stack.specs.laws.StackedLaws.{built_sound}
 use Rattle.update_stack.proofs.KeptLaws.{kept_free}
 use Rattle.update_stack.proofs.LiveLaws.{retired_live}
 use Rattle.update_stack.proofs.PlanLaws.{gaps_ascend, memory_of, bodies_spliced, IsBeside, PlanLaws, plan_beside}

@@ -1,5 +1,0 @@
-mod FoldLaws
-mod CutLaws
-mod GapLaws
-mod PieceLaws
-mod SweepLaws

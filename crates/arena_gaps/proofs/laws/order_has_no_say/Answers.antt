@@ -1,8 +1,0 @@
-use Rattle.std.proofs.Common.{sym}
-use Rattle.link_post.specs.Places.{without}
-use Rattle.arena_gaps.proofs.FoldLaws.{order_has_none}
-use Rattle.arena_gaps.proofs.CutLaws.{commute}
-use Rattle.arena_gaps.proofs.laws.order_has_no_say.Goals as goal
-
-pub returns : goal.returns
-returns c free a b same = sym (order_has_none without commute free a b same)

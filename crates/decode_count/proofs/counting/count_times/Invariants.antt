@@ -1,8 +1,0 @@
-use Rattle.std.proofs.Common.{◌≤◌, ◌+◌, ◌*◌}
-use Rattle.decode_count.specs.Meets.{MeetsIn}
-use Rattle.decode_count.proofs.counting.count_times.Given as goal
-
-abbrev pub invariant-loop : goal.invariant-loop
-invariant-loop l =
-    MeetsIn l.fn.bytes l.counter l.total.instructions l.total.undecoded
-    × (l.total.instructions + l.total.undecoded ≤ 4294967295 * l.counter)

@@ -1,0 +1,2 @@
+-- Laws of Below, proved, for the crates above.
+pub mod BelowLaws

@@ -1,5 +1,0 @@
-use Rattle.frame_safety.proofs.FetchLaws.{fetched_have_windows}
-use Rattle.frame_safety.proofs.laws.fetched_bytes_have_windows.Goals as goal
-
-pub returns : goal.returns
-returns c = fetched_have_windows

@@ -1,5 +1,0 @@
-use Rattle.frame_safety.proofs.ClearLaws.{taken_back_clear}
-use Rattle.frame_safety.proofs.laws.undone_updates_are_clear.Goals as goal
-
-pub returns : goal.returns
-returns c = taken_back_clear

@@ -1,0 +1,2 @@
+-- A law of spelled numbers, proved, for the crates above.
+pub mod OperandLaws

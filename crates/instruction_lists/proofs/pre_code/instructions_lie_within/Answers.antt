@@ -1,6 +1,0 @@
-use Rattle.instruction_lists.proofs.PreLists.{lies_within}
-use Rattle.instruction_lists.proofs.pre_code.instructions_lie_within.Goals as goal
-
-pub returns : goal.returns
-returns c = λ section offset i. lies_within section offset i c.instructions_have_bytes.ensures.some
-    c.instructions_have_bytes.ensures.within

@@ -1,9 +1,0 @@
-use Rattle.std.proofs.Common.{◌-◌}
-use Rattle.instruction_lists.proofs.PreLists.{HasMet}
-use Rattle.instruction_lists.proofs.pre_code.list_pre.Given as goal
-
-abbrev pub invariant-loop-instruction : goal.invariant-loop-instruction
-invariant-loop-instruction l = HasMet l.section l.list
-
-abbrev pub decreases-loop-instruction : goal.decreases-loop-instruction
-decreases-loop-instruction l = l.section.size - l.list.end

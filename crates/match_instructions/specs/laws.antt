@@ -1,0 +1,2 @@
+-- Laws of what places stand for, proved, for the crates above.
+pub mod PlaceLaws

@@ -1,6 +1,0 @@
-use Rattle.std.proofs.Common.{◌≡◌, map, take}
-use Rattle.new_code.specs.Parts.{size_of}
-use Rattle.new_code.proofs.parts.sizes.Given as goal
-
-abbrev pub invariant-loop-part : goal.invariant-loop-part
-invariant-loop-part l = l.sizes.items ≡ map size_of (take l.part-index l.parts)

@@ -1,7 +1,0 @@
-use Rattle.std.proofs.Common.{◌≡◌, map, take}
-use Rattle.new_code.specs.Pieces.{new_piece}
-use Rattle.new_code.proofs.pieces.new_pieces.Given as goal
-
-abbrev pub invariant-loop-part : goal.invariant-loop-part
-invariant-loop-part l =
-    l.pieces ≡ map (new_piece l.post l.placement l.values.entries) (take l.part-index l.part-items)

@@ -1,7 +1,0 @@
-use Rattle.std.proofs.Common.{◌≡◌, ◌++◌, map, take}
-use Rattle.new_code.specs.NewSymbols.{variable_symbol}
-use Rattle.new_code.proofs.symbols.add_variables.Given as goal
-
-abbrev pub invariant-loop-object : goal.invariant-loop-object
-invariant-loop-object l =
-    l.symbols ≡ l.fn.symbols ++ map (variable_symbol l.base) (take l.object-index l.objects)

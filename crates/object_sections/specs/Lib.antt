@@ -1,2 +1,0 @@
--- Public clauses cite Sections: what an object file has.
-pub mod Sections

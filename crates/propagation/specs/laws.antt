@@ -1,0 +1,2 @@
+-- Laws of rounds, proved, for the crates above.
+pub mod RoundLaws

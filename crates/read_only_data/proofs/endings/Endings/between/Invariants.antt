@@ -1,9 +1,0 @@
--- All ends that the walk touched share what it counts.
-use Rattle.std.proofs.Common.{List}
-use Rattle.i386_reloc.specs.declared.types.NormalSection.{NormalSection}
-use Rattle.read_only_data.specs.Endings.{Agree, AreEndings, end_at}
-use Rattle.read_only_data.proofs.endings.Endings.between.Given as goal
-
-abbrev pub invariant-loop-j : goal.invariant-loop-j
-invariant-loop-j l = (object : List NormalSection) → AreEndings object l.self →
-    Agree object (end_at l.self.ends.items l.first) (end_at l.self.ends.items l.walk.at) l.walk.count

@@ -1,8 +1,0 @@
--- Public clauses cite Constants (what stands in read-only memory), Endings (what the ends of an object's texts share)
--- and Texts (what is known of the bytes before addresses). BelowLaws has laws of a test of each number below another.
--- What stands in inside is the code's own.
-pub mod Constants
-pub mod BelowLaws
-pub mod Endings
-pub mod Texts
-pub mod inside

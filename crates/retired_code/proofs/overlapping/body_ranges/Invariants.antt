@@ -1,6 +1,0 @@
-use Rattle.std.proofs.Common.{◌≡◌, map, take}
-use Rattle.retired_code.specs.Retired.{body_range}
-use Rattle.retired_code.proofs.overlapping.body_ranges.Given as goal
-
-abbrev pub invariant-loop-old : goal.invariant-loop-old
-invariant-loop-old l = l.ranges ≡ map body_range (take l.old-index l.olds)

@@ -1,0 +1,46 @@
+//! What holds of all new pieces.
+ghost use Rattle.std.specs.Prelude.{◌≡◌, ℕ, List, map, None, Ok};
+ghost use Rattle.ks_base.specs.declared.places.Range.{Range};
+ghost use Rattle.elf32_object.specs.Rules.{object_fault};
+ghost use Rattle.i386_reloc.specs.declared.types.NormalSection.{NormalSection};
+ghost use Rattle.i386_reloc.specs.Normal.{loaded_sections};
+ghost use Rattle.image_memory.specs.Ranges.{Ascends};
+ghost use Rattle.link_post.specs.declared.types.Placed.{Placed};
+ghost use Rattle.link_post.specs.Linked.{AreInOrder};
+ghost use Rattle.link_post.specs.Places.{placed};
+ghost use Rattle.link_post.specs.Values.{ValueList};
+ghost use Rattle.update_pieces.specs.Parts.{NewPart, at_places, size_of};
+ghost use Rattle.update_pieces.specs.Pieces.{new_pieces};
+ghost use Rattle.update_pieces.specs.Apart.{AreWhole, ArePartsOf, AreNewPieces, AreFound};
+
+use link_post::places_lie_apart;
+
+/// The loaded sections of an object that breaks no rule: each has some bytes, and as many as its size where the file
+/// holds them.
+pub fn sections_are_whole()
+    ensures { (bytes : List ℕ) → object_fault bytes ≡ None → AreWhole (loaded_sections bytes) }
+{}
+
+/// The pieces of whole sections of an object at the places that [`place`](link_post::place) gives: one for each
+/// section, with the section's size and the kind of its class. Each has all its bytes, of which there are some, in one
+/// of the gaps, and no two share an address.
+pub fn new_pieces_lie_apart()
+    ensures { (post : List NormalSection) (parts : List NewPart) (gaps : List Range) (placement : List Placed)
+        (values : ValueList) → Ascends (λ range. range) 0 gaps → ArePartsOf post parts
+        → placed (map size_of parts) gaps ≡ Ok placement
+        → AreNewPieces gaps parts placement (new_pieces post parts placement values) }
+{
+    // Nothing is done here: the law says that places lie in gaps, and no two of them meet.
+    places_lie_apart();
+}
+
+/// The bytes of a piece are linked for the piece's own address: at the places that [`place`](link_post::place) gives,
+/// the name of each section leads to its place.
+pub fn places_are_found()
+    ensures { (post : List NormalSection) (parts : List NewPart) (gaps : List Range) (placement : List Placed)
+        → Ascends (λ range. range) 0 gaps → placed (map size_of parts) gaps ≡ Ok placement
+        → AreInOrder post placement → AreFound placement (at_places parts placement) }
+{
+    // Nothing is done here: the law says that each section has its place.
+    places_lie_apart();
+}

@@ -1,0 +1,52 @@
+//! What is clear of threads and their frames where code goes, and which windows and slots stay.
+ghost use Rattle.update_safety.specs.Clear.{AcceptedIsClear, TakenBackIsClear};
+ghost use Rattle.update_safety.specs.Slots.{UpdatesKeepSlots, UndosKeepSlots, UpdatesKeepThreads, UndosKeepThreads};
+ghost use Rattle.update_safety.specs.Windows.{StartsKeepWindows, StepsKeepWindows};
+ghost use Rattle.update_safety.specs.Windows.{UpdatesKeepWindows, UndosKeepWindows, FetchedHaveWindows};
+
+use update_plan::retired_code_is_guarded;
+use update_stack::updates_can_be_made;
+
+/// Where an update is accepted, no running thread, and no frame of it that keeps the slot rule, is in the code that is
+/// retired.
+pub fn accepted_updates_are_clear()
+    ensures { AcceptedIsClear }
+{
+    // Nothing is done here: the law says that a plan guards what it retires.
+    retired_code_is_guarded();
+}
+
+/// Where an update is taken back, no running thread, and no frame of it that keeps the slot rule, is in the update's
+/// pieces.
+pub fn undone_updates_are_clear()
+    ensures { TakenBackIsClear }
+{}
+
+/// A start and a step of a thread change no window.
+pub fn threads_keep_windows()
+    ensures starts { StartsKeepWindows }
+    ensures steps { StepsKeepWindows }
+{}
+
+/// An update takes windows away in the ranges that it retires alone, and taking it back in its pieces alone.
+pub fn updates_keep_windows()
+    ensures updates { UpdatesKeepWindows }
+    ensures undos { UndosKeepWindows }
+{
+    // Nothing is done here: the law says that an update that is planned can be made, and that code stays code then.
+    updates_can_be_made();
+}
+
+/// Where a step fetches more than the five bytes of a jump, there is a window at each of them.
+pub fn fetched_bytes_have_windows()
+    ensures { FetchedHaveWindows }
+{}
+
+/// An update that is accepted, and one that is taken back, leaves each slot of a stack what it holds, and each thread
+/// as it is.
+pub fn updates_keep_slots()
+    ensures updates { UpdatesKeepSlots }
+    ensures undos { UndosKeepSlots }
+    ensures updated_threads { UpdatesKeepThreads }
+    ensures undone_threads { UndosKeepThreads }
+{}

@@ -1,0 +1,5 @@
+-- Laws of the machine, proved, for the crates above.
+pub mod StackedLaws
+pub mod TableLaws
+pub mod StepLaws
+pub mod ViewLaws

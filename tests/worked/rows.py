@@ -1,0 +1,48 @@
+"""What a row is, and the rows of each command; README.md says how to write one."""
+import shlex
+from typing import NamedTuple
+
+from .encode import script
+
+FOLDER = None
+# the status by how a line of the output begins, the first that fits; otherwise it is 0 (docs/output.md)
+STATUSES = {"usage: ": 2, "file ": 4, "refused 28 ": 7, "refused 29 ": 7, "refused ": 3}
+
+
+class Row(NamedTuple):
+    """A call of the program. A file is bytes, or FOLDER. Where there is a sink, standard output goes there and isn't
+    compared."""
+
+    name: str
+    words: list
+    files: dict
+    output: bytes
+    status: int
+    remark: str
+    sink: str | None
+
+
+def call(name, words, files, *output, status=None, remark="", sink=None):
+    """A row by the words and the lines of the output."""
+    if status is None:
+        fitting = (STATUSES[front] for front in STATUSES if any(line.startswith(front) for line in output))
+        status = next(fitting, 0)
+    return Row(name, shlex.split(words), files, script(*output), status, remark, sink)
+
+
+def diff(name, pre, post, *output, **more):
+    return call(name, "diff pre.o post.o", {"pre.o": pre, "post.o": post}, *output, **more)
+
+
+def code(name, image, function, *output, **more):
+    return call(name, f"code image.kim {function}", {"image.kim": image}, *output, **more)
+
+
+def match(name, image, pre, *output, **more):
+    return call(name, "match image.kim pre.o", {"image.kim": image, "pre.o": pre}, *output, **more)
+
+
+def run(name, image, lines, files=None, **more):
+    """A session of these lines of a script, each a tuple with the lines of its reply behind it."""
+    files = {"image.kim": image, "script.txt": script(*(line for line, *_ in lines)), **(files or {})}
+    return call(name, "run image.kim script.txt", files, *(said for _, *reply in lines for said in reply), **more)
