@@ -2,6 +2,7 @@
 ghost use Rattle.std.specs.Prelude.{◌≡◌, ℕ, List, map, Ok, IfOk};
 ghost use Rattle.ks_base.specs.Gives.{Gives};
 ghost use Rattle.image_memory.specs.Ranges.{Ascends};
+ghost use Rattle.image_memory.specs.Contents.{spliced_at};
 ghost use Rattle.symbol_table.specs.declared.symbols.Symbol.{Symbol};
 ghost use Rattle.splice_jump.specs.Jumps.{AreSpliced};
 ghost use Rattle.extract_post.specs.Extracted.{extracted};
@@ -10,8 +11,10 @@ ghost use Rattle.link_post.specs.Linked.{AreInOrder, AreNamesInOrder};
 ghost use Rattle.link_post.specs.Places.{placed};
 ghost use Rattle.link_post.specs.Values.{resolved};
 ghost use Rattle.update_pieces.specs.Parts.{size_of};
+ghost use Rattle.update_pieces.specs.Pieces.{new_pieces};
+ghost use Rattle.update_pieces.specs.NewSymbols.{new_symbols};
 ghost use Rattle.update_retired.specs.Overlaps.{code_refusal};
-ghost use Rattle.update_retired.specs.Retired.{AreBodies};
+ghost use Rattle.update_retired.specs.Retired.{AreBodies, guarded};
 ghost use Rattle.update_plan.specs.Olds.{olds_of};
 ghost use Rattle.update_plan.specs.Placing.{names_of};
 ghost use Rattle.update_plan.specs.Plan.{fences_of, plan_of, planned, unless};
@@ -23,13 +26,13 @@ use crate::parts::{names_of, parts_of};
 use crate::types::{Fences, Plan};
 use extract_post::{Extract, extract, extract_is_computed};
 use i386_reloc::{Normal, read_sections};
-use image_memory::{Fence, Space};
+use image_memory::{Fence, Pieces, Space};
 use ks_base::{Ranges, Refusal};
 use link_post::{Placement, place, places_keep_the_order, resolve_post};
 use std::alloc::{AllocError, Global};
 use symbol_solve::{answers_tell_each_body, solve};
 use symbol_table::{Bodies, SymbolTable, Values};
-use update_pieces::{Part, new_pieces, new_symbols, report_of, sizes};
+use update_pieces::{NewSymbols, Part, new_pieces, new_symbols, report_of, sizes};
 use update_retired::{OldFunction, code_refusal, guarded_ranges};
 
 /// What an update from the object file `pre` to the object file `post` would do to a running program. The bodies are
@@ -266,13 +269,48 @@ fn plan_of<S: Space>(
         (record { contents = S.contents space.now; symbols = symbols; bodies = bodies })
         post.now values.now.entries olds.now parts.now placement.now) }
 {
+    let report = report_of(alloc, parts, placement, olds)?;
+    let (pieces, symbols) = additions_of(alloc, post, values, parts, placement)?;
+    let (fences, guarded) = ranges_of(alloc, space, olds)?;
     Ok(Plan {
-        report: report_of(alloc, parts, placement, olds)?,
-        pieces: new_pieces(alloc, post, parts, placement, values)?,
-        symbols: new_symbols(alloc, parts, placement)?,
-        fences: fences_of(alloc, olds)?,
-        guarded: guarded_ranges(alloc, space, olds)?,
+        report,
+        pieces,
+        symbols,
+        fences,
+        guarded,
     })
+}
+
+/// The pieces and the symbols that new sections at their places come to.
+fn additions_of(
+    alloc: Global,
+    post: &Normal<'_>,
+    values: &Values,
+    parts: &[Part<'_, '_>],
+    placement: &Placement,
+) -> Result<(Pieces, NewSymbols), AllocError>
+    requires { AreInOrder post.now placement.now }
+    ensures pieces { IfOk result
+        (λ added. added.0 ≡ new_pieces post.now parts.now placement.now values.now.entries) }
+    ensures symbols { IfOk result (λ added. added.1 ≡ new_symbols parts.now placement.now) }
+{
+    let pieces = new_pieces(alloc, post, parts, placement, values)?;
+    Ok((pieces, new_symbols(alloc, parts, placement)?))
+}
+
+/// What is retired of the functions of the old object, and where no thread may stand.
+fn ranges_of<S: Space>(
+    alloc: Global,
+    space: &S,
+    olds: &[OldFunction],
+) -> Result<(Fences, Ranges), AllocError>
+    requires { AreBodies olds.now }
+    ensures fences { IfOk result (λ ranges. ranges.0 ≡ fences_of olds.now) }
+    ensures guarded { IfOk result
+        (λ ranges. ranges.1 ≡ guarded (spliced_at (S.contents space.now).fences) olds.now) }
+{
+    let fences = fences_of(alloc, olds)?;
+    Ok((fences, guarded_ranges(alloc, space, olds)?))
 }
 
 /// What is retired of the functions, each with whether the jump is written at its low.
