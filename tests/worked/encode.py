@@ -20,9 +20,11 @@ import images  # noqa: E402
 import objects  # noqa: E402
 
 LOCAL_FUNCTION, VARIABLE = 0x02, 0x11
+DATA = 2  # the kind of a symbol in an image
+TEXT_SECTION = objects.TEXT_SECTION
 # by how a section's name begins its flags, its alignment and the size of its entries
 FLAGS = {".text": (objects.CODE, 16, 0), ".data": (objects.WRITABLE, 4, 0), ".bss": (objects.WRITABLE, 4, 0),
-         objects.TEXT_SECTION: (objects.TEXTS, 1, 1), ".rodata": (objects.READ_ONLY, 4, 0),
+         TEXT_SECTION: (objects.TEXTS, 1, 1), ".rodata": (objects.READ_ONLY, 4, 0),
          ".eh_frame": (objects.READ_ONLY, 1, 0), "": (0, 1, 0)}
 ARENA, STACKS = (0x00800000, 0x00810000), ((0x00400000, 0x00401000),)
 
@@ -141,6 +143,10 @@ def writable(base, text):
 
 def function(address, name, binding=images.GLOBAL):
     return images.function_symbol(address, name.encode(), binding)
+
+
+def variable(address, name, local=False):
+    return address, DATA, images.LOCAL if local else images.GLOBAL, name.encode()
 
 
 def four_stacks(low, size):

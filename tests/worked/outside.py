@@ -1,6 +1,12 @@
 """Rows of what lies around a command: the words, the files and standard output (docs/output.md)."""
+from .encode import obj, sec
 from .files import F_FIRST_TO_SECOND, OLD_RUNS, PROGRAM, f_alone, f_and_main
-from .rows import FOLDER, call, diff, run
+from .rows import FOLDER, call, diff, match, run
+
+# words behind a command that has two
+OTHER_WORDS = {"alone": "", "with-one-word": "a", "with-three-words": "a b c", "with-a-dash": "a -b"}
+# f, by another name
+BELL = obj(sec(".text.f", "B8 01 00 00 00 C3", functions={"\x07": 0}))
 
 
 def usage(name, words, files=None):
@@ -14,6 +20,10 @@ ROWS = [
     usage("three-words-after-diff", "diff pre.o post.o x", F_FIRST_TO_SECOND),
     usage("first-word-begins-with-a-dash", "--help"),
     usage("later-word-begins-with-a-dash", "diff pre.o -", F_FIRST_TO_SECOND),
+    usage("command-with-a-capital", "Diff pre.o post.o", F_FIRST_TO_SECOND),
+    usage("apply-is-no-command", "apply pre.o post.o", F_FIRST_TO_SECOND),
+    *(usage(f"{command}-{told}", f"{command} {words}") for command in ("code", "match", "run")
+      for told, words in OTHER_WORDS.items()),
     usage("gen-is-no-command", "gen 0"),
     usage("link-is-no-command", "link o1.o", {"o1.o": f_and_main(1)}),
 
@@ -31,6 +41,38 @@ ROWS = [
          "file x.kim too long"),
     call("script-is-one-byte-too-long", "run image.kim x.txt", {"image.kim": PROGRAM, "x.txt": b" " * 1_048_577},
          "file x.txt too long"),
+
+    call("first-file-that-can-not-be-loaded-is-told", "diff x.o y.o", {"x.o": bytes(8_388_609)}, "file x.o too long"),
+    call("image-is-missing-before-an-object-is-too-long", "match x.kim y.o", {"y.o": bytes(8_388_609)},
+         "file x.kim missing"),
+    call("object-is-too-long-for-match", "match image.kim y.o", {"image.kim": PROGRAM, "y.o": bytes(8_388_609)},
+         "file y.o too long"),
+    call("image-of-code-is-missing", "code f image.kim", {"image.kim": PROGRAM}, "file f missing"),
+    call("image-of-run-is-missing", "run x.kim script.txt", {"script.txt": b""}, "file x.kim missing"),
+    call("script-is-missing", "run image.kim x.txt", {"image.kim": b"KIM1"}, "file x.txt missing"),
+    call("object-of-match-is-missing", "match image.kim x.o", {"image.kim": b"KIM1"}, "file x.o missing"),
+
+    # what is wrong with the first file comes before what is wrong with the second one
+    diff("image-is-no-object", PROGRAM, f_alone(1), "refused 1 not elf"),
+    diff("second-object-is-not-elf", f_alone(1), b"", "refused 1 not elf"),
+    diff("second-object-has-a-bad-header", f_alone(1), f_alone(1)[:20], "refused 3 bad header 20"),
+    match("image-is-refused-before-the-object", b"KIM1", b"", "refused 28 bad image at 4 short"),
+    match("object-is-no-image", f_alone(1), PROGRAM, "refused 28 bad image at 0 magic"),
+    match("object-of-match-is-not-elf", PROGRAM, b"", "refused 1 not elf"),
+    match("object-of-match-has-a-bad-header", PROGRAM, f_alone(1)[:20], "refused 3 bad header 20"),
+    call("image-is-refused-before-the-script", "run image.kim script.txt",
+         {"image.kim": b"KIM1", "script.txt": b"threads\njump\n"}, "refused 28 bad image at 4 short"),
+    call("script-is-no-image", "run script.txt image.kim", {"image.kim": PROGRAM, "script.txt": b"threads\n"},
+         "refused 28 bad image at 0 magic"),
+
+    # a function with an odd name
+    diff("name-of-a-changed-function-is-escaped", BELL, f_alone(2), r"changed \x07"),
+    diff("function-has-its-name-in-pre", f_alone(2), BELL, "changed f"),
+    match("name-of-a-function-without-a-candidate-is-escaped", PROGRAM, BELL, r"refused 14 no candidate \x07"),
+    diff("changed-and-added-function", f_alone(1), f_and_main(2), "changed f", "added main"),
+    run("lines-that-are-refused-end-with-their-status", PROGRAM,
+        [("spawn nope 0", "refused 31 no symbol nope"), ("step 7 1", "refused 30 no thread 7"),
+         ("spawn f 0", "spawned 0 0x00100000 f+0x0"), ("spawn f 0", "refused 32 no stack")]),
 
     # a file that a line of a script names
     run("missing-file-ends-the-session", PROGRAM,

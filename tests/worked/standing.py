@@ -10,6 +10,7 @@ ESP_SET = ("step 0 1", "stepped 0 1 running 0x00100015 sp+0x5")
 ECX_SET = ("step 0 2", "stepped 0 2 running 0x00100015 sp+0x5")
 STACK_OUT = (APPLY, "refused 26 stack out thread 0 0x003ffffc")
 ONLY_ADDED = {"pre.o": f_alone(1), "post.o": obj(f_section(1), sec(".text.h", "C3"))}
+TWO_STACKS = program(stacks=[(0x00400000, 0x00401000), (0x00402000, 0x00403000)])
 LARGE_STACK = sp_program("esp", 0x02000000, stacks=[(0x02000000, 0x03000000)])
 
 
@@ -35,6 +36,9 @@ ROWS = [
     run("thread-stands-just-behind-the-function", program(at(0x00100020, "go", "E9 E1 FF FF FF 90*11")),
         [("spawn go 0", "spawned 0 0x00100020 go+0x0"), ("step 0 1", "stepped 0 1 running 0x00100006 f+0x6"), APPLIED],
         FIRST_TO_SECOND),
+    run("second-thread-stands-in-the-way", TWO_STACKS,
+        [("spawn main 0", "spawned 0 0x00100010 main+0x0"), ("spawn main 0x00100004", "spawned 1 0x00100010 main+0x0"),
+         (APPLY, "refused 25 busy thread 1 stack 0x00402ff0 0x00100004")], FIRST_TO_SECOND),
     run("refused-update-leaves-nothing", PROGRAM,
         [IN_F,
          busy("pc 0x00100000"),
@@ -45,7 +49,17 @@ ROWS = [
     run("update-that-only-adds-passes-a-thread-in-an-old-function", PROGRAM,
         [IN_F, applied(" added h 0x00800000")], ONLY_ADDED),
 
+    run("stopped-thread-is-passed-over", image(at(0x00100000, "f", "CC C3 90*14")),
+        [IN_F,
+         ("step 0 9", "stepped 0 1 stopped trap 0x00100000 f+0x0"),
+         applied(" replaced f 0x00100000 0x00800000 2")],
+        {"pre.o": obj(sec(".text.f", "CC C3")), "post.o": f_alone(2)}),
+    run("ended-thread-is-passed-over", PROGRAM,
+        [IN_F, ("step 0 9", "stepped 0 3 exited 0x00000001"), APPLIED], FIRST_TO_SECOND),
+
     # registers
+    run("last-register-holds-the-address-of-the-function", image(BARE_F, at(0x00100010, "sp", "BF 00 00 10 00 EB FE")),
+        [IN_SP, ECX_SET, busy("register edi 0x00100000")], F_FIRST_TO_SECOND),
     run("register-holds-an-address-of-the-function", sp_program("ecx", 0x00100005),
         [IN_SP, ECX_SET, busy("register ecx 0x00100005")], F_FIRST_TO_SECOND),
     run("register-holds-the-address-after-the-function", sp_program("ecx", 0x00100006), [IN_SP, ECX_SET, APPLIED],
@@ -60,6 +74,10 @@ ROWS = [
     run("odd-stack-pointer-is-rounded-down", sp_program("esp", 0x00400FF1),
         [("spawn sp 0x00100005", IN_SP[1]), ESP_SET, busy("stack 0x00400ff0 0x00100005")], F_FIRST_TO_SECOND),
     run("empty-stack-is-accepted", sp_program("esp", 0x00401000), [IN_SP, ESP_SET, APPLIED], F_FIRST_TO_SECOND),
+    run("address-below-the-stack-pointer", sp_program("esp", 0x00400FF4),
+        [("spawn sp 0x00100005", IN_SP[1]), ESP_SET, APPLIED], F_FIRST_TO_SECOND),
+    run("stack-pointer-above-its-stack", sp_program("esp", 0x00401001),
+        [IN_SP, ESP_SET, (APPLY, "refused 26 stack out thread 0 0x00401001")], F_FIRST_TO_SECOND),
     run("stack-pointer-below-its-stack", sp_program("esp", 0x003FFFFC), [IN_SP, ESP_SET, STACK_OUT], F_FIRST_TO_SECOND),
     run("stack-out-is-refused-without-a-range", sp_program("esp", 0x003FFFFC), [IN_SP, ESP_SET, STACK_OUT], ONLY_ADDED),
     *(words_on_the_stack(f"no-hit-among-{count}-stack-words", count) for count in (0, 1, 7, 8, 9, 17)),

@@ -1,6 +1,6 @@
 """Rows of sessions without an update: threads, their steps and their ends (docs/machine.md, docs/script.md)."""
-from .encode import at, image, read_only, writable
-from .files import OLD_RUNS, PROGRAM, TWINS
+from .encode import at, four_stacks, image, read_only, writable
+from .files import BARE_F, OLD_RUNS, PROGRAM, TWINS, program
 from .rows import run
 
 # the code of a function t, and what a thread comes to in it within nine steps
@@ -19,6 +19,11 @@ def in_t(name, text, *lines, regions=()):
     """A session that starts a thread in the function t of this code."""
     return run(name, image(at(0x00100000, "t", text), regions=regions),
                [("spawn t 0", "spawned 0 0x00100000 t+0x0"), *lines])
+
+
+# f and main, lock, which no processor would run, and away, which returns to where nothing is
+FOUR_ENDS = program(at(0x00100020, "lock", "F0 90*15"), at(0x00100030, "away", "68 FF FF 0F 00 C3"),
+                    stacks=four_stacks(0x00400000, 0x1000))
 
 
 def all_threads():
@@ -50,7 +55,18 @@ ROWS = [
     run("round-robin-without-a-thread", PROGRAM, [("rr 1 5", "rr 0")]),
     *(in_t(name, text, ("step 0 9", reply)) for name, (text, reply) in ENDS.items()),
 
+    run("threads-are-listed-with-their-ends", FOUR_ENDS,
+        [*OLD_RUNS,
+         ("spawn lock 0", "spawned 1 0x00100020 lock+0x0"),
+         ("step 1 9", "stepped 1 1 stopped bad-lock 0x00100020 lock+0x0"),
+         ("spawn away 0", "spawned 2 0x00100030 away+0x0"),
+         ("step 2 9", "stepped 2 3 stopped unmapped 0x000fffff"),
+         ("spawn main 0", "spawned 3 0x00100010 main+0x0"),
+         ("threads", "thread 0 exited 0x00000001", "thread 1 stopped bad-lock 0x00100020 lock+0x0",
+          "thread 2 stopped unmapped 0x000fffff", "thread 3 running 0x00100010 main+0x0", "threads 4")]),
+
     # memory
+    run("peek-over-the-end-of-the-region", image(BARE_F), [("peek 0x00100005 2", "0x00100005: c3 --")]),
     run("peek-before-the-region", PROGRAM, [("peek 0x000ffffe 4", "0x000ffffe: -- -- b8 01")]),
     in_t("read-of-two-bytes-over-a-page-end", "66 A1 FF 0F 20 00 EB FE",
          ("step 0 1", "stepped 0 1 running 0x00100006 t+0x6"), regions=[writable(0x00200000, "00*4097")]),

@@ -1,6 +1,7 @@
 //! Each call on its happy path, over one graph.
 
 use reachability::{Edge, reached_along};
+use std::alloc::{AllocError, Global};
 use std::test::Fail;
 
 /// A cycle 0, 1, 2, an edge out of it to 3, an edge into it from 4, and 5 with an edge to itself.
@@ -12,6 +13,12 @@ const EDGES: [Edge; 6] = [
     Edge { from: 4, to: 2 },
     Edge { from: 5, to: 5 },
 ];
+
+/// Whether from the seeds this is reached.
+fn reaches(alloc: Global, seeds: &[bool; 6], wanted: &[bool; 6]) -> Result<bool, AllocError> {
+    let marks = reached_along(alloc, 6, &EDGES, seeds)?;
+    Ok(marks.as_slice() == wanted.as_slice())
+}
 
 #[test]
 fn what_is_reached(rt: HostRuntime) -> Result<(), Fail> {
@@ -38,8 +45,7 @@ fn what_is_reached(rt: HostRuntime) -> Result<(), Fail> {
         ([true; 6], [true; 6]),
     ];
     for row in rows.iter() {
-        let marks = reached_along(alloc, 6, &EDGES, &row.0)?;
-        assert_eq!(rt; marks.as_slice(), row.1.as_slice());
+        assert!(rt; reaches(alloc, &row.0, &row.1)?);
     }
     Ok(())
 }

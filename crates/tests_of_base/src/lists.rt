@@ -73,18 +73,6 @@ fn name_of(alloc: Global, bytes: &[u8]) -> Result<Name, AllocError>
     Name::from_slice(alloc, bytes)
 }
 
-/// Whether a refusal's line, put after a blank, is as wanted.
-fn prints(alloc: Global, refusal: &Refusal, wanted: &str) -> Result<bool, AllocError> {
-    let mut line = Line::new(alloc);
-    line.put_text(" ")?;
-    line.put_refusal(refusal)?;
-    let mut all = Line::new(alloc);
-    all.put_text(" refused ")?;
-    all.put_text(wanted)?;
-    all.put_text("\n")?;
-    Ok(line.bytes() == all.bytes())
-}
-
 fn index_of(indices: &BTreeMap<Name, usize>, name: &Name) -> Option<usize>
     ensures { result ≡ get (slice_cmp nat_cmp) indices.now name.now }
 {
@@ -184,61 +172,6 @@ fn plain(number: u8) -> Refusal {
     }
 }
 
-#[test]
-fn plain_refusals(rt: HostRuntime) -> Result<(), Fail> {
-    let table = [
-        (1, "1 not elf"),
-        (2, "2 not i386 relocatable"),
-        (3, "3 bad header 20"),
-        (4, "4 bad section 1"),
-        (5, "5 bad symbol 2"),
-        (6, "6 bad relocation 3 0"),
-        (10, "10 too large relocations"),
-        (12, "12 no change"),
-        (22, "22 overlap 0x00100000 0x00100002"),
-        (23, "23 no room 6"),
-        (24, "24 too many updates"),
-        (26, "26 stack out thread 0 0x003ffffc"),
-        (27, "27 nothing applied"),
-        (28, "28 bad image at 4 short"),
-        (29, "29 bad line 2"),
-        (30, "30 no thread 7"),
-        (32, "32 no stack"),
-        (37, "37 too many threads"),
-    ];
-    for (number, wanted) in table {
-        let refusal = plain(number);
-        assert!(rt; prints(rt.alloc(), &refusal, wanted)?, "{wanted}");
-    }
-    Ok(())
-}
-
-#[test]
-fn busy_refusals(rt: HostRuntime) -> Result<(), Fail> {
-    let table = [
-        (Place::Pc, 0x0010_0000u32, "25 busy thread 0 pc 0x00100000"),
-        (
-            Place::Register(6),
-            0x0010_0000,
-            "25 busy thread 0 register esi 0x00100000",
-        ),
-        (
-            Place::Stack(0x0040_0ff0),
-            0x0010_0005,
-            "25 busy thread 0 stack 0x00400ff0 0x00100005",
-        ),
-    ];
-    for (place, value, wanted) in table {
-        let refusal = Refusal::Busy(Standing {
-            thread: 0,
-            place,
-            value,
-        });
-        assert!(rt; prints(rt.alloc(), &refusal, wanted)?, "{wanted}");
-    }
-    Ok(())
-}
-
 /// The refusals that hold a name alone, or a name and numbers, by their number.
 fn named(number: u8, name: Name) -> Refusal {
     match number {
@@ -261,32 +194,6 @@ fn named(number: u8, name: Name) -> Refusal {
     }
 }
 
-#[test]
-fn named_refusals(rt: HostRuntime) -> Result<(), Fail> {
-    let table = [
-        (7, "7 unknown relocation .text.f 0 10"),
-        (8, "8 not one function .text.f"),
-        (9, "9 double name .text.f"),
-        (11, "11 data changed .text.f"),
-        (13, "13 interior .text.f 0x4"),
-        (14, "14 no candidate .text.f"),
-        (16, "16 ambiguous .text.f 0x00100000 0x00100010"),
-        (18, "18 unresolved .text.f"),
-        (19, "19 two names .text.f 0x00100000 0x00100010"),
-        (20, "20 pre undecoded .text.f 0x12"),
-        (21, "21 too small .text.f room 4"),
-        (31, "31 no symbol .text.f"),
-        (35, "35 bad string .text.f 4"),
-        (36, "36 bad target .text.f 5"),
-        (38, "38 name taken .text.f"),
-    ];
-    for (number, wanted) in table {
-        let refusal = named(number, name_of(rt.alloc(), b".text.f")?);
-        assert!(rt; prints(rt.alloc(), &refusal, wanted)?, "{wanted}");
-    }
-    Ok(())
-}
-
 fn mismatch(alloc: Global) -> Result<Refusal, AllocError> {
     let difference = Difference {
         index: 2,
@@ -305,28 +212,90 @@ fn conflict(alloc: Global, offset: Option<u32>) -> Result<Refusal, AllocError> {
     Ok(Refusal::Conflict(unknown, 0x0020_0000, 0x0020_0008, p, q))
 }
 
-fn mismatch_prints(alloc: Global, wanted: &str) -> Result<bool, AllocError> {
-    let refusal = mismatch(alloc)?;
-    prints(alloc, &refusal, wanted)
+fn busy(place: Place, value: u32) -> Refusal {
+    Refusal::Busy(Standing {
+        thread: 0,
+        place,
+        value,
+    })
 }
 
-fn conflict_prints(alloc: Global, offset: Option<u32>, wanted: &str) -> Result<bool, AllocError> {
-    let refusal = conflict(alloc, offset)?;
-    prints(alloc, &refusal, wanted)
+/// The lines of all refusals.
+const LINES: &str = "refused 1 not elf
+refused 2 not i386 relocatable
+refused 3 bad header 20
+refused 4 bad section 1
+refused 5 bad symbol 2
+refused 6 bad relocation 3 0
+refused 7 unknown relocation .text.f 0 10
+refused 8 not one function .text.f
+refused 9 double name .text.f
+refused 10 too large relocations
+refused 11 data changed .text.f
+refused 12 no change
+refused 13 interior .text.f 0x4
+refused 14 no candidate .text.f
+refused 15 mismatch .text.h index 2 pre 0x6 run 0x00100026 target
+refused 16 ambiguous .text.f 0x00100000 0x00100010
+refused 17 conflict .data.x 0x00200000 at .text.p+0x1 0x00200008 at .text.q+0x1
+refused 17 conflict .data.x+0xb 0x00200000 at .text.p+0x1 0x00200008 at .text.q+0x1
+refused 18 unresolved .text.f
+refused 19 two names .text.f 0x00100000 0x00100010
+refused 20 pre undecoded .text.f 0x12
+refused 21 too small .text.f room 4
+refused 22 overlap 0x00100000 0x00100002
+refused 23 no room 6
+refused 24 too many updates
+refused 25 busy thread 0 pc 0x00100000
+refused 25 busy thread 0 register esi 0x00100000
+refused 25 busy thread 0 stack 0x00400ff0 0x00100005
+refused 26 stack out thread 0 0x003ffffc
+refused 27 nothing applied
+refused 28 bad image at 4 short
+refused 29 bad line 2
+refused 30 no thread 7
+refused 31 no symbol .text.f
+refused 32 no stack
+refused 35 bad string .text.f 4
+refused 36 bad target .text.f 5
+refused 37 too many threads
+refused 38 name taken .text.f
+";
+
+/// The refusal of a number, of those that hold no name or one.
+fn refusal_of(alloc: Global, number: u8) -> Result<Refusal, AllocError> {
+    match plain(number) {
+        Refusal::Memory => Ok(named(number, name_of(alloc, b".text.f")?)),
+        refusal => Ok(refusal),
+    }
+}
+
+/// The refusals of a number, of which some have several forms.
+fn put_refusals(alloc: Global, line: &mut Line, number: u8) -> Result<(), AllocError> {
+    match number {
+        15 => line.put_refusal(&mismatch(alloc)?),
+        17 => {
+            line.put_refusal(&conflict(alloc, None)?)?;
+            line.put_refusal(&conflict(alloc, Some(11))?)
+        }
+        25 => {
+            line.put_refusal(&busy(Place::Pc, 0x0010_0000))?;
+            line.put_refusal(&busy(Place::Register(6), 0x0010_0000))?;
+            line.put_refusal(&busy(Place::Stack(0x0040_0ff0), 0x0010_0005))
+        }
+        _ => line.put_refusal(&refusal_of(alloc, number)?),
+    }
 }
 
 #[test]
-fn mismatches(rt: HostRuntime) -> Result<(), Fail> {
-    let wanted = "15 mismatch .text.h index 2 pre 0x6 run 0x00100026 target";
-    assert!(rt; mismatch_prints(rt.alloc(), wanted)?);
-    Ok(())
-}
-
-#[test]
-fn conflicts(rt: HostRuntime) -> Result<(), Fail> {
-    let wanted = "17 conflict .data.x 0x00200000 at .text.p+0x1 0x00200008 at .text.q+0x1";
-    assert!(rt; conflict_prints(rt.alloc(), None, wanted)?);
-    let wanted = "17 conflict .data.x+0xb 0x00200000 at .text.p+0x1 0x00200008 at .text.q+0x1";
-    assert!(rt; conflict_prints(rt.alloc(), Some(11), wanted)?);
+fn refusals(rt: HostRuntime) -> Result<(), Fail> {
+    let mut line = Line::new(rt.alloc());
+    for number in 1..39 {
+        if number != 33 && number != 34 {
+            put_refusals(rt.alloc(), &mut line, number)?;
+        }
+    }
+    let got = std::str::from_utf8(line.bytes()).unwrap_or("");
+    assert!(rt; line.bytes() == LINES.as_bytes(), "{got}");
     Ok(())
 }

@@ -42,34 +42,22 @@ fn there_and_back<S: Space>(
     (old, spliced, seen(space, home))
 }
 
+/// Homes and bases, and the bytes of the jump: further up, to a base below the home, to the home itself, from a home
+/// whose jump would end past the last address, and from near there.
+const JUMPS: [(u32, u32, [u8; 5]); 6] = [
+    (0x0010_0000, 0x0080_0000, [0xe9, 0xfb, 0xff, 0x6f, 0x00]),
+    (0x0010_0000, 0x0080_0010, [0xe9, 0x0b, 0x00, 0x70, 0x00]),
+    (0x0080_0000, 0x0010_0000, [0xe9, 0xfb, 0xff, 0x8f, 0xff]),
+    (0x0010_0000, 0x0010_0000, [0xe9, 0xfb, 0xff, 0xff, 0xff]),
+    (0xffff_fffe, 0x0000_0010, [0xe9, 0x0d, 0x00, 0x00, 0x00]),
+    (0xfffe_fff0, 0x0010_0000, [0xe9, 0x0b, 0x00, 0x11, 0x00]),
+];
+
 #[test]
-fn bytes_of_jumps(rt: HostRuntime) -> Result<(), Fail> {
-    assert_eq!(rt;
-        jump_bytes(0x0010_0000, 0x0080_0000),
-        [0xe9, 0xfb, 0xff, 0x6f, 0x00]
-    );
-    assert_eq!(rt;
-        jump_bytes(0x0010_0000, 0x0080_0010),
-        [0xe9, 0x0b, 0x00, 0x70, 0x00]
-    );
-    // to a base below the home, to the home itself, and from a home whose jump would end past the last address
-    assert_eq!(rt;
-        jump_bytes(0x0080_0000, 0x0010_0000),
-        [0xe9, 0xfb, 0xff, 0x8f, 0xff]
-    );
-    assert_eq!(rt;
-        jump_bytes(0x0010_0000, 0x0010_0000),
-        [0xe9, 0xfb, 0xff, 0xff, 0xff]
-    );
-    assert_eq!(rt;
-        jump_bytes(0xffff_fffe, 0x0000_0010),
-        [0xe9, 0x0d, 0x00, 0x00, 0x00]
-    );
-    assert_eq!(rt;
-        jump_bytes(0xfffe_fff0, 0x0010_0000),
-        [0xe9, 0x0b, 0x00, 0x11, 0x00]
-    );
-    Ok(())
+fn bytes_of_jumps(rt: HostRuntime) {
+    for (home, base, bytes) in JUMPS {
+        assert!(rt; jump_bytes(home, base) == bytes);
+    }
 }
 
 #[test]
@@ -82,10 +70,14 @@ fn spliced_and_restored(rt: HostRuntime) -> Result<(), Fail> {
     assert!(rt; are_placed(&pieces));
     let mut space = FlatSpace::new(alloc, pieces)?;
     let (old, spliced, restored) = there_and_back(&mut space, 0x0010_0000, 0x0080_0010);
-    assert!(rt; old == [1, 2, 3, 4, 5]);
-    assert!(rt; spliced == code([0xe9, 0x0b, 0x00, 0x70, 0x00]));
-    assert!(rt; restored == code([1, 2, 3, 4, 5]));
-    assert!(rt; space.look(0x000f_ffff) == Some((Kind::Code, 0xc3)));
-    assert!(rt; space.look(0x0010_0005) == Some((Kind::Code, 0xcc)));
+    let ends = [space.look(0x000f_ffff), space.look(0x0010_0005)];
+    let found = (old, spliced, restored, ends);
+    let wanted = (
+        [1, 2, 3, 4, 5],
+        code([0xe9, 0x0b, 0x00, 0x70, 0x00]),
+        code([1, 2, 3, 4, 5]),
+        [Some((Kind::Code, 0xc3)), Some((Kind::Code, 0xcc))],
+    );
+    assert!(rt; found == wanted);
     Ok(())
 }

@@ -90,72 +90,126 @@ fn drop_at(space: &mut FlatSpace, base: u32)
     space.drop_piece(base);
 }
 
+/// The base of the piece in which an address lies, where the pieces may make up a memory.
+fn base_at(pieces: &Pieces, address: u64) -> Option<u32> {
+    if !are_placed(pieces) {
+        return None;
+    }
+    Some(piece_at(pieces.as_slice(), address)?.base)
+}
+
 #[test]
 fn pieces_found(rt: HostRuntime) -> Result<(), Fail> {
     let pieces = example(rt.alloc())?;
-    assert!(rt; are_placed(&pieces));
-    let found = piece_at(pieces.as_slice(), 0x0020_0002).ok_or("none")?;
-    assert_eq!(rt; found.base, 0x0020_0000);
-    assert!(rt; piece_at(pieces.as_slice(), 0x0020_0007).is_none());
-    assert!(rt; piece_at(pieces.as_slice(), 0x000f_ffff).is_none());
+    let found = [
+        base_at(&pieces, 0x0020_0002),
+        base_at(&pieces, 0x0020_0007),
+        base_at(&pieces, 0x000f_ffff),
+    ];
+    assert!(rt; found == [Some(0x0020_0000), None, None]);
     Ok(())
 }
 
 #[test]
 fn placement(rt: HostRuntime) -> Result<(), Fail> {
-    let alloc = rt.alloc();
-    assert!(rt; placed(alloc, 0, 3, &[1])?);
-    assert!(rt; placed(alloc, 0, 0xfffe_fffe, &[1, 2])?);
-    assert!(rt; !placed(alloc, 0, 2, &[1])?);
-    assert!(rt; !placed(alloc, 7, 3, &[1])?);
-    assert!(rt; !placed(alloc, 0, 3, &[])?);
-    assert!(rt; !placed(alloc, 0, 0xfffe_ffff, &[1, 2])?);
+    // the bases of two pieces, the bytes of the second one, and whether they may make up a memory
+    let rows: [(u32, u32, &[u8], bool); 6] = [
+        (0, 3, &[1], true),
+        (0, 0xfffe_fffe, &[1, 2], true),
+        (0, 2, &[1], false),
+        (7, 3, &[1], false),
+        (0, 3, &[], false),
+        (0, 0xfffe_ffff, &[1, 2], false),
+    ];
+    for (low, high, bytes, wanted) in rows {
+        assert!(rt; placed(rt.alloc(), low, high, bytes)? == wanted);
+    }
     Ok(())
 }
 
-#[test]
-fn looks_and_windows(rt: HostRuntime) -> Result<(), Fail> {
-    let alloc = rt.alloc();
-    let pieces = example(alloc)?;
-    assert!(rt; are_placed(&pieces));
-    let space = FlatSpace::new(alloc, pieces)?;
-    assert_eq!(rt; space.look(0x0010_0000), Some((Kind::Code, 0xb8)));
-    assert_eq!(rt; space.look(0x0020_0003), Some((Kind::Writable, 4)));
-    assert_eq!(rt; space.look(0x0020_0007), None);
-    assert_eq!(rt; space.look(0x000f_ffff), None);
-    assert!(rt; !space.spliced(0x0010_0000));
+/// What is seen of the example: single bytes, and whether its start is a spliced home.
+fn looks<S: Space>(space: &S) -> bool {
+    space.look(0x0010_0000) == Some((Kind::Code, 0xb8))
+        && space.look(0x0020_0003) == Some((Kind::Writable, 4))
+        && space.look(0x0020_0007).is_none()
+        && space.look(0x000f_ffff).is_none()
+        && !space.spliced(0x0010_0000)
+}
 
-    let window = space.window(0x0010_0001);
-    assert!(rt;
-        matches!(&window, Ok(w) if w.length == 5 && w.bytes == [1, 0, 0, 0, 0xc3, 0, 0, 0, 0, 0, 0, 0, 0, 0, 0])
-    );
-    let window = space.window(0x0010_0011);
-    assert!(rt;
-        matches!(&window, Ok(w) if w.length == 15 && w.bytes == [2, 3, 4, 5, 6, 7, 8, 9, 10, 11, 12, 13, 14, 15, 16])
-    );
-    assert!(rt; space.window(0x0010_0006) == Err(Fault::Unmapped));
-    assert!(rt; space.window(0x0020_0000) == Err(Fault::Unmapped));
-    Ok(())
+/// Whether the bytes that are fetched are these, with zeros behind them.
+fn fetches<S: Space>(space: &S, pc: u32, length: u32, bytes: [u8; 15]) -> bool {
+    matches!(space.window(pc), Ok(window) if window.length == length && window.bytes == bytes)
+}
+
+/// What is fetched of the example.
+fn windows<S: Space>(space: &S) -> bool {
+    let short = [1, 0, 0, 0, 0xc3, 0, 0, 0, 0, 0, 0, 0, 0, 0, 0];
+    let long = [2, 3, 4, 5, 6, 7, 8, 9, 10, 11, 12, 13, 14, 15, 16];
+    fetches(space, 0x0010_0001, 5, short)
+        && fetches(space, 0x0010_0011, 15, long)
+        && space.window(0x0010_0006) == Err(Fault::Unmapped)
+        && space.window(0x0020_0000) == Err(Fault::Unmapped)
+}
+
+/// What is read of the example.
+fn all_read<S: Space>(space: &S) -> bool {
+    reads(space, 0x0020_0001) == (Ok(()), [2, 3, 4, 5])
+        && reads(space, 0x0020_0004) == (Err(Fault::Unmapped), [0xee; 4])
+        && reads(space, 0x0010_0004) == (Err(Fault::CodeAccess), [0xee; 4])
+        && reads(space, 0xffff_fffe) == (Err(Fault::Unmapped), [0xee; 4])
+}
+
+/// What is written to the example, and read of it then.
+fn all_written<S: Space>(space: &mut S) -> bool {
+    let answers = [
+        space.write(0x0020_0004, &[0xa, 0xb]),
+        space.write(0x0020_0002, &[0xc, 0xc]),
+        space.write(0x0020_0006, &[0xc, 0xc]),
+        space.write(0x0010_0000, &[0xc]),
+    ];
+    let wanted = [
+        Ok(()),
+        Err(Fault::ReadOnlyWrite),
+        Err(Fault::Unmapped),
+        Err(Fault::CodeAccess),
+    ];
+    answers == wanted
+        && reads(space, 0x0020_0003) == (Ok(()), [4, 0xa, 0xb, 7])
+        && reads(space, 0x0020_0000) == (Ok(()), [1, 2, 3, 4])
 }
 
 #[test]
-fn reads_and_writes(rt: HostRuntime) -> Result<(), Fail> {
-    let alloc = rt.alloc();
-    let pieces = example(alloc)?;
+fn looks_windows_reads_and_writes(rt: HostRuntime) -> Result<(), Fail> {
+    let pieces = example(rt.alloc())?;
     assert!(rt; are_placed(&pieces));
-    let mut space = FlatSpace::new(alloc, pieces)?;
-    assert!(rt; reads(&space, 0x0020_0001) == (Ok(()), [2, 3, 4, 5]));
-    assert!(rt; reads(&space, 0x0020_0004) == (Err(Fault::Unmapped), [0xee; 4]));
-    assert!(rt; reads(&space, 0x0010_0004) == (Err(Fault::CodeAccess), [0xee; 4]));
-    assert!(rt; reads(&space, 0xffff_fffe) == (Err(Fault::Unmapped), [0xee; 4]));
-
-    assert!(rt; space.write(0x0020_0004, &[0xa, 0xb]) == Ok(()));
-    assert!(rt; space.write(0x0020_0002, &[0xc, 0xc]) == Err(Fault::ReadOnlyWrite));
-    assert!(rt; space.write(0x0020_0006, &[0xc, 0xc]) == Err(Fault::Unmapped));
-    assert!(rt; space.write(0x0010_0000, &[0xc]) == Err(Fault::CodeAccess));
-    assert!(rt; reads(&space, 0x0020_0003) == (Ok(()), [4, 0xa, 0xb, 7]));
-    assert!(rt; reads(&space, 0x0020_0000) == (Ok(()), [1, 2, 3, 4]));
+    let mut space = FlatSpace::new(rt.alloc(), pieces)?;
+    let found = [
+        looks(&space),
+        windows(&space),
+        all_read(&space),
+        all_written(&mut space),
+    ];
+    assert!(rt; found == [true; 4]);
     Ok(())
+}
+
+/// How many bytes are fetched at some places of the code.
+fn all_fetched<S: Space>(space: &S) -> [Result<u32, Fault>; 4] {
+    [
+        fetched(space, 0x1000),
+        fetched(space, 0x1004),
+        fetched(space, 0x1005),
+        fetched(space, 0x1009),
+    ]
+}
+
+/// What is seen at three places of the code.
+fn seen<S: Space>(space: &S) -> [Option<(Kind, u8)>; 3] {
+    [space.look(0x1004), space.look(0x1005), space.look(0x1006)]
+}
+
+fn code_byte(byte: u8) -> Option<(Kind, u8)> {
+    Some((Kind::Code, byte))
 }
 
 #[test]
@@ -167,34 +221,33 @@ fn changes(rt: HostRuntime) -> Result<(), Fail> {
     let wanted = alone(alloc, piece_of(alloc, Kind::Code, 0x1000, &LONG_CODE)?)?;
     let code = piece_of(alloc, Kind::Code, 0x1000, &LONG_CODE)?;
     space.reserve(&wanted, 1)?;
-    assert!(rt; space.look(0x1000).is_none());
+    let before = space.look(0x1000);
 
     space.add_piece(code);
-    assert!(rt; space.look(0x1000) == Some((Kind::Code, 1)));
-    assert!(rt; fetched(&space, 0x1000) == Ok(15));
+    let added = (space.look(0x1000), fetched(&space, 0x1000));
 
     let retired = Range {
         low: 0x1004,
         high: 0x1009,
     };
     space.fence(retired, true);
-    assert!(rt; space.spliced(0x1004));
-    assert!(rt; fetched(&space, 0x1000) == Ok(4));
-    assert!(rt; fetched(&space, 0x1004) == Ok(5));
-    assert!(rt; fetched(&space, 0x1005) == Err(Fault::Stray));
-    assert!(rt; fetched(&space, 0x1009) == Ok(8));
+    let fenced = (space.spliced(0x1004), all_fetched(&space));
 
     space.poke_code(0x1004, &[0xe9, 0xff]);
-    assert!(rt; space.look(0x1004) == Some((Kind::Code, 0xe9)));
-    assert!(rt; space.look(0x1005) == Some((Kind::Code, 0xff)));
-    assert!(rt; space.look(0x1006) == Some((Kind::Code, 7)));
+    let poked = seen(&space);
 
     space.unfence(retired);
-    assert!(rt; !space.spliced(0x1004));
-    assert!(rt; fetched(&space, 0x1004) == Ok(13));
+    let open = (space.spliced(0x1004), fetched(&space, 0x1004));
 
     drop_at(&mut space, 0x1000);
-    assert!(rt; space.look(0x1004).is_none());
-    assert!(rt; space.look(0x2001) == Some((Kind::Writable, 2)));
+    let dropped = (space.look(0x1004), space.look(0x2001));
+
+    let right = before.is_none()
+        && added == (code_byte(1), Ok(15))
+        && fenced == (true, [Ok(4), Ok(5), Err(Fault::Stray), Ok(8)])
+        && poked == [code_byte(0xe9), code_byte(0xff), code_byte(7)]
+        && open == (false, Ok(13))
+        && dropped == (None, Some((Kind::Writable, 2)));
+    assert!(rt; right);
     Ok(())
 }

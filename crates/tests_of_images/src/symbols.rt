@@ -45,12 +45,18 @@ fn table_of_rows(alloc: Global) -> Result<SymbolTable, AllocError> {
     Ok(table)
 }
 
-/// The table with its last four symbols taken away and put back.
-fn table_put_back(alloc: Global) -> Result<SymbolTable, AllocError> {
+/// The table with its last four symbols taken away.
+fn table_shortened(alloc: Global) -> Result<SymbolTable, AllocError> {
     let mut table = table_of_rows(alloc)?;
     if 4 <= table.len() {
         table.remove_last(4);
     }
+    Ok(table)
+}
+
+/// The same with these put back.
+fn table_put_back(alloc: Global) -> Result<SymbolTable, AllocError> {
+    let mut table = table_shortened(alloc)?;
     add_rows(&mut table, alloc, 9)?;
     Ok(table)
 }
@@ -63,16 +69,18 @@ fn has_at(table: &SymbolTable, index: usize, address: u32, name: &[u8]) -> bool 
     }
 }
 
+/// Whether the symbol at an index has this address and name, and whether the table has so many.
+fn ends_with(table: &SymbolTable, index: usize, address: u32, name: &[u8], length: usize) -> bool {
+    has_at(table, index, address, name) && table.len() == length && table.get(length).is_none()
+}
+
 #[test]
 fn symbols_stand_in_order(rt: HostRuntime) -> Result<(), Fail> {
-    let mut table = table_of_rows(rt.alloc())?;
-    assert!(rt; has_at(&table, 1, 0x10, b"early"));
-    assert!(rt; table.len() == 13 && table.get(13).is_none());
-    assert!(rt; 4 <= table.len());
-    table.remove_last(4);
-    assert!(rt; has_at(&table, 8, 0x20100, b"twin"));
-    assert!(rt; table.len() == 9 && table.get(9).is_none());
-    assert!(rt; table.next_address(0x30) == Some(0x20100) && table.name_at(0xf).is_none());
+    let table = table_of_rows(rt.alloc())?;
+    assert!(rt; ends_with(&table, 1, 0x10, b"early", 13));
+    let table = table_shortened(rt.alloc())?;
+    let next = table.next_address(0x30) == Some(0x20100);
+    assert!(rt; ends_with(&table, 8, 0x20100, b"twin", 9) && next && table.name_at(0xf).is_none());
     Ok(())
 }
 
@@ -99,9 +107,22 @@ fn has_addresses(
     Ok(found.as_slice() == row.2)
 }
 
+/// Whether all names have their addresses.
+fn have_addresses(
+    alloc: Global,
+    table: &SymbolTable,
+    rows: &[(Kind, &str, &[u32])],
+) -> Result<bool, AllocError> {
+    for row in rows {
+        if !has_addresses(alloc, table, row)? {
+            return Ok(false);
+        }
+    }
+    Ok(true)
+}
+
 #[test]
 fn names_have_their_addresses(rt: HostRuntime) -> Result<(), Fail> {
-    let mut table = table_put_back(rt.alloc())?;
     let rows: [(Kind, &str, &[u32]); 5] = [
         (Kind::Function, "f", &[0x8, 0x30, 0x40]),
         (Kind::Global, "f", &[0x20, 0x28, 0x30, 0x40]),
@@ -109,17 +130,32 @@ fn names_have_their_addresses(rt: HostRuntime) -> Result<(), Fail> {
         (Kind::Data, "d", &[0x20]),
         (Kind::Function, "d", &[]),
     ];
-    for row in &rows {
-        assert!(rt; has_addresses(rt.alloc(), &table, row)?, "{}", row.1);
-    }
-    let name = Name::from_slice(rt.alloc(), b"f")?;
-    for (address, told) in [(0x8, false), (0x10, false), (0x28, true), (0x30, true)] {
-        assert_eq!(rt; table.is_global(&name, address), told, "at {address}");
-    }
-    assert!(rt; 4 <= table.len());
-    table.remove_last(4);
-    assert!(rt; has_addresses(rt.alloc(), &table, &(Kind::Function, "f", &[0x30]))?);
-    assert!(rt; has_addresses(rt.alloc(), &table, &(Kind::Data, "f", &[0x20]))?);
+    let table = table_put_back(rt.alloc())?;
+    assert!(rt; have_addresses(rt.alloc(), &table, &rows)?);
+    let rows: [(Kind, &str, &[u32]); 2] = [
+        (Kind::Function, "f", &[0x30]),
+        (Kind::Data, "f", &[0x20]),
+    ];
+    let table = table_shortened(rt.alloc())?;
+    assert!(rt; have_addresses(rt.alloc(), &table, &rows)?);
+    Ok(())
+}
+
+/// Whether `f` is global at some addresses.
+fn are_global(alloc: Global) -> Result<[bool; 4], AllocError> {
+    let table = table_put_back(alloc)?;
+    let name = Name::from_slice(alloc, b"f")?;
+    Ok([
+        table.is_global(&name, 0x8),
+        table.is_global(&name, 0x10),
+        table.is_global(&name, 0x28),
+        table.is_global(&name, 0x30),
+    ])
+}
+
+#[test]
+fn names_are_global_at_their_addresses(rt: HostRuntime) -> Result<(), Fail> {
+    assert!(rt; are_global(rt.alloc())? == [false, false, true, true]);
     Ok(())
 }
 
@@ -149,6 +185,15 @@ fn names_have_one_function(rt: HostRuntime) -> Result<(), Fail> {
     Ok(())
 }
 
+/// Whether an address has the name and the offset, and the next address, of a row.
+fn is_near(table: &SymbolTable, row: &(u32, &[u8], u32, u32)) -> bool {
+    let named = match table.name_at(row.0) {
+        Some((name, offset)) => name.as_slice() == row.1 && offset == row.2,
+        None => row.1.is_empty(),
+    };
+    named && table.next_address(row.0).unwrap_or(0) == row.3
+}
+
 #[test]
 fn addresses_have_their_function(rt: HostRuntime) -> Result<(), Fail> {
     let table = table_put_back(rt.alloc())?;
@@ -167,19 +212,7 @@ fn addresses_have_their_function(rt: HostRuntime) -> Result<(), Fail> {
         (0x300ff, b"far", 0xffff, 0),
     ];
     for row in rows.iter() {
-        assert_eq!(rt;
-            table.next_address(row.0).unwrap_or(0),
-            row.3,
-            "after {}",
-            row.0
-        );
-        match table.name_at(row.0) {
-            Some((name, offset)) => {
-                assert_eq!(rt; name.as_slice(), row.1, "at {}", row.0);
-                assert_eq!(rt; offset, row.2, "at {}", row.0);
-            }
-            None => assert!(rt; row.1.is_empty(), "at {}", row.0),
-        }
+        assert!(rt; is_near(&table, row), "at {}", row.0);
     }
     Ok(())
 }
@@ -187,11 +220,14 @@ fn addresses_have_their_function(rt: HostRuntime) -> Result<(), Fail> {
 #[test]
 fn homes_have_their_newest_base(rt: HostRuntime) -> Result<(), Fail> {
     let bodies = Bodies::new(vec![in rt.alloc(); (0x30, 0x900), (0x10, 0x700), (0x20, 0x800)]?);
-    assert_eq!(rt; bodies.newest(0x10), 0x700);
-    assert_eq!(rt; bodies.newest(0x20), 0x800);
-    assert_eq!(rt; bodies.newest(0x30), 0x900);
-    assert_eq!(rt; bodies.newest(0x18), 0x18);
-    assert_eq!(rt; bodies.newest(0x700), 0x700);
+    let found = [
+        bodies.newest(0x10),
+        bodies.newest(0x20),
+        bodies.newest(0x30),
+        bodies.newest(0x18),
+        bodies.newest(0x700),
+    ];
+    assert!(rt; found == [0x700, 0x800, 0x900, 0x18, 0x700]);
     Ok(())
 }
 
@@ -204,29 +240,27 @@ fn values(alloc: Global, body: Solved) -> Result<Values, Fail> {
     Ok(values)
 }
 
-fn value_of(values: &Values, unknown: &Unknown) -> Option<Solved> {
-    values.get(unknown).copied()
+/// What `f` comes to as code, as data and as an outside name.
+fn values_of_f(alloc: Global, body: Solved) -> Result<[Option<Solved>; 3], Fail> {
+    let values = values(alloc, body)?;
+    let code = Unknown::Code(Name::from_slice(alloc, b"f")?);
+    let data = Unknown::Data(Name::from_slice(alloc, b"f")?);
+    let outside = Unknown::Outside(Name::from_slice(alloc, b"f")?);
+    Ok([
+        values.get(&code).copied(),
+        values.get(&data).copied(),
+        values.get(&outside).copied(),
+    ])
 }
 
 #[test]
 fn unknowns_have_their_values(rt: HostRuntime) -> Result<(), Fail> {
-    let alloc = rt.alloc();
     let body = Solved::Body {
         home: 0x10,
         base: 0x700,
         length: 9,
     };
-    let values = values(alloc, body)?;
-    let rows = [
-        (Unknown::Code(Name::from_slice(alloc, b"f")?), Some(body)),
-        (
-            Unknown::Data(Name::from_slice(alloc, b"f")?),
-            Some(Solved::Address(0x20)),
-        ),
-        (Unknown::Outside(Name::from_slice(alloc, b"f")?), None),
-    ];
-    for (unknown, value) in &rows {
-        assert_eq!(rt; value_of(&values, unknown), *value);
-    }
+    let found = values_of_f(rt.alloc(), body)?;
+    assert!(rt; found == [Some(body), Some(Solved::Address(0x20)), None]);
     Ok(())
 }

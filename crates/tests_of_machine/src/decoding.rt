@@ -1,48 +1,13 @@
 //! What is decoded, how long it is, where its fields stand, and what is padding.
 use ia32_decode::{Decoded, Field, Instr, Operand, Register, Width, decode, is_padding};
 
-/// Padding, of which each is its whole window.
-static PADDING: [&[u8]; 8] = [
-    &[0x90],
-    &[0x66, 0x90],
-    &[0x8B, 0xF6],
-    &[0x8D, 0xB6, 0, 0, 0, 0],
-    &[0x8D, 0x74, 0x26, 0],
-    &[0x2E, 0x8D, 0xB4, 0x26, 0, 0, 0, 0],
-    &[0x0F, 0x1F, 0x44, 0, 0],
-    // 14 prefixes
-    &[
-        0x66, 0x66, 0x66, 0x66, 0x66, 0x66, 0x66, 0x66, 0x66, 0x66, 0x66, 0x66, 0x66, 0x66, 0x90,
-    ],
-];
-
-/// Windows at whose front no instruction stands.
-static UNDECODED: [&[u8]; 8] = [
-    // 15 prefixes, with a byte after them and without
-    &[
-        0x66, 0x66, 0x66, 0x66, 0x66, 0x66, 0x66, 0x66, 0x66, 0x66, 0x66, 0x66, 0x66, 0x66, 0x66,
-        0x90,
-    ],
-    &[
-        0x66, 0x66, 0x66, 0x66, 0x66, 0x66, 0x66, 0x66, 0x66, 0x66, 0x66, 0x66, 0x66, 0x66, 0x66,
-    ],
-    &[0x66, 0xE9, 0, 0],
-    &[0x67, 0x90],
-    &[0x0F, 0xFF],
-    &[0x0F, 0x1E, 0xFB],
-    &[0x8D, 0xC0],
-    &[0x0F],
-];
-
-/// Instructions that are no padding, each at the front of a window: how long they are.
-static OTHERS: [(&[u8], u32); 7] = [
-    (&[0x66, 0xB8, 1, 0], 4),
-    (&[0xC7, 5, 0, 0, 0x20, 0, 1, 0, 0, 0], 10),
-    (&[0xFF, 0x24, 0x85, 0, 0, 0x18, 0], 7),
-    (&[0xF3, 0x0F, 0x1E, 0xFB], 4),
-    (&[0x89, 0xC8], 2),
-    (&[0xF6, 0x04, 0x24, 1, 0xC3], 4), // test byte [esp], 1 and ret
-    (&[0xF6, 0x1C, 0x24, 1], 3), // neg byte [esp]
+/// Windows, and of the instruction at the front of each how long it is and whether it is padding: padding, what is none,
+/// one behind which another stands, and no instruction.
+static WINDOWS: [(&[u8], Option<(u32, bool)>); 4] = [
+    (&[0x0F, 0x1F, 0x44, 0, 0], Some((5, true))),
+    (&[0x66, 0xB8, 1, 0], Some((4, false))),
+    (&[0xF6, 0x04, 0x24, 1, 0xC3], Some((4, false))),
+    (&[0x0F, 0xFF], None),
 ];
 
 /// How long the instruction is, and whether it is padding.
@@ -96,18 +61,8 @@ fn pushed(decoded: Option<Decoded>) -> Option<(Width, Register)> {
 
 #[test]
 fn lengths_and_padding(rt: HostRuntime) {
-    for window in &PADDING {
-        assert_eq!(rt;
-            told(window),
-            Some((window.len() as u32, true)),
-            "{window:?}"
-        );
-    }
-    for window in &UNDECODED {
-        assert_eq!(rt; told(window), None, "{window:?}");
-    }
-    for (window, length) in &OTHERS {
-        assert_eq!(rt; told(window), Some((*length, false)), "{window:?}");
+    for (window, wanted) in &WINDOWS {
+        assert!(rt; told(window) == *wanted, "{window:?}");
     }
 }
 

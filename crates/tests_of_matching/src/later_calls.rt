@@ -1,13 +1,13 @@
 //! The code of a section listed once and compared at two places, and single instructions that run.
 
-use crate::trying::{CODE, HOME, Part, at_home, normal_of, put_answer, space_of, table_of};
+use crate::trying::{CODE, HOME, Part, normal_of, put_answer, space_of, table_of};
 use i386_reloc::Normal;
 use image_memory::FlatSpace;
 use ks_base::Line;
 use match_instructions::{instruction_at, run_code_goes_on};
 use object_builder::{Kind, Section, object};
 use run_pre_match::{PreCode, PreObject};
-use std::alloc::Global;
+use std::alloc::{AllocError, Global};
 use std::process::Abort;
 use std::test::Fail;
 
@@ -41,7 +41,7 @@ fn put_at(
 
 /// What comes of the code at two places.
 fn at_both(alloc: Global, code: &PreCode<'_, '_>) -> Result<Line, Fail> {
-    let space = space_of(alloc, &at_home(&TWICE))?;
+    let space = space_of(alloc, &TWICE, None)?;
     let mut line = Line::new(alloc);
     for home in [HOME, 0x0010_0010] {
         put_at(alloc, &mut line, code, &space, home)?;
@@ -69,25 +69,44 @@ fn one_code_at_two_places(rt: HostRuntime) -> Result<(), Fail> {
     Ok(())
 }
 
-/// Where an instruction runs, its bytes, whether it is kept, and what is behind it.
-static RUNNING: [(u32, &[u8], bool, u32); 3] = [
-    (HOME, b"\x31\xc0", true, 0x0010_0002),
-    (0x0010_0002, b"\x66\x90", false, 0x0010_0004),
-    (0x0010_0004, b"\xc3", true, 0x0010_0005),
-];
+/// The instruction that runs at a place: its place, the address behind it, its length twice, its bytes, and whether it is
+/// kept.
+fn put_running(line: &mut Line, space: &FlatSpace, place: u32) -> Result<(), AllocError> {
+    let Some(found) = instruction_at(space, place) else {
+        return line.put_text("none\n");
+    };
+    line.put_hex(found.place())?;
+    line.put_text(" ")?;
+    line.put_hex(found.after())?;
+    line.put_text(" ")?;
+    line.put_number(u64::from(found.decoded().length))?;
+    line.put_text(" ")?;
+    line.put_number(found.bytes().len() as u64)?;
+    for byte in found.bytes() {
+        line.put_text(" ")?;
+        line.put_byte(*byte)?;
+    }
+    line.put_text(if found.is_kept() { "\n" } else { " padding\n" })
+}
+
+/// The instructions at some places.
+fn all_running(alloc: Global) -> Result<Line, Fail> {
+    let space = space_of(alloc, &TWICE, None)?;
+    let mut line = Line::new(alloc);
+    for place in [HOME, 0x0010_0002, 0x0010_0004, 0x0010_0005] {
+        put_running(&mut line, &space, place)?;
+    }
+    Ok(line)
+}
 
 #[test]
 fn instructions_that_run(rt: HostRuntime) -> Result<(), Fail> {
     run_code_goes_on();
-    let space = space_of(rt.alloc(), &at_home(&TWICE))?;
-    for (place, bytes, kept, after) in RUNNING.iter() {
-        let found = instruction_at(&space, *place).ok_or("none")?;
-        assert!(rt; found.place() == *place);
-        assert!(rt; found.after() == *after);
-        assert!(rt; found.bytes() == *bytes);
-        assert!(rt; found.is_kept() == *kept);
-        assert!(rt; found.decoded().length as usize == bytes.len());
-    }
-    assert!(rt; instruction_at(&space, HOME + 5).is_none());
+    let line = all_running(rt.alloc())?;
+    let wanted = "0x00100000 0x00100002 2 2 31 c0\n\
+                  0x00100002 0x00100004 2 2 66 90 padding\n\
+                  0x00100004 0x00100005 1 1 c3\n\
+                  none\n";
+    assert!(rt; line.bytes() == wanted.as_bytes());
     Ok(())
 }

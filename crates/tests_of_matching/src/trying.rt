@@ -1,16 +1,11 @@
-//! What comes of a small object beside a small memory, as text.
-ghost use Rattle.std.specs.Prelude.{◌≡◌};
-ghost use Rattle.i386_reloc.specs.Classes.{is_code_class};
-ghost use Rattle.i386_reloc.specs.Reaches.{is_in};
+//! Small objects, small memories and their symbols, and what comes of matching as text.
 
 use elf32_object::read_object;
 use i386_reloc::{Normal, normalise};
 use image_memory::{FlatSpace, Kind, Piece, Pieces, Space, are_placed};
 use ks_base::{Bytes, Line, Name, Range, Refusal};
-use object_builder::{Section, object};
-use run_pre_match::{BorrowedSpot, Claim, Interior, MatchFault, Matched, match_body};
+use run_pre_match::{BorrowedSpot, Claim, Interior, MatchFault, Matched};
 use std::alloc::{AllocError, Global};
-use std::process::Abort;
 use std::test::Fail;
 use symbol_table::{Symbol, SymbolTable, Unknown};
 
@@ -26,44 +21,11 @@ pub(crate) const VARIABLE: Kind = Kind::Writable;
 /// A piece of memory: its kind, its base and its bytes.
 pub(crate) type Part<'a> = (Kind, u32, &'a [u8]);
 
-/// The references of a section.
-pub(crate) type References = &'static [(u32, u32, &'static str)];
-
-/// The bytes of `.text.f` with its references, the object's other sections, the memory with `f` at [`HOME`], and what
-/// comes of it.
-pub(crate) type Row = (
-    &'static [u8],
-    References,
-    &'static [Section],
-    &'static [Part<'static>],
-    &'static str,
-);
-
 /// A symbol: its name, whether it is global, and its address.
 pub(crate) type Listed = (&'static str, bool, u32);
 
-/// What runs, and where the function is looked for.
-#[derive(Clone, Copy)]
-pub(crate) struct Running<'a> {
-    /// The pieces of memory, by base.
-    pub(crate) parts: &'a [Part<'a>],
-    /// A retired range, and whether its low is a spliced home.
-    pub(crate) retired: Option<(u32, u32, bool)>,
-    pub(crate) symbols: &'a [Listed],
-    pub(crate) home: u32,
-    pub(crate) base: u32,
-}
-
-/// Some memory with a function at [`HOME`], without a symbol and without a retired range.
-pub(crate) fn at_home<'a>(parts: &'a [Part<'a>]) -> Running<'a> {
-    Running {
-        parts,
-        retired: None,
-        symbols: &[],
-        home: HOME,
-        base: HOME,
-    }
-}
+/// A retired range, and whether its low is a spliced home.
+pub(crate) type Retired = Option<(u32, u32, bool)>;
 
 fn pieces_of(alloc: Global, parts: &[Part<'_>]) -> Result<Pieces, AllocError> {
     let mut pieces = Pieces::new(alloc);
@@ -78,13 +40,17 @@ fn pieces_of(alloc: Global, parts: &[Part<'_>]) -> Result<Pieces, AllocError> {
 }
 
 /// The memory with its retired range.
-pub(crate) fn space_of(alloc: Global, running: &Running<'_>) -> Result<FlatSpace, Fail> {
-    let pieces = pieces_of(alloc, running.parts)?;
+pub(crate) fn space_of(
+    alloc: Global,
+    parts: &[Part<'_>],
+    retired: Retired,
+) -> Result<FlatSpace, Fail> {
+    let pieces = pieces_of(alloc, parts)?;
     if !are_placed(&pieces) {
         return Err(Fail::from("pieces"));
     }
     let mut space = FlatSpace::new(alloc, pieces)?;
-    if let Some((low, high, jump)) = running.retired {
+    if let Some((low, high, jump)) = retired {
         space.reserve(&Pieces::new(alloc), 1)?;
         if low < high {
             space.fence(Range { low, high }, jump);
@@ -177,105 +143,4 @@ pub(crate) fn put_answer(
         }
         Err(MatchFault::Memory) => line.put_text("memory\n"),
     }
-}
-
-/// Whether there is a code section of a name.
-fn has_code(normal: &Normal<'_>, name: &Name) -> bool
-    ensures { result ≡ is_in is_code_class normal.now name.now }
-{
-    match normal.find(name.as_slice()) {
-        Some(section) => section.class.is_code(),
-        None => false,
-    }
-}
-
-/// What comes of the code section of a name, where there is one.
-fn matched<'a>(
-    alloc: Global,
-    normal: &Normal<'a>,
-    name: &Name,
-    space: &FlatSpace,
-    table: &SymbolTable,
-    places: (u32, u32),
-) -> Option<Result<Matched<'a>, MatchFault>> {
-    if !has_code(normal, name) {
-        return None;
-    }
-    let (home, base) = places;
-    Some(match_body(alloc, normal, name, space, table, home, base))
-}
-
-/// What comes of the section of a name of an object, as text.
-fn answer(
-    alloc: Global,
-    normal: &Normal<'_>,
-    section: &str,
-    running: &Running<'_>,
-) -> Result<Line, Fail> {
-    let space = space_of(alloc, running)?;
-    let table = table_of(alloc, running.symbols)?;
-    let name = Name::from_slice(alloc, section.as_bytes())?;
-    let places = (running.home, running.base);
-    let mut line = Line::new(alloc);
-    if let Some(answer) = matched(alloc, normal, &name, &space, &table, places) {
-        put_answer(alloc, &mut line, section, &answer)?;
-    }
-    Ok(line)
-}
-
-/// Asserts what comes of an object's first section.
-pub(crate) fn comes(
-    rt: &impl Abort,
-    alloc: Global,
-    sections: &[Section],
-    running: &Running<'_>,
-    text: &str,
-) -> Result<(), Fail> {
-    let section = match sections.first() {
-        Some(section) => section.name,
-        None => "",
-    };
-    let file = object(alloc, sections)?;
-    let normal = normal_of(alloc, file.as_slice())?;
-    let line = answer(alloc, &normal, section, running)?;
-    let same = line.bytes() == text.as_bytes();
-    let got = std::str::from_utf8(line.bytes()).unwrap_or("");
-    assert!(rt; same, "{got} in place of {text}");
-    Ok(())
-}
-
-/// The code of `f`, and the other sections of its object.
-fn sections_of(
-    alloc: Global,
-    bytes: &'static [u8],
-    references: References,
-    others: &[Section],
-) -> Result<Vec<Section>, AllocError> {
-    let mut sections = Vec::new(alloc);
-    sections.push(Section {
-        name: ".text.f",
-        kind: object_builder::Kind::Global("f"),
-        bytes,
-        references,
-    })?;
-    sections.extend_from_slice(others)?;
-    Ok(sections)
-}
-
-/// Asserts what comes of each row, in a program with some symbols.
-pub(crate) fn rows_come(
-    rt: &impl Abort,
-    alloc: Global,
-    symbols: &[Listed],
-    rows: &[Row],
-) -> Result<(), Fail> {
-    for (bytes, references, others, parts, text) in rows {
-        let sections = sections_of(alloc, bytes, references, others)?;
-        let running = Running {
-            symbols,
-            ..at_home(parts)
-        };
-        comes(rt, alloc, sections.as_slice(), &running, text)?;
-    }
-    Ok(())
 }

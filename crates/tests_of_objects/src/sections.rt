@@ -1,420 +1,208 @@
-//! Small objects and what is read of them, the values of fields, and the refusals.
-use elf32_object::read_object;
-use elf32_object::types::{Large, ObjectFault};
+//! The sections of small objects, their references and variables; the values of fields; and refusals.
+
+use crate::objects::put_row;
+use elf32_object::types::ObjectFault;
 use i386_reloc::{
-    Class, Form, Normal, NormalSection, ObjectSymbol, Ref, Target, field_value, normalise,
-    object_refusal,
+    Class, Form, Normal, NormalSection, Ref, Target, field_value, object_refusal, read_sections,
 };
 use ks_base::{Line, Refusal};
 use std::alloc::{AllocError, Global};
+use std::process::Abort;
 use std::test::Fail;
 
 /// Sections: 1 `.text.f` of six bytes, 2 `.text.g` of one byte, 3 `.rel` (not a relocation section, though laid out as
 /// one of section 1), 4 to 6 the symbol table and its strings. Symbols: 1 `alias`, no function, 2 the local function
 /// `g`, 3 the weak function `f`, 4 the global function `alias`, which is `f` again.
-static FUNCTIONS: [u8; 492] = [
-    0x7f, 0x45, 0x4c, 0x46, 0x01, 0x01, 0x01, 0x00, 0x00, 0x00, 0x00, 0x00, 0x00, 0x00, 0x00, 0x00,
-    0x01, 0x00, 0x03, 0x00, 0x01, 0x00, 0x00, 0x00, 0x00, 0x00, 0x00, 0x00, 0x00, 0x00, 0x00, 0x00,
-    0xd4, 0x00, 0x00, 0x00, 0x00, 0x00, 0x00, 0x00, 0x34, 0x00, 0x00, 0x00, 0x00, 0x00, 0x28, 0x00,
-    0x07, 0x00, 0x06, 0x00, 0xb8, 0x01, 0x00, 0x00, 0x00, 0xc3, 0x00, 0x00, 0xc3, 0x00, 0x00, 0x00,
-    0x01, 0x00, 0x00, 0x00, 0x01, 0x02, 0x00, 0x00, 0x00, 0x00, 0x00, 0x00, 0x00, 0x00, 0x00, 0x00,
-    0x00, 0x00, 0x00, 0x00, 0x00, 0x00, 0x00, 0x00, 0x03, 0x00, 0x00, 0x00, 0x00, 0x00, 0x00, 0x00,
-    0x00, 0x00, 0x00, 0x00, 0x00, 0x00, 0x01, 0x00, 0x09, 0x00, 0x00, 0x00, 0x00, 0x00, 0x00, 0x00,
-    0x01, 0x00, 0x00, 0x00, 0x02, 0x00, 0x02, 0x00, 0x01, 0x00, 0x00, 0x00, 0x00, 0x00, 0x00, 0x00,
-    0x06, 0x00, 0x00, 0x00, 0x22, 0x00, 0x01, 0x00, 0x03, 0x00, 0x00, 0x00, 0x00, 0x00, 0x00, 0x00,
-    0x06, 0x00, 0x00, 0x00, 0x12, 0x00, 0x01, 0x00, 0x00, 0x66, 0x00, 0x61, 0x6c, 0x69, 0x61, 0x73,
-    0x00, 0x67, 0x00, 0x00, 0x00, 0x2e, 0x74, 0x65, 0x78, 0x74, 0x2e, 0x66, 0x00, 0x2e, 0x74, 0x65,
-    0x78, 0x74, 0x2e, 0x67, 0x00, 0x2e, 0x72, 0x65, 0x6c, 0x00, 0x2e, 0x73, 0x79, 0x6d, 0x74, 0x61,
-    0x62, 0x00, 0x2e, 0x73, 0x74, 0x72, 0x74, 0x61, 0x62, 0x00, 0x2e, 0x73, 0x68, 0x73, 0x74, 0x72,
-    0x74, 0x61, 0x62, 0x00, 0x00, 0x00, 0x00, 0x00, 0x00, 0x00, 0x00, 0x00, 0x00, 0x00, 0x00, 0x00,
-    0x00, 0x00, 0x00, 0x00, 0x00, 0x00, 0x00, 0x00, 0x00, 0x00, 0x00, 0x00, 0x00, 0x00, 0x00, 0x00,
-    0x00, 0x00, 0x00, 0x00, 0x00, 0x00, 0x00, 0x00, 0x00, 0x00, 0x00, 0x00, 0x01, 0x00, 0x00, 0x00,
-    0x01, 0x00, 0x00, 0x00, 0x06, 0x00, 0x00, 0x00, 0x00, 0x00, 0x00, 0x00, 0x34, 0x00, 0x00, 0x00,
-    0x06, 0x00, 0x00, 0x00, 0x00, 0x00, 0x00, 0x00, 0x00, 0x00, 0x00, 0x00, 0x10, 0x00, 0x00, 0x00,
-    0x00, 0x00, 0x00, 0x00, 0x09, 0x00, 0x00, 0x00, 0x01, 0x00, 0x00, 0x00, 0x06, 0x00, 0x00, 0x00,
-    0x00, 0x00, 0x00, 0x00, 0x3c, 0x00, 0x00, 0x00, 0x01, 0x00, 0x00, 0x00, 0x00, 0x00, 0x00, 0x00,
-    0x00, 0x00, 0x00, 0x00, 0x10, 0x00, 0x00, 0x00, 0x00, 0x00, 0x00, 0x00, 0x11, 0x00, 0x00, 0x00,
-    0x01, 0x00, 0x00, 0x00, 0x00, 0x00, 0x00, 0x00, 0x00, 0x00, 0x00, 0x00, 0x40, 0x00, 0x00, 0x00,
-    0x08, 0x00, 0x00, 0x00, 0x04, 0x00, 0x00, 0x00, 0x01, 0x00, 0x00, 0x00, 0x04, 0x00, 0x00, 0x00,
-    0x08, 0x00, 0x00, 0x00, 0x16, 0x00, 0x00, 0x00, 0x02, 0x00, 0x00, 0x00, 0x00, 0x00, 0x00, 0x00,
-    0x00, 0x00, 0x00, 0x00, 0x48, 0x00, 0x00, 0x00, 0x50, 0x00, 0x00, 0x00, 0x05, 0x00, 0x00, 0x00,
-    0x03, 0x00, 0x00, 0x00, 0x04, 0x00, 0x00, 0x00, 0x10, 0x00, 0x00, 0x00, 0x1e, 0x00, 0x00, 0x00,
-    0x03, 0x00, 0x00, 0x00, 0x00, 0x00, 0x00, 0x00, 0x00, 0x00, 0x00, 0x00, 0x98, 0x00, 0x00, 0x00,
-    0x0b, 0x00, 0x00, 0x00, 0x00, 0x00, 0x00, 0x00, 0x00, 0x00, 0x00, 0x00, 0x01, 0x00, 0x00, 0x00,
-    0x00, 0x00, 0x00, 0x00, 0x26, 0x00, 0x00, 0x00, 0x03, 0x00, 0x00, 0x00, 0x00, 0x00, 0x00, 0x00,
-    0x00, 0x00, 0x00, 0x00, 0xa4, 0x00, 0x00, 0x00, 0x30, 0x00, 0x00, 0x00, 0x00, 0x00, 0x00, 0x00,
-    0x00, 0x00, 0x00, 0x00, 0x01, 0x00, 0x00, 0x00, 0x00, 0x00, 0x00, 0x00,
-];
+const FUNCTIONS: &[u8] =
+    b"\x7fELF\x01\x01\x01\0\0\0\0\0\0\0\0\0\x01\0\x03\0\x01\0\0\0\0\0\0\0\0\0\0\0\xd4\0\0\0\0\0\0\04\0\0\0\0\0(\0\x07\0\
+    \x06\0\xb8\x01\0\0\0\xc3\0\0\xc3\0\0\0\x01\0\0\0\x01\x02\0\0\0\0\0\0\0\0\0\0\0\0\0\0\0\0\0\0\x03\0\0\0\0\0\0\0\0\
+    \0\0\0\0\0\x01\0\x09\0\0\0\0\0\0\0\x01\0\0\0\x02\0\x02\0\x01\0\0\0\0\0\0\0\x06\0\0\0\"\0\x01\0\x03\0\0\0\0\0\0\0\
+    \x06\0\0\0\x12\0\x01\0\0f\0alias\0g\0\0\0.text.f\0.text.g\0.rel\0.symtab\0.strtab\0.shstrtab\0\0\0\0\0\0\0\0\0\0\
+    \0\0\0\0\0\0\0\0\0\0\0\0\0\0\0\0\0\0\0\0\0\0\0\0\0\0\0\0\0\0\0\x01\0\0\0\x01\0\0\0\x06\0\0\0\0\0\0\04\0\0\0\x06\0\
+    \0\0\0\0\0\0\0\0\0\0\x10\0\0\0\0\0\0\0\x09\0\0\0\x01\0\0\0\x06\0\0\0\0\0\0\0<\0\0\0\x01\0\0\0\0\0\0\0\0\0\0\0\x10\
+    \0\0\0\0\0\0\0\x11\0\0\0\x01\0\0\0\0\0\0\0\0\0\0\0@\0\0\0\x08\0\0\0\x04\0\0\0\x01\0\0\0\x04\0\0\0\x08\0\0\0\x16\0\
+    \0\0\x02\0\0\0\0\0\0\0\0\0\0\0H\0\0\0P\0\0\0\x05\0\0\0\x03\0\0\0\x04\0\0\0\x10\0\0\0\x1e\0\0\0\x03\0\0\0\0\0\0\0\
+    \0\0\0\0\x98\0\0\0\x0b\0\0\0\0\0\0\0\0\0\0\0\x01\0\0\0\0\0\0\0&\0\0\0\x03\0\0\0\0\0\0\0\0\0\0\0\xa4\0\0\00\0\0\0\
+    \0\0\0\0\0\0\0\0\x01\0\0\0\0\0\0\0";
+
+/// The sections: class, size, alignment, whether it is seen from other objects; its function; and its bytes.
+const OF_FUNCTIONS: &str = "\
+.text.f 1 6 16 1
+is f
+bytes 184 1 0 0 0 195
+.text.g 1 1 16 0
+is g
+bytes 195
+";
 
 /// Sections: 1 `.text.f`, 2 `.rodata.str` of the texts `ab` and `cdef`, 3 `.rodata.k`, 4 `.data.v`, 5 `.bss.z`, 6 and 7
 /// the relocations of sections 1 and 3, 8 to 10 the symbol table and its strings. Symbols: 1 section 2, 2 `.LC` at
 /// offset 3 of section 2, 3 the function `f`, 4 `printf`, undefined, 5 the global variable `v` and 6 the local `w` of
 /// section 4, 7 `c`, common, 8 `abs`, absolute, 9 undefined without a name, 10 section 9.
-static REFERENCES: [u8; 900] = [
-    0x7f, 0x45, 0x4c, 0x46, 0x01, 0x01, 0x01, 0x00, 0x00, 0x00, 0x00, 0x00, 0x00, 0x00, 0x00, 0x00,
-    0x01, 0x00, 0x03, 0x00, 0x01, 0x00, 0x00, 0x00, 0x00, 0x00, 0x00, 0x00, 0x00, 0x00, 0x00, 0x00,
-    0xcc, 0x01, 0x00, 0x00, 0x00, 0x00, 0x00, 0x00, 0x34, 0x00, 0x00, 0x00, 0x00, 0x00, 0x28, 0x00,
-    0x0b, 0x00, 0x0a, 0x00, 0x03, 0x00, 0x00, 0x00, 0xff, 0xff, 0xff, 0xff, 0xfe, 0xff, 0xff, 0xff,
-    0xfc, 0xff, 0xff, 0xff, 0xfc, 0xff, 0xff, 0xff, 0xc3, 0x00, 0x00, 0x00, 0x61, 0x62, 0x00, 0x63,
-    0x64, 0x65, 0x66, 0x00, 0x11, 0x22, 0x33, 0x44, 0x07, 0x00, 0x00, 0x00, 0x01, 0x02, 0x03, 0x04,
-    0x05, 0x06, 0x07, 0x08, 0x0c, 0x00, 0x00, 0x00, 0x02, 0x04, 0x00, 0x00, 0x00, 0x00, 0x00, 0x00,
-    0x01, 0x01, 0x00, 0x00, 0x05, 0x00, 0x00, 0x00, 0x00, 0x00, 0x00, 0x00, 0x04, 0x00, 0x00, 0x00,
-    0x01, 0x02, 0x00, 0x00, 0x08, 0x00, 0x00, 0x00, 0x01, 0x06, 0x00, 0x00, 0x10, 0x00, 0x00, 0x00,
-    0x04, 0x03, 0x00, 0x00, 0x04, 0x00, 0x00, 0x00, 0x01, 0x07, 0x00, 0x00, 0x00, 0x00, 0x00, 0x00,
-    0x00, 0x00, 0x00, 0x00, 0x00, 0x00, 0x00, 0x00, 0x00, 0x00, 0x00, 0x00, 0x00, 0x00, 0x00, 0x00,
-    0x00, 0x00, 0x00, 0x00, 0x00, 0x00, 0x00, 0x00, 0x03, 0x00, 0x02, 0x00, 0x01, 0x00, 0x00, 0x00,
-    0x03, 0x00, 0x00, 0x00, 0x00, 0x00, 0x00, 0x00, 0x00, 0x00, 0x02, 0x00, 0x05, 0x00, 0x00, 0x00,
-    0x00, 0x00, 0x00, 0x00, 0x00, 0x00, 0x00, 0x00, 0x12, 0x00, 0x01, 0x00, 0x07, 0x00, 0x00, 0x00,
-    0x00, 0x00, 0x00, 0x00, 0x00, 0x00, 0x00, 0x00, 0x10, 0x00, 0x00, 0x00, 0x0e, 0x00, 0x00, 0x00,
-    0x00, 0x00, 0x00, 0x00, 0x00, 0x00, 0x00, 0x00, 0x11, 0x00, 0x04, 0x00, 0x10, 0x00, 0x00, 0x00,
-    0x04, 0x00, 0x00, 0x00, 0x00, 0x00, 0x00, 0x00, 0x01, 0x00, 0x04, 0x00, 0x12, 0x00, 0x00, 0x00,
-    0x04, 0x00, 0x00, 0x00, 0x00, 0x00, 0x00, 0x00, 0x11, 0x00, 0xf2, 0xff, 0x14, 0x00, 0x00, 0x00,
-    0x01, 0x00, 0x00, 0x00, 0x00, 0x00, 0x00, 0x00, 0x10, 0x00, 0xf1, 0xff, 0x00, 0x00, 0x00, 0x00,
-    0x00, 0x00, 0x00, 0x00, 0x00, 0x00, 0x00, 0x00, 0x10, 0x00, 0x00, 0x00, 0x18, 0x00, 0x00, 0x00,
-    0x00, 0x00, 0x00, 0x00, 0x00, 0x00, 0x00, 0x00, 0x03, 0x00, 0x09, 0x00, 0x00, 0x2e, 0x4c, 0x43,
-    0x00, 0x66, 0x00, 0x70, 0x72, 0x69, 0x6e, 0x74, 0x66, 0x00, 0x76, 0x00, 0x77, 0x00, 0x63, 0x00,
-    0x61, 0x62, 0x73, 0x00, 0x73, 0x00, 0x00, 0x00, 0x00, 0x2e, 0x74, 0x65, 0x78, 0x74, 0x2e, 0x66,
-    0x00, 0x2e, 0x72, 0x6f, 0x64, 0x61, 0x74, 0x61, 0x2e, 0x73, 0x74, 0x72, 0x00, 0x2e, 0x72, 0x6f,
-    0x64, 0x61, 0x74, 0x61, 0x2e, 0x6b, 0x00, 0x2e, 0x64, 0x61, 0x74, 0x61, 0x2e, 0x76, 0x00, 0x2e,
-    0x62, 0x73, 0x73, 0x2e, 0x7a, 0x00, 0x2e, 0x72, 0x65, 0x6c, 0x2e, 0x74, 0x65, 0x78, 0x74, 0x2e,
-    0x66, 0x00, 0x2e, 0x72, 0x65, 0x6c, 0x2e, 0x72, 0x6f, 0x64, 0x61, 0x74, 0x61, 0x2e, 0x6b, 0x00,
-    0x2e, 0x73, 0x79, 0x6d, 0x74, 0x61, 0x62, 0x00, 0x2e, 0x73, 0x74, 0x72, 0x74, 0x61, 0x62, 0x00,
-    0x2e, 0x73, 0x68, 0x73, 0x74, 0x72, 0x74, 0x61, 0x62, 0x00, 0x00, 0x00, 0x00, 0x00, 0x00, 0x00,
-    0x00, 0x00, 0x00, 0x00, 0x00, 0x00, 0x00, 0x00, 0x00, 0x00, 0x00, 0x00, 0x00, 0x00, 0x00, 0x00,
-    0x00, 0x00, 0x00, 0x00, 0x00, 0x00, 0x00, 0x00, 0x00, 0x00, 0x00, 0x00, 0x00, 0x00, 0x00, 0x00,
-    0x00, 0x00, 0x00, 0x00, 0x01, 0x00, 0x00, 0x00, 0x01, 0x00, 0x00, 0x00, 0x06, 0x00, 0x00, 0x00,
-    0x00, 0x00, 0x00, 0x00, 0x34, 0x00, 0x00, 0x00, 0x15, 0x00, 0x00, 0x00, 0x00, 0x00, 0x00, 0x00,
-    0x00, 0x00, 0x00, 0x00, 0x10, 0x00, 0x00, 0x00, 0x00, 0x00, 0x00, 0x00, 0x09, 0x00, 0x00, 0x00,
-    0x01, 0x00, 0x00, 0x00, 0x32, 0x00, 0x00, 0x00, 0x00, 0x00, 0x00, 0x00, 0x4c, 0x00, 0x00, 0x00,
-    0x08, 0x00, 0x00, 0x00, 0x00, 0x00, 0x00, 0x00, 0x00, 0x00, 0x00, 0x00, 0x01, 0x00, 0x00, 0x00,
-    0x01, 0x00, 0x00, 0x00, 0x15, 0x00, 0x00, 0x00, 0x01, 0x00, 0x00, 0x00, 0x02, 0x00, 0x00, 0x00,
-    0x00, 0x00, 0x00, 0x00, 0x54, 0x00, 0x00, 0x00, 0x08, 0x00, 0x00, 0x00, 0x00, 0x00, 0x00, 0x00,
-    0x00, 0x00, 0x00, 0x00, 0x04, 0x00, 0x00, 0x00, 0x00, 0x00, 0x00, 0x00, 0x1f, 0x00, 0x00, 0x00,
-    0x01, 0x00, 0x00, 0x00, 0x03, 0x00, 0x00, 0x00, 0x00, 0x00, 0x00, 0x00, 0x5c, 0x00, 0x00, 0x00,
-    0x08, 0x00, 0x00, 0x00, 0x00, 0x00, 0x00, 0x00, 0x00, 0x00, 0x00, 0x00, 0x04, 0x00, 0x00, 0x00,
-    0x00, 0x00, 0x00, 0x00, 0x27, 0x00, 0x00, 0x00, 0x08, 0x00, 0x00, 0x00, 0x03, 0x00, 0x00, 0x00,
-    0x00, 0x00, 0x00, 0x00, 0x64, 0x00, 0x00, 0x00, 0x04, 0x00, 0x00, 0x00, 0x00, 0x00, 0x00, 0x00,
-    0x00, 0x00, 0x00, 0x00, 0x04, 0x00, 0x00, 0x00, 0x00, 0x00, 0x00, 0x00, 0x2e, 0x00, 0x00, 0x00,
-    0x09, 0x00, 0x00, 0x00, 0x00, 0x00, 0x00, 0x00, 0x00, 0x00, 0x00, 0x00, 0x64, 0x00, 0x00, 0x00,
-    0x30, 0x00, 0x00, 0x00, 0x08, 0x00, 0x00, 0x00, 0x01, 0x00, 0x00, 0x00, 0x04, 0x00, 0x00, 0x00,
-    0x08, 0x00, 0x00, 0x00, 0x3a, 0x00, 0x00, 0x00, 0x09, 0x00, 0x00, 0x00, 0x00, 0x00, 0x00, 0x00,
-    0x00, 0x00, 0x00, 0x00, 0x94, 0x00, 0x00, 0x00, 0x08, 0x00, 0x00, 0x00, 0x08, 0x00, 0x00, 0x00,
-    0x03, 0x00, 0x00, 0x00, 0x04, 0x00, 0x00, 0x00, 0x08, 0x00, 0x00, 0x00, 0x48, 0x00, 0x00, 0x00,
-    0x02, 0x00, 0x00, 0x00, 0x00, 0x00, 0x00, 0x00, 0x00, 0x00, 0x00, 0x00, 0x9c, 0x00, 0x00, 0x00,
-    0xb0, 0x00, 0x00, 0x00, 0x09, 0x00, 0x00, 0x00, 0x0b, 0x00, 0x00, 0x00, 0x04, 0x00, 0x00, 0x00,
-    0x10, 0x00, 0x00, 0x00, 0x50, 0x00, 0x00, 0x00, 0x03, 0x00, 0x00, 0x00, 0x00, 0x00, 0x00, 0x00,
-    0x00, 0x00, 0x00, 0x00, 0x4c, 0x01, 0x00, 0x00, 0x1a, 0x00, 0x00, 0x00, 0x00, 0x00, 0x00, 0x00,
-    0x00, 0x00, 0x00, 0x00, 0x01, 0x00, 0x00, 0x00, 0x00, 0x00, 0x00, 0x00, 0x58, 0x00, 0x00, 0x00,
-    0x03, 0x00, 0x00, 0x00, 0x00, 0x00, 0x00, 0x00, 0x00, 0x00, 0x00, 0x00, 0x68, 0x01, 0x00, 0x00,
-    0x62, 0x00, 0x00, 0x00, 0x00, 0x00, 0x00, 0x00, 0x00, 0x00, 0x00, 0x00, 0x01, 0x00, 0x00, 0x00,
-    0x00, 0x00, 0x00, 0x00,
-];
+const REFERENCES: &[u8] =
+    b"\x7fELF\x01\x01\x01\0\0\0\0\0\0\0\0\0\x01\0\x03\0\x01\0\0\0\0\0\0\0\0\0\0\0\xcc\x01\0\0\0\0\0\04\0\0\0\0\0(\0\x0b\
+    \0\x0a\0\x03\0\0\0\xff\xff\xff\xff\xfe\xff\xff\xff\xfc\xff\xff\xff\xfc\xff\xff\xff\xc3\0\0\0ab\0cdef\0\x11\"3D\
+    \x07\0\0\0\x01\x02\x03\x04\x05\x06\x07\x08\x0c\0\0\0\x02\x04\0\0\0\0\0\0\x01\x01\0\0\x05\0\0\0\0\0\0\0\x04\0\0\0\
+    \x01\x02\0\0\x08\0\0\0\x01\x06\0\0\x10\0\0\0\x04\x03\0\0\x04\0\0\0\x01\x07\0\0\0\0\0\0\0\0\0\0\0\0\0\0\0\0\0\0\0\
+    \0\0\0\0\0\0\0\0\0\0\0\x03\0\x02\0\x01\0\0\0\x03\0\0\0\0\0\0\0\0\0\x02\0\x05\0\0\0\0\0\0\0\0\0\0\0\x12\0\x01\0\
+    \x07\0\0\0\0\0\0\0\0\0\0\0\x10\0\0\0\x0e\0\0\0\0\0\0\0\0\0\0\0\x11\0\x04\0\x10\0\0\0\x04\0\0\0\0\0\0\0\x01\0\x04\
+    \0\x12\0\0\0\x04\0\0\0\0\0\0\0\x11\0\xf2\xff\x14\0\0\0\x01\0\0\0\0\0\0\0\x10\0\xf1\xff\0\0\0\0\0\0\0\0\0\0\0\0\
+    \x10\0\0\0\x18\0\0\0\0\0\0\0\0\0\0\0\x03\0\x09\0\0.LC\0f\0printf\0v\0w\0c\0abs\0s\0\0\0\0.text.f\0.rodata.str\0.r\
+    odata.k\0.data.v\0.bss.z\0.rel.text.f\0.rel.rodata.k\0.symtab\0.strtab\0.shstrtab\0\0\0\0\0\0\0\0\0\0\0\0\0\0\0\0\
+    \0\0\0\0\0\0\0\0\0\0\0\0\0\0\0\0\0\0\0\0\0\0\0\0\0\0\0\x01\0\0\0\x01\0\0\0\x06\0\0\0\0\0\0\04\0\0\0\x15\0\0\0\0\0\
+    \0\0\0\0\0\0\x10\0\0\0\0\0\0\0\x09\0\0\0\x01\0\0\02\0\0\0\0\0\0\0L\0\0\0\x08\0\0\0\0\0\0\0\0\0\0\0\x01\0\0\0\x01\
+    \0\0\0\x15\0\0\0\x01\0\0\0\x02\0\0\0\0\0\0\0T\0\0\0\x08\0\0\0\0\0\0\0\0\0\0\0\x04\0\0\0\0\0\0\0\x1f\0\0\0\x01\0\0\
+    \0\x03\0\0\0\0\0\0\0\\\0\0\0\x08\0\0\0\0\0\0\0\0\0\0\0\x04\0\0\0\0\0\0\0'\0\0\0\x08\0\0\0\x03\0\0\0\0\0\0\0d\0\0\
+    \0\x04\0\0\0\0\0\0\0\0\0\0\0\x04\0\0\0\0\0\0\0.\0\0\0\x09\0\0\0\0\0\0\0\0\0\0\0d\0\0\00\0\0\0\x08\0\0\0\x01\0\0\0\
+    \x04\0\0\0\x08\0\0\0:\0\0\0\x09\0\0\0\0\0\0\0\0\0\0\0\x94\0\0\0\x08\0\0\0\x08\0\0\0\x03\0\0\0\x04\0\0\0\x08\0\0\0\
+    H\0\0\0\x02\0\0\0\0\0\0\0\0\0\0\0\x9c\0\0\0\xb0\0\0\0\x09\0\0\0\x0b\0\0\0\x04\0\0\0\x10\0\0\0P\0\0\0\x03\0\0\0\0\
+    \0\0\0\0\0\0\0L\x01\0\0\x1a\0\0\0\0\0\0\0\0\0\0\0\x01\0\0\0\0\0\0\0X\0\0\0\x03\0\0\0\0\0\0\0\0\0\0\0h\x01\0\0b\0\
+    \0\0\0\0\0\0\0\0\0\0\x01\0\0\0\0\0\0\0";
 
-/// An object with some bytes changed, each by its place.
-fn changed(alloc: Global, object: &[u8], changes: &[(usize, u8)]) -> Result<Vec<u8>, AllocError> {
-    let mut bytes = object.to_vec(alloc)?;
-    for (place, value) in changes {
-        if let Some(byte) = bytes.get_mut(*place) {
-            *byte = *value;
+/// The sections, with zeros in their fields. A reference has its offset, its addend, whether it is relative, and of a
+/// text the offset and the bytes; a variable has its value, and whether it is seen from other objects.
+const OF_REFERENCES: &str = "\
+.text.f 1 21 16 1
+is f
+bytes 0 0 0 0 0 0 0 0 0 0 0 0 0 0 0 0 0 0 0 0 195
+text .rodata.str 0 0 0 3
+says cdef\\x00
+text .rodata.str 4 4294967295 0 3
+says cdef\\x00
+section .data.v 8 2 0
+outside printf 12 4294967292 1
+section .text.f 16 4294967292 1
+.rodata.str 3 8 1 0
+bytes 97 98 0 99 100 101 102 0
+.rodata.k 4 8 4 0
+bytes 17 34 51 68 0 0 0 0
+outside c 4 7 0
+.data.v 2 8 4 0
+bytes 1 2 3 4 5 6 7 8
+has v 0 1
+has w 4 0
+.bss.z 0 4 4 0
+bytes
+";
+
+fn number_of(class: Class) -> u32 {
+    match class {
+        Class::Zero => 0,
+        Class::Code => 1,
+        Class::Writable => 2,
+        Class::Strings => 3,
+        Class::ReadOnly => 4,
+    }
+}
+
+fn put_reference(alloc: Global, line: &mut Line, reference: &Ref<'_>) -> Result<(), AllocError> {
+    let relative = u32::from(reference.form == Form::Relative);
+    let numbers = [reference.offset, reference.addend, relative];
+    match &reference.target {
+        Target::Section(name) => {
+            line.put_text("section ")?;
+            put_row(alloc, line, name.as_slice(), &numbers)
         }
-    }
-    Ok(bytes)
-}
-
-fn refusal(alloc: Global, object: &[u8], changes: &[(usize, u8)]) -> Result<Refusal, Fail> {
-    let bytes = changed(alloc, object, changes)?;
-    let object = read_object(alloc, &bytes)?;
-    Ok(normalise(alloc, &object).err().ok_or("accepted")?)
-}
-
-fn function<'n>(section: &'n NormalSection<'_>) -> &'n [u8] {
-    match &section.function {
-        Some(name) => name.as_slice(),
-        None => &[],
-    }
-}
-
-/// Whether a section is a function of this name and these bytes, aligned to 16, seen from other objects or not.
-fn is_function(section: &NormalSection<'_>, name: &str, global: bool, bytes: &[u8]) -> bool {
-    section.class == Class::Code
-        && section.align == 16
-        && section.size as usize == bytes.len()
-        && function(section) == name.as_bytes()
-        && section.global == global
-        && section.bytes.as_slice() == bytes
-}
-
-fn has_function(
-    normal: &Normal<'_>,
-    section: &str,
-    name: &str,
-    global: bool,
-    bytes: &[u8],
-) -> bool {
-    match normal.find(section.as_bytes()) {
-        Some(section) => is_function(section, name, global, bytes),
-        None => false,
-    }
-}
-
-#[test]
-fn reads_functions(rt: HostRuntime) -> Result<(), Fail> {
-    let alloc = rt.alloc();
-    let object = read_object(alloc, &FUNCTIONS)?;
-    let normal = normalise(alloc, &object)?;
-    assert!(rt; normal.len() == 2 && normal.as_slice().len() == 2);
-    assert!(rt; has_function(&normal, ".text.f", "f", true, &[0xb8, 1, 0, 0, 0, 0xc3]));
-    assert!(rt; has_function(&normal, ".text.g", "g", false, &[0xc3]));
-    assert!(rt; normal.place(b".text.g") == Some(1) && normal.find(b".text.h").is_none());
-    Ok(())
-}
-
-/// What a reference is to be: its offset, form, the kind and name of its target, a text's offset and bytes, its addend.
-#[derive(Clone, Copy)]
-struct Row {
-    offset: u32,
-    form: Form,
-    kind: &'static str,
-    name: &'static str,
-    start: u32,
-    text: &'static str,
-    addend: u32,
-}
-
-const fn expected(
-    offset: u32,
-    form: Form,
-    target: (&'static str, &'static str),
-    text: (u32, &'static str),
-    addend: u32,
-) -> Row {
-    Row {
-        offset,
-        form,
-        kind: target.0,
-        name: target.1,
-        start: text.0,
-        text: text.1,
-        addend,
-    }
-}
-
-/// Whether a target is of this kind, name, offset and text.
-fn is_target(target: &Target<'_>, row: &Row) -> bool {
-    match target {
-        Target::Section(name) => row.kind == "section" && name.as_slice() == row.name.as_bytes(),
-        Target::Outside(name) => row.kind == "outside" && name.as_slice() == row.name.as_bytes(),
+        Target::Outside(name) => {
+            line.put_text("outside ")?;
+            put_row(alloc, line, name.as_slice(), &numbers)
+        }
         Target::Text {
             section,
             offset,
             text,
         } => {
-            row.kind == "text"
-                && section.as_slice() == row.name.as_bytes()
-                && *offset == row.start
-                && text.as_slice() == row.text.as_bytes()
+            let numbers = [reference.offset, reference.addend, relative, *offset];
+            line.put_text("text ")?;
+            put_row(alloc, line, section.as_slice(), &numbers)?;
+            line.put_text("says ")?;
+            put_row(alloc, line, text.as_slice(), &[])
         }
     }
 }
 
-fn is_reference(reference: &Ref<'_>, row: &Row) -> bool {
-    reference.offset == row.offset
-        && reference.form == row.form
-        && is_target(&reference.target, row)
-        && reference.addend == row.addend
-}
-
-/// Whether references are these rows.
-fn are_references(refs: &[Ref<'_>], rows: &[Row]) -> bool {
-    refs.len() == rows.len()
-        && refs
-            .iter()
-            .zip(rows.iter())
-            .all(|(reference, row)| is_reference(reference, row))
-}
-
-/// Whether the section of a name has these references, and these bytes with zeros in their fields.
-fn has_references(normal: &Normal<'_>, section: &str, rows: &[Row], bytes: &[u8]) -> bool {
-    match normal.find(section.as_bytes()) {
-        Some(section) => {
-            are_references(section.refs.as_slice(), rows) && section.bytes.as_slice() == bytes
-        }
-        None => false,
+fn numbers_of(alloc: Global, bytes: &[u8]) -> Result<Vec<u32>, AllocError> {
+    let mut numbers = Vec::new(alloc);
+    for byte in bytes {
+        numbers.push(u32::from(*byte))?;
     }
+    Ok(numbers)
 }
 
-const TEXT: (&str, &str) = ("text", ".rodata.str");
-
-const CDEF: (u32, &str) = (3, "cdef\0");
-
-const NO_TEXT: (u32, &str) = (0, "");
-
-#[test]
-fn reads_references(rt: HostRuntime) -> Result<(), Fail> {
-    let alloc = rt.alloc();
-    let object = read_object(alloc, &REFERENCES)?;
-    let normal = normalise(alloc, &object)?;
-    let rows = [
-        expected(0, Form::Absolute, TEXT, CDEF, 0),
-        expected(4, Form::Absolute, TEXT, CDEF, 0xffff_ffff),
-        expected(8, Form::Absolute, ("section", ".data.v"), NO_TEXT, 2),
-        expected(
-            12,
-            Form::Relative,
-            ("outside", "printf"),
-            NO_TEXT,
-            0xffff_fffc,
-        ),
-        expected(
-            16,
-            Form::Relative,
-            ("section", ".text.f"),
-            NO_TEXT,
-            0xffff_fffc,
-        ),
-    ];
-    let blanked = [
-        0, 0, 0, 0, 0, 0, 0, 0, 0, 0, 0, 0, 0, 0, 0, 0, 0, 0, 0, 0, 0xc3,
-    ];
-    assert!(rt; has_references(&normal, ".text.f", &rows, &blanked));
-    let rows = [expected(4, Form::Absolute, ("outside", "c"), NO_TEXT, 7)];
-    let blanked = [0x11, 0x22, 0x33, 0x44, 0, 0, 0, 0];
-    assert!(rt; has_references(&normal, ".rodata.k", &rows, &blanked));
-    Ok(())
-}
-
-#[test]
-fn finds_targets(rt: HostRuntime) -> Result<(), Fail> {
-    let alloc = rt.alloc();
-    let object = read_object(alloc, &REFERENCES)?;
-    let normal = normalise(alloc, &object)?;
-    let places = [Some(1), Some(1), Some(3), None, Some(0), None];
-    for (k, place) in places.iter().enumerate() {
-        assert_eq!(rt; normal.target_place(0, k), *place);
-    }
-    assert_eq!(rt; normal.target_place(9, 0), None);
-    Ok(())
-}
-
-fn is_object(object: &ObjectSymbol<'_>, name: &str, value: u32, global: bool) -> bool {
-    object.name.as_slice() == name.as_bytes() && object.value == value && object.global == global
-}
-
-/// Whether objects are these, each of a name, a value and whether it is seen from other objects.
-fn are_objects(objects: &[ObjectSymbol<'_>], rows: &[(&str, u32, bool)]) -> bool {
-    objects.len() == rows.len()
-        && objects
-            .iter()
-            .zip(rows.iter())
-            .all(|(object, row)| is_object(object, row.0, row.1, row.2))
-}
-
-/// Whether the section of a name is of this class and size, with these objects and so many bytes.
-fn has_data(
-    normal: &Normal<'_>,
-    section: &str,
-    class: Class,
-    sizes: (u32, usize),
-    rows: &[(&str, u32, bool)],
-) -> bool {
-    match normal.find(section.as_bytes()) {
-        Some(section) => {
-            section.class == class
-                && section.size == sizes.0
-                && section.bytes.as_slice().len() == sizes.1
-                && are_objects(section.objects.as_slice(), rows)
-        }
-        None => false,
-    }
-}
-
-#[test]
-fn reads_data(rt: HostRuntime) -> Result<(), Fail> {
-    let alloc = rt.alloc();
-    let object = read_object(alloc, &REFERENCES)?;
-    let normal = normalise(alloc, &object)?;
-    let objects = [("v", 0, true), ("w", 4, false)];
-    assert!(rt; has_data(&normal, ".data.v", Class::Writable, (8, 8), &objects));
-    assert!(rt; has_data(&normal, ".bss.z", Class::Zero, (4, 0), &[]));
-    assert!(rt; has_data(&normal, ".rodata.str", Class::Strings, (8, 8), &[]));
-    assert!(rt; has_data(&normal, ".rodata.k", Class::ReadOnly, (8, 8), &[]));
-    Ok(())
-}
-
-/// Whether an object with some bytes changed is refused with this line.
-fn is_refused(
+fn put_section(
     alloc: Global,
-    object: &[u8],
-    changes: &[(usize, u8)],
-    wanted: &str,
-) -> Result<bool, Fail> {
-    let refusal = refusal(alloc, object, changes)?;
+    line: &mut Line,
+    section: &NormalSection<'_>,
+) -> Result<(), AllocError> {
+    let numbers = [
+        number_of(section.class),
+        section.size,
+        section.align,
+        u32::from(section.global),
+    ];
+    put_row(alloc, line, section.name.as_slice(), &numbers)?;
+    if section.class.is_code() {
+        line.put_text("is ")?;
+        put_row(alloc, line, section.function_name(), &[])?;
+    }
+    let bytes = numbers_of(alloc, section.bytes.as_slice())?;
+    put_row(alloc, line, b"bytes", bytes.as_slice())?;
+    for reference in section.refs.as_slice() {
+        put_reference(alloc, line, reference)?;
+    }
+    for object in section.objects.as_slice() {
+        line.put_text("has ")?;
+        let numbers = [object.value, u32::from(object.global)];
+        put_row(alloc, line, object.name.as_slice(), &numbers)?;
+    }
+    Ok(())
+}
+
+/// All sections of an object.
+fn put_sections(alloc: Global, line: &mut Line, normal: &Normal<'_>) -> Result<(), AllocError> {
+    for section in normal.as_slice() {
+        put_section(alloc, line, section)?;
+    }
+    Ok(())
+}
+
+fn are_sections(rt: &impl Abort, alloc: Global, file: &[u8], wanted: &str) -> Result<(), Fail> {
+    let normal = read_sections(alloc, file).ok().ok_or("no sections")?;
     let mut line = Line::new(alloc);
-    line.put_refusal(&refusal)?;
-    Ok(line.bytes() == wanted.as_bytes())
-}
-
-#[test]
-fn refuses_functions(rt: HostRuntime) -> Result<(), Fail> {
-    let rows: [(&[(usize, u8)], &str); 5] = [
-        (&[(292, 1)], "refused 9 double name .text.f\n"),
-        (&[(108, 1)], "refused 8 not one function .text.g\n"),
-        (&[(116, 0)], "refused 8 not one function .text.g\n"),
-        (&[(140, 2)], "refused 8 not one function .text.f\n"),
-        (&[(140, 2), (292, 1)], "refused 9 double name .text.f\n"),
-    ];
-    for (changes, wanted) in rows {
-        assert!(rt;
-            is_refused(rt.alloc(), &FUNCTIONS, changes, wanted)?,
-            "{wanted}"
-        );
-    }
+    put_sections(alloc, &mut line, &normal)?;
+    let got = std::str::from_utf8(line.bytes()).unwrap_or("");
+    assert!(rt; line.bytes() == wanted.as_bytes(), "{got}");
     Ok(())
 }
 
 #[test]
-fn refuses_references(rt: HostRuntime) -> Result<(), Fail> {
-    let rows: [(&[(usize, u8)], &str); 16] = [
-        (&[(104, 3)], "refused 7 unknown relocation .text.f 0 3\n"),
-        (&[(112, 2)], "refused 7 unknown relocation .text.f 1 2\n"),
-        (&[(152, 2)], "refused 7 unknown relocation .rodata.k 0 2\n"),
-        (
-            &[(768, 2)],
-            "refused 7 unknown relocation .rodata.str 0 1\n",
-        ),
-        (&[(105, 0)], "refused 36 bad target .text.f 0\n"),
-        (&[(105, 8)], "refused 36 bad target .text.f 0\n"),
-        (&[(105, 9)], "refused 36 bad target .text.f 0\n"),
-        (&[(105, 10)], "refused 36 bad target .text.f 0\n"),
-        (&[(52, 8)], "refused 35 bad string .text.f 1\n"),
-        (&[(83, 0x67)], "refused 35 bad string .text.f 1\n"),
-        (
-            &[(105, 0), (104, 3)],
-            "refused 7 unknown relocation .text.f 0 3\n",
-        ),
-        (&[(52, 8), (105, 0)], "refused 36 bad target .text.f 0\n"),
-        (&[(52, 8), (136, 3)], "refused 35 bad string .text.f 1\n"),
-        (&[(152, 2), (52, 8)], "refused 35 bad string .text.f 1\n"),
-        (
-            &[(104, 3), (208, 1)],
-            "refused 8 not one function .text.f\n",
-        ),
-        (
-            &[(104, 3), (208, 1), (620, 21)],
-            "refused 9 double name .rodata.k\n",
-        ),
+fn sections_of_objects(rt: HostRuntime) -> Result<(), Fail> {
+    are_sections(&rt, rt.alloc(), FUNCTIONS, OF_FUNCTIONS)?;
+    are_sections(&rt, rt.alloc(), REFERENCES, OF_REFERENCES)
+}
+
+#[test]
+fn finds_sections_and_targets(rt: HostRuntime) -> Result<(), Fail> {
+    let normal = read_sections(rt.alloc(), REFERENCES)
+        .ok()
+        .ok_or("no sections")?;
+    let found = [
+        normal.target_place(0, 0),
+        normal.target_place(0, 1),
+        normal.target_place(0, 2),
+        normal.target_place(0, 3),
+        normal.target_place(0, 4),
+        normal.target_place(0, 5),
+        normal.target_place(9, 0),
     ];
-    for (changes, wanted) in rows {
-        assert!(rt;
-            is_refused(rt.alloc(), &REFERENCES, changes, wanted)?,
-            "{wanted}"
-        );
-    }
+    assert!(rt; found == [Some(1), Some(1), Some(3), None, Some(0), None, None]);
+    assert!(rt; normal.len() == 5 && normal.place(b".rodata.k") == Some(2));
+    assert!(rt; normal.find(b".text.h").is_none());
     Ok(())
 }
 
 #[test]
-fn values(rt: HostRuntime) -> Result<(), Fail> {
+fn values(rt: HostRuntime) {
     let values = [
         (Form::Absolute, 0x1000, 8, 0x2001, 0x1008),
         (Form::Absolute, 5, 0xffff_ffff, 9, 4),
@@ -422,39 +210,29 @@ fn values(rt: HostRuntime) -> Result<(), Fail> {
         (Form::Relative, 0, 0, 0, 0),
     ];
     for (form, s, a, p, value) in values {
-        assert_eq!(rt; field_value(form, s, a, p), value);
+        assert!(rt; field_value(form, s, a, p) == value);
     }
-    Ok(())
 }
 
-/// Whether the refusal of a fault has this line.
-fn fault_prints(alloc: Global, fault: ObjectFault, wanted: &str) -> Result<bool, AllocError> {
-    let refusal = object_refusal(fault);
-    let mut line = Line::new(alloc);
-    line.put_refusal(&refusal)?;
-    Ok(line.bytes() == wanted.as_bytes())
+/// The refusal of a fault, and that of an object of two sections of one name.
+fn put_refusals(alloc: Global, line: &mut Line) -> Result<(), AllocError> {
+    line.put_refusal(&object_refusal(ObjectFault::BadReloc(5, 6)))?;
+    let mut file = FUNCTIONS.to_vec(alloc)?;
+    if let Some(byte) = file.get_mut(292) {
+        *byte = 1;
+    }
+    match read_sections(alloc, file.as_slice()) {
+        Ok(_) => line.put_text("read\n"),
+        Err(refusal) => line.put_refusal(&refusal),
+    }
 }
 
 #[test]
-fn faults(rt: HostRuntime) -> Result<(), Fail> {
-    let rows = [
-        (ObjectFault::NotElf, "refused 1 not elf\n"),
-        (ObjectFault::NotRel386, "refused 2 not i386 relocatable\n"),
-        (ObjectFault::BadHeader(20), "refused 3 bad header 20\n"),
-        (ObjectFault::BadSection(3), "refused 4 bad section 3\n"),
-        (ObjectFault::BadSymbol(4), "refused 5 bad symbol 4\n"),
-        (
-            ObjectFault::BadReloc(5, 6),
-            "refused 6 bad relocation 5 6\n",
-        ),
-        (
-            ObjectFault::TooLarge(Large::Name),
-            "refused 10 too large name\n",
-        ),
-    ];
-    for (fault, wanted) in rows {
-        assert!(rt; fault_prints(rt.alloc(), fault, wanted)?, "{wanted}");
-    }
+fn refusals(rt: HostRuntime) -> Result<(), Fail> {
+    let mut line = Line::new(rt.alloc());
+    put_refusals(rt.alloc(), &mut line)?;
+    let wanted = "refused 6 bad relocation 5 6\nrefused 9 double name .text.f\n";
+    assert!(rt; line.bytes() == wanted.as_bytes());
     assert!(rt; matches!(object_refusal(ObjectFault::Memory), Refusal::Memory));
     Ok(())
 }

@@ -1,10 +1,7 @@
-//! Tests of sessions: the lines of replies, a session without updates, and one that updates a function and takes the
-//! update back. They stand apart so that `ksplice_session` is proved once, and not once more for its tests.
+//! Tests of sessions: one that updates a function and takes the update back, what it leaves, and the line of a lost
+//! file. They stand apart so that `ksplice_session` is proved once, and not once more for its tests. All other lines of
+//! sessions are in tests/worked.
 #![tactic(auto)]
 
 #[cfg(test)]
-mod lines;
-#[cfg(test)]
 mod sessions;
-#[cfg(test)]
-mod updating;

@@ -261,19 +261,42 @@ fn reported(alloc: Global) -> Result<Report, AllocError> {
     Ok(report)
 }
 
-#[test]
-fn symbols_and_report(rt: HostRuntime) -> Result<(), Fail> {
-    let alloc = rt.alloc();
+fn sections_of(alloc: Global) -> Result<Vec<NormalSection<'static>>, AllocError> {
     let mut sections = Vec::new(alloc);
     for row in &NEW {
         sections.push(section_of(alloc, row)?)?;
     }
+    Ok(sections)
+}
+
+/// Whether these are the symbols that come of the new sections.
+fn are_symbols(
+    alloc: Global,
+    parts: &[Part<'_, '_>],
+    placement: &Placement,
+) -> Result<bool, AllocError> {
+    let symbols = new_symbols(alloc, parts, placement)?;
+    Ok(symbols == symbols_of(alloc)?)
+}
+
+/// Whether this is reported of the new sections and the old functions.
+fn is_reported(
+    alloc: Global,
+    parts: &[Part<'_, '_>],
+    placement: &Placement,
+) -> Result<bool, AllocError> {
+    let olds = olds_of(alloc, &OLDS)?;
+    let report = report_of(alloc, parts, placement, olds.as_slice())?;
+    Ok(report == reported(alloc)?)
+}
+
+#[test]
+fn symbols_and_report(rt: HostRuntime) -> Result<(), Fail> {
+    let alloc = rt.alloc();
+    let sections = sections_of(alloc)?;
     let parts = parts_of(alloc, sections.as_slice())?;
     let placement = placement_of(alloc)?;
-    let symbols = new_symbols(alloc, parts.as_slice(), &placement)?;
-    assert!(rt; symbols == symbols_of(alloc)?);
-    let olds = olds_of(alloc, &OLDS)?;
-    let report = report_of(alloc, parts.as_slice(), &placement, olds.as_slice())?;
-    assert!(rt; report == reported(alloc)?);
+    assert!(rt; are_symbols(alloc, parts.as_slice(), &placement)?);
+    assert!(rt; is_reported(alloc, parts.as_slice(), &placement)?);
     Ok(())
 }

@@ -96,13 +96,14 @@ fn changes_of_an_update(rt: HostRuntime) -> Result<(), Fail> {
     let pieces = added(alloc)?;
     space.reserve(&pieces, 1)?;
     add_and_retire(&mut space, pieces);
-    assert!(rt; has_code(&space, BASE, b"\xb8\x02\0\0\0\xc3"));
-    assert!(rt; space.look(0x0080_0020) == Some((Kind::Writable, 7)));
-    assert!(rt; space.spliced(HOME) && !space.spliced(BASE));
+    let added = has_code(&space, BASE, b"\xb8\x02\0\0\0\xc3")
+        && space.look(0x0080_0020) == Some((Kind::Writable, 7))
+        && space.spliced(HOME)
+        && !space.spliced(BASE);
     let jump = jump_over(&mut space);
-    assert!(rt; jump.home == HOME && jump.base == BASE);
-    assert!(rt; jump.old == [0xb8, 1, 0, 0, 0]);
-    assert!(rt; has_code(&space, HOME, b"\xe9\x0b\0\x70\0\xc3\x90"));
-    assert!(rt; has_code(&space, BASE, b"\xb8\x02\0\0\0\xc3"));
+    let jumps = jump.home == HOME && jump.base == BASE && jump.old == [0xb8, 1, 0, 0, 0];
+    let written = has_code(&space, HOME, b"\xe9\x0b\0\x70\0\xc3\x90")
+        && has_code(&space, BASE, b"\xb8\x02\0\0\0\xc3");
+    assert!(rt; added && jumps && written);
     Ok(())
 }

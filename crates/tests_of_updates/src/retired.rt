@@ -41,17 +41,8 @@ const PADDED: [Part; 1] = [(
     b"\x31\xc0\xc3\x90\x90\x90\x90\x90\x90\x90\x90\x90\x90\x90\x90\x90",
 )];
 
-/// The same function with less behind it: another function, a piece's end, a piece that begins there.
+/// The same function with another one behind it.
 const CLOSE: [Part; 1] = [(Kind::Code, HOME, b"\x31\xc0\xc3\xc3\x90\x90\x90\x90")];
-
-const CUT: [Part; 1] = [(Kind::Code, HOME, b"\x31\xc0\xc3\x90")];
-
-const TWO_PIECES: [Part; 2] = [
-    (Kind::Code, HOME, b"\x31\xc0\xc3\x90"),
-    (Kind::Code, 0x0010_0004, b"\x90\x90\x90\x90"),
-];
-
-const LONG_PADDING: [Part; 1] = [(Kind::Code, HOME, b"\x31\xc0\xc3\x66\x90")];
 
 const DATA: [Part; 1] = [(Kind::Writable, HOME, b"\x31\xc0\xc3\x90\x90\x90\x90")];
 
@@ -59,30 +50,12 @@ const REPLACED: [Old; 1] = [(b".text.z", HOME, HOME, 3, Fate::Replaced)];
 
 const DROPPED: [Old; 1] = [(b".text.z", HOME, HOME, 3, Fate::Dropped)];
 
-const KEPT: [Old; 1] = [(b".text.z", HOME, HOME, 3, Fate::Kept)];
-
 const LATER: [Old; 1] = [(b".text.z", HOME, 0x0010_0003, 1, Fate::Replaced)];
 
-/// Two functions, of which one is replaced: its jump reaches the other one, or ends where that one begins.
+/// Two functions, of which one is replaced: its jump reaches the other one.
 const NEAR: [Old; 2] = [
     (b".text.z", HOME, HOME, 3, Fate::Replaced),
     (b".text.y", 0x0010_0004, 0x0010_0004, 3, Fate::Kept),
-];
-
-const BESIDE: [Old; 2] = [
-    (b".text.z", HOME, HOME, 3, Fate::Replaced),
-    (b".text.y", 0x0010_0005, 0x0010_0005, 3, Fate::Kept),
-];
-
-/// Two functions that were folded into one.
-const FOLDED: [Old; 2] = [
-    (b".text.z", HOME, HOME, 6, Fate::Replaced),
-    (b".text.y", HOME, HOME, 6, Fate::Replaced),
-];
-
-const BOTH_KEPT: [Old; 2] = [
-    (b".text.z", HOME, HOME, 6, Fate::Kept),
-    (b".text.y", HOME, HOME, 6, Fate::Kept),
 ];
 
 /// A function that is dropped, and others that lie in it; the first of these in their order isn't the lowest.
@@ -101,9 +74,8 @@ const ROOM_BEHIND: [Old; 3] = [
 
 const LONG_BODY: [Old; 1] = [(b".text.z", HOME, HOME, 8, Fate::Replaced)];
 
-static CASES: [Case; 25] = [
+static CASES: [Case; 14] = [
     (&PADDED, &[HOME], &[], &[], Answer::Nothing),
-    (&PADDED, &[HOME], &[], &REPLACED, Answer::Nothing),
     (&PADDED, &[], &[], &REPLACED, Answer::Nothing),
     (
         &PADDED,
@@ -112,39 +84,11 @@ static CASES: [Case; 25] = [
         &REPLACED,
         Answer::Room(b".text.z", 4),
     ),
-    (
-        &PADDED,
-        &[0x0010_0001, HOME],
-        &[],
-        &REPLACED,
-        Answer::Room(b".text.z", 1),
-    ),
-    (
-        &PADDED,
-        &[HOME, 0x0010_0005],
-        &[],
-        &REPLACED,
-        Answer::Nothing,
-    ),
-    (&CLOSE, &[], &[], &REPLACED, Answer::Room(b".text.z", 3)),
-    (&CUT, &[], &[], &REPLACED, Answer::Room(b".text.z", 4)),
-    (
-        &TWO_PIECES,
-        &[],
-        &[],
-        &REPLACED,
-        Answer::Room(b".text.z", 4),
-    ),
-    (&LONG_PADDING, &[], &[], &REPLACED, Answer::Nothing),
     (&DATA, &[], &[], &REPLACED, Answer::Room(b".text.z", 0)),
     (&[], &[], &[], &REPLACED, Answer::Room(b".text.z", 0)),
     (&CLOSE, &[], &[], &DROPPED, Answer::Nothing),
-    (&CLOSE, &[], &[], &KEPT, Answer::Nothing),
     (&CLOSE, &[], &[], &LATER, Answer::Nothing),
     (&PADDED, &[], &[], &NEAR, Answer::Overlap(HOME, 0x0010_0004)),
-    (&PADDED, &[], &[], &BESIDE, Answer::Nothing),
-    (&PADDED, &[], &[], &FOLDED, Answer::Overlap(HOME, HOME)),
-    (&PADDED, &[], &[], &BOTH_KEPT, Answer::Nothing),
     (
         &PADDED,
         &[],
@@ -243,17 +187,6 @@ fn space_of(rt: &impl Abort, alloc: Global, parts: &[Part]) -> Result<FlatSpace,
     Ok(FlatSpace::new(alloc, pieces)?)
 }
 
-/// What stands in the way in a case.
-fn refusal_of(rt: &impl Abort, alloc: Global, case: &Case) -> Result<Result<(), Refusal>, Fail> {
-    let (parts, symbols, retired, rows, _) = *case;
-    let space = space_of(rt, alloc, parts)?;
-    let table = table_of(alloc, symbols)?;
-    let ranges = ranges_of(alloc, retired)?;
-    let olds = olds_of(alloc, rows)?;
-    assert!(rt; are_bodies(olds.as_slice()));
-    Ok(code_refusal(alloc, &space, &table, &ranges, olds.as_slice()))
-}
-
 fn is_answer(found: &Result<(), Refusal>, answer: Answer) -> bool {
     match (found, answer) {
         (Ok(()), Answer::Nothing) => true,
@@ -267,11 +200,24 @@ fn is_answer(found: &Result<(), Refusal>, answer: Answer) -> bool {
     }
 }
 
+/// Whether what stands in the way in a case is what it says.
+fn is_answered(rt: &impl Abort, alloc: Global, case: &Case) -> Result<bool, Fail> {
+    let (parts, symbols, retired, rows, answer) = *case;
+    let space = space_of(rt, alloc, parts)?;
+    let table = table_of(alloc, symbols)?;
+    let ranges = ranges_of(alloc, retired)?;
+    let olds = olds_of(alloc, rows)?;
+    if !are_bodies(olds.as_slice()) {
+        return Ok(false);
+    }
+    let found = code_refusal(alloc, &space, &table, &ranges, olds.as_slice());
+    Ok(is_answer(&found, answer))
+}
+
 #[test]
 fn refusals(rt: HostRuntime) -> Result<(), Fail> {
-    let alloc = rt.alloc();
-    for case in &CASES {
-        assert!(rt; is_answer(&refusal_of(&rt, alloc, case)?, case.4));
+    for (at, case) in CASES.iter().enumerate() {
+        assert!(rt; is_answered(&rt, rt.alloc(), case)?, "case {at}");
     }
     Ok(())
 }

@@ -7,7 +7,7 @@ use ia32_step::{State, Thread};
 use image_memory::{FlatSpace, Kind, are_placed, sorted};
 use ks_base::{Place, Range, Refusal, Standing};
 use stack_scan::{check_threads, is_stack};
-use std::alloc::Global;
+use std::alloc::{AllocError, Global};
 use std::process::Abort;
 use std::test::Fail;
 
@@ -45,24 +45,6 @@ fn thread(number: u32, stack: Range, esp: u32) -> Thread
     }
 }
 
-/// What is answered of two threads with these stack pointers, of ranges that are sorted first.
-fn checked(
-    rt: &impl Abort,
-    alloc: Global,
-    first: u32,
-    second: u32,
-    bounds: &[(u32, u32)],
-) -> Result<Result<(), Refusal>, Fail> {
-    let pieces = pieces_of(alloc, &[(Kind::Writable, 0x0040_0000, BYTES)])?;
-    assert!(rt; are_placed(&pieces));
-    assert!(rt; is_stack(&pieces, STACKS[0]) && is_stack(&pieces, STACKS[1]));
-    let space = FlatSpace::new(alloc, pieces)?;
-    let threads = [thread(0, STACKS[0], first), thread(1, STACKS[1], second)];
-    let ranges = ranges_of(alloc, bounds)?;
-    let ranges = sorted(alloc, ranges.as_slice())?;
-    Ok(check_threads(&threads, &space, ranges.as_slice()))
-}
-
 /// What is answered.
 #[derive(Clone, Copy)]
 enum Answer {
@@ -97,23 +79,45 @@ fn is_answer(found: &Result<(), Refusal>, answer: Answer) -> bool {
     }
 }
 
+/// Whether of two threads with these stack pointers this is answered, of ranges that are sorted first.
+fn is_checked(
+    rt: &impl Abort,
+    alloc: Global,
+    first: u32,
+    second: u32,
+    answer: Answer,
+) -> Result<bool, Fail> {
+    let pieces = pieces_of(alloc, &[(Kind::Writable, 0x0040_0000, BYTES)])?;
+    assert!(rt; are_placed(&pieces));
+    assert!(rt; is_stack(&pieces, STACKS[0]) && is_stack(&pieces, STACKS[1]));
+    let space = FlatSpace::new(alloc, pieces)?;
+    let threads = [thread(0, STACKS[0], first), thread(1, STACKS[1], second)];
+    let ranges = ranges_of(
+        alloc,
+        &[(0x0010_0014, 0x0010_0018), (0x0010_0000, 0x0010_0006)],
+    )?;
+    let ranges = sorted(alloc, ranges.as_slice())?;
+    Ok(is_answer(&check_threads(&threads, &space, ranges.as_slice()), answer))
+}
+
 #[test]
 fn threads_in_the_way(rt: HostRuntime) -> Result<(), Fail> {
-    let alloc = rt.alloc();
-    let mixed = [(0x0010_0014, 0x0010_0018), (0x0010_0000, 0x0010_0006)];
     for (first, second, answer) in &CASES {
-        let found = checked(&rt, alloc, *first, *second, &mixed)?;
-        assert!(rt; is_answer(&found, *answer));
+        assert!(rt; is_checked(&rt, rt.alloc(), *first, *second, *answer)?);
     }
     Ok(())
 }
 
-#[test]
-fn ranges_are_sorted(rt: HostRuntime) -> Result<(), Fail> {
-    let alloc = rt.alloc();
+/// Whether three ranges, of which the last is the lowest, are sorted.
+fn are_sorted(alloc: Global) -> Result<bool, AllocError> {
     let ranges = ranges_of(alloc, &[(5, 9), (7, 8), (0, 2)])?;
     let found = sorted(alloc, ranges.as_slice())?;
     let wanted = ranges_of(alloc, &[(0, 2), (5, 9), (7, 8)])?;
-    assert!(rt; found.as_slice() == wanted.as_slice());
+    Ok(found.as_slice() == wanted.as_slice())
+}
+
+#[test]
+fn ranges_are_sorted(rt: HostRuntime) -> Result<(), Fail> {
+    assert!(rt; are_sorted(rt.alloc())?);
     Ok(())
 }

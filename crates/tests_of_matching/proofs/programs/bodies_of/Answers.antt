@@ -1,7 +1,7 @@
 use Rattle.std.proofs.Common.{ℕ, nat_eq, List, [], ◌∷◌, sym, subst}
 use Rattle.std.specs.List.{IsDistinct}
 use Rattle.symbol_table.specs.Bodies.{homes}
-use Rattle.tests_of_matching.proofs.candidates.bodies_of.Goals as goal
+use Rattle.tests_of_matching.proofs.programs.bodies_of.Goals as goal
 
 none_are_distinct : IsDistinct nat_eq (homes [])
 unfolding IsDistinct
