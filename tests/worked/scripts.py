@@ -133,6 +133,9 @@ ROWS = [
     run("numbers-as-they-may-be-written", PROGRAM,
         [(f"step {words}", f"refused 30 no thread {number}") for words, number in THREADS.items()]),
     run("most-turns-without-a-thread", PROGRAM, [("rr 1 0", "rr 0"), ("rr 4294967295 16777216", "rr 0")]),
+    run("bytes-that-are-looked-at", PROGRAM,
+        [("peek 0 1", "0x00000000: --"), ("peek 0xFFFFFFFF 1", "0xffffffff: --"),
+         ("peek 0x00100000 16", "0x00100000: b8 01 00 00 00 c3 66 90 66 90 66 90 66 90 66 90")]),
     run("most-bytes-that-are-looked-at", PROGRAM,
         [("peek 0 4096", "0x00000000:" + " --" * 4096), ("peek 0xFFFFF000 4096", "0xfffff000:" + " --" * 4096),
          ("peek 4294963200 0x1000", "0xfffff000:" + " --" * 4096)]),
@@ -143,7 +146,7 @@ ROWS = [
          *applied_as("apply fix pre.o post.o tries 1 gap 16777216", "fix"),
          *applied_as("apply fix pre.o post.o  tries 0x3E8  gap 16777", "fix"),
          *applied_as("apply tries gap tries tries 512 gap 0x8000 ", "tries"),
-         ("  list  ", "updates 0"), (" watch", "watch disciplined")],
+         ("  undo  ", "refused 27 nothing applied"), ("  list  ", "updates 0"), (" watch", "watch disciplined")],
         {**FIRST_TO_SECOND, "0x1": f_and_main(1), "apply": f_and_main(2), "gap": f_and_main(1),
          "tries": f_and_main(2)}),
 

@@ -8,7 +8,7 @@ use Rattle.ks_base.specs.Refusals.{refusal_line}
 use Rattle.image_threads.specs.Program.{running_at}
 use Rattle.script_lines.specs.declared.types.Command.TheVariants.{Spawn, Step, RoundRobin, Threads}
 use Rattle.script_lines.specs.declared.types.Command.TheVariants.{Peek, Undo, ListUpdates, Watch}
-use Rattle.update_stack.specs.CallTable.{CallTable, shown_update}
+use Rattle.update_stack.specs.AbstractMachine.{AbstractMachine, shown_update}
 use Rattle.update_stack.specs.Events.{Event, Spawn as SpawnEvent, Undo as UndoEvent, Spawned, Undone}
 use Rattle.update_stack.specs.Events.{Happened, happened, spawn_answered, undo_answered, answered}
 use Rattle.update_stack.specs.Events.{machine_after, after_event, after_events}
@@ -113,7 +113,7 @@ nothing_came s now event refusal none (Noted (e ∷ es) rest whole is) =
     ∙ unspawned s event refusal none
 nothing_came s now event refusal none (Unnoted [] rest name argument whole is) =
     let here : SpawnEvent name argument ≡ event = cc in
-    is ∙ ap (λ (k : CallTable). watched k (watched_after_all s []).watch)
+    is ∙ ap (λ (k : AbstractMachine). watched k (watched_after_all s []).watch)
     (ap (λ (x : Event). after_events s.machine (x ∷ [])) here ∙ unmoved s event refusal none)
     ∙ ap (λ (w : Watched). watched s.machine w.watch) (sym (nothing_done s))
 nothing_came s now event refusal none (Unnoted (e ∷ []) rest name argument whole is) = cc
@@ -125,7 +125,7 @@ pub front_told : (s now : Watched) (name : List ℕ) (argument : ℕ) → MadeFr
 unfolding told_of answered
 front_told s now name argument front = by (spawned s.machine name argument) refl
   where
-    by : (r : Result CallTable Refusal) → spawned s.machine name argument ≡ r
+    by : (r : Result AbstractMachine Refusal) → spawned s.machine name argument ≡ r
         → MadeFront s (spawn_told (SpawnEvent name argument) (length s.machine.threads) r).events now
     by (Ok left) is = front
     by (Err refusal) is =
@@ -133,13 +133,13 @@ front_told s now name argument front = by (spawned s.machine name argument) refl
         (nothing_came s now (SpawnEvent name argument) refusal
         (ap (spawn_answered (length s.machine.threads)) is) front)
 
-pub told_spawned : (s : Watched) (now : CallTable) (name : List ℕ) (argument number : ℕ)
+pub told_spawned : (s : Watched) (now : AbstractMachine) (name : List ℕ) (argument number : ℕ)
     → answered s.machine (SpawnEvent name argument) ≡ Ok (happened now (Spawned number))
     → told_of s (Spawn name argument) [] ≡ replied (SpawnEvent name argument ∷ []) (shown now number spawned_line)
 unfolding told_of answered
 told_spawned s now name argument number is = by (spawned s.machine name argument) is
   where
-    by : (r : Result CallTable Refusal)
+    by : (r : Result AbstractMachine Refusal)
         → spawn_answered (length s.machine.threads) r ≡ Ok (happened now (Spawned number))
         → spawn_told (SpawnEvent name argument) (length s.machine.threads) r
         ≡ replied (SpawnEvent name argument ∷ []) (shown now number spawned_line)
@@ -159,7 +159,7 @@ pub told_spawn_refused : (s : Watched) (name : List ℕ) (argument : ℕ) (refus
 unfolding told_of answered
 told_spawn_refused s name argument refusal is = by (spawned s.machine name argument) is
   where
-    by : (r : Result CallTable Refusal) → spawn_answered (length s.machine.threads) r ≡ Err refusal
+    by : (r : Result AbstractMachine Refusal) → spawn_answered (length s.machine.threads) r ≡ Err refusal
         → spawn_told (SpawnEvent name argument) (length s.machine.threads) r ≡ refused_after [] refusal
     by (Ok left) is = cc
     by (Err other) is = cc
@@ -188,13 +188,13 @@ pub told_peek : (s : Watched) (address count : ℕ)
 unfolding told_of
 told_peek s address count = refl
 
-pub told_undone : (s : Watched) (now : CallTable) (name : List ℕ)
+pub told_undone : (s : Watched) (now : AbstractMachine) (name : List ℕ)
     → answered s.machine UndoEvent ≡ Ok (happened now (Undone name))
     → told_of s Undo [] ≡ replied (UndoEvent ∷ []) (undone_line name)
 unfolding told_of answered
 told_undone s now name is = by (undone s.machine) is
   where
-    by : (r : Result (CallTable × List ℕ) Refusal) → undo_answered r ≡ Ok (happened now (Undone name))
+    by : (r : Result (AbstractMachine × List ℕ) Refusal) → undo_answered r ≡ Ok (happened now (Undone name))
         → undo_told r ≡ replied (UndoEvent ∷ []) (undone_line name)
     by (Ok left) is =
         let answer : Undone left.1 ≡ Undone name = ap (λ (h : Happened). h.answer) (same_Ok _ _ is) in
@@ -207,7 +207,7 @@ pub told_undo_refused : (s : Watched) (refusal : Refusal) → answered s.machine
 unfolding told_of answered
 told_undo_refused s refusal is = by (undone s.machine) is
   where
-    by : (r : Result (CallTable × List ℕ) Refusal) → undo_answered r ≡ Err refusal
+    by : (r : Result (AbstractMachine × List ℕ) Refusal) → undo_answered r ≡ Err refusal
         → undo_told r ≡ refused_after [] refusal
     by (Ok left) is = cc
     by (Err other) is = cc

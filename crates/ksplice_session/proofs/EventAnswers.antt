@@ -24,7 +24,7 @@ use Rattle.image_threads.specs.Spawning.{started, started_at, started_on, free_s
 use Rattle.stack_scan.specs.Standing.{thread_refusal}
 use Rattle.update_plan.specs.declared.types.Plan.{Plan}
 use Rattle.update_plan.specs.Plan.{unless}
-use Rattle.update_stack.specs.CallTable.{CallTable, Update, contents_of, view_in, base_of}
+use Rattle.update_stack.specs.AbstractMachine.{AbstractMachine, Update, contents_of, view_in, base_of}
 use Rattle.update_stack.specs.Steps.{step_at, step_in, after_step, moved_by, moved, after_start, spawned}
 use Rattle.update_stack.specs.Apply.{planned_in, committed, applied}
 use Rattle.update_stack.specs.Undo.{withdrawn, ranges_in, newest_update, undone_by, undone}
@@ -95,19 +95,19 @@ module _ (contents : Contents) (thread : Thread) (running : runs thread ≡ true
   by_end base met true = record { number = refl; stack = refl; state = refl }
   by_end base met false = by_view base met
 
-pub left_thread : (k : CallTable) (thread : Thread) → runs thread ≡ true → IsThread thread (step_in k thread)
+pub left_thread : (k : AbstractMachine) (thread : Thread) → runs thread ≡ true → IsThread thread (step_in k thread)
 unfolding step_in
 left_thread k thread running =
     by_end (contents_of k) thread running (base_of k thread.pc) (view_in k thread.pc) (thread.pc == 0xFFFF_0000)
 
 -- what is answered to a step
-pub record HasStepped (k : CallTable) (n : ℕ) (now : Happened) : Type 0 where
+pub record HasStepped (k : AbstractMachine) (n : ℕ) (now : Happened) : Type 0 where
   pub before : Thread
   pub running : running_at k.threads n ≡ Some before
   pub machine : now.machine ≡ after_step k n (step_in k before)
   pub answer : now.answer ≡ Stepped (step_in k before).outcome
 
-pub step_gives : (k : CallTable) (n : ℕ) (now : Happened) → answered k (Step n) ≡ Ok now → HasStepped k n now
+pub step_gives : (k : AbstractMachine) (n : ℕ) (now : Happened) → answered k (Step n) ≡ Ok now → HasStepped k n now
 unfolding answered moved
 step_gives k n now is = by_running (running_at k.threads n) refl is
   where
@@ -119,7 +119,7 @@ step_gives k n now is = by_running (running_at k.threads n) refl is
         subst (HasStepped k n) (same_Ok left now is)
         (record { before = before; running = runs; machine = refl; answer = refl })
 
-pub step_refused : (k : CallTable) (n : ℕ) (refusal : Refusal) → answered k (Step n) ≡ Err refusal
+pub step_refused : (k : AbstractMachine) (n : ℕ) (refusal : Refusal) → answered k (Step n) ≡ Err refusal
     → running_at k.threads n ≡ None
 unfolding answered moved
 step_refused k n refusal is = by_running (running_at k.threads n) is
@@ -131,7 +131,7 @@ step_refused k n refusal is = by_running (running_at k.threads n) is
         absurd (not_Ok refusal left (sym is))
 
 -- what is answered to a start
-pub record HasStarted (k : CallTable) (argument : ℕ) (now : Happened) : Type 0 where
+pub record HasStarted (k : AbstractMachine) (argument : ℕ) (now : Happened) : Type 0 where
   pub stack : Range
   pub pc : ℕ
   pub free : free_stack k.stacks k.threads ≡ Some stack
@@ -141,7 +141,7 @@ pub record HasStarted (k : CallTable) (argument : ℕ) (now : Happened) : Type 0
   }
   pub answer : now.answer ≡ Spawned (length k.threads)
 
-pub spawn_gives : (k : CallTable) (name : List ℕ) (argument : ℕ) (now : Happened)
+pub spawn_gives : (k : AbstractMachine) (name : List ℕ) (argument : ℕ) (now : Happened)
     → answered k (Spawn name argument) ≡ Ok now → HasStarted k argument now
 unfolding answered spawned started
 spawn_gives k name argument now is = by_place (function_named k.symbols name) is
@@ -169,19 +169,20 @@ spawn_gives k name argument now is = by_place (function_named k.symbols name) is
     by_place (Ok pc) is = by_count pc (nat_le 4096 (length k.threads)) is
 
 -- what an update leaves, and one taken back
-pub record IsUpdated (k : CallTable) (now : Happened) : Type 0 where
+pub record IsUpdated (k : AbstractMachine) (now : Happened) : Type 0 where
   pub threads : now.machine.threads ≡ k.threads
   pub stacks : now.machine.stacks ≡ k.stacks
   pub seen : (event : Event) (w : Watching) → seen k event now.machine now.answer w ≡ counted w
 
-pub apply_gives : (k : CallTable) (name pre post : List ℕ) (now : Happened) → answered k (Apply name pre post) ≡ Ok now
+pub apply_gives : (k : AbstractMachine) (name pre post : List ℕ) (now : Happened)
+    → answered k (Apply name pre post) ≡ Ok now
     → IsUpdated k now
 unfolding answered applied committed
 apply_gives k name pre post now is = by_plan (planned_in k name pre post) is
   where
     by_threads : (plan : Plan) (o : Option Refusal)
         → apply_answered (unless o plan >>= λ (clear : Plan).
-        let r : Result (CallTable × Report) Refusal = Ok (committed k name clear, clear.report) in r) ≡ Ok now
+        let r : Result (AbstractMachine × Report) Refusal = Ok (committed k name clear, clear.report) in r) ≡ Ok now
         → IsUpdated k now
     by_threads plan (Some refusal) is = absurd (cc)
     by_threads plan None is =
@@ -190,18 +191,18 @@ apply_gives k name pre post now is = by_plan (planned_in k name pre post) is
     by_plan : (r : Result Plan Refusal)
         → apply_answered (r >>= λ (plan : Plan). unless (thread_refusal k.pieces plan.guarded k.threads) plan
         >>= λ (clear : Plan).
-        let r : Result (CallTable × Report) Refusal = Ok (committed k name clear, clear.report) in r) ≡ Ok now
+        let r : Result (AbstractMachine × Report) Refusal = Ok (committed k name clear, clear.report) in r) ≡ Ok now
         → IsUpdated k now
     by_plan (Err refusal) is = absurd (cc)
     by_plan (Ok plan) is = by_threads plan (thread_refusal k.pieces plan.guarded k.threads) is
 
-pub undo_gives : (k : CallTable) (now : Happened) → answered k Undo ≡ Ok now → IsUpdated k now
+pub undo_gives : (k : AbstractMachine) (now : Happened) → answered k Undo ≡ Ok now → IsUpdated k now
 unfolding answered undone withdrawn
 undo_gives k now is = by_update (newest_update k) is
   where
     by_threads : (update : Update) (o : Option Refusal)
         → undo_answered (unless o update >>= λ (clear : Update).
-        let r : Result (CallTable × List ℕ) Refusal = Ok (withdrawn k clear, clear.name) in r) ≡ Ok now
+        let r : Result (AbstractMachine × List ℕ) Refusal = Ok (withdrawn k clear, clear.name) in r) ≡ Ok now
         → IsUpdated k now
     by_threads update (Some refusal) is = absurd (cc)
     by_threads update None is =

@@ -12,7 +12,7 @@ use Rattle.ia32_step.specs.Frames.{keeps_slot}
 use Rattle.ia32_step.specs.Threads.{esp_of, runs}
 use Rattle.image_threads.specs.Program.{if_running, running_at}
 use Rattle.stack_scan.specs.Standing.{in_one}
-use Rattle.update_stack.specs.CallTable.{CallTable, view_in}
+use Rattle.update_stack.specs.AbstractMachine.{AbstractMachine, view_in}
 use Rattle.update_stack.specs.Events.{Event, Step}
 use Rattle.update_safety.specs.Windows.{SameWindows, KeepsWindows}
 use Rattle.update_safety.specs.Slots.{KeepsSlots}
@@ -43,7 +43,7 @@ agree_by o p a b same_thread same_watch agree =
     subst (λ (x : Option Thread). Agree x b) (sym same_thread)
     (subst (λ (y : Option WatchedThread). Agree o y) (sym same_watch) agree)
 
-pub same_windows : (s : Watched) (now : CallTable) (w : Watching) → SameWindows s.machine now → (address : ℕ)
+pub same_windows : (s : Watched) (now : AbstractMachine) (w : Watching) → SameWindows s.machine now → (address : ℕ)
     → Keeps s (watched now w) address
 same_windows s now w same address has = same address ∙ has
 
@@ -60,7 +60,7 @@ module _ (s : Watched) (event : Event) (moment : IsMoment s) where
   )
 
   -- an update, or one taken back: ranges go in which no thread and no frame is
-  pub update_next : (now : CallTable) (ranges : List Range) (w : Watching) → now.threads ≡ s.machine.threads
+  pub update_next : (now : AbstractMachine) (ranges : List Range) (w : Watching) → now.threads ≡ s.machine.threads
       → now.stacks ≡ s.machine.stacks → w.threads ≡ s.watch.threads → w.verdict ≡ s.watch.verdict
       → KeepsSlots s.machine now → KeepsWindows ranges s.machine now
       → ((n : ℕ) (thread : Thread) → running_at s.machine.threads n ≡ Some thread
@@ -124,7 +124,7 @@ module _ (s : Watched) (event : Event) (moment : IsMoment s) where
               (All-at (λ (g : Frame). IsTrue (keeps_slot s.machine.pieces one.stack one.esp g)) one.frames i f all at))
 
   -- a thread is started at a window
-  pub start_next : (now : CallTable) (thread : Thread) → now.threads ≡ s.machine.threads ++ thread ∷ []
+  pub start_next : (now : AbstractMachine) (thread : Thread) → now.threads ≡ s.machine.threads ++ thread ∷ []
       → now.stacks ≡ s.machine.stacks → thread.number ≡ length s.machine.threads → runs thread ≡ true
       → IsOneOf s.machine.stacks thread.stack → SameWindows s.machine now → ((n : ℕ) → event ≡ Step n → ⊥)
       → (spawn_noted (sight_in now) thread s.watch).verdict ≡ Disciplined

@@ -19,7 +19,7 @@ use Rattle.ia32_step.specs.Frames.{keeps_slot}
 use Rattle.ia32_step.specs.Step.{carried_out}
 use Rattle.ia32_step.specs.Threads.{runs}
 use Rattle.image_threads.specs.Program.{running_at}
-use Rattle.update_stack.specs.CallTable.{first_machine}
+use Rattle.update_stack.specs.AbstractMachine.{first_machine}
 use Rattle.update_stack.specs.Events.{Event, Step, after_events}
 use Rattle.update_stack.specs.Stacked.{IsBuilt}
 use Rattle.update_safety.specs.Windows.{window_in, StartsKeepWindows, StepsKeepWindows}

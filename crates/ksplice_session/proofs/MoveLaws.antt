@@ -25,7 +25,7 @@ use Rattle.ia32_step.specs.Threads.{esp_of}
 use Rattle.ia32_step.specs.laws.OperandLaws.{length-spelled}
 use Rattle.image_threads.specs.Program.{if_running, running_at, AreNumbered}
 use Rattle.splice_jump.specs.Jumps.{jumped_memory}
-use Rattle.update_stack.specs.CallTable.{CallTable, bodies_in, contents_of}
+use Rattle.update_stack.specs.AbstractMachine.{AbstractMachine, bodies_in, contents_of}
 use Rattle.update_stack.specs.Events.{Step, Stepped, happened, step_answered, answered}
 use Rattle.update_stack.specs.Jumps.{CanJump, StepsStand, jumped_left}
 use Rattle.update_stack.specs.Stacked.{IsBuilt}
@@ -51,7 +51,7 @@ use Rattle.ksplice_session.proofs.Lookups.{set_here}
 
 -- what other crates say of steps
 pub record StepLaws : Type 0 where
-  pub stand : (k : CallTable) (thread : Thread) → CanJump k → StepsStand k thread
+  pub stand : (k : AbstractMachine) (thread : Thread) → CanJump k → StepsStand k thread
   pub calls : (contents : Contents) (thread : Thread)
       → length thread.registers ≡ 8 → (stepped contents thread).outcome ≡ Moved Call
       → IsSomeAnd (instruction_at contents thread.pc) (λ call. IsCalled thread call (stepped contents thread))
@@ -76,7 +76,7 @@ untouched contents (Some s) slot value apart =
     (outside s.address (byte_count s.width) slot x apart low high)))
 
 -- what is known of a step that is noted, and what comes of it
-pub record IsMade (memory : Contents) (k now : CallTable)
+pub record IsMade (memory : Contents) (k now : AbstractMachine)
     (w : Watching) (before after : Thread) (outcome : Outcome) (store : Option Store) : Type 0 where
   pub step : IsStep memory.pieces before after outcome w.threads
   pub held : HoldBut memory.pieces w.threads store
@@ -84,14 +84,15 @@ pub record IsMade (memory : Contents) (k now : CallTable)
   pub kept : IsInStep now (step_noted (sight_in now) before after outcome w)
 
 module _
-    (jumps : JumpLaws) (laws : StepLaws) (k : CallTable) (w : Watching) (n : ℕ) (before : Thread) (built : IsBuilt k)
+    (jumps : JumpLaws) (laws : StepLaws) (k : AbstractMachine) (w : Watching) (n : ℕ) (before : Thread)
+    (built : IsBuilt k)
     (in_step : IsInStep k w) (numbered : AreNumbered 0 k.threads) (got : slice_get k.threads n ≡ Some before)
     (was : running_at k.threads n ≡ Some before)
     (registers : length before.registers ≡ 8) (esp : esp_of before < 2 ^ 32) where
   abbrev left : Left
   left = step_in k before
 
-  abbrev now : CallTable
+  abbrev now : AbstractMachine
   now = after_step k n left
 
   stands : stepped (patched k) before ≡ jumped_left (bodies_in k.table) left
@@ -186,12 +187,12 @@ module _
   }
 
 -- which thread it was that made a step, and what the step left
-pub record IsOf (k now : CallTable) (n : ℕ) (before : Thread) (outcome : Outcome) : Type 0 where
+pub record IsOf (k now : AbstractMachine) (n : ℕ) (before : Thread) (outcome : Outcome) : Type 0 where
   pub was : running_at k.threads n ≡ Some before
   pub left : now ≡ after_step k n (step_in k before)
   pub came : outcome ≡ (step_in k before).outcome
 
-step_of : (k now : CallTable) (n : ℕ) (before : Thread) (outcome : Outcome) → slice_get k.threads n ≡ Some before
+step_of : (k now : AbstractMachine) (n : ℕ) (before : Thread) (outcome : Outcome) → slice_get k.threads n ≡ Some before
     → answered k (Step n) ≡ Ok (happened now (Stepped outcome)) → IsOf k now n before outcome
 step_of k now n before outcome got is =
     let gives = step_gives k n (happened now (Stepped outcome)) is in
@@ -204,16 +205,16 @@ step_of k now n before outcome got is =
       came = came ∙ ap (λ (x : Thread). (step_in k x).outcome) (sym same);
     }
 
-after_got : (k now : CallTable) (n : ℕ) (before : Thread) (outcome : Outcome)
+after_got : (k now : AbstractMachine) (n : ℕ) (before : Thread) (outcome : Outcome)
     → slice_get k.threads n ≡ Some before → IsOf k now n before outcome
     → slice_get now.threads n ≡ Some (step_in k before).thread
 after_got k now n before outcome got of =
-    ap (λ (m : CallTable). slice_get m.threads n) of.left
+    ap (λ (m : AbstractMachine). slice_get m.threads n) of.left
     ∙ set_here k.threads n (step_in k before).thread before got
 
 -- Where more than five bytes were fetched there is a window at each of them after the step, in memory with its jumps.
 pub fetched_windows : JumpLaws → StepsKeepWindows
-    → FetchedHaveWindows → (k now : CallTable) (n : ℕ) (before : Thread) (outcome : Outcome) (count : ℕ)
+    → FetchedHaveWindows → (k now : AbstractMachine) (n : ℕ) (before : Thread) (outcome : Outcome) (count : ℕ)
     → IsBuilt k
     → IsBuilt now → slice_get k.threads n ≡ Some before → answered k (Step n) ≡ Ok (happened now (Stepped outcome))
     → IsSomeAnd (running_at k.threads n) (λ running. count ≡ fetched_count (contents_of k) running)
@@ -227,7 +228,8 @@ fetched_windows jumps stay fetched k now n before outcome count built built_now 
     (subst (λ (m : ℕ). address < before.pc + m) same to)
 
 pub step_made : JumpLaws → StepLaws
-    → (k now : CallTable) (w : Watching) (n : ℕ) (before after : Thread) (outcome : Outcome) (store : Option Store)
+    → (k now : AbstractMachine) (w : Watching) (n : ℕ) (before after : Thread) (outcome : Outcome)
+    (store : Option Store)
     (memory : Contents)
     → IsBuilt k → IsBuilt now → IsInStep k w → AreNumbered 0 k.threads → slice_get k.threads n ≡ Some before
     → answered k (Step n) ≡ Ok (happened now (Stepped outcome)) → slice_get now.threads n ≡ Some after
@@ -241,22 +243,23 @@ step_made jumps laws k now
     let same : left.thread ≡ after =
     same_Some left.thread after (sym (after_got k now n before outcome got of) ∙ got_after) in
     subst (λ (m : Contents). IsMade m k now w before after outcome store) (sym there)
-    (subst (λ (m : CallTable). IsMade (patched m) k m w before after outcome store) (sym of.left)
+    (subst (λ (m : AbstractMachine). IsMade (patched m) k m w before after outcome store) (sym of.left)
     (subst (λ (o : Outcome). IsMade (patched next) k next w before after o store) (sym of.came)
     (subst (λ (t : Thread). IsMade (patched next) k next w before t left.outcome store) same
     (is_made jumps laws k w n before built in_step numbered got of.was registers esp
     (subst IsBuilt of.left built_now) store
-    (ap (λ (m : CallTable). m.pieces) (sym of.left) ∙ wrote)))))
+    (ap (λ (m : AbstractMachine). m.pieces) (sym of.left) ∙ wrote)))))
 
 -- a step that was made has its thread after it
-pub after_there : (k now : CallTable) (n : ℕ) (before : Thread) (outcome : Outcome)
+pub after_there : (k now : AbstractMachine) (n : ℕ) (before : Thread) (outcome : Outcome)
     → slice_get k.threads n ≡ Some before
     → answered k (Step n) ≡ Ok (happened now (Stepped outcome)) → slice_get now.threads n ≡ None → ⊥
 after_there k now n before outcome got is none =
     let there = after_got k now n before outcome got (step_of k now n before outcome got is) in cc
 
 -- the session after a step
-pub step_watched : (s : Watched) (now : CallTable) (v : Watching) (n : ℕ) (before after : Thread) (outcome : Outcome)
+pub step_watched : (s : Watched) (now : AbstractMachine) (v : Watching) (n : ℕ) (before after : Thread)
+    (outcome : Outcome)
     → answered s.machine (Step n) ≡ Ok (happened now (Stepped outcome)) → slice_get s.machine.threads n ≡ Some before
     → slice_get now.threads n ≡ Some after → v ≡ step_noted (sight_in now) before after outcome s.watch
     → watched now v ≡ watched_after s (Step n)

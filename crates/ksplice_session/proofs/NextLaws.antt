@@ -7,7 +7,7 @@ use Rattle.ia32_step.specs.declared.types.Thread.{Thread}
 use Rattle.ia32_step.specs.declared.types.Outcome.{Outcome}
 use Rattle.image_threads.specs.Program.{running_at}
 use Rattle.image_threads.specs.Spawning.{is_taken, first_thread}
-use Rattle.update_stack.specs.CallTable.{CallTable}
+use Rattle.update_stack.specs.AbstractMachine.{AbstractMachine}
 use Rattle.update_stack.specs.Steps.{step_in}
 use Rattle.update_stack.specs.Events.{Event, Spawn, Step, Apply, Undo, Answer, Spawned, Stepped, Applied, Undone}
 use Rattle.update_stack.specs.Events.{Happened, happened}
@@ -43,15 +43,15 @@ module _ (laws : Premises) (s : Watched) (moment : IsMoment s) (built : IsBuilt 
       let gives = spawn_gives s.machine name argument now is in
       let thread = first_thread (length s.machine.threads) gives.stack gives.pc in
       let at : slice_get now.machine.threads (length s.machine.threads) ≡ Some thread =
-      ap (λ (k : CallTable). slice_get k.threads (length s.machine.threads)) gives.machine
+      ap (λ (k : AbstractMachine). slice_get k.threads (length s.machine.threads)) gives.machine
       ∙ read_last s.machine.threads thread in
       let same : seen s.machine event now.machine now.answer s.watch
       ≡ spawn_noted (sight_in now.machine) thread s.watch =
       ap (λ (a : Answer). seen s.machine event now.machine a s.watch) gives.answer
       ∙ ap (λ (o : Option Thread). start_seen (sight_in now.machine) o s.watch) at in
       subst (λ (w : Watching). Next s event (watched now.machine w)) (sym same)
-      (start_next s event moment now.machine thread (ap (λ (k : CallTable). k.threads) gives.machine)
-      (ap (λ (k : CallTable). k.stacks) gives.machine) refl refl
+      (start_next s event moment now.machine thread (ap (λ (k : AbstractMachine). k.threads) gives.machine)
+      (ap (λ (k : AbstractMachine). k.stacks) gives.machine) refl refl
       (found_at (λ range. not (is_taken s.machine.threads range)) s.machine.stacks gives.stack gives.free)
       (laws.starts s.machine name argument now is) (λ n steps. absurd (cc))
       (subst (λ (w : Watching). w.verdict ≡ Disciplined) same unbroken))
@@ -73,7 +73,7 @@ module _ (laws : Premises) (s : Watched) (moment : IsMoment s) (built : IsBuilt 
       let left = step_in s.machine gives.before in
       let here = running_is (slice_get s.machine.threads n) gives.before gives.running in
       let threads : now.machine.threads ≡ set s.machine.threads n left.thread =
-      ap (λ (k : CallTable). k.threads) gives.machine in
+      ap (λ (k : AbstractMachine). k.threads) gives.machine in
       let placed : slice_get now.machine.threads n ≡ Some left.thread =
       ap (λ (ts : List Thread). slice_get ts n) threads
       ∙ set_here s.machine.threads n left.thread gives.before here.0 in
@@ -91,7 +91,7 @@ module _ (laws : Premises) (s : Watched) (moment : IsMoment s) (built : IsBuilt 
         steps = ap Step number;
         running = subst (λ (i : ℕ). running_at s.machine.threads i ≡ Some gives.before) number gives.running;
         threads = subst (λ (i : ℕ). now.machine.threads ≡ set s.machine.threads i left.thread) number threads;
-        stacks = ap (λ (k : CallTable). k.stacks) gives.machine;
+        stacks = ap (λ (k : AbstractMachine). k.stacks) gives.machine;
         number = kept.number;
         stack = kept.stack;
         state = kept.state;
@@ -147,19 +147,19 @@ pub was_unbroken : (s : Watched) (event : Event) → (watched_after s event).wat
 unfolding watched_after
 was_unbroken s event now = by_result (answered s.machine event) now
   where
-    by_start : (k : CallTable) (o : Option Thread) → (start_seen (sight_in k) o s.watch).verdict ≡ Disciplined
+    by_start : (k : AbstractMachine) (o : Option Thread) → (start_seen (sight_in k) o s.watch).verdict ≡ Disciplined
         → s.watch.verdict ≡ Disciplined
     by_start k None now = now
     by_start k (Some thread) now = start_was_unbroken (sight_in k) thread s.watch now
 
-    by_step : (k : CallTable) (before after : Option Thread) (outcome : Outcome)
+    by_step : (k : AbstractMachine) (before after : Option Thread) (outcome : Outcome)
         → (step_seen (sight_in k) before after outcome s.watch).verdict ≡ Disciplined → s.watch.verdict ≡ Disciplined
     by_step k None after outcome now = now
     by_step k (Some before) None outcome now = now
     by_step k (Some before) (Some after) outcome now =
         step_was_unbroken (sight_in k) before after outcome s.watch now
 
-    by_answer : (k : CallTable) (answer : Answer) → (seen s.machine event k answer s.watch).verdict ≡ Disciplined
+    by_answer : (k : AbstractMachine) (answer : Answer) → (seen s.machine event k answer s.watch).verdict ≡ Disciplined
         → s.watch.verdict ≡ Disciplined
     by_answer k (Spawned n) now = by_start k (slice_get k.threads n) now
     by_answer k (Stepped outcome) now = by_step k _ _ outcome now

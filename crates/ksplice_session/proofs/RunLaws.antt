@@ -9,7 +9,7 @@ use Rattle.image_threads.specs.Program.{if_running, running_at}
 use Rattle.image_threads.specs.Turning.{Schedule, turn_from, next_turn, after_turn}
 use Rattle.image_threads.specs.declared.turns.Turn.{Turn}
 use Rattle.ia32_step.specs.declared.types.Thread.{Thread}
-use Rattle.update_stack.specs.CallTable.{CallTable}
+use Rattle.update_stack.specs.AbstractMachine.{AbstractMachine}
 use Rattle.update_stack.specs.Steps.{step_in, moved_by, moved}
 use Rattle.update_stack.specs.Events.{Event, Step, step_answered, answered, machine_after, after_event, after_events}
 use Rattle.ksplice_session.specs.Running.{thread_steps, turn_steps, taken, after_taken}
@@ -46,7 +46,7 @@ has_gone first all made s rest is h = (
 )
 
 -- a step leaves as many threads as there were
-step_counts : (k : CallTable) (n : ℕ) → length (after_event k (Step n)).threads ≡ length k.threads
+step_counts : (k : AbstractMachine) (n : ℕ) → length (after_event k (Step n)).threads ≡ length k.threads
 unfolding after_event answered moved
 step_counts k n = by (running_at k.threads n)
   where
@@ -54,7 +54,7 @@ step_counts k n = by (running_at k.threads n)
     by None = refl
     by (Some before) = length-set k.threads n (step_in k before).thread
 
-steps_count : (k : CallTable) (thread n : ℕ)
+steps_count : (k : AbstractMachine) (thread n : ℕ)
     → length (after_events k (thread_steps k thread n)).threads ≡ length k.threads
 unfolding thread_steps after_events
 steps_count k thread zero = refl
@@ -71,7 +71,7 @@ steps_count k thread (suc n) =
     by false more = refl
 
 -- a thread that runs is there after its steps
-pub steps_leave : (k now : CallTable) (thread n : ℕ) → is_some (running_at k.threads thread) ≡ true
+pub steps_leave : (k now : AbstractMachine) (thread n : ℕ) → is_some (running_at k.threads thread) ≡ true
     → now ≡ after_events k (thread_steps k thread n) → thread < length now.threads
 steps_leave k now thread n runs is = rw (is, steps_count k thread n) (by (slice_get k.threads thread) refl runs)
   where
@@ -80,16 +80,16 @@ steps_leave k now thread n runs is = rw (is, steps_count k thread n) (by (slice_
     by None none runs = cc
     by (Some t) got runs = slice_get_within k.threads thread t got
 
-pub thread_done : (k : CallTable) (thread n : ℕ) → n ≡ 0 → thread_steps k thread n ≡ []
+pub thread_done : (k : AbstractMachine) (thread n : ℕ) → n ≡ 0 → thread_steps k thread n ≡ []
 unfolding thread_steps
 thread_done k thread n none = rw none refl
 
-thread_first : (k : CallTable) (thread n : ℕ)
+thread_first : (k : AbstractMachine) (thread n : ℕ)
     → is_some (running_at k.threads thread) ≡ false → thread_steps k thread (suc n) ≡ []
 unfolding thread_steps
 thread_first k thread n ends = rw ends refl
 
-thread_on : (k now : CallTable) (thread n m : ℕ)
+thread_on : (k now : AbstractMachine) (thread n m : ℕ)
     → n ≡ suc m → is_some (running_at k.threads thread) ≡ true → now ≡ after_event k (Step thread)
     → thread_steps k thread n ≡ Step thread ∷ thread_steps now thread m
 unfolding thread_steps
@@ -121,7 +121,8 @@ pub thread_ends : (s now : Watched) (thread n : ℕ)
     → (thread_steps s.machine thread n ≡ []) × (now ≡ s)
 thread_ends s now thread n ends next = (none s.machine thread n ends, next ∙ no_step s thread ends)
   where
-    none : (k : CallTable) (thread n : ℕ) → is_some (running_at k.threads thread) ≡ false → thread_steps k thread n ≡ []
+    none : (k : AbstractMachine) (thread n : ℕ) → is_some (running_at k.threads thread) ≡ false
+        → thread_steps k thread n ≡ []
     none k thread zero ends = thread_done k thread 0 refl
     none k thread (suc n) ends = thread_first k thread n ends
 
@@ -130,7 +131,7 @@ abbrev pub thread_in : Option Turn → ℕ
 thread_in None = 0
 thread_in (Some turn) = turn.thread
 
-next_is : (s : Schedule) (k : CallTable) (m : ℕ)
+next_is : (s : Schedule) (k : AbstractMachine) (m : ℕ)
     → s.left ≡ suc m → next_turn s k.threads ≡ turn_from k.threads s.quantum s.turn
 unfolding next_turn
 next_is s k m left =
@@ -140,18 +141,19 @@ next_is s k m left =
     not_zero : (m : ℕ) → (suc m == 0) ≡ false
     not_zero m = grind (arith, nat_tests)
 
-taken_on : (k : CallTable) (s : Schedule) (m : ℕ) (o : Option Turn) → is_some o ≡ true
+taken_on : (k : AbstractMachine) (s : Schedule) (m : ℕ) (o : Option Turn) → is_some o ≡ true
     → taken k (turn_steps s.quantum m) o
     ≡ Step (thread_in o) ∷ turn_steps (after_turn s o).quantum m (after_turn s o).turn (after_taken k o)
 taken_on k s m None some = cc
 taken_on k s m (Some turn) some = refl
 
-turn_first : (k : CallTable) (s : Schedule) (m : ℕ) → s.left ≡ suc m
+turn_first : (k : AbstractMachine) (s : Schedule) (m : ℕ) → s.left ≡ suc m
     → turn_steps s.quantum s.left s.turn k ≡ taken k (turn_steps s.quantum m) (turn_from k.threads s.quantum s.turn)
 unfolding turn_steps
 turn_first k s m left = rw left refl
 
-pub turn_goes_on : (k : CallTable) (s : Schedule) (m : ℕ) → s.left ≡ suc m → is_some (next_turn s k.threads) ≡ true
+pub turn_goes_on : (k : AbstractMachine) (s : Schedule) (m : ℕ) → s.left ≡ suc m
+    → is_some (next_turn s k.threads) ≡ true
     → turn_steps s.quantum s.left s.turn k
     ≡ Step (thread_in (next_turn s k.threads)) ∷ turn_steps (after_turn s (next_turn s k.threads)).quantum m
     (after_turn s (next_turn s k.threads)).turn (after_taken k (next_turn s k.threads))
@@ -159,12 +161,12 @@ turn_goes_on k s m left some =
     turn_first k s m left ∙ ap (taken k (turn_steps s.quantum m)) (sym (next_is s k m left))
     ∙ taken_on k s m (next_turn s k.threads) some
 
-taken_none : (k : CallTable) (rest : Option Turn → CallTable → List Event) (o : Option Turn)
+taken_none : (k : AbstractMachine) (rest : Option Turn → AbstractMachine → List Event) (o : Option Turn)
     → is_some o ≡ false → taken k rest o ≡ []
 taken_none k rest None none = refl
 taken_none k rest (Some turn) none = cc
 
-turn_ends : (k : CallTable) (s : Schedule) (m : ℕ)
+turn_ends : (k : AbstractMachine) (s : Schedule) (m : ℕ)
     → s.left ≡ suc m → is_some (next_turn s k.threads) ≡ false → turn_steps s.quantum s.left s.turn k ≡ []
 turn_ends k s m left none =
     turn_first k s m left ∙ ap (taken k (turn_steps s.quantum m)) (sym (next_is s k m left))
@@ -182,7 +184,7 @@ pub turns_stop : (s now : Watched) (t : Schedule) (m : ℕ)
 turns_stop s now t m left none is =
     (turn_ends s.machine t m left none, none_taken s now (next_turn t s.machine.threads) none is)
 
-pub turn_done : (k : CallTable) (s : Schedule) → s.left ≡ 0 → turn_steps s.quantum s.left s.turn k ≡ []
+pub turn_done : (k : AbstractMachine) (s : Schedule) → s.left ≡ 0 → turn_steps s.quantum s.left s.turn k ≡ []
 unfolding turn_steps
 turn_done k s none = rw none refl
 

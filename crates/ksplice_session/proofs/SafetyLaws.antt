@@ -10,7 +10,7 @@ use Rattle.ia32_step.specs.declared.types.Outcome.TheVariants.{Stopped}
 use Rattle.ia32_step.specs.declared.types.Thread.{Thread}
 use Rattle.ia32_step.specs.Step.{exits}
 use Rattle.image_threads.specs.Program.{running_at}
-use Rattle.update_stack.specs.CallTable.{CallTable, contents_of, view_in, base_of}
+use Rattle.update_stack.specs.AbstractMachine.{AbstractMachine, contents_of, view_in, base_of}
 use Rattle.update_stack.specs.Steps.{step_at, step_in, moved_by, moved}
 use Rattle.update_stack.specs.Events.{Step, step_answered, answered}
 use Rattle.update_safety.specs.Windows.{window_in}
@@ -29,7 +29,7 @@ unfolding answered moved
 run_outcome s n thread runs = ap (λ (o : Option Thread). outcome_by (step_answered (moved_by s.machine n o))) runs
 
 -- at the end no step stops
-ends_not_stops : (k : CallTable) (thread : Thread) (fault : Fault) → thread.pc ≡ 0xFFFF_0000
+ends_not_stops : (k : AbstractMachine) (thread : Thread) (fault : Fault) → thread.pc ≡ 0xFFFF_0000
     → (step_in k thread).outcome ≡ Stopped fault → ⊥
 unfolding step_in
 ends_not_stops k thread fault is stops = by_test (thread.pc == 0xFFFF_0000) (is_same thread.pc 0xFFFF_0000 is) stops
@@ -41,7 +41,7 @@ ends_not_stops k thread fault is stops = by_test (thread.pc == 0xFFFF_0000) (is_
     by_test false same stops = cc
 
 -- at a window no step stops for want of code
-stray_has_none : Premises → (k : CallTable) (thread : Thread) → (step_in k thread).outcome ≡ Stopped faults.Stray
+stray_has_none : Premises → (k : AbstractMachine) (thread : Thread) → (step_in k thread).outcome ≡ Stopped faults.Stray
     → IsTrue (window_in k thread.pc) → ⊥
 unfolding step_in
 stray_has_none laws k thread stops window =
@@ -61,7 +61,7 @@ stray_has_none laws k thread stops window =
     by_end true met base stops window = cc
     by_end false met base stops window = by_view met base stops window
 
-unmapped_has_none : (k : CallTable) (thread : Thread) → view_in k thread.pc ≡ Unmapped
+unmapped_has_none : (k : AbstractMachine) (thread : Thread) → view_in k thread.pc ≡ Unmapped
     → IsTrue (window_in k thread.pc) → ⊥
 unmapped_has_none k thread unmapped window =
     let none : has_window Unmapped ≡ true = subst (λ (met : View). has_window met ≡ true) unmapped window in cc

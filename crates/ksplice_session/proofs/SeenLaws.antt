@@ -12,7 +12,7 @@ use Rattle.image_memory.specs.Fetch.{has_window, is_code, code_in, code_from}
 use Rattle.image_threads.specs.Program.{Program, AreNumbered, WellPlaced}
 use Rattle.splice_jump.specs.Jumps.{jumped, jumped_memory, AreSpliced}
 use Rattle.frame_watch.specs.Discipline.{sight_of}
-use Rattle.update_stack.specs.CallTable.{CallTable, bodies_in, contents_of}
+use Rattle.update_stack.specs.AbstractMachine.{AbstractMachine, bodies_in, contents_of}
 use Rattle.update_stack.specs.Jumps.{CanJump}
 use Rattle.update_stack.specs.Stacked.{IsBuilt}
 use Rattle.update_stack.specs.StandsFor.{Seen, StandsFor, patched}
@@ -23,17 +23,17 @@ use Rattle.ksplice_session.proofs.ByteLaws.{IsAlikeAt, alike_back, dword_same, h
 use Rattle.ksplice_session.proofs.SightLaws.{IsAlike}
 
 -- a program that stands for the machine has its memory, its threads and its stacks
-pub memory_of : (program : Program) (k : CallTable) → StandsFor program k → program.contents ≡ patched k
+pub memory_of : (program : Program) (k : AbstractMachine) → StandsFor program k → program.contents ≡ patched k
 memory_of program k stands = ap (λ (s : Seen). s.contents) stands
 
-pub threads_of : (program : Program) (k : CallTable) → StandsFor program k → program.threads ≡ k.threads
+pub threads_of : (program : Program) (k : AbstractMachine) → StandsFor program k → program.threads ≡ k.threads
 threads_of program k stands = ap (λ (s : Seen). s.threads) stands
 
-pub numbered_of : (program : Program) (k : CallTable)
+pub numbered_of : (program : Program) (k : AbstractMachine)
     → StandsFor program k → AreNumbered 0 program.threads → AreNumbered 0 k.threads
 numbered_of program k stands numbered = subst (AreNumbered 0) (threads_of program k stands) numbered
 
-pub placed_of : (program : Program) (k : CallTable)
+pub placed_of : (program : Program) (k : AbstractMachine)
     → StandsFor program k → WellPlaced program.stacks program.threads → WellPlaced k.stacks k.threads
 placed_of program k stands placed =
     subst (λ (s : Seen). WellPlaced s.stacks s.threads) stands placed
@@ -62,7 +62,7 @@ pub record JumpLaws : Type 0 where
       → code_from contents.pieces address ≡ None
       → byte_at (jumped rows contents.pieces) address ≡ byte_at contents.pieces address
 
-pub jumps_alike : JumpLaws → (k : CallTable) → IsBuilt k → IsAlike (sight_of (patched k)) (sight_in k)
+pub jumps_alike : JumpLaws → (k : AbstractMachine) → IsBuilt k → IsAlike (sight_of (patched k)) (sight_in k)
 unfolding patched
 jumps_alike laws k built = record {
   windows = λ pc. ap has_window

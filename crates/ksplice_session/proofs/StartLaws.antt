@@ -19,7 +19,7 @@ use Rattle.ia32_step.specs.Threads.{runs}
 use Rattle.image_threads.specs.Program.{if_running, IsStackRange, WellPlaced}
 use Rattle.image_threads.specs.Spawning.{is_taken, free_stack, first_top, first_bytes, first_thread}
 use Rattle.image_threads.specs.laws.StackLaws.{length-first_bytes}
-use Rattle.update_stack.specs.CallTable.{CallTable}
+use Rattle.update_stack.specs.AbstractMachine.{AbstractMachine}
 use Rattle.update_stack.specs.Events.{Spawn, Spawned, happened, answered, machine_after, after_event, after_events}
 use Rattle.update_stack.specs.Stacked.{IsBuilt}
 use Rattle.update_stack.specs.StandsFor.{patched}
@@ -59,19 +59,20 @@ abbrev has_this : Range → Thread → Bool
 has_this stack t = runs t && are_same t.stack stack
 
 -- what is known of a start that is noted, and what comes of it, or where it isn't noted
-pub record IsBegun (memory : Contents) (k now : CallTable) (w : Watching) (thread : Thread) : Type 0 where
+pub record IsBegun (memory : Contents) (k now : AbstractMachine) (w : Watching) (thread : Thread) : Type 0 where
   pub start : MayStart w thread
   pub held : HoldBut memory.pieces w.threads None
   pub same : spawn_noted (sight_of memory) thread w ≡ spawn_noted (sight_in now) thread w
   pub kept : IsInStep now (spawn_noted (sight_in now) thread w)
   pub unnoted : IsInStep now w
 
-module _ (jumps : JumpLaws) (k : CallTable) (w : Watching) (stack : Range) (pc argument : ℕ) (in_step : IsInStep k w)
+module _ (jumps : JumpLaws) (k : AbstractMachine) (w : Watching) (stack : Range) (pc argument : ℕ)
+    (in_step : IsInStep k w)
     (placed : WellPlaced k.stacks k.threads) (free : free_stack k.stacks k.threads ≡ Some stack) where
   abbrev thread : Thread
   thread = first_thread (length k.threads) stack pc
 
-  abbrev now : CallTable
+  abbrev now : AbstractMachine
   now =
       record k { pieces = written stack.low (first_bytes stack argument) k.pieces; threads = k.threads ++ thread ∷ [] }
 
@@ -200,17 +201,20 @@ module _ (jumps : JumpLaws) (k : CallTable) (w : Watching) (stack : Range) (pc a
   }
 
 -- a thread that was started is there
-thread_there : (k now : CallTable) (argument number : ℕ) (gives : HasStarted k argument (happened now (Spawned number)))
+thread_there : (k now : AbstractMachine) (argument number : ℕ)
+    (gives : HasStarted k argument (happened now (Spawned number)))
     → slice_get now.threads number ≡ Some (first_thread (length k.threads) gives.stack gives.pc)
 thread_there k now argument number gives =
     let first : Thread = first_thread (length k.threads) gives.stack gives.pc in
     let answer : Spawned number ≡ Spawned (length k.threads) = gives.answer in
     let count : number ≡ length k.threads = cc in
-    ap (λ (m : CallTable). slice_get m.threads number) gives.machine ∙ ap (slice_get (k.threads ++ first ∷ [])) count
+    ap (λ (m : AbstractMachine). slice_get m.threads number) gives.machine
+    ∙ ap (slice_get (k.threads ++ first ∷ [])) count
     ∙ read_last k.threads first
 
 pub spawn_begun : JumpLaws
-    → (k now : CallTable) (w : Watching) (name : List ℕ) (argument number : ℕ) (thread : Thread) (memory : Contents)
+    → (k now : AbstractMachine) (w : Watching) (name : List ℕ) (argument number : ℕ) (thread : Thread)
+    (memory : Contents)
     → IsBuilt now → IsInStep k w
     → WellPlaced k.stacks k.threads → answered k (Spawn name argument) ≡ Ok (happened now (Spawned number))
     → slice_get now.threads number ≡ Some thread → memory ≡ patched now → IsBegun memory k now w thread
@@ -219,21 +223,21 @@ spawn_begun jumps k now w name argument number thread memory built_now in_step p
     let first : Thread = first_thread (length k.threads) gives.stack gives.pc in
     let same : first ≡ thread = same_Some first thread (sym (thread_there k now argument number gives) ∙ got_after) in
     subst (λ (m : Contents). IsBegun m k now w thread) (sym there)
-    (subst (λ (m : CallTable). IsBegun (patched m) k m w thread) (sym gives.machine)
-    (subst (λ (t : Thread). let m : CallTable = record k {
+    (subst (λ (m : AbstractMachine). IsBegun (patched m) k m w thread) (sym gives.machine)
+    (subst (λ (t : Thread). let m : AbstractMachine = record k {
       pieces = written gives.stack.low (first_bytes gives.stack argument) k.pieces;
       threads = k.threads ++ first ∷ [];
     } in IsBegun (patched m) k m w t) same
     (is_begun jumps k w gives.stack gives.pc argument in_step placed gives.free
     (subst IsBuilt gives.machine built_now))))
 
-pub started_within : (k now : CallTable) (name : List ℕ) (argument number : ℕ)
+pub started_within : (k now : AbstractMachine) (name : List ℕ) (argument number : ℕ)
     → answered k (Spawn name argument) ≡ Ok (happened now (Spawned number)) → number < length now.threads
 started_within k now name argument number is =
     slice_get_within now.threads number _
     (thread_there k now argument number (spawn_gives k name argument (happened now (Spawned number)) is))
 
-pub started_there : (k now : CallTable) (name : List ℕ) (argument number : ℕ)
+pub started_there : (k now : AbstractMachine) (name : List ℕ) (argument number : ℕ)
     → answered k (Spawn name argument) ≡ Ok (happened now (Spawned number))
     → slice_get now.threads number ≡ None → ⊥
 started_there k now name argument number is none =
@@ -242,7 +246,7 @@ started_there k now name argument number is none =
 
 -- the session after a start
 pub spawn_watched : (s : Watched)
-    (now : CallTable) (v : Watching) (name : List ℕ) (argument number : ℕ) (thread : Thread)
+    (now : AbstractMachine) (v : Watching) (name : List ℕ) (argument number : ℕ) (thread : Thread)
     → answered s.machine (Spawn name argument) ≡ Ok (happened now (Spawned number))
     → slice_get now.threads number ≡ Some thread
     → v ≡ spawn_noted (sight_in now) thread s.watch → watched now v ≡ watched_after s (Spawn name argument)
@@ -252,9 +256,10 @@ spawn_watched s now v name argument number thread is got_after noted =
     ∙ sym (ap (watched_by s (Spawn name argument)) is)
 
 -- a start that the watch lacks
-pub spawn_unnoted : (s : Watched) (now : CallTable) (name : List ℕ) (argument number : ℕ)
+pub spawn_unnoted : (s : Watched) (now : AbstractMachine) (name : List ℕ) (argument number : ℕ)
     → answered s.machine (Spawn name argument) ≡ Ok (happened now (Spawned number))
     → MadeFront s (Spawn name argument ∷ []) (watched now s.watch)
 unfolding watched_after_all after_events after_event
 spawn_unnoted s now name argument number is =
-    Unnoted [] [] name argument refl (ap (λ (k : CallTable). watched k s.watch) (sym (ap (machine_after s.machine) is)))
+    Unnoted [] [] name argument refl (ap (λ (k : AbstractMachine). watched k s.watch)
+    (sym (ap (machine_after s.machine) is)))

@@ -12,7 +12,7 @@ use Rattle.ia32_step.specs.declared.types.Outcome.{Outcome}
 use Rattle.ia32_step.specs.declared.types.Outcome.TheVariants.{Moved, Exited, Stopped}
 use Rattle.ia32_step.specs.Threads.{esp_of, runs}
 use Rattle.image_threads.specs.Program.{if_running, running_at}
-use Rattle.update_stack.specs.CallTable.{CallTable}
+use Rattle.update_stack.specs.AbstractMachine.{AbstractMachine}
 use Rattle.update_stack.specs.Events.{Event, Step}
 use Rattle.update_safety.specs.Windows.{SameWindows}
 use Rattle.frame_watch.specs.declared.types.Verdict.TheVariants.{Disciplined}
@@ -32,7 +32,7 @@ use Rattle.ksplice_session.proofs.EventAnswers.{running_is, runs_at, rests_at, g
 use Rattle.ksplice_session.proofs.EventLaws.{Next, agree_by, same_windows}
 
 -- the machine after a step of a running thread, which has its number as its place
-pub record IsStep (s : Watched) (event : Event) (before after : Thread) (outcome : Outcome) (now : CallTable)
+pub record IsStep (s : Watched) (event : Event) (before after : Thread) (outcome : Outcome) (now : AbstractMachine)
     : Type 0 where
   pub steps : event ≡ Step after.number
   pub running : running_at s.machine.threads after.number ≡ Some before
@@ -51,7 +51,7 @@ popped_to esp pc (Some one) is =
     (one, refl, same_number one.address pc (both_hold (one.slot == esp) (one.address == pc) is).1)
 
 module _ (s : Watched) (event : Event) (moment : IsMoment s) (before after : Thread) (outcome : Outcome)
-    (now : CallTable) (step : IsStep s event before after outcome now) where
+    (now : AbstractMachine) (step : IsStep s event before after outcome now) where
   at_place : slice_get s.machine.threads after.number ≡ Some before
   at_place = (running_is (slice_get s.machine.threads after.number) before step.running).0
 
@@ -162,7 +162,8 @@ module _ (s : Watched) (event : Event) (moment : IsMoment s) (before after : Thr
 
 -- each step's outcome in turn
 by_outcome : (s : Watched) (event : Event) (moment : IsMoment s) (before after : Thread) (outcome : Outcome)
-    (now : CallTable) (step : IsStep s event before after outcome now) (new : Watching) → new.verdict ≡ Disciplined
+    (now : AbstractMachine) (step : IsStep s event before after outcome now) (new : Watching)
+    → new.verdict ≡ Disciplined
     → LeavesWatch (sight_in now) s.watch moment.unbroken before after outcome new → Next s event (watched now new)
 by_outcome s event moment before after (Moved Plain) now step new unbroken leaves =
     next_with s event moment before after (Moved Plain) now step new (frames_at s.watch.threads before.number) leaves.1
@@ -190,7 +191,7 @@ by_outcome s event moment before after (Stopped fault) now step new unbroken lea
     (λ resting frames. Ends (Stopped fault) step.steps step.comes (λ is. cc) resting frames)
 
 pub step_next : (s : Watched) (event : Event) (moment : IsMoment s) (before after : Thread) (outcome : Outcome)
-    (now : CallTable) → IsStep s event before after outcome now
+    (now : AbstractMachine) → IsStep s event before after outcome now
     → (step_noted (sight_in now) before after outcome s.watch).verdict ≡ Disciplined
     → Next s event (watched now (step_noted (sight_in now) before after outcome s.watch))
 step_next s event moment before after outcome now step unbroken =

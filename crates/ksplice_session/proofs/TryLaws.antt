@@ -6,7 +6,7 @@ use Rattle.std.specs.declared.alloc.AllocError.{AllocError}
 use Rattle.ks_base.specs.declared.reports.Report.{Report}
 use Rattle.ks_base.specs.declared.refusals.Refusal.{Refusal}
 use Rattle.ks_base.specs.declared.refusals.Refusal.TheVariants.{Memory}
-use Rattle.update_stack.specs.CallTable.{CallTable}
+use Rattle.update_stack.specs.AbstractMachine.{AbstractMachine}
 use Rattle.update_stack.specs.Events.{Event, Spawn, Applied, Happened, happened, apply_answered, answered}
 use Rattle.update_stack.specs.Events.{after_event, after_events}
 use Rattle.ksplice_session.specs.declared.types.Answer.{Answer}
@@ -21,7 +21,7 @@ use Rattle.ksplice_session.proofs.AnswerLaws.{refused_answers, one_event, all_ma
 use Rattle.ksplice_session.proofs.EventAnswers.{same_Ok}
 use Rattle.ksplice_session.proofs.WatchedLaws.{machine_after_all, watched_after_both}
 
-after_both : (k : CallTable) (gap events : List Event)
+after_both : (k : AbstractMachine) (gap events : List Event)
     → after_events k (gap ++ events) ≡ after_events (after_events k gap) events
 unfolding after_events
 after_both k gap events = fold-append after_event k gap events
@@ -36,12 +36,12 @@ front_after s now gap events (Unnoted made rest name argument whole is) =
     let last : List Event = Spawn name argument ∷ [] in
     let machine : after_events (watched_after_all s gap).machine (made ++ last)
     ≡ after_events s.machine ((gap ++ made) ++ last) =
-    ap (λ (k : CallTable). after_events k (made ++ last)) (machine_after_all s gap)
+    ap (λ (k : AbstractMachine). after_events k (made ++ last)) (machine_after_all s gap)
     ∙ sym (after_both s.machine gap (made ++ last))
     ∙ ap (after_events s.machine) (sym (append_assoc gap made last)) in
     Unnoted (gap ++ made) rest name argument
     (append_assoc gap made (Spawn name argument ∷ rest) ∙ ap (λ (l : List Event). gap ++ l) whole)
-    (is ∙ ap (λ (k : CallTable). watched k (watched_after_all (watched_after_all s gap) made).watch) machine
+    (is ∙ ap (λ (k : AbstractMachine). watched k (watched_after_all (watched_after_all s gap) made).watch) machine
     ∙ ap (λ (w : Watched). watched (after_events s.machine ((gap ++ made) ++ last)) w.watch)
     (sym (watched_after_both s gap made)))
 
@@ -52,13 +52,13 @@ after_gap_answers s now gap told (Ok answer) h = (h.0, h.1 ∙ sym (watched_afte
 after_gap_answers s now gap told (Err e) h = front_after s now gap told.events h
 
 -- a try that is the last one
-pub last_try : (trial : Trial) (gap try left : ℕ) (k : CallTable) → left ≡ 0
+pub last_try : (trial : Trial) (gap try left : ℕ) (k : AbstractMachine) → left ≡ 0
     → tried trial gap try left k ≡ try_told trial try (applied_by k trial)
 unfolding tried
 last_try trial gap try left k none = rw none refl
 
 -- a try after which there is none, though more were left
-ends_try : (trial : Trial) (gap try left : ℕ) (k : CallTable) → is_busy (applied_by k trial) ≡ false
+ends_try : (trial : Trial) (gap try left : ℕ) (k : AbstractMachine) → is_busy (applied_by k trial) ≡ false
     → tried trial gap try left k ≡ try_told trial try (applied_by k trial)
 unfolding tried
 ends_try trial gap try zero k free = refl
@@ -67,7 +67,7 @@ ends_try trial gap try (suc left) k free =
     then after_gap (round_robin k 1 gap) (tried trial gap (try + 1) left (after_events k (round_robin k 1 gap)))
     else try_told trial try (applied_by k trial)) free
 
-again_try : (trial : Trial) (gap try left : ℕ) (k : CallTable) → is_busy (applied_by k trial) ≡ true
+again_try : (trial : Trial) (gap try left : ℕ) (k : AbstractMachine) → is_busy (applied_by k trial) ≡ true
     → tried trial gap try (suc left) k
     ≡ after_gap (round_robin k 1 gap) (tried trial gap (try + 1) left (after_events k (round_robin k 1 gap)))
 unfolding tried
@@ -85,12 +85,12 @@ pub record CameOut (s now : Watched) (trial : Trial) (outcome : Result Report Re
   pub refused : OnErr outcome (now ≡ s)
 
 -- what a try comes to, by what is answered to its event
-apply_came : (k now : CallTable) (trial : Trial) (report : Report)
+apply_came : (k now : AbstractMachine) (trial : Trial) (report : Report)
     → answered k (event_of trial) ≡ Ok (happened now (Applied report)) → applied_by k trial ≡ Ok (now, report)
 unfolding answered
 apply_came k now trial report is = by (applied_by k trial) is
   where
-    by : (r : Result (CallTable × Report) Refusal) → apply_answered r ≡ Ok (happened now (Applied report))
+    by : (r : Result (AbstractMachine × Report) Refusal) → apply_answered r ≡ Ok (happened now (Applied report))
         → r ≡ Ok (now, report)
     by (Ok left) is =
         let came : happened left.0 (Applied left.1) ≡ happened now (Applied report) = same_Ok _ _ is in
@@ -99,22 +99,22 @@ apply_came k now trial report is = by (applied_by k trial) is
         ap (λ (h : Happened). Ok (h.machine, left.1)) came ∙ ap (λ (x : Report). Ok (now, x)) same
     by (Err refusal) is = cc
 
-apply_refused : (k : CallTable) (trial : Trial) (refusal : Refusal)
+apply_refused : (k : AbstractMachine) (trial : Trial) (refusal : Refusal)
     → answered k (event_of trial) ≡ Err refusal → applied_by k trial ≡ Err refusal
 unfolding answered
 apply_refused k trial refusal is = by (applied_by k trial) is
   where
-    by : (r : Result (CallTable × Report) Refusal) → apply_answered r ≡ Err refusal → r ≡ Err refusal
+    by : (r : Result (AbstractMachine × Report) Refusal) → apply_answered r ≡ Err refusal → r ≡ Err refusal
     by (Ok left) is = cc
     by (Err other) is = cc
 
 same_busy : (s now : Watched) (trial : Trial) (outcome : Result Report Refusal) → outcome ≢ Err Memory
     → CameOut s now trial outcome → is_busy (applied_by s.machine trial) ≡ is_busy outcome
 same_busy s now trial (Ok report) other came =
-    ap (λ (r : Result (CallTable × Report) Refusal). is_busy r)
+    ap (λ (r : Result (AbstractMachine × Report) Refusal). is_busy r)
     (apply_came s.machine now.machine trial report came.answered)
 same_busy s now trial (Err refusal) other came =
-    ap (λ (r : Result (CallTable × Report) Refusal). is_busy r)
+    ap (λ (r : Result (AbstractMachine × Report) Refusal). is_busy r)
     (apply_refused s.machine trial refusal (came.answered (λ is. other (ap (λ (x : Refusal). Err x) is))))
 
 is_free : (outcome : Result Report Refusal) → outcome ≡ Err Memory → is_busy outcome ≡ false
@@ -189,4 +189,4 @@ again_answers s now after final trial gap try left more outcome r busy is came s
     subst (λ (t : Told). Answers s t final r) (sym told)
     (after_gap_answers s final events later r
     (subst (λ (n : Watched). Answers n later final r) there
-    (subst (λ (k : CallTable). Answers after (tried trial gap (try + 1) left k) final r) machine h)))
+    (subst (λ (k : AbstractMachine). Answers after (tried trial gap (try + 1) left k) final r) machine h)))

@@ -5,7 +5,7 @@ use Rattle.ks_base.specs.declared.reports.Report.{Report}
 use Rattle.image_threads.specs.Program.{WellPlaced}
 use Rattle.ia32_step.specs.Frames.{keeps_slot}
 use Rattle.ia32_step.specs.declared.types.Thread.{Thread}
-use Rattle.update_stack.specs.CallTable.{CallTable}
+use Rattle.update_stack.specs.AbstractMachine.{AbstractMachine}
 use Rattle.update_stack.specs.Events.{Apply, Undo, Applied, Undone, happened, answered}
 use Rattle.update_safety.specs.Slots.{KeepsSlots, SameThreads}
 use Rattle.frame_watch.specs.Discipline.{update_noted}
@@ -16,7 +16,7 @@ use Rattle.ksplice_session.specs.inside.InStep.{Runs, IsInStep}
 use Rattle.ksplice_session.proofs.StackLaws.{all_weaker}
 use Rattle.ksplice_session.proofs.WatchLaws.{RunsIn, runs_in, slots_in, stack_listed}
 
-pub kept_in_step : (k now : CallTable) (w : Watching)
+pub kept_in_step : (k now : AbstractMachine) (w : Watching)
     → SameThreads k now → KeepsSlots k now → WellPlaced k.stacks k.threads
     → IsInStep k w → IsInStep now (update_noted w)
 kept_in_step k now w same keep placed in_step = record {
@@ -31,14 +31,14 @@ kept_in_step k now w same keep placed in_step = record {
 }
 
 -- the session after an update or an undo
-pub apply_watched : (s : Watched) (now : CallTable) (v : Watching) (name pre post : List ℕ) (report : Report)
+pub apply_watched : (s : Watched) (now : AbstractMachine) (v : Watching) (name pre post : List ℕ) (report : Report)
     → answered s.machine (Apply name pre post) ≡ Ok (happened now (Applied report)) → v ≡ update_noted s.watch
     → watched now v ≡ watched_after s (Apply name pre post)
 unfolding watched_after
 apply_watched s now v name pre post report is noted =
     ap (watched now) noted ∙ sym (ap (watched_by s (Apply name pre post)) is)
 
-pub undo_watched : (s : Watched) (now : CallTable) (v : Watching) (name : List ℕ)
+pub undo_watched : (s : Watched) (now : AbstractMachine) (v : Watching) (name : List ℕ)
     → answered s.machine Undo ≡ Ok (happened now (Undone name))
     → v ≡ update_noted s.watch → watched now v ≡ watched_after s Undo
 unfolding watched_after

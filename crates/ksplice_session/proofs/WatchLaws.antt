@@ -13,7 +13,7 @@ use Rattle.ia32_step.specs.declared.types.Frame.{Frame}
 use Rattle.ia32_step.specs.declared.types.Thread.{Thread}
 use Rattle.ia32_step.specs.Threads.{esp_of}
 use Rattle.image_threads.specs.Program.{if_running, running_at, AreNumbered, WellPlaced}
-use Rattle.update_stack.specs.CallTable.{CallTable}
+use Rattle.update_stack.specs.AbstractMachine.{AbstractMachine}
 use Rattle.frame_watch.specs.Frames.{Watched, Watching, stack_of, if_of, with_frames, without_thread, keeps_slots}
 use Rattle.ksplice_session.specs.inside.InStep.{IsSame, Runs, IsInStep}
 use Rattle.ksplice_session.proofs.Lookups.{All-at, set_elsewhere, one_more}
@@ -24,15 +24,15 @@ use Rattle.ksplice_session.proofs.TestedLaws.{IsLeft}
 abbrev pub RunsIn : List Thread → Watched → Type 0
 RunsIn threads watched = IsSomeAnd (running_at threads watched.thread) (IsSame watched)
 
-pub runs_in : (k : CallTable) (w : Watching) → IsInStep k w → All (RunsIn k.threads) w.threads
+pub runs_in : (k : AbstractMachine) (w : Watching) → IsInStep k w → All (RunsIn k.threads) w.threads
 runs_in k w is = All-weaker (Runs k) (RunsIn k.threads) (λ watched r. r.running) w.threads is.each
 
-pub slots_in : (k : CallTable) (w : Watching)
+pub slots_in : (k : AbstractMachine) (w : Watching)
     → IsInStep k w → All (λ watched. IsTrue (keeps_slots k.pieces watched)) w.threads
 slots_in k w is =
     All-weaker (Runs k) (λ watched. IsTrue (keeps_slots k.pieces watched)) (λ watched r. r.slots) w.threads is.each
 
-pub left_in_step : (k : CallTable) (w : Watching) → IsLeft (RunsIn k.threads) k.pieces w → IsInStep k w
+pub left_in_step : (k : AbstractMachine) (w : Watching) → IsLeft (RunsIn k.threads) k.pieces w → IsInStep k w
 left_in_step k w left = record {
   each = λ i d less. record { running = left.each i d less; slots = left.slots i d less };
   stopped = left.stopped;

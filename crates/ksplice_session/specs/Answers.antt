@@ -1,14 +1,14 @@
 -- What running a line of a script comes to.
 use Rattle.std.specs.Prelude.{◌≡◌, ℕ, List, [], ◌∷◌, ◌++◌, Result, Ok, Err}
 use Rattle.std.specs.declared.alloc.AllocError.{AllocError}
-use Rattle.update_stack.specs.CallTable.{CallTable}
+use Rattle.update_stack.specs.AbstractMachine.{AbstractMachine}
 use Rattle.update_stack.specs.Events.{Event, Spawn, after_events}
 use Rattle.frame_watch.specs.Frames.{Watching}
 use Rattle.ksplice_session.specs.declared.types.Answer.{Answer}
 use Rattle.ksplice_session.specs.Watching.{Watched, watched_after_all}
 use Rattle.ksplice_session.specs.Replies.{Told}
 
-abbrev pub watched : CallTable → Watching → Watched
+abbrev pub watched : AbstractMachine → Watching → Watched
 watched machine watch = record { machine = machine; watch = watch }
 
 -- A front of some events was made. Where the last of them is a start, the watch may lack it.

@@ -13,7 +13,7 @@ use Rattle.image_threads.specs.Program.{running_at}
 use Rattle.script_lines.specs.declared.types.Command.{Command}
 use Rattle.script_lines.specs.declared.types.Command.TheVariants.{Spawn, Step, RoundRobin, Threads, Peek}
 use Rattle.script_lines.specs.declared.types.Command.TheVariants.{Apply, Undo, ListUpdates, Watch}
-use Rattle.update_stack.specs.CallTable.{CallTable, shown_update}
+use Rattle.update_stack.specs.AbstractMachine.{AbstractMachine, shown_update}
 use Rattle.update_stack.specs.Events.{Event, Spawn as SpawnEvent, Apply as ApplyEvent, Undo as UndoEvent}
 use Rattle.update_stack.specs.Events.{after_events}
 use Rattle.update_stack.specs.Steps.{spawned}
@@ -39,28 +39,28 @@ abbrev pub refused_after : List Event → Refusal → Told
 refused_after events refusal = record { events = events; reply = refusal_line refusal; refused = true }
 
 -- what a thread of a machine shows
-abbrev pub shown_by : CallTable → (List Symbol → Thread → List ℕ) → Option Thread → List ℕ
+abbrev pub shown_by : AbstractMachine → (List Symbol → Thread → List ℕ) → Option Thread → List ℕ
 shown_by k line None = []
 shown_by k line (Some thread) = line k.symbols thread
 
-abbrev pub shown : CallTable → ℕ → (List Symbol → Thread → List ℕ) → List ℕ
+abbrev pub shown : AbstractMachine → ℕ → (List Symbol → Thread → List ℕ) → List ℕ
 shown k number line = shown_by k line (slice_get k.threads number)
 
 -- A line that starts a thread, by what that comes to: the new thread has this number. Where it is refused, nothing
 -- happened.
-abbrev pub spawn_told : Event → (number : ℕ) → Result CallTable Refusal → Told
+abbrev pub spawn_told : Event → (number : ℕ) → Result AbstractMachine Refusal → Told
 spawn_told event number (Err refusal) = refused_after [] refusal
 spawn_told event number (Ok now) = replied (event ∷ []) (shown now number spawned_line)
 
 -- a line that takes the newest update back, by what that comes to
-abbrev pub undo_told : Result (CallTable × List ℕ) Refusal → Told
+abbrev pub undo_told : Result (AbstractMachine × List ℕ) Refusal → Told
 undo_told (Err refusal) = refused_after [] refusal
 undo_told (Ok left) = replied (UndoEvent ∷ []) (undone_line left.1)
 
 abbrev pub stepped_line_of : ℕ → List Symbol → Thread → List ℕ
 stepped_line_of made symbols thread = stepped_line symbols thread made
 
-abbrev pub step_told : CallTable → (thread : ℕ) → List Event → Told
+abbrev pub step_told : AbstractMachine → (thread : ℕ) → List Event → Told
 step_told k thread events = replied events (shown (after_events k events) thread (stepped_line_of (length events)))
 
 abbrev pub turns_told : List Event → Told
@@ -76,11 +76,11 @@ abbrev pub event_of : Trial → Event
 event_of trial = ApplyEvent trial.name trial.pre trial.post
 
 -- what a try comes to: the machine after the update and its report, or why there is none
-abbrev pub applied_by : CallTable → Trial → Result (CallTable × Report) Refusal
+abbrev pub applied_by : AbstractMachine → Trial → Result (AbstractMachine × Report) Refusal
 applied_by k trial = applied k trial.name trial.pre trial.post
 
 -- what a try does, and its reply, which tells its number from 1 on
-abbrev pub try_told : Trial → (try : ℕ) → Result (CallTable × Report) Refusal → Told
+abbrev pub try_told : Trial → (try : ℕ) → Result (AbstractMachine × Report) Refusal → Told
 try_told trial try (Err refusal) = refused_after [] refusal
 try_told trial try (Ok left) = replied (event_of trial ∷ []) (applied_lines trial.name try left.1)
 
@@ -96,7 +96,7 @@ after_gap gap told = record { events = gap ++ told.events; reply = told.reply; r
 -- The tries of an update from the one numbered `try` on, with `left` more allowed behind it. Where a thread stands in
 -- the way and another try is allowed, the threads make at most `gap` steps in turn, one at a time, and the update is
 -- tried again. Every other refusal ends the line, and after the last try no step is made.
-unfoldable pub tried : Trial → (gap try left : ℕ) → CallTable → Told
+unfoldable pub tried : Trial → (gap try left : ℕ) → AbstractMachine → Told
 tried trial gap try zero k = try_told trial try (applied_by k trial)
 tried trial gap try (suc left) k =
     if is_busy (applied_by k trial)
@@ -105,13 +105,13 @@ tried trial gap try (suc left) k =
 
 -- an update from the first of two files to the second, in at most so many tries; a line has both its files when it is
 -- run, so the last case doesn't come
-abbrev pub apply_told : CallTable → (name : List ℕ) (tries gap : ℕ) → List (List ℕ) → Told
+abbrev pub apply_told : AbstractMachine → (name : List ℕ) (tries gap : ℕ) → List (List ℕ) → Told
 apply_told k name tries gap (pre ∷ post ∷ []) =
     tried (record { name = name; pre = pre; post = post }) gap 1 (tries - 1) k
 apply_told k name tries gap _ = replied [] []
 
 -- what a line of a machine does and replies, once its files are held with these bytes
-abbrev pub line_told : CallTable → Verdict → Command → List (List ℕ) → Told
+abbrev pub line_told : AbstractMachine → Verdict → Command → List (List ℕ) → Told
 line_told k verdict (Spawn name argument) held =
     spawn_told (SpawnEvent name argument) (length k.threads) (spawned k name argument)
 line_told k verdict (Step thread n) held =

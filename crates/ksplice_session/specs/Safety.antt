@@ -15,7 +15,7 @@ use Rattle.ia32_step.specs.declared.types.Flow.TheVariants.{Call, Return}
 use Rattle.ia32_step.specs.declared.types.Outcome.{Outcome}
 use Rattle.ia32_step.specs.declared.types.Outcome.TheVariants.{Moved, Stopped}
 use Rattle.image_threads.specs.Program.{running_at}
-use Rattle.update_stack.specs.CallTable.{CallTable, view_in}
+use Rattle.update_stack.specs.AbstractMachine.{AbstractMachine, view_in}
 use Rattle.update_stack.specs.Events.{Event, Spawn, Step, Answer, Stepped, Happened, answered, after_events}
 use Rattle.frame_watch.specs.Frames.{frames_at}
 use Rattle.update_safety.specs.Windows.{window_in}
@@ -86,7 +86,7 @@ pub record ReturnedNowhere (s : Watched) (events : List Event) (thread : ℕ) : 
   pub returns : step_outcome (watched_after_all called during) thread ≡ Some (Moved Return)
 
 -- the pc of a thread lies in no code
-abbrev pub MetNothing : CallTable → Option Thread → Type 0
+abbrev pub MetNothing : AbstractMachine → Option Thread → Type 0
 MetNothing k None = ⊥
 MetNothing k (Some thread) = view_in k thread.pc ≡ Unmapped
 
@@ -122,7 +122,7 @@ pub record IsSafe (first : Watched) (events : List Event) : Type 0 where
       → ReturnedNowhere first before thread
 
 -- a machine after some events and the next one, which is the start of a thread
-pub record HasStartedMore (k : CallTable) (events rest : List Event) (now : CallTable) : Type 0 where
+pub record HasStartedMore (k : AbstractMachine) (events rest : List Event) (now : AbstractMachine) : Type 0 where
   pub name : List ℕ
   pub argument : ℕ
   pub behind : List Event

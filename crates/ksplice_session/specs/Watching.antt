@@ -5,7 +5,7 @@ use Rattle.ks_base.specs.declared.refusals.Refusal.{Refusal}
 use Rattle.image_file.specs.Reading.{Contents as Image}
 use Rattle.ia32_step.specs.declared.types.Thread.{Thread}
 use Rattle.ia32_step.specs.declared.types.Outcome.{Outcome}
-use Rattle.update_stack.specs.CallTable.{CallTable, view_in, first_machine}
+use Rattle.update_stack.specs.AbstractMachine.{AbstractMachine, view_in, first_machine}
 use Rattle.update_stack.specs.Events.{Event, Step, Answer, Spawned, Stepped, Applied, Undone, Happened, answered}
 use Rattle.frame_watch.specs.declared.types.Verdict.TheVariants.{Disciplined}
 use Rattle.frame_watch.specs.Frames.{Watching, first_watching}
@@ -13,14 +13,14 @@ use Rattle.frame_watch.specs.Discipline.{Sight, spawn_noted, step_noted, update_
 
 -- the machine, and what was seen of its events
 pub record Watched : Type 0 where
-  pub machine : CallTable
+  pub machine : AbstractMachine
   pub watch : Watching
 
 abbrev pub first_watched : Image → Watched
 first_watched image = record { machine = first_machine image; watch = first_watching }
 
 -- what is met at each address of the machine, and its memory
-abbrev pub sight_in : CallTable → Sight
+abbrev pub sight_in : AbstractMachine → Sight
 sight_in k = record { view = view_in k; pieces = k.pieces }
 
 abbrev pub start_seen : Sight → Option Thread → Watching → Watching
@@ -39,7 +39,7 @@ stepping (Step thread) = thread
 stepping other = 0
 
 -- the watch after an event, by the machine before and after it and its answer
-abbrev pub seen : CallTable → Event → CallTable → Answer → Watching → Watching
+abbrev pub seen : AbstractMachine → Event → AbstractMachine → Answer → Watching → Watching
 seen k event now (Spawned thread) w = start_seen (sight_in now) (slice_get now.threads thread) w
 seen k event now (Stepped outcome) w =
     step_seen (sight_in now) (slice_get k.threads (stepping event)) (slice_get now.threads (stepping event)) outcome w

@@ -5,7 +5,7 @@ ghost use Rattle.ks_base.specs.declared.refusals.Refusal.TheVariants.{Memory};
 ghost use Rattle.ks_base.specs.Refusals.{refusal_line};
 ghost use Rattle.script_lines.specs.declared.types.Command.TheVariants.{Spawn, Step, RoundRobin, Threads, Peek};
 ghost use Rattle.script_lines.specs.declared.types.Command.TheVariants.{Undo, ListUpdates, Watch};
-ghost use Rattle.update_stack.specs.CallTable.{shown_update};
+ghost use Rattle.update_stack.specs.AbstractMachine.{shown_update};
 ghost use Rattle.script_lines.specs.Allowed.{IsAllowed};
 ghost use Rattle.update_stack.specs.StandsFor.{patched};
 ghost use Rattle.ks_io.specs.Loads.{bytes_of};

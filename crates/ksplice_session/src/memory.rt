@@ -1,7 +1,7 @@
 //! The memory of a session: the regions of an image and its stacks.
 ghost use Rattle.std.specs.Prelude.{◌≡◌, OnOk, IfOk};
 ghost use Rattle.image_memory.specs.Contents.{ArePlaced};
-ghost use Rattle.update_stack.specs.CallTable.{stack_piece, all_pieces};
+ghost use Rattle.update_stack.specs.AbstractMachine.{stack_piece, all_pieces};
 ghost use Rattle.ksplice_session.specs.inside.Stacks.{FitAmong};
 
 use image_memory::{Kind, Piece, Pieces, pieces_stay_placed, put_piece};

@@ -4,7 +4,7 @@ ghost use Rattle.std.specs.List.{slice_get};
 ghost use Rattle.ks_base.specs.declared.refusals.Refusal.TheVariants.{Memory};
 ghost use Rattle.image_file.specs.Seen.{contents_of};
 ghost use Rattle.image_threads.specs.Program.{running_at};
-ghost use Rattle.update_stack.specs.CallTable.{shown_update};
+ghost use Rattle.update_stack.specs.AbstractMachine.{shown_update};
 ghost use Rattle.update_stack.specs.Events.{Apply, Applied, Spawn, Spawned, Undo, Undone, happened, answered};
 ghost use Rattle.ksplice_session.specs.Watching.{first_watched, watched_after};
 ghost use Rattle.ksplice_session.specs.Answers.{MadeFront};
@@ -23,8 +23,8 @@ use symbol_table::SymbolTable;
 use update_safety::updates_keep_slots;
 use update_stack::{System, Update};
 
-/// A program that runs, and what was seen of its events. A clause sees it as the machine that never patches code, with
-/// the watch over its events.
+/// A program that runs, and what was seen of its events. A clause sees it as the abstract machine, with the watch over
+/// its events.
 #[derive(Drop)]
 pub struct Session {
     pub(crate) system: System<FlatSpace>,

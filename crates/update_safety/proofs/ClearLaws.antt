@@ -34,7 +34,7 @@ use Rattle.stack_scan.specs.Standing.{standing_refused, thread_refusal}
 use Rattle.match_candidates.specs.Candidates.{Running as Program}
 use Rattle.update_plan.specs.declared.types.Plan.{Plan}
 use Rattle.update_plan.specs.Plan.{planned, unless}
-use Rattle.update_stack.specs.CallTable.{CallTable, Update}
+use Rattle.update_stack.specs.AbstractMachine.{AbstractMachine, Update}
 use Rattle.update_stack.specs.Apply.{name_refusal, running_of, retired_of, gaps_of, planned_in, applied, committed}
 use Rattle.update_stack.specs.Apply.{update_as}
 use Rattle.update_stack.specs.Undo.{withdrawn, ranges_in, newest_update, undone_by, undone}
@@ -168,13 +168,13 @@ RetiredIsGuarded = (running : Program) (retired gaps : List Range) (pre_file pos
     (address : ℕ) → planned running retired gaps pre_file post_file ≡ Ok plan
     → IsFalse (in_one plan.guarded address) → IsFalse (in_one (map fence_range plan.fences) address)
 
-module _ (k : CallTable) (name pre post : List ℕ) where
+module _ (k : AbstractMachine) (name pre post : List ℕ) where
   plan_in : (plan : Plan) → planned_in k name pre post ≡ Ok plan
       → planned (running_of k) (retired_of k) (gaps_of k) pre post ≡ Ok plan
   unfolding planned_in
   plan_in plan is = by_name (name_refusal k name) is
     where
-      by_name : (o : Option Refusal) → (unless o k >>= λ (free : CallTable).
+      by_name : (o : Option Refusal) → (unless o k >>= λ (free : AbstractMachine).
           planned (running_of free) (retired_of free) (gaps_of free) pre post) ≡ Ok plan
           → planned (running_of k) (retired_of k) (gaps_of k) pre post ≡ Ok plan
       by_name (Some refusal) is = absurd (cc)
@@ -210,18 +210,18 @@ accepted_clear law k name pre post now number thread frames is runs keeps =
     by_threads : (plan : Plan) (o : Option Refusal) → planned_in k name pre post ≡ Ok plan
         → thread_refusal k.pieces plan.guarded k.threads ≡ o
         → apply_answered (unless o plan >>= λ (clear : Plan).
-        let r : Result (CallTable × Report) Refusal = Ok (committed k name clear, clear.report) in r) ≡ Ok now
+        let r : Result (AbstractMachine × Report) Refusal = Ok (committed k name clear, clear.report) in r) ≡ Ok now
         → IsOutside (newest_retired now.machine) thread frames
     by_threads plan (Some refusal) planned stands is = absurd (cc)
     by_threads plan None planned none is =
         let machine : committed k name plan ≡ now.machine = cc in
-        subst (λ (m : CallTable). IsOutside (newest_retired m) thread frames) machine
+        subst (λ (m : AbstractMachine). IsOutside (newest_retired m) thread frames) machine
         (made_clear k name pre post law plan number thread frames planned none runs keeps)
 
     by_plan : (r : Result Plan Refusal) → planned_in k name pre post ≡ r
         → apply_answered (r >>= λ (plan : Plan). unless (thread_refusal k.pieces plan.guarded k.threads) plan
         >>= λ (clear : Plan).
-        let r : Result (CallTable × Report) Refusal = Ok (committed k name clear, clear.report) in r) ≡ Ok now
+        let r : Result (AbstractMachine × Report) Refusal = Ok (committed k name clear, clear.report) in r) ≡ Ok now
         → IsOutside (newest_retired now.machine) thread frames
     by_plan (Err refusal) planned is = absurd (cc)
     by_plan (Ok plan) planned is = by_threads plan (thread_refusal k.pieces plan.guarded k.threads) planned refl is
@@ -234,7 +234,7 @@ taken_back_clear k now number thread frames is runs keeps = by_update (newest_up
     by_threads : (update : Update) (o : Option Refusal) → newest_update k ≡ Some update
         → thread_refusal k.pieces (ranges_in k update) k.threads ≡ o
         → undo_answered (unless o update >>= λ (clear : Update).
-        let r : Result (CallTable × List ℕ) Refusal = Ok (withdrawn k clear, clear.name) in r) ≡ Ok now
+        let r : Result (AbstractMachine × List ℕ) Refusal = Ok (withdrawn k clear, clear.name) in r) ≡ Ok now
         → IsOutside (newest_pieces k) thread frames
     by_threads update (Some refusal) newest stands is = absurd (cc)
     by_threads update None newest none is =

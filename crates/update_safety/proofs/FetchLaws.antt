@@ -15,7 +15,7 @@ use Rattle.image_memory.specs.laws.RangeLaws.{inside, below, above, found, found
 use Rattle.splice_jump.specs.laws.RowLaws.{Before}
 use Rattle.stack_scan.specs.Standing.{in_one}
 use Rattle.ia32_step.specs.Step.{window_length, fetched_count}
-use Rattle.update_stack.specs.CallTable.{contents_of}
+use Rattle.update_stack.specs.AbstractMachine.{contents_of}
 use Rattle.update_stack.specs.laws.StackedLaws.{built_sound}
 use Rattle.update_stack.specs.laws.ViewLaws.{met_alike}
 use Rattle.update_safety.specs.Windows.{FetchedHaveWindows}

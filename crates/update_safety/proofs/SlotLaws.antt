@@ -28,7 +28,7 @@ use Rattle.image_memory.specs.laws.PutLaws.{Contains-put}
 use Rattle.stack_scan.specs.Standing.{thread_refusal}
 use Rattle.update_plan.specs.declared.types.Plan.{Plan}
 use Rattle.update_plan.specs.Plan.{unless}
-use Rattle.update_stack.specs.CallTable.{CallTable, Update}
+use Rattle.update_stack.specs.AbstractMachine.{AbstractMachine, Update}
 use Rattle.update_stack.specs.Apply.{planned_in, applied, committed, with_new_piece}
 use Rattle.update_stack.specs.Undo.{withdrawn, ranges_in, newest_update, undone_by, undone}
 use Rattle.update_stack.specs.Stacked.{IsBuilt}
@@ -136,15 +136,16 @@ module _ (old new : List Piece) (stack : Range) (alike : IsAlike old new stack) 
       (subst (λ (o : Option Fault). IsTrue (not (is_some o) && (dword_at old slot == frame.address))) readable parts.1))
 
 -- ---- machines
-ascending : (k : CallTable) → IsBuilt k → Ascends piece_range 0 k.pieces
+ascending : (k : AbstractMachine) → IsBuilt k → Ascends piece_range 0 k.pieces
 ascending k built = let sound = built_sound k built in sound.jumps.valid.placed.ascend
 
-is_there : (k : CallTable) (stack : Range) → IsBuilt k → Contains k.stacks stack → IsTrue (is_stack k.pieces stack)
+is_there : (k : AbstractMachine) (stack : Range) → IsBuilt k → Contains k.stacks stack
+    → IsTrue (is_stack k.pieces stack)
 is_there k stack built listed =
     let sound = built_sound k built in
     All-contains (λ (range : Range). IsTrue (is_stack k.pieces range)) k.stacks stack sound.stacks listed
 
-committed_keeps : (k : CallTable) (name : List ℕ) (plan : Plan) → IsBuilt k → IsBuilt (committed k name plan)
+committed_keeps : (k : AbstractMachine) (name : List ℕ) (plan : Plan) → IsBuilt k → IsBuilt (committed k name plan)
     → KeepsSlots k (committed k name plan)
 unfolding committed
 committed_keeps k name plan built after stack esp frame listed =
@@ -155,7 +156,7 @@ committed_keeps k name plan built after stack esp frame listed =
     (is_there k stack built listed))
     esp frame
 
-withdrawn_keeps : (k : CallTable) (update : Update) → IsBuilt k → IsBuilt (withdrawn k update)
+withdrawn_keeps : (k : AbstractMachine) (update : Update) → IsBuilt k → IsBuilt (withdrawn k update)
     → KeepsSlots k (withdrawn k update)
 unfolding withdrawn
 withdrawn_keeps k update built after stack esp frame listed =
@@ -167,23 +168,24 @@ withdrawn_keeps k update built after stack esp frame listed =
     (is_there (withdrawn k update) stack after listed))
     esp frame
 
-committed_threads : (k : CallTable) (name : List ℕ) (plan : Plan) → SameThreads k (committed k name plan)
+committed_threads : (k : AbstractMachine) (name : List ℕ) (plan : Plan) → SameThreads k (committed k name plan)
 unfolding committed
 committed_threads k name plan = record { threads = refl; stacks = refl }
 
-withdrawn_threads : (k : CallTable) (update : Update) → SameThreads k (withdrawn k update)
+withdrawn_threads : (k : AbstractMachine) (update : Update) → SameThreads k (withdrawn k update)
 unfolding withdrawn
 withdrawn_threads k update = record { threads = refl; stacks = refl }
 
 -- ---- what is answered
-accepted_is : (k : CallTable) (name pre post : List ℕ) (now : Happened) → answered k (Apply name pre post) ≡ Ok now
+accepted_is : (k : AbstractMachine) (name pre post : List ℕ) (now : Happened)
+    → answered k (Apply name pre post) ≡ Ok now
     → (plan : Plan) × (committed k name plan ≡ now.machine)
 unfolding answered applied
 accepted_is k name pre post now is = by_plan (planned_in k name pre post) is
   where
     by_threads : (plan : Plan) (o : Option Refusal)
         → apply_answered (unless o plan >>= λ (clear : Plan).
-        let r : Result (CallTable × Report) Refusal = Ok (committed k name clear, clear.report) in r) ≡ Ok now
+        let r : Result (AbstractMachine × Report) Refusal = Ok (committed k name clear, clear.report) in r) ≡ Ok now
         → (plan : Plan) × (committed k name plan ≡ now.machine)
     by_threads plan (Some refusal) is = absurd (cc)
     by_threads plan None is = (plan, cc)
@@ -191,19 +193,19 @@ accepted_is k name pre post now is = by_plan (planned_in k name pre post) is
     by_plan : (r : Result Plan Refusal)
         → apply_answered (r >>= λ (plan : Plan). unless (thread_refusal k.pieces plan.guarded k.threads) plan
         >>= λ (clear : Plan).
-        let r : Result (CallTable × Report) Refusal = Ok (committed k name clear, clear.report) in r) ≡ Ok now
+        let r : Result (AbstractMachine × Report) Refusal = Ok (committed k name clear, clear.report) in r) ≡ Ok now
         → (plan : Plan) × (committed k name plan ≡ now.machine)
     by_plan (Err refusal) is = absurd (cc)
     by_plan (Ok plan) is = by_threads plan (thread_refusal k.pieces plan.guarded k.threads) is
 
-taken_back_is : (k : CallTable) (now : Happened) → answered k Undo ≡ Ok now
+taken_back_is : (k : AbstractMachine) (now : Happened) → answered k Undo ≡ Ok now
     → (update : Update) × (withdrawn k update ≡ now.machine)
 unfolding answered undone
 taken_back_is k now is = by_update (newest_update k) is
   where
     by_threads : (update : Update) (o : Option Refusal)
         → undo_answered (unless o update >>= λ (clear : Update).
-        let r : Result (CallTable × List ℕ) Refusal = Ok (withdrawn k clear, clear.name) in r) ≡ Ok now
+        let r : Result (AbstractMachine × List ℕ) Refusal = Ok (withdrawn k clear, clear.name) in r) ≡ Ok now
         → (update : Update) × (withdrawn k update ≡ now.machine)
     by_threads update (Some refusal) is = absurd (cc)
     by_threads update None is = (update, cc)
@@ -216,19 +218,19 @@ taken_back_is k now is = by_update (newest_update k) is
 pub updates_keep_slots : UpdatesKeepSlots
 updates_keep_slots k name pre post now built after is =
     let (plan, same) = accepted_is k name pre post now is in
-    subst (λ (m : CallTable). IsBuilt m → KeepsSlots k m) same (committed_keeps k name plan built) after
+    subst (λ (m : AbstractMachine). IsBuilt m → KeepsSlots k m) same (committed_keeps k name plan built) after
 
 pub undos_keep_slots : UndosKeepSlots
 undos_keep_slots k now built after is =
     let (update, same) = taken_back_is k now is in
-    subst (λ (m : CallTable). IsBuilt m → KeepsSlots k m) same (withdrawn_keeps k update built) after
+    subst (λ (m : AbstractMachine). IsBuilt m → KeepsSlots k m) same (withdrawn_keeps k update built) after
 
 pub updates_keep_threads : UpdatesKeepThreads
 updates_keep_threads k name pre post now is =
     let (plan, same) = accepted_is k name pre post now is in
-    subst (λ (m : CallTable). SameThreads k m) same (committed_threads k name plan)
+    subst (λ (m : AbstractMachine). SameThreads k m) same (committed_threads k name plan)
 
 pub undos_keep_threads : UndosKeepThreads
 undos_keep_threads k now is =
     let (update, same) = taken_back_is k now is in
-    subst (λ (m : CallTable). SameThreads k m) same (withdrawn_threads k update)
+    subst (λ (m : AbstractMachine). SameThreads k m) same (withdrawn_threads k update)

@@ -27,7 +27,7 @@ use Rattle.stack_scan.specs.Standing.{in_one, thread_refusal}
 use Rattle.update_plan.specs.declared.types.Plan.{Plan}
 use Rattle.update_plan.specs.Plan.{unless}
 use Rattle.update_plan.specs.Sound.{is_replaced_at, CanBeMade}
-use Rattle.update_stack.specs.CallTable.{CallTable, Row, Update, is_home, view_in, fence_in, contents_of}
+use Rattle.update_stack.specs.AbstractMachine.{AbstractMachine, Row, Update, is_home, view_in, fence_in, contents_of}
 use Rattle.update_stack.specs.Steps.{step_in, moved_by, moved, after_start, spawned}
 use Rattle.update_stack.specs.Apply.{planned_in, applied, committed}
 use Rattle.update_stack.specs.Apply.{update_as}
@@ -46,18 +46,18 @@ use Rattle.update_safety.proofs.ViewLaws.{one_more, text_left, held_in, in_one_o
 use Rattle.update_safety.proofs.ViewLaws.{mapped_contains}
 
 -- a window of a machine, by its text, its table and its retired ranges
-window_is : (k : CallTable) (address : ℕ)
+window_is : (k : AbstractMachine) (address : ℕ)
     → window_in k address ≡ shows (text_at k.pieces address) (is_home k.table address) (in_one k.retired address)
 unfolding view_in
 window_is k address = window_by (is_home k.table) k.retired k.pieces address
 
 -- the laws of updates that are used here
 abbrev pub PlansCanBeMade : Type 0
-PlansCanBeMade = (k : CallTable) (name pre_file post_file : List ℕ) (plan : Plan) → IsBuilt k
+PlansCanBeMade = (k : AbstractMachine) (name pre_file post_file : List ℕ) (plan : Plan) → IsBuilt k
     → planned_in k name pre_file post_file ≡ Ok plan → CanBeMade (contents_of k) plan
 
 abbrev pub CodeStays : Type 0
-CodeStays = (k : CallTable) (name : List ℕ) (plan : Plan) (address count : ℕ) → IsBuilt k
+CodeStays = (k : AbstractMachine) (name : List ℕ) (plan : Plan) (address count : ℕ) → IsBuilt k
     → CanBeMade (contents_of k) plan → HasCode k.pieces address count
     → HasCode (committed k name plan).pieces address count
 
@@ -69,21 +69,21 @@ pub record UpdateLaws : Type 0 where
 abbrev SameText : (old new : List Piece) → Type 0
 SameText old new = (address : ℕ) → text_at new address ≡ text_at old address
 
-same_windows : (k : CallTable) (pieces : List Piece) (threads : List Thread) → SameText k.pieces pieces
+same_windows : (k : AbstractMachine) (pieces : List Piece) (threads : List Thread) → SameText k.pieces pieces
     → SameWindows k (record k { pieces = pieces; threads = threads })
 same_windows k pieces threads same address =
-    let now : CallTable = record k { pieces = pieces; threads = threads } in
+    let now : AbstractMachine = record k { pieces = pieces; threads = threads } in
     window_is now address
     ∙ ap (λ (text : Bool). shows text (is_home k.table address) (in_one k.retired address)) (same address)
     ∙ sym (window_is k address)
 
 -- a step and a start write bytes alone
-step_text : (k : CallTable) (thread : Thread) → SameText k.pieces (step_in k thread).contents.pieces
+step_text : (k : AbstractMachine) (thread : Thread) → SameText k.pieces (step_in k thread).contents.pieces
 step_text k thread =
     by_step (λ contents. SameText k.pieces contents.pieces) k (λ address. refl)
     (λ start bytes clear address. text_written start bytes k.pieces address) thread
 
-step_windows : (k : CallTable) (n : ℕ) → SameWindows k (machine_after k (step_answered (moved k n)))
+step_windows : (k : AbstractMachine) (n : ℕ) → SameWindows k (machine_after k (step_answered (moved k n)))
 unfolding moved
 step_windows k n = by_thread (running_at k.threads n)
   where
@@ -98,7 +98,7 @@ unfolding answered
 steps_keep_windows k thread now is =
     subst (λ (r : Result Happened Refusal). SameWindows k (machine_after k r)) is (step_windows k thread)
 
-start_windows : (k : CallTable) (name : List ℕ) (argument n : ℕ)
+start_windows : (k : AbstractMachine) (name : List ℕ) (argument n : ℕ)
     → SameWindows k (machine_after k (spawn_answered n (spawned k name argument)))
 unfolding spawned started
 start_windows k name argument n = by_place (function_named k.symbols name)
@@ -130,14 +130,14 @@ starts_keep_windows k name argument now is =
     (start_windows k name argument (length k.threads))
 
 -- what is read off the newest update
-newest_is : (f : Update → List Range) (k : CallTable) (update : Update) → newest_update k ≡ Some update
+newest_is : (f : Update → List Range) (k : AbstractMachine) (update : Update) → newest_update k ≡ Some update
     → flat_map f (option_to_list (newest_update k)) ≡ f update
 newest_is f k update newest =
     ap (λ (o : Option Update). flat_map f (option_to_list o)) newest ∙ append-nil (f update)
 
 -- A machine on which an update is made: code stays, homes stay homes, and more ranges are retired.
-module _ (k : CallTable) (name : List ℕ) (plan : Plan) where
-  abbrev after : CallTable
+module _ (k : AbstractMachine) (name : List ℕ) (plan : Plan) where
+  abbrev after : AbstractMachine
   after = committed k name plan
 
   retires : newest_retired after ≡ map fence_range plan.fences
@@ -184,24 +184,24 @@ module _ (k : CallTable) (name : List ℕ) (plan : Plan) where
           ∙ ap (λ (b : Bool). b || in_one k.retired address) not_new ∙ free) ∙ stray)
 
 -- what an update leaves of the windows, or a refusal of one
-abbrev KeepsBut : CallTable → Result Happened Refusal → Type 0
+abbrev KeepsBut : AbstractMachine → Result Happened Refusal → Type 0
 KeepsBut k result = KeepsWindows (newest_retired (machine_after k result)) k (machine_after k result)
 
-apply_windows : UpdateLaws → (k : CallTable) (name pre post : List ℕ) → IsBuilt k
+apply_windows : UpdateLaws → (k : AbstractMachine) (name pre post : List ℕ) → IsBuilt k
     → KeepsBut k (apply_answered (applied k name pre post))
 unfolding applied
 apply_windows laws k name pre post built = by_plan (planned_in k name pre post) refl
   where
     by_threads : (plan : Plan) (o : Option Refusal) → CanBeMade (contents_of k) plan
         → KeepsBut k (apply_answered (unless o plan >>= λ (clear : Plan).
-        let r : Result (CallTable × Report) Refusal = Ok (committed k name clear, clear.report) in r))
+        let r : Result (AbstractMachine × Report) Refusal = Ok (committed k name clear, clear.report) in r))
     by_threads plan (Some refusal) can = λ address out was. was
     by_threads plan None can = update_windows k name plan laws.code built can
 
     by_plan : (r : Result Plan Refusal) → planned_in k name pre post ≡ r
         → KeepsBut k (apply_answered (r >>= λ (plan : Plan).
         unless (thread_refusal k.pieces plan.guarded k.threads) plan >>= λ (clear : Plan).
-        let r : Result (CallTable × Report) Refusal = Ok (committed k name clear, clear.report) in r))
+        let r : Result (AbstractMachine × Report) Refusal = Ok (committed k name clear, clear.report) in r))
     by_plan (Err refusal) is = λ address out was. was
     by_plan (Ok plan) is =
         by_threads plan (thread_refusal k.pieces plan.guarded k.threads) (laws.can k name pre post plan built is)
@@ -213,8 +213,8 @@ updates_keep_windows laws k name pre post now built is =
 
 -- A machine whose newest update is taken back: code stays outside its pieces, no more is retired, and at a home without
 -- a row any longer nothing is.
-module _ (k : CallTable) (update : Update) (has : HasNewest k update) where
-  abbrev left : CallTable
+module _ (k : AbstractMachine) (update : Update) (has : HasNewest k update) where
+  abbrev left : AbstractMachine
   left = withdrawn k update
 
   code_left : (address : ℕ) → in_one (ranges_in k update) address ≡ false → text_at k.pieces address ≡ true
@@ -269,16 +269,16 @@ module _ (k : CallTable) (update : Update) (has : HasNewest k update) where
       (λ free gone stray. false≢true (sym free ∙ stray_was address stray))
 
 -- what taking back leaves of the windows, or a refusal
-abbrev LeavesBut : CallTable → Result Happened Refusal → Type 0
+abbrev LeavesBut : AbstractMachine → Result Happened Refusal → Type 0
 LeavesBut k result = KeepsWindows (newest_pieces k) k (machine_after k result)
 
-undone_windows : (k : CallTable) → IsBuilt k → LeavesBut k (undo_answered (undone k))
+undone_windows : (k : AbstractMachine) → IsBuilt k → LeavesBut k (undo_answered (undone k))
 unfolding undone
 undone_windows k built = by_update (newest_update k) refl
   where
     by_threads : (update : Update) (o : Option Refusal) → newest_update k ≡ Some update
         → LeavesBut k (undo_answered (unless o update >>= λ (clear : Update).
-        let r : Result (CallTable × List ℕ) Refusal = Ok (withdrawn k clear, clear.name) in r))
+        let r : Result (AbstractMachine × List ℕ) Refusal = Ok (withdrawn k clear, clear.name) in r))
     by_threads update (Some refusal) newest = λ address out was. was
     by_threads update None newest = undo_windows k update (built_newest k update built newest) newest
 

@@ -9,15 +9,15 @@ use Rattle.ia32_step.specs.Frames.{keeps_slot}
 use Rattle.ia32_step.specs.Threads.{esp_of}
 use Rattle.image_threads.specs.Program.{running_at}
 use Rattle.stack_scan.specs.Standing.{in_one}
-use Rattle.update_stack.specs.CallTable.{CallTable}
+use Rattle.update_stack.specs.AbstractMachine.{AbstractMachine}
 use Rattle.update_stack.specs.Undo.{ranges_in, newest_update}
 use Rattle.update_stack.specs.Events.{Apply, Undo, Happened, answered}
 
 -- the ranges that the newest update retired, and those of its pieces
-abbrev pub newest_retired : CallTable → List Range
+abbrev pub newest_retired : AbstractMachine → List Range
 newest_retired k = flat_map (λ update. update.retired) (option_to_list (newest_update k))
 
-abbrev pub newest_pieces : CallTable → List Range
+abbrev pub newest_pieces : AbstractMachine → List Range
 newest_pieces k = flat_map (ranges_in k) (option_to_list (newest_update k))
 
 -- A thread with some frames is outside ranges: no frame's address lies in one, nor does its pc.
@@ -26,20 +26,20 @@ pub record IsOutside (ranges : List Range) (thread : Thread) (frames : List Fram
   pub pc : IsFalse (in_one ranges thread.pc)
 
 -- frames of a thread that keep the slot rule
-abbrev pub KeepSlots : CallTable → Thread → List Frame → Type 0
+abbrev pub KeepSlots : AbstractMachine → Thread → List Frame → Type 0
 KeepSlots k thread frames = All (λ frame. IsTrue (keeps_slot k.pieces thread.stack (esp_of thread) frame)) frames
 
 -- Where an update is accepted, each running thread with frames that keep the slot rule is outside the ranges that are
 -- then retired.
 abbrev pub AcceptedIsClear : Type 0
 AcceptedIsClear =
-    (k : CallTable) (name pre post : List ℕ) (now : Happened) (number : ℕ) (thread : Thread) (frames : List Frame)
+    (k : AbstractMachine) (name pre post : List ℕ) (now : Happened) (number : ℕ) (thread : Thread) (frames : List Frame)
     → answered k (Apply name pre post) ≡ Ok now → running_at k.threads number ≡ Some thread → KeepSlots k thread frames
     → IsOutside (newest_retired now.machine) thread frames
 
 -- Where an update is taken back, it is outside the pieces that are then removed.
 abbrev pub TakenBackIsClear : Type 0
 TakenBackIsClear =
-    (k : CallTable) (now : Happened) (number : ℕ) (thread : Thread) (frames : List Frame)
+    (k : AbstractMachine) (now : Happened) (number : ℕ) (thread : Thread) (frames : List Frame)
     → answered k Undo ≡ Ok now → running_at k.threads number ≡ Some thread → KeepSlots k thread frames
     → IsOutside (newest_pieces k) thread frames

@@ -4,37 +4,37 @@ use Rattle.std.specs.List.{Contains}
 use Rattle.ks_base.specs.declared.places.Range.{Range}
 use Rattle.ia32_step.specs.declared.types.Frame.{Frame}
 use Rattle.ia32_step.specs.Frames.{keeps_slot}
-use Rattle.update_stack.specs.CallTable.{CallTable}
+use Rattle.update_stack.specs.AbstractMachine.{AbstractMachine}
 use Rattle.update_stack.specs.Stacked.{IsBuilt}
 use Rattle.update_stack.specs.Events.{Apply, Undo, Happened, answered}
 
 -- the slots in a machine's stacks keep what they hold
-abbrev pub KeepsSlots : (old new : CallTable) → Type 0
+abbrev pub KeepsSlots : (old new : AbstractMachine) → Type 0
 KeepsSlots old new =
     (stack : Range) (esp : ℕ) (frame : Frame) → Contains old.stacks stack
     → IsTrue (keeps_slot old.pieces stack esp frame) → IsTrue (keeps_slot new.pieces stack esp frame)
 
 -- the same threads, and the same stacks
-pub record SameThreads (old new : CallTable) : Type 0 where
+pub record SameThreads (old new : AbstractMachine) : Type 0 where
   pub threads : new.threads ≡ old.threads
   pub stacks : new.stacks ≡ old.stacks
 
 -- Where an update is accepted, or taken back, slots keep what they hold.
 abbrev pub UpdatesKeepSlots : Type 0
 UpdatesKeepSlots =
-    (k : CallTable) (name pre post : List ℕ) (now : Happened) → IsBuilt k → IsBuilt now.machine
+    (k : AbstractMachine) (name pre post : List ℕ) (now : Happened) → IsBuilt k → IsBuilt now.machine
     → answered k (Apply name pre post) ≡ Ok now → KeepsSlots k now.machine
 
 abbrev pub UndosKeepSlots : Type 0
 UndosKeepSlots =
-    (k : CallTable) (now : Happened) → IsBuilt k → IsBuilt now.machine
+    (k : AbstractMachine) (now : Happened) → IsBuilt k → IsBuilt now.machine
     → answered k Undo ≡ Ok now → KeepsSlots k now.machine
 
 -- And no thread and no stack changes.
 abbrev pub UpdatesKeepThreads : Type 0
 UpdatesKeepThreads =
-    (k : CallTable) (name pre post : List ℕ) (now : Happened)
+    (k : AbstractMachine) (name pre post : List ℕ) (now : Happened)
     → answered k (Apply name pre post) ≡ Ok now → SameThreads k now.machine
 
 abbrev pub UndosKeepThreads : Type 0
-UndosKeepThreads = (k : CallTable) (now : Happened) → answered k Undo ≡ Ok now → SameThreads k now.machine
+UndosKeepThreads = (k : AbstractMachine) (now : Happened) → answered k Undo ≡ Ok now → SameThreads k now.machine

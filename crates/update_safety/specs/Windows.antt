@@ -5,47 +5,47 @@ use Rattle.image_memory.specs.Fetch.{has_window}
 use Rattle.stack_scan.specs.Standing.{in_one}
 use Rattle.ia32_step.specs.declared.types.Thread.{Thread}
 use Rattle.ia32_step.specs.Step.{fetched_count}
-use Rattle.update_stack.specs.CallTable.{CallTable, view_in, contents_of}
+use Rattle.update_stack.specs.AbstractMachine.{AbstractMachine, view_in, contents_of}
 use Rattle.update_stack.specs.Stacked.{IsBuilt}
 use Rattle.update_stack.specs.Events.{Spawn, Step, Apply, Undo, Happened, answered}
 use Rattle.update_safety.specs.Clear.{newest_retired, newest_pieces}
 
-abbrev pub window_in : CallTable → ℕ → Bool
+abbrev pub window_in : AbstractMachine → ℕ → Bool
 window_in k address = has_window (view_in k address)
 
 -- the same addresses have a window
-abbrev pub SameWindows : (old new : CallTable) → Type 0
+abbrev pub SameWindows : (old new : AbstractMachine) → Type 0
 SameWindows old new = (address : ℕ) → window_in new address ≡ window_in old address
 
 -- outside some ranges each address that had a window has one
-abbrev pub KeepsWindows : List Range → (old new : CallTable) → Type 0
+abbrev pub KeepsWindows : List Range → (old new : AbstractMachine) → Type 0
 KeepsWindows ranges old new =
     (address : ℕ) → IsFalse (in_one ranges address) → IsTrue (window_in old address) → IsTrue (window_in new address)
 
 -- A start and a step change no window.
 abbrev pub StartsKeepWindows : Type 0
 StartsKeepWindows =
-    (k : CallTable) (name : List ℕ) (argument : ℕ) (now : Happened)
+    (k : AbstractMachine) (name : List ℕ) (argument : ℕ) (now : Happened)
     → answered k (Spawn name argument) ≡ Ok now → SameWindows k now.machine
 
 abbrev pub StepsKeepWindows : Type 0
 StepsKeepWindows =
-    (k : CallTable) (thread : ℕ) (now : Happened) → answered k (Step thread) ≡ Ok now → SameWindows k now.machine
+    (k : AbstractMachine) (thread : ℕ) (now : Happened) → answered k (Step thread) ≡ Ok now → SameWindows k now.machine
 
 -- An update that is accepted takes windows away in the ranges that it retires alone, and one that is taken back in its
 -- pieces alone.
 abbrev pub UpdatesKeepWindows : Type 0
 UpdatesKeepWindows =
-    (k : CallTable) (name pre post : List ℕ) (now : Happened) → IsBuilt k
+    (k : AbstractMachine) (name pre post : List ℕ) (now : Happened) → IsBuilt k
     → answered k (Apply name pre post) ≡ Ok now → KeepsWindows (newest_retired now.machine) k now.machine
 
 abbrev pub UndosKeepWindows : Type 0
 UndosKeepWindows =
-    (k : CallTable) (now : Happened) → IsBuilt k
+    (k : AbstractMachine) (now : Happened) → IsBuilt k
     → answered k Undo ≡ Ok now → KeepsWindows (newest_pieces k) k now.machine
 
 -- Where a step fetches more than the five bytes of a jump, they are code: each of their addresses has a window.
 abbrev pub FetchedHaveWindows : Type 0
 FetchedHaveWindows =
-    (k : CallTable) (thread : Thread) (address : ℕ) → IsBuilt k → 5 < fetched_count (contents_of k) thread
+    (k : AbstractMachine) (thread : Thread) (address : ℕ) → IsBuilt k → 5 < fetched_count (contents_of k) thread
     → thread.pc ≤ address → address < thread.pc + fetched_count (contents_of k) thread → IsTrue (window_in k address)

@@ -12,12 +12,12 @@ use Rattle.elf32_object.specs.Rule.{Finds}
 use Rattle.stack_scan.specs.Standing.{thread_refusal}
 use Rattle.update_plan.specs.declared.types.Plan.{Plan}
 use Rattle.update_plan.specs.Plan.{planned}
-use Rattle.update_stack.specs.CallTable.{CallTable}
+use Rattle.update_stack.specs.AbstractMachine.{AbstractMachine}
 use Rattle.update_stack.specs.Apply.{has_name, name_refusal, running_of, retired_of, gaps_of, planned_in, committed}
 use Rattle.update_stack.specs.Apply.{applied}
 use Rattle.update_stack.specs.Events.{Apply, Applied, happened, answered}
 
-module _ (k : CallTable) (name pre post : List ℕ) where
+module _ (k : AbstractMachine) (name pre post : List ℕ) where
   -- where as many updates are live as may be
   pub too_many : 64 ≤ length k.updates → planned_in k name pre post ≡ Err TooMany
   unfolding planned_in name_refusal

@@ -26,7 +26,7 @@ use Rattle.splice_jump.specs.laws.WriteLaws.{Misses, byte_after, piece_after, ju
 use Rattle.splice_jump.specs.laws.WriteLaws.{holding-after, byte_in_after, in_or_out}
 use Rattle.update_memory.specs.Withdrawn.{is_based_at}
 use Rattle.update_stack.specs.declared.updates.Kept.{Kept}
-use Rattle.update_stack.specs.CallTable.{CallTable, Row, Update, bodies_in, contents_of, jump_rows}
+use Rattle.update_stack.specs.AbstractMachine.{AbstractMachine, Row, Update, bodies_in, contents_of, jump_rows}
 use Rattle.update_stack.specs.Apply.{gaps_of}
 use Rattle.update_stack.specs.Undo.{withdrawn}
 use Rattle.update_stack.specs.Stacked.{IsBuilt, AreKept, NoneKept, OneKept}
@@ -163,17 +163,17 @@ written_nothing (p ∷ ps) =
     ap (λ (bs : List ℕ). let q : Piece = record p { bytes = bs } in q ∷ written 0 [] ps) (none_overlaid p.base p.bytes)
     ∙ ap (λ (qs : List Piece). p ∷ qs) (written_nothing ps)
 
-table_wrote : (k : CallTable) (update : Update) (start : ℕ) (bytes : List ℕ) (threads : List Thread)
+table_wrote : (k : AbstractMachine) (update : Update) (start : ℕ) (bytes : List ℕ) (threads : List Thread)
     → (withdrawn (wrote start bytes threads k) update).table ≡ (withdrawn k update).table
 unfolding withdrawn
 table_wrote k update start bytes threads = refl
 
-free_wrote : (k : CallTable) (start : ℕ) (bytes : List ℕ) (threads : List Thread)
+free_wrote : (k : AbstractMachine) (start : ℕ) (bytes : List ℕ) (threads : List Thread)
     → gaps_of k ≡ gaps_of (wrote start bytes threads k)
 free_wrote k start bytes threads =
     ap (fold without (unless_empty k.arena)) (sym (ranges_stay start bytes k.pieces))
 
-pub kept_write : CodeWasThere → (k : CallTable) (kept : List Kept) (gaps : List Range) (start : ℕ)
+pub kept_write : CodeWasThere → (k : AbstractMachine) (kept : List Kept) (gaps : List Range) (start : ℕ)
     (bytes : List ℕ) (threads : List Thread) → AvoidsCode start (length bytes) k.pieces → IsBuilt k
     → AreKept k kept gaps → AreKept (wrote start bytes threads k) kept gaps
 kept_write there k kept gaps start bytes threads avoids built (NoneKept _ _ _ none nothing free) =
@@ -206,4 +206,5 @@ kept_write there k kept gaps start bytes threads avoids built
       count = is.count;
     })
     (free ∙ free_wrote k start bytes threads)
-    (subst (λ (m : CallTable). AreKept m earlier one.gaps) (sym (withdrawn_wrote k update start bytes threads)) rest)
+    (subst (λ (m : AbstractMachine). AreKept m earlier one.gaps) (sym (withdrawn_wrote k update start bytes threads))
+    rest)

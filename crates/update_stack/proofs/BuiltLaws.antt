@@ -30,8 +30,9 @@ use Rattle.ia32_step.specs.declared.types.Thread.{Thread}
 use Rattle.image_threads.specs.Spawning.{is_writable, is_stack}
 use Rattle.update_plan.specs.declared.types.Plan.{Plan}
 use Rattle.update_plan.specs.Sound.{IsJumpTo, is_replaced_at, CanBeMade}
-use Rattle.update_stack.specs.CallTable.{CallTable, Row, Update, is_home, bodies_in, fence_in, with_replaced}
-use Rattle.update_stack.specs.CallTable.{contents_of}
+use Rattle.update_stack.specs.AbstractMachine.{AbstractMachine, Row, Update, is_home, bodies_in, fence_in}
+use Rattle.update_stack.specs.AbstractMachine.{with_replaced}
+use Rattle.update_stack.specs.AbstractMachine.{contents_of}
 use Rattle.update_stack.specs.Apply.{with_new_piece, update_as, committed, retired_of}
 use Rattle.update_stack.specs.Undo.{without_last, withdrawn, newest_update}
 use Rattle.update_stack.specs.Stacked.{IsSound, IsOnTop, IsBuilt, Untouched, Updated}
@@ -107,14 +108,14 @@ pub record MemoryLaws : Type 0 where
   pub ranges_back : RangesBack
 
 -- and its table is one
-pub built_table : (k : CallTable) → IsBuilt k → IsTable k.table
+pub built_table : (k : AbstractMachine) → IsBuilt k → IsTable k.table
 built_table _ (Untouched k sound none empty unused) = subst IsTable (sym empty) first_table
 built_table _ (Updated k update sound newest above built) =
     subst IsTable (sym above.table)
     (table_stays (withdrawn k update).table update.report.replaced (built_table (withdrawn k update) built))
 
 -- a machine by its parts
-pub machine_is : (a b : CallTable) → a.pieces ≡ b.pieces → a.table ≡ b.table → a.retired ≡ b.retired
+pub machine_is : (a b : AbstractMachine) → a.pieces ≡ b.pieces → a.table ≡ b.table → a.retired ≡ b.retired
     → a.symbols ≡ b.symbols → a.stacks ≡ b.stacks → a.arena ≡ b.arena → a.threads ≡ b.threads
     → a.updates ≡ b.updates → a ≡ b
 machine_is a b pieces table retired symbols stacks arena threads updates = λ i. record {
@@ -216,7 +217,7 @@ pieces_fit contents plan can = record {
 }
 
 -- code stays code where a plan is made
-pub code_kept : PiecesCode → (k : CallTable) (name : List ℕ) (plan : Plan) (address count : ℕ) → IsBuilt k
+pub code_kept : PiecesCode → (k : AbstractMachine) (name : List ℕ) (plan : Plan) (address count : ℕ) → IsBuilt k
     → CanBeMade (contents_of k) plan → HasCode k.pieces address count
     → HasCode (committed k name plan).pieces address count
 unfolding committed
@@ -244,7 +245,7 @@ plain_fit contents plan can = record {
 }
 
 -- an update that was made is taken back
-pub committed_back : MemoryLaws → (k : CallTable) (name : List ℕ) (plan : Plan) → IsBuilt k
+pub committed_back : MemoryLaws → (k : AbstractMachine) (name : List ℕ) (plan : Plan) → IsBuilt k
     → CanBeMade (contents_of k) plan → withdrawn (committed k name plan) (update_as name plan) ≡ k
 unfolding committed withdrawn
 committed_back laws k name plan built can =
@@ -291,7 +292,7 @@ stacks_stay before (piece ∷ pieces) stack is =
     stacks_stay (with_piece piece before) pieces stack (stack_put piece before stack is)
 
 -- A machine on which an update is made.
-module _ (laws : MemoryLaws) (k : CallTable) (name : List ℕ) (plan : Plan) (built : IsBuilt k)
+module _ (laws : MemoryLaws) (k : AbstractMachine) (name : List ℕ) (plan : Plan) (built : IsBuilt k)
     (can : CanBeMade (contents_of k) plan) where
   abbrev contents : Contents
   contents = contents_of k
@@ -509,10 +510,11 @@ module _ (laws : MemoryLaws) (k : CallTable) (name : List ℕ) (plan : Plan) (bu
   unfolding committed
   on_top =
       let back = committed_back laws k name plan built can in record {
-        table = ap (λ (m : CallTable). fold with_replaced m.table replaced) (sym back);
+        table = ap (λ (m : AbstractMachine). fold with_replaced m.table replaced) (sym back);
         once = can.once;
         marked =
-            subst (λ (m : CallTable). All (λ (range : Range). is_home table_after range.low ≡ is_home m.table range.low)
+            subst (λ (m : AbstractMachine). All (λ (range : Range).
+            is_home table_after range.low ≡ is_home m.table range.low)
             m.retired) (sym back)
             (λ i d l.
             mark_stays (fence_in k.table (get_or k.retired i d))
@@ -549,7 +551,7 @@ module _ (laws : MemoryLaws) (k : CallTable) (name : List ℕ) (plan : Plan) (bu
       (subst IsBuilt (sym (committed_back laws k name plan built can)) built)
 
 -- the machine after some bytes were written and its threads went on
-abbrev pub wrote : ℕ → List ℕ → List Thread → CallTable → CallTable
+abbrev pub wrote : ℕ → List ℕ → List Thread → AbstractMachine → AbstractMachine
 wrote start bytes threads k = record k { pieces = written start bytes k.pieces; threads = threads }
 
 drop_written : (bases : List ℕ) (start : ℕ) (bytes : List ℕ) (pieces : List Piece)
@@ -566,11 +568,12 @@ drop_written bases start bytes (piece ∷ pieces) =
     by_base true rest = rest
     by_base false rest = ap (λ (ps : List Piece). overlaid_piece start bytes piece ∷ ps) rest
 
-pub withdrawn_wrote : (k : CallTable) (update : Update) (start : ℕ) (bytes : List ℕ) (threads : List Thread)
+pub withdrawn_wrote : (k : AbstractMachine) (update : Update) (start : ℕ) (bytes : List ℕ) (threads : List Thread)
     → withdrawn (wrote start bytes threads k) update ≡ wrote start bytes threads (withdrawn k update)
 unfolding withdrawn
 withdrawn_wrote k update start bytes threads =
-    ap (λ (ps : List Piece). let m : CallTable = record (withdrawn k update) { pieces = ps; threads = threads } in m)
+    ap (λ (ps : List Piece). let m : AbstractMachine = record (withdrawn k update) { pieces = ps; threads = threads }
+    in m)
     (drop_written update.pieces start bytes k.pieces)
 
 placed_written : (start : ℕ) (bytes : List ℕ) (pieces : List Piece) → ArePlaced pieces
@@ -590,7 +593,7 @@ stack_written start bytes [] stack = refl
 stack_written start bytes (p ∷ ps) stack =
     rw (length-overlaid start bytes p.base p.bytes, stack_written start bytes ps stack) refl
 
-sound_written : (k : CallTable) (start : ℕ) (bytes : List ℕ) (threads : List Thread) → IsSound k
+sound_written : (k : AbstractMachine) (start : ℕ) (bytes : List ℕ) (threads : List Thread) → IsSound k
     → IsSound (wrote start bytes threads k)
 sound_written k start bytes threads sound = record {
   jumps = record {
@@ -618,7 +621,7 @@ piece_written start bytes pieces base (j, piece, less, at, is) = (
   is,
 )
 
-on_top_written : (k : CallTable) (update : Update) (start : ℕ) (bytes : List ℕ) (threads : List Thread)
+on_top_written : (k : AbstractMachine) (update : Update) (start : ℕ) (bytes : List ℕ) (threads : List Thread)
     → IsOnTop k update → IsOnTop (wrote start bytes threads k) update
 unfolding withdrawn
 on_top_written k update start bytes threads is = record {
@@ -633,7 +636,7 @@ on_top_written k update start bytes threads is = record {
 }
 
 -- what holds of a machine at every moment holds after any write, and when threads went on
-pub built_write : (k : CallTable) (start : ℕ) (bytes : List ℕ) (threads : List Thread) → IsBuilt k
+pub built_write : (k : AbstractMachine) (start : ℕ) (bytes : List ℕ) (threads : List Thread) → IsBuilt k
     → IsBuilt (wrote start bytes threads k)
 built_write _ start bytes threads (Untouched k sound none empty unused) =
     Untouched (wrote start bytes threads k) (sound_written k start bytes threads sound) none empty unused
@@ -719,7 +722,7 @@ one_or_kept taken (range ∷ ranges) = by_test (is_one_of taken range) refl (one
         (widened (range ∷ ranges_but taken ranges) rest (contains_later range (ranges_but taken ranges)))
 
 -- each retired range was retired by a live update
-pub retired_listed : (k : CallTable) → IsBuilt k → (range : Range) → Contains k.retired range
+pub retired_listed : (k : AbstractMachine) → IsBuilt k → (range : Range) → Contains k.retired range
     → Contains (retired_of k) range
 unfolding withdrawn
 retired_listed _ (Untouched k sound none empty unused) range there =
@@ -742,7 +745,7 @@ retired_listed _ (Updated k update sound newest above built) range there =
     ])
 
 -- the ranges of the machine's memory among them
-pub fences_listed : (k : CallTable) → IsBuilt k
+pub fences_listed : (k : AbstractMachine) → IsBuilt k
     → All (λ (fence : Fence). Contains (retired_of k) fence.range) (contents_of k).fences
 fences_listed k built =
     All-map (λ (fence : Fence). Contains (retired_of k) fence.range) (fence_in k.table) k.retired

@@ -31,8 +31,8 @@ use Rattle.update_plan.specs.declared.types.Plan.{Plan}
 use Rattle.update_plan.specs.Sound.{IsJumpTo, CanBeMade}
 use Rattle.update_stack.specs.declared.updates.Update.{Update as Shown}
 use Rattle.update_stack.specs.declared.updates.Kept.{Kept}
-use Rattle.update_stack.specs.CallTable.{CallTable, Row, Update, bodies_in, with_replaced, contents_of}
-use Rattle.update_stack.specs.CallTable.{jump_row, jump_rows}
+use Rattle.update_stack.specs.AbstractMachine.{AbstractMachine, Row, Update, bodies_in, with_replaced, contents_of}
+use Rattle.update_stack.specs.AbstractMachine.{jump_row, jump_rows}
 use Rattle.update_stack.specs.StandsFor.{Seen, seen, seen_of, patched}
 use Rattle.update_stack.specs.Apply.{with_new_piece, update_as, committed, gaps_of}
 use Rattle.update_stack.specs.Undo.{withdrawn, ranges_in, newest_update}
@@ -183,7 +183,7 @@ update_is name plan jumps gaps kept is = λ i. record {
 module _ (laws : Laws) (before : Program) (arena : Range) (gaps : List Range) (updates : List Shown) (kept : List Kept)
     (holds : Holds before arena gaps updates kept) (plan : Plan)
     (can : CanBeMade (contents_of (machine_of before arena updates kept)) plan) where
-  abbrev k : CallTable
+  abbrev k : AbstractMachine
   k = machine_of before arena updates kept
 
   abbrev replaced : List Replaced
@@ -261,7 +261,7 @@ module _ (laws : Laws) (before : Program) (arena : Range) (gaps : List Range) (u
   }
 
   module _ (name : List ℕ) where
-    abbrev after_it : CallTable
+    abbrev after_it : AbstractMachine
     after_it = committed k name plan
 
     abbrev update : Update
@@ -347,7 +347,7 @@ module _ (laws : Laws) (before : Program) (arena : Range) (gaps : List Range) (u
       abbrev shown : Shown
       shown = shown_as name plan.report
 
-      abbrev now : CallTable
+      abbrev now : AbstractMachine
       now = machine_of after arena (updates ++ shown ∷ []) (kept ++ one ∷ [])
 
       memory_jumped : after.contents ≡ jumped_memory (jump_rows replaced) full
@@ -406,11 +406,11 @@ module _ (laws : Laws) (before : Program) (arena : Range) (gaps : List Range) (u
           ∙ ap (λ (ps : List Piece). olds_at ps (jump_rows replaced))
           (pieces_full
           ∙ ap (λ (c : Contents). jumped rows c.pieces) (sym text_now)
-          ∙ ap (λ (m : CallTable). jumped (bodies_in m.table) after_it.pieces) (sym back))
+          ∙ ap (λ (m : AbstractMachine). jumped (bodies_in m.table) after_it.pieces) (sym back))
 
       left : without_pieces update.pieces (fold with_new_piece k.pieces plan.pieces) ≡ k.pieces
       unfolding committed withdrawn
-      left = ap (λ (m : CallTable). m.pieces) back
+      left = ap (λ (m : AbstractMachine). m.pieces) back
 
       ranges_kept : IsPermutation one.ranges (ranges_in after_it update)
       unfolding committed
@@ -436,7 +436,7 @@ module _ (laws : Laws) (before : Program) (arena : Range) (gaps : List Range) (u
             count = has.count;
           })
           free_now
-          (subst (λ (m : CallTable). AreKept m kept one.gaps) (sym back)
+          (subst (λ (m : AbstractMachine). AreKept m kept one.gaps) (sym back)
           (subst (AreKept k kept) (sym has.gaps_kept) holds.are_kept))
 
       built_now : IsBuilt now
@@ -444,7 +444,7 @@ module _ (laws : Laws) (before : Program) (arena : Range) (gaps : List Range) (u
 
       kept_now : AreKept now (kept ++ one ∷ []) (gaps_after gaps plan)
       kept_now =
-          subst (λ (m : CallTable). AreKept m (kept ++ one ∷ []) (gaps_after gaps plan)) (sym same_now) kept_after
+          subst (λ (m : AbstractMachine). AreKept m (kept ++ one ∷ []) (gaps_after gaps plan)) (sym same_now) kept_after
 
       code_now : HasOldCode (kept ++ one ∷ []) after.contents.pieces
       unfolding patched

@@ -24,7 +24,7 @@ use Rattle.image_file.specs.Reading.{symbol_width, stack_after, stack_at, stack_
 use Rattle.image_file.specs.laws.FieldLaws.{bind_ok, after_bind, ok_is, content_long, all_kept}
 use Rattle.image_threads.specs.Program.{IsStackRange}
 use Rattle.image_threads.specs.Spawning.{is_stack, AreStacks, is_writable}
-use Rattle.update_stack.specs.CallTable.{stack_piece, all_pieces, first_machine}
+use Rattle.update_stack.specs.AbstractMachine.{stack_piece, all_pieces, first_machine}
 use Rattle.update_stack.specs.Stacked.{Untouched}
 use Rattle.update_stack.proofs.TakenBackLaws.{NoneEarlier, StartsWell}
 

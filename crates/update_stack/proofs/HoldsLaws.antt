@@ -16,7 +16,7 @@ use Rattle.splice_jump.specs.Jumps.{jumped, jumped_memory, AreSpliced}
 use Rattle.update_plan.specs.Sound.{AreGaps}
 use Rattle.update_stack.specs.declared.updates.Update.{Update as Shown}
 use Rattle.update_stack.specs.declared.updates.Kept.{Kept}
-use Rattle.update_stack.specs.CallTable.{CallTable, fence_in, bodies_in, shown_update}
+use Rattle.update_stack.specs.AbstractMachine.{AbstractMachine, fence_in, bodies_in, shown_update}
 use Rattle.update_stack.specs.StandsFor.{Seen, StandsFor, patched}
 use Rattle.update_stack.specs.Systems.{text_of, table_of, machine_of, live_updates, gaps_in, Holds}
 use Rattle.update_stack.specs.Stacked.{IsBuilt, Untouched, AreKept, NoneKept}
@@ -60,12 +60,12 @@ pub record Sound (updates : List Shown) (kept : List Kept) (contents : Contents)
   pub code : HasOldCode kept contents.pieces
 
 -- what holds of the machine and of what is kept of its updates
-pub record IsKeptOver (kept : List Kept) (gaps : List Range) (k : CallTable) : Type 0 where
+pub record IsKeptOver (kept : List Kept) (gaps : List Range) (k : AbstractMachine) : Type 0 where
   pub built : IsBuilt k
   pub are_kept : AreKept k kept gaps
 
 -- and holds again after data were written beside its code
-pub over_wrote : Laws → (k : CallTable) (kept : List Kept) (gaps : List Range) (start : ℕ) (bytes : List ℕ)
+pub over_wrote : Laws → (k : AbstractMachine) (kept : List Kept) (gaps : List Range) (start : ℕ) (bytes : List ℕ)
     (threads : List Thread) → AvoidsCode start (length bytes) k.pieces → IsKeptOver kept gaps k
     → IsKeptOver kept gaps (wrote start bytes threads k)
 over_wrote laws k kept gaps start bytes threads avoids over = record {
@@ -73,7 +73,7 @@ over_wrote laws k kept gaps start bytes threads avoids over = record {
   are_kept = kept_write laws.there k kept gaps start bytes threads avoids over.built over.are_kept;
 }
 
-over_threads : Laws → (k : CallTable) (kept : List Kept) (gaps : List Range) (threads : List Thread)
+over_threads : Laws → (k : AbstractMachine) (kept : List Kept) (gaps : List Range) (threads : List Thread)
     → IsKeptOver kept gaps k → IsKeptOver kept gaps (record k { threads = threads })
 over_threads laws k kept gaps threads over =
     subst (λ (ps : List Piece). IsKeptOver kept gaps (record k { pieces = ps; threads = threads }))
@@ -166,14 +166,14 @@ writes_beside laws updates kept contents start bytes sound clear =
 -- Memory of the machine that follows from that which other memory stands for: with the jumps it is sound, and what is
 -- seen of it is this. What is kept of the machine stays with it.
 pub record Follows
-    (updates : List Shown) (kept : List Kept) (gaps : List Range) (k : CallTable) (before machine : Contents)
+    (updates : List Shown) (kept : List Kept) (gaps : List Range) (k : AbstractMachine) (before machine : Contents)
     : Type 0 where
   pub sound : Sound updates kept (jumped_memory (rows_in updates) machine)
   pub text : machine_memory updates kept (jumped_memory (rows_in updates) machine) ≡ machine
   pub fences : machine.fences ≡ before.fences
   pub over : (threads : List Thread) → IsKeptOver kept gaps (record k { pieces = machine.pieces; threads = threads })
 
-pub follows_itself : Laws → (updates : List Shown) (kept : List Kept) (gaps : List Range) (k : CallTable)
+pub follows_itself : Laws → (updates : List Shown) (kept : List Kept) (gaps : List Range) (k : AbstractMachine)
     (contents : Contents) → Sound updates kept contents → IsKeptOver kept gaps k
     → k.pieces ≡ text_of kept contents.pieces
     → Follows updates kept gaps k contents (machine_memory updates kept contents)
@@ -186,7 +186,7 @@ follows_itself laws updates kept gaps k contents sound over pieces = record {
       (over_threads laws k kept gaps threads over);
 }
 
-pub follows_write : Laws → (updates : List Shown) (kept : List Kept) (gaps : List Range) (k : CallTable)
+pub follows_write : Laws → (updates : List Shown) (kept : List Kept) (gaps : List Range) (k : AbstractMachine)
     (contents : Contents) → Sound updates kept contents → IsKeptOver kept gaps k
     → k.pieces ≡ text_of kept contents.pieces → (start : ℕ) (bytes : List ℕ)
     → IsClear start (length bytes) (text_of kept contents.pieces)
@@ -213,7 +213,7 @@ follows_write laws updates kept gaps k contents sound over pieces start bytes cl
     }
 
 -- the machine by its pieces and its retired ranges
-abbrev pub machine_by : Program → Range → List Shown → List Kept → List Piece → List Range → CallTable
+abbrev pub machine_by : Program → Range → List Shown → List Kept → List Piece → List Range → AbstractMachine
 machine_by program arena updates kept pieces retired =
     record {
       pieces = pieces;

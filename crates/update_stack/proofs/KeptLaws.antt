@@ -6,7 +6,7 @@ use Rattle.image_memory.specs.Contents.{Contents, IsValid}
 use Rattle.image_memory.specs.Fetch.{HasCode}
 use Rattle.update_memory.specs.Withdrawn.{without_pieces}
 use Rattle.update_stack.specs.declared.updates.Kept.{Kept}
-use Rattle.update_stack.specs.CallTable.{CallTable, Update}
+use Rattle.update_stack.specs.AbstractMachine.{AbstractMachine, Update}
 use Rattle.update_stack.specs.Apply.{gaps_of}
 use Rattle.update_stack.specs.Undo.{withdrawn, newest_update}
 use Rattle.update_stack.specs.Stacked.{IsKept, AreKept, NoneKept}
@@ -18,7 +18,7 @@ abbrev pub CodeWasThere : Type 0
 CodeWasThere = (contents : Contents) (bases : List ℕ) (address count : ℕ) → IsValid contents
     → HasCode (without_pieces bases contents.pieces) address count → HasCode contents.pieces address count
 
-pub withdrawn_pieces : (k : CallTable) (update : Update)
+pub withdrawn_pieces : (k : AbstractMachine) (update : Update)
     → (withdrawn k update).pieces ≡ without_pieces update.pieces k.pieces
 unfolding withdrawn
 withdrawn_pieces k update = refl
@@ -45,12 +45,12 @@ front_same {X} (a ∷ xs) (b ∷ ys) x y same =
 
 -- and of what is kept: that of the newest update, and of those before it
 pub record HasKept
-    (k : CallTable) (update : Update) (earlier : List Kept) (one : Kept) (gaps : List Range) : Type 0 where
+    (k : AbstractMachine) (update : Update) (earlier : List Kept) (one : Kept) (gaps : List Range) : Type 0 where
   pub is_kept : IsKept k update one
   pub free : gaps ≡ gaps_of k
   pub before : AreKept (withdrawn k update) earlier one.gaps
 
-pub kept_newest : (k : CallTable) (update : Update) (earlier kept : List Kept) (one : Kept) (gaps : List Range)
+pub kept_newest : (k : AbstractMachine) (update : Update) (earlier kept : List Kept) (one : Kept) (gaps : List Range)
     → AreKept k kept gaps
     → newest_update k ≡ Some update → kept ≡ earlier ++ one ∷ [] → HasKept k update earlier one gaps
 kept_newest k update earlier kept one gaps (NoneKept _ _ _ none nothing free) is ends =
@@ -66,6 +66,6 @@ kept_newest k update earlier kept one gaps (OneKept _ other front _ last _ newes
     (subst (λ (o : Kept). HasKept k other front o gaps) last_is
     (record { is_kept = kept_one; free = free; before = before })))
 
-pub kept_free : (k : CallTable) (kept : List Kept) (gaps : List Range) → AreKept k kept gaps → gaps ≡ gaps_of k
+pub kept_free : (k : AbstractMachine) (kept : List Kept) (gaps : List Range) → AreKept k kept gaps → gaps ≡ gaps_of k
 kept_free k kept gaps (NoneKept _ _ _ none nothing free) = free
 kept_free k kept gaps (OneKept _ update front _ last _ newest has kept_one free before) = free

@@ -8,7 +8,7 @@ use Rattle.splice_jump.specs.Jumps.{unjumped}
 use Rattle.update_memory.specs.Rows.{olds_of}
 use Rattle.update_stack.specs.declared.updates.Update.{Update as Shown}
 use Rattle.update_stack.specs.declared.updates.Kept.{Kept}
-use Rattle.update_stack.specs.CallTable.{Update, with_replaced}
+use Rattle.update_stack.specs.AbstractMachine.{Update, with_replaced}
 use Rattle.update_stack.specs.Undo.{without_last}
 use Rattle.update_stack.specs.Systems.{text_of, replaced_by, table_of, live_update, live_updates}
 use Rattle.update_stack.specs.laws.StackedLaws.{last_more as last_from}

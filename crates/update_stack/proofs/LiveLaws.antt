@@ -12,7 +12,7 @@ use Rattle.i386_reloc.specs.Normal.{same_bytes}
 use Rattle.symbol_table.specs.Bodies.{homes}
 use Rattle.update_stack.specs.declared.updates.Update.{Update as Shown}
 use Rattle.update_stack.specs.declared.updates.Kept.{Kept}
-use Rattle.update_stack.specs.CallTable.{Row, Update, newest_in, bodies_in, jump_rows, with_replaced}
+use Rattle.update_stack.specs.AbstractMachine.{Row, Update, newest_in, bodies_in, jump_rows, with_replaced}
 use Rattle.update_stack.specs.Apply.{has_name}
 use Rattle.update_stack.specs.Systems.{replaced_by, table_of, live_updates}
 use Rattle.update_stack.specs.laws.StackedLaws.{last_more}

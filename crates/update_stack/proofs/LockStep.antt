@@ -1,4 +1,4 @@
--- Over the memory with the jumps a thread steps as on the machine that never patches code.
+-- Over the memory with the jumps a thread steps as on the abstract machine.
 use Rattle.std.proofs.Common.{◌≡◌, ℕ, ◌+◌, ◌-◌, ◌^◌, ◌<◌, ◌≤◌, suc, ◌==◌, Bool, true, false}
 use Rattle.std.proofs.Common.{if◌then◌else◌, List, [], ◌∷◌, ◌++◌, length, replicate, Option, Some, None, Result}
 use Rattle.std.proofs.Common.{Ok, Err, refl, sym, ◌∙◌, ap, arith}
@@ -31,8 +31,8 @@ use Rattle.ia32_step.specs.Step.{resumed, change_by, change_in, next_change, ste
 use Rattle.ia32_step.specs.laws.OperandLaws.{length-spelled}
 use Rattle.splice_jump.specs.Jump.{displacement, jump_bytes}
 use Rattle.splice_jump.specs.Jumps.{jumped, jumped_memory, IsSpliced, AreSpliced}
-use Rattle.update_stack.specs.CallTable.{CallTable, is_home, bodies_in, contents_of}
-use Rattle.update_stack.specs.CallTable.{view_in, base_of}
+use Rattle.update_stack.specs.AbstractMachine.{AbstractMachine, is_home, bodies_in, contents_of}
+use Rattle.update_stack.specs.AbstractMachine.{view_in, base_of}
 use Rattle.update_stack.specs.Steps.{step_at, step_in}
 use Rattle.update_stack.specs.Jumps.{jumped_left}
 use Rattle.update_stack.specs.laws.ViewLaws.{home_row, met_alike}
@@ -141,7 +141,7 @@ by_view decodes say faults contents rows same beside thread base AtHome home =
     (jump_leads thread.pc base (home refl).1)
 
 -- the jump that is met at a home, and where it leads
-home_jump : (k : CallTable) (pc : ℕ)
+home_jump : (k : AbstractMachine) (pc : ℕ)
     → All (λ row. jump_at (jumped (bodies_in k.table) k.pieces) row.0 ≡ jump_bytes row.0 row.1) (bodies_in k.table)
     → All (λ row. row.1 < 2 ^ 32) (bodies_in k.table) → is_home k.table pc ≡ true
     → (jump_at (jumped (bodies_in k.table) k.pieces) pc ≡ jump_bytes pc (base_of k pc)) × (base_of k pc < 2 ^ 32)
@@ -167,7 +167,7 @@ met_home f retired pc (Some bytes) is = by_test (f pc) refl is
     by_test false e is = absurd (other (list_any (lies_in pc) retired) is)
 
 -- a home that is met is spliced, in each memory in which those with rows are
-pub home_spliced : (k : CallTable) (memory : Contents) (pc : ℕ) → AreSpliced (contents_of k) (bodies_in k.table)
+pub home_spliced : (k : AbstractMachine) (memory : Contents) (pc : ℕ) → AreSpliced (contents_of k) (bodies_in k.table)
     → AreSpliced memory (bodies_in k.table) → view_at (contents_of k) pc ≡ AtHome → IsSpliced memory pc
 unfolding view_in view
 home_spliced k memory pc spliced there is =
@@ -175,7 +175,8 @@ home_spliced k memory pc spliced there is =
     (met_home (is_home k.table) k.retired pc (code_from k.pieces pc) (sym (met_alike k pc spliced.each) ∙ is))
 
 -- a step of a running thread that doesn't end
-step_beside : Decodes → NoSay → NoFaultSay → (k : CallTable) → SameData (jumped (bodies_in k.table) k.pieces) k.pieces
+step_beside : Decodes → NoSay → NoFaultSay → (k : AbstractMachine)
+    → SameData (jumped (bodies_in k.table) k.pieces) k.pieces
     → WritesBeside (contents_of k) (bodies_in k.table) → (thread : Thread)
     → view_at (jumped_memory (bodies_in k.table) (contents_of k)) thread.pc ≡ view_in k thread.pc
     → (is_home k.table thread.pc ≡ true
@@ -200,7 +201,7 @@ either_way : (rows : List (ℕ × ℕ)) (b : Bool) (one other : Left) (x y : Lef
 either_way rows true one other x y e f = e
 either_way rows false one other x y e f = f
 
-pub step_stands : Decodes → NoSay → NoFaultSay → (k : CallTable)
+pub step_stands : Decodes → NoSay → NoFaultSay → (k : AbstractMachine)
     → SameData (jumped (bodies_in k.table) k.pieces) k.pieces
     → WritesBeside (contents_of k) (bodies_in k.table) → (thread : Thread)
     → ((pc : ℕ) → view_at (jumped_memory (bodies_in k.table) (contents_of k)) pc ≡ view_at (contents_of k) pc)

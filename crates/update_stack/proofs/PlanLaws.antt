@@ -35,7 +35,7 @@ use Rattle.image_threads.specs.Program.{Program}
 use Rattle.update_plan.specs.declared.types.Plan.{Plan}
 use Rattle.update_plan.specs.Plan.{planned, unless}
 use Rattle.update_plan.specs.Sound.{AreGaps, AreListed, CanBeMade}
-use Rattle.update_stack.specs.CallTable.{CallTable, bodies_in, contents_of}
+use Rattle.update_stack.specs.AbstractMachine.{AbstractMachine, bodies_in, contents_of}
 use Rattle.update_stack.specs.Apply.{name_refusal, running_of, retired_of, gaps_of, planned_in}
 use Rattle.update_stack.specs.StandsFor.{Seen, StandsFor, patched}
 use Rattle.update_stack.specs.Stacked.{IsSound, IsBuilt}
@@ -109,7 +109,7 @@ constants_stay looks held contents rows address valid spliced =
     ]
 
 -- a system's memory is like the machine's
-pub runs_alike : ViewsStay → DataLooks → HeldStay → (k : CallTable) (contents : Contents) (bodies : List (ℕ × ℕ))
+pub runs_alike : ViewsStay → DataLooks → HeldStay → (k : AbstractMachine) (contents : Contents) (bodies : List (ℕ × ℕ))
     → IsSound k → contents ≡ jumped_memory (bodies_in k.table) (contents_of k)
     → ((home : ℕ) → newest bodies home ≡ newest (bodies_in k.table) home)
     → RunAlike (record { contents = contents; symbols = k.symbols; bodies = bodies }) (running_of k)
@@ -128,14 +128,14 @@ runs_alike views looks held k contents bodies sound is same =
       bases = same;
     }
 
-pub one_shape : KindsStay → PlacesStay → (k : CallTable) (contents : Contents)
+pub one_shape : KindsStay → PlacesStay → (k : AbstractMachine) (contents : Contents)
     → contents ≡ jumped_memory (bodies_in k.table) (contents_of k) → HaveOneShape contents (contents_of k)
 one_shape kinds places k contents is =
     ap (λ (c : Contents). map shape_of c.pieces) is
     ∙ same_shapes (jumped (bodies_in k.table) k.pieces) k.pieces (kinds (bodies_in k.table) k.pieces)
     (places (bodies_in k.table) k.pieces)
 
-pub one_splice : (k : CallTable) (contents : Contents) (address : ℕ)
+pub one_splice : (k : AbstractMachine) (contents : Contents) (address : ℕ)
     → contents ≡ jumped_memory (bodies_in k.table) (contents_of k)
     → spliced_at contents.fences address ≡ spliced_at (contents_of k).fences address
 one_splice k contents address is = ap (λ (c : Contents). spliced_at c.fences address) is
@@ -172,10 +172,11 @@ abbrev pub GapsApart : Type 0
 GapsApart = (free : List Range) (pieces : List Piece)
     → All (λ (gap : Range). MeetsNone piece_range gap pieces) (fold without free (map piece_range pieces))
 
-pub gaps_ascend : GapsAscend → (k : CallTable) → Ascends (λ (range : Range). range) 0 (gaps_of k)
+pub gaps_ascend : GapsAscend → (k : AbstractMachine) → Ascends (λ (range : Range). range) 0 (gaps_of k)
 gaps_ascend ascend k = ascend (unless_empty k.arena) k.pieces (arena_ascends k.arena)
 
-pub gaps_are : GapsAscend → GapsBelow → GapsApart → (k : CallTable) → IsSound k → AreGaps (contents_of k) (gaps_of k)
+pub gaps_are : GapsAscend → GapsBelow → GapsApart → (k : AbstractMachine) → IsSound k
+    → AreGaps (contents_of k) (gaps_of k)
 gaps_are ascend below apart k sound = record {
   ascend = gaps_ascend ascend k;
   low = below 0xFFFF_0000 (unless_empty k.arena) k.pieces (arena_low k.arena 0xFFFF_0000 sound.arena);
@@ -183,7 +184,7 @@ gaps_are ascend below apart k sound = record {
 }
 
 -- the memory of a program that stands for the machine
-pub memory_of : (program : Program) (k : CallTable) → StandsFor program k
+pub memory_of : (program : Program) (k : AbstractMachine) → StandsFor program k
     → program.contents ≡ jumped_memory (bodies_in k.table) (contents_of k)
 unfolding patched
 memory_of program k stands = ap (λ (s : Seen). s.contents) stands
@@ -210,7 +211,7 @@ abbrev pub SplicedStay : Type 0
 SplicedStay = (contents : Contents) (rows others : List (ℕ × ℕ)) → AreSpliced contents rows
     → AreSpliced (jumped_memory others contents) rows
 
-pub bodies_spliced : SplicedStay → (k : CallTable) (contents : Contents) (bodies : List (ℕ × ℕ)) → IsSound k
+pub bodies_spliced : SplicedStay → (k : AbstractMachine) (contents : Contents) (bodies : List (ℕ × ℕ)) → IsSound k
     → contents ≡ jumped_memory (bodies_in k.table) (contents_of k) → IsPermutation (bodies_in k.table) bodies
     → AreSpliced contents bodies
 bodies_spliced stay k contents bodies sound is moved =
@@ -232,7 +233,7 @@ PlansCanBeMade = (running : Running) (retired gaps : List Range) (pre_file post_
     → CanBeMade running.contents plan
 
 -- what of a program goes into a plan is what the machine has of it
-pub record IsBeside (k : CallTable) (contents : Contents) (symbols : List Symbol) (bodies : List (ℕ × ℕ))
+pub record IsBeside (k : AbstractMachine) (contents : Contents) (symbols : List Symbol) (bodies : List (ℕ × ℕ))
     (retired gaps : List Range) : Type 0 where
   pub built : IsBuilt k
   pub memory : contents ≡ jumped_memory (bodies_in k.table) (contents_of k)
@@ -250,7 +251,7 @@ pub record PlanLaws : Type 0 where
   pub one_plan : OnePlan
 
 -- so it has the machine's plan
-pub plan_beside : PlanLaws → (k : CallTable) (contents : Contents) (symbols : List Symbol) (bodies : List (ℕ × ℕ))
+pub plan_beside : PlanLaws → (k : AbstractMachine) (contents : Contents) (symbols : List Symbol) (bodies : List (ℕ × ℕ))
     (retired gaps : List Range) (pre_file post_file : List ℕ) → IsBeside k contents symbols bodies retired gaps
     → planned (record { contents = contents; symbols = symbols; bodies = bodies }) retired gaps pre_file post_file
     ≡ planned (running_of k) (retired_of k) (gaps_of k) pre_file post_file
@@ -266,7 +267,8 @@ plan_beside laws k contents symbols bodies retired gaps pre_file post_file is =
     (λ address. one_splice k contents address is.memory)
 
 -- and can be carried out
-pub plan_sound : PlansCanBeMade → GapsAscend → GapsBelow → GapsApart → (k : CallTable) (pre_file post_file : List ℕ)
+pub plan_sound : PlansCanBeMade → GapsAscend → GapsBelow → GapsApart → (k : AbstractMachine)
+    (pre_file post_file : List ℕ)
     (result : Result Plan Refusal) → IsBuilt k
     → Gives (λ (plan : Plan). plan) result (planned (running_of k) (retired_of k) (gaps_of k) pre_file post_file)
     → IfOk result (λ (plan : Plan). CanBeMade (contents_of k) plan)
@@ -277,14 +279,14 @@ plan_sound can ascend below apart k pre_file post_file (Ok plan) built given =
     (fences_listed k built) (gaps_are ascend below apart k sound) given
 
 -- so the plan that a machine has for an update can be made
-pub planned_can : PlansCanBeMade → GapsAscend → GapsBelow → GapsApart → (k : CallTable)
+pub planned_can : PlansCanBeMade → GapsAscend → GapsBelow → GapsApart → (k : AbstractMachine)
     (name pre_file post_file : List ℕ) (plan : Plan) → IsBuilt k → planned_in k name pre_file post_file ≡ Ok plan
     → CanBeMade (contents_of k) plan
 unfolding planned_in
 planned_can can ascend below apart k name pre_file post_file plan built is = by_name (name_refusal k name) is
   where
     by_name : (o : Option Refusal)
-        → (unless o k >>= λ (m : CallTable). planned (running_of m) (retired_of m) (gaps_of m) pre_file post_file)
+        → (unless o k >>= λ (m : AbstractMachine). planned (running_of m) (retired_of m) (gaps_of m) pre_file post_file)
         ≡ Ok plan → CanBeMade (contents_of k) plan
     by_name (Some refusal) is = absurd (cc)
     by_name None is = plan_sound can ascend below apart k pre_file post_file (Ok plan) built is

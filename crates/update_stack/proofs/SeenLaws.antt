@@ -18,7 +18,7 @@ use Rattle.splice_jump.specs.Jumps.{jumped}
 use Rattle.stack_scan.specs.Standing.{thread_refusal}
 use Rattle.update_stack.specs.declared.updates.Update.{Update as Shown}
 use Rattle.update_stack.specs.declared.updates.Kept.{Kept}
-use Rattle.update_stack.specs.CallTable.{CallTable, Update, bodies_in, contents_of}
+use Rattle.update_stack.specs.AbstractMachine.{AbstractMachine, Update, bodies_in, contents_of}
 use Rattle.update_stack.specs.StandsFor.{Seen, patched}
 use Rattle.update_stack.specs.Undo.{ranges_in, newest_update}
 use Rattle.update_stack.specs.Systems.{machine_of, Holds}
@@ -62,7 +62,7 @@ PlacesStay = (rows : List (ℕ × ℕ)) (pieces : List Piece)
 
 module _ (program : Program) (arena : Range) (gaps : List Range) (updates : List Shown) (kept : List Kept)
     (holds : Holds program arena gaps updates kept) where
-  abbrev k : CallTable
+  abbrev k : AbstractMachine
   k = machine_of program arena updates kept
 
   pub program_stacks : KindsStay → PlacesStay → AreStacks program.contents.pieces program.stacks
@@ -83,19 +83,20 @@ module _ (program : Program) (arena : Range) (gaps : List Range) (updates : List
       program.threads (all_have_stacks k.pieces program.stacks program.threads sound.stacks placed)
 
 -- where nothing is kept there is no update, and the last that is kept is of the newest
-kept_none : (k : CallTable) (kept : List Kept) (gaps : List Range) → AreKept k kept gaps → last_or None kept ≡ None
+kept_none : (k : AbstractMachine) (kept : List Kept) (gaps : List Range) → AreKept k kept gaps
+    → last_or None kept ≡ None
     → newest_update k ≡ None
 kept_none k kept gaps (NoneKept _ _ _ none nothing free) last = ap (last_or None) none
 kept_none k kept gaps (OneKept _ update earlier _ one _ newest ends is free before) last =
     let some : last_or None kept ≡ Some one = ap (last_or None) ends ∙ last_more earlier one in
     absurd (cc)
 
-pub record HasLast (k : CallTable) (one : Kept) : Type 0 where
+pub record HasLast (k : AbstractMachine) (one : Kept) : Type 0 where
   pub update : Update
   pub newest : newest_update k ≡ Some update
   pub is : IsKept k update one
 
-kept_last : (k : CallTable) (kept : List Kept) (gaps : List Range) (one : Kept) → AreKept k kept gaps
+kept_last : (k : AbstractMachine) (kept : List Kept) (gaps : List Range) (one : Kept) → AreKept k kept gaps
     → last_or None kept ≡ Some one → HasLast k one
 kept_last k kept gaps one (NoneKept _ _ _ none nothing free) last =
     let no : last_or None kept ≡ None = ap (last_or None) nothing in
@@ -105,7 +106,7 @@ kept_last k kept gaps one (OneKept _ update earlier _ other _ newest ends is fre
     let same : other ≡ one = cc in
     subst (HasLast k) same (record { update = update; newest = newest; is = is })
 
-pub none_refused : (k : CallTable) (kept : List Kept) (gaps : List Range) → AreKept k kept gaps
+pub none_refused : (k : AbstractMachine) (kept : List Kept) (gaps : List Range) → AreKept k kept gaps
     → last_or None kept ≡ None → Some NothingApplied ≡ undo_refusal k
 unfolding undo_refusal
 none_refused k kept gaps are last = sym (ap (refusal_of k) (kept_none k kept gaps are last))
@@ -115,7 +116,7 @@ abbrev pub OrderHasNoSay : Type 0
 OrderHasNoSay = (pieces : List Piece) (ranges others : List Range) (threads : List Thread) → IsPermutation ranges others
     → thread_refusal pieces ranges threads ≡ thread_refusal pieces others threads
 
-pub last_refused : OrderHasNoSay → (k : CallTable) (kept : List Kept) (gaps : List Range) (one : Kept)
+pub last_refused : OrderHasNoSay → (k : AbstractMachine) (kept : List Kept) (gaps : List Range) (one : Kept)
     → AreKept k kept gaps → last_or None kept ≡ Some one
     → thread_refusal k.pieces one.ranges k.threads ≡ undo_refusal k
 unfolding undo_refusal

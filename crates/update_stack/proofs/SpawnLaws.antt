@@ -17,7 +17,7 @@ use Rattle.image_threads.specs.laws.StackLaws.{stack_written, length-first_bytes
 use Rattle.symbol_table.specs.Symbols.{function_named}
 use Rattle.update_stack.specs.declared.updates.Update.{Update as Shown}
 use Rattle.update_stack.specs.declared.updates.Kept.{Kept}
-use Rattle.update_stack.specs.CallTable.{CallTable, contents_of}
+use Rattle.update_stack.specs.AbstractMachine.{AbstractMachine, contents_of}
 use Rattle.update_stack.specs.Steps.{after_start, spawned}
 use Rattle.update_stack.specs.Events.{Spawn, Spawned, Happened, happened, spawn_answered, answered}
 use Rattle.update_stack.specs.Systems.{text_of, machine_of, Holds}
@@ -39,11 +39,11 @@ stack_clear contents stacks stack argument valid bounds are listed =
 
 module _ (arena : Range) (gaps : List Range) (updates : List Shown) (kept : List Kept) where
   -- a program as the machine
-  abbrev machine : Program → CallTable
+  abbrev machine : Program → AbstractMachine
   machine program = machine_of program arena updates kept
 
   -- what the program leaves, and what the machine does
-  abbrev pub Starts : Result Program Refusal → Result CallTable Refusal → Type 0
+  abbrev pub Starts : Result Program Refusal → Result AbstractMachine Refusal → Type 0
   Starts (Err refusal) now = now ≡ Err refusal
   Starts (Ok new) now =
       (now ≡ Ok (machine new)) × Sound updates kept new.contents × IsKeptOver kept gaps (machine new)
@@ -66,10 +66,10 @@ module _ (arena : Range) (gaps : List Range) (updates : List Shown) (kept : List
       let clear = clear_under stack.low (length bytes) kept old.contents.pieces clear_k in
       let beside = writes_beside laws updates kept old.contents stack.low bytes sound clear in
       let avoids = clear_avoids (contents_of k) stack.low (length bytes) holds_k.jumps.valid clear_k in
-      let by : List Piece → CallTable = λ ps. record k { pieces = ps; threads = threads } in
+      let by : List Piece → AbstractMachine = λ ps. record k { pieces = ps; threads = threads } in
       let text : written stack.low bytes k.pieces ≡ text_of kept (written stack.low bytes old.contents.pieces) =
       sym (ap (λ (c : Contents). c.pieces) beside.text) in (
-        ap (λ (ps : List Piece). let r : Result CallTable Refusal = Ok (by ps) in r) text,
+        ap (λ (ps : List Piece). let r : Result AbstractMachine Refusal = Ok (by ps) in r) text,
         beside.sound,
         subst (λ (ps : List Piece). IsKeptOver kept gaps (by ps)) text
             (over_wrote laws k kept gaps stack.low bytes threads avoids over),

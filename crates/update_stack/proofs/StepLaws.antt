@@ -14,7 +14,7 @@ use Rattle.image_threads.specs.Program.{Program, running_at}
 use Rattle.image_threads.specs.Stepping.{continued, moved_by as program_moved_by, moved as program_moved}
 use Rattle.update_stack.specs.declared.updates.Update.{Update as Shown}
 use Rattle.update_stack.specs.declared.updates.Kept.{Kept}
-use Rattle.update_stack.specs.CallTable.{CallTable}
+use Rattle.update_stack.specs.AbstractMachine.{AbstractMachine}
 use Rattle.update_stack.specs.Steps.{step_in, after_step, moved_by, moved}
 use Rattle.update_stack.specs.Jumps.{CanJump, StepsStand, jumped_left}
 use Rattle.update_stack.specs.StandsFor.{patched}
@@ -28,15 +28,15 @@ use Rattle.update_stack.proofs.HoldsLaws.{follows_itself, follows_write, holds_a
 
 -- the laws of steps
 abbrev pub AllSteps : Type 0
-AllSteps = (k : CallTable) (thread : Thread) → CanJump k → StepsStand k thread
+AllSteps = (k : AbstractMachine) (thread : Thread) → CanJump k → StepsStand k thread
 
 module _ (arena : Range) (gaps : List Range) (updates : List Shown) (kept : List Kept) where
   -- a program as the machine
-  abbrev machine : Program → CallTable
+  abbrev machine : Program → AbstractMachine
   machine program = machine_of program arena updates kept
 
   -- what the program leaves and answers, and what the machine does
-  abbrev pub Goes : Program → Outcome → Result (CallTable × Outcome) Refusal → Type 0
+  abbrev pub Goes : Program → Outcome → Result (AbstractMachine × Outcome) Refusal → Type 0
   Goes new outcome now =
       (now ≡ Ok (machine new, outcome)) × Sound updates kept new.contents × IsKeptOver kept gaps (machine new)
 
@@ -52,7 +52,8 @@ module _ (arena : Range) (gaps : List Range) (updates : List Shown) (kept : List
       (sym (ap (λ (c : Contents). c.pieces) follows.text))
       ∙ ap (λ (rs : List Range). machine_by new arena updates kept (text_of kept new.contents.pieces) rs)
       (sym (ap (map fence_range) follows.fences)) in (
-        ap (λ (k : CallTable). let r : Result (CallTable × Outcome) Refusal = Ok (k, left.outcome) in r) same,
+        ap (λ (k : AbstractMachine). let r : Result (AbstractMachine × Outcome) Refusal = Ok (k, left.outcome) in r)
+            same,
         follows.sound,
         subst (IsKeptOver kept gaps) same (follows.over (set old.threads n left.thread)),
       )

@@ -16,7 +16,7 @@ use Rattle.image_memory.specs.Contents.{Contents, IsValid}
 use Rattle.symbol_table.specs.Bodies.{newest}
 use Rattle.splice_jump.specs.Jump.{with_jump}
 use Rattle.splice_jump.specs.Jumps.{jumped, row_with, with_base, IsSpliced, AreSpliced}
-use Rattle.update_stack.specs.CallTable.{Row, is_home, newest_in, bodies_in, with_replaced, jump_row, jump_rows}
+use Rattle.update_stack.specs.AbstractMachine.{Row, is_home, newest_in, bodies_in, with_replaced, jump_row, jump_rows}
 use Rattle.update_stack.specs.Undo.{without_last, shorter, without_base}
 use Rattle.update_stack.specs.laws.StackedLaws.{last_more}
 use Rattle.update_stack.specs.laws.TableLaws.{all_read, equal, more_of, homes_spliced}

@@ -37,7 +37,7 @@ use Rattle.splice_jump.specs.laws.CodeLaws.{only_code}
 use Rattle.update_plan.specs.declared.types.Plan.{Plan}
 use Rattle.update_plan.specs.Plan.{planned, unless}
 use Rattle.update_plan.specs.Sound.{AreGaps, CanBeMade}
-use Rattle.update_stack.specs.CallTable.{CallTable, Update, bodies_in, contents_of, first_machine}
+use Rattle.update_stack.specs.AbstractMachine.{AbstractMachine, Update, bodies_in, contents_of, first_machine}
 use Rattle.update_stack.specs.StandsFor.{patched}
 use Rattle.update_stack.specs.Steps.{step_in, moved_by, moved, after_start, spawned}
 use Rattle.update_stack.specs.Apply.{name_refusal, running_of, retired_of, gaps_of, planned_in, applied, committed}
@@ -68,14 +68,16 @@ GapsAreFree = (contents : Contents) (free : List Range) → IsValid contents →
 
 -- For each live update, oldest first, what was just before the event that accepted it has the same that lasts as the
 -- machine without that update.
-pub data AreEarlier : List CallTable → CallTable → Type 0 where
-  NoneEarlier : (earlier : List CallTable) (k : CallTable) → k.updates ≡ [] → earlier ≡ [] → AreEarlier earlier k
-  OneEarlier : (earlier older : List CallTable) (before k : CallTable) (update : Update) → newest_update k ≡ Some update
+pub data AreEarlier : List AbstractMachine → AbstractMachine → Type 0 where
+  NoneEarlier : (earlier : List AbstractMachine) (k : AbstractMachine) → k.updates ≡ [] → earlier ≡ []
+      → AreEarlier earlier k
+  OneEarlier : (earlier older : List AbstractMachine) (before k : AbstractMachine) (update : Update)
+      → newest_update k ≡ Some update
       → earlier ≡ older ++ before ∷ [] → lasting before ≡ lasting (withdrawn k update)
       → AreEarlier older (withdrawn k update) → AreEarlier earlier k
 
 -- what holds after each event
-pub record IsMoment (earlier : List CallTable) (k : CallTable) : Type 0 where
+pub record IsMoment (earlier : List AbstractMachine) (k : AbstractMachine) : Type 0 where
   pub built : IsBuilt k
   pub are_earlier : AreEarlier earlier k
   pub stacks : All IsStackRange k.stacks
@@ -190,7 +192,8 @@ code_stays rows start bytes pieces keeps =
     text_of_jumped rows (written start bytes pieces) ∙ ap (jumped rows) (text_stays start bytes pieces keeps)
     ∙ sym (text_of_jumped rows pieces)
 
-lasting_wrote : (k : CallTable) (start : ℕ) (bytes : List ℕ) (threads : List Thread) → KeepsText start bytes k.pieces
+lasting_wrote : (k : AbstractMachine) (start : ℕ) (bytes : List ℕ) (threads : List Thread)
+    → KeepsText start bytes k.pieces
     → lasting (wrote start bytes threads k) ≡ lasting k
 unfolding lasting patched
 lasting_wrote k start bytes threads keeps = λ i. record {
@@ -202,14 +205,15 @@ lasting_wrote k start bytes threads keeps = λ i. record {
   data_bases = bases_stay start bytes k.pieces i;
 }
 
-withdrawn_keeps : (k : CallTable) (update : Update) (start : ℕ) (bytes : List ℕ) → KeepsText start bytes k.pieces
+withdrawn_keeps : (k : AbstractMachine) (update : Update) (start : ℕ) (bytes : List ℕ) → KeepsText start bytes k.pieces
     → KeepsText start bytes (withdrawn k update).pieces
 unfolding withdrawn
 withdrawn_keeps k update start bytes keeps =
     All-filter (λ piece. not (is_based_at update.pieces piece))
     (λ piece. is_text piece ≡ true → overlaid_piece start bytes piece ≡ piece) k.pieces keeps
 
-earlier_wrote : (earlier : List CallTable) (k : CallTable) (start : ℕ) (bytes : List ℕ) (threads : List Thread)
+earlier_wrote : (earlier : List AbstractMachine) (k : AbstractMachine) (start : ℕ)
+    (bytes : List ℕ) (threads : List Thread)
     → KeepsText start bytes k.pieces → AreEarlier earlier k → AreEarlier earlier (wrote start bytes threads k)
 earlier_wrote _ _ start bytes threads keeps (NoneEarlier earlier k none empty) =
     NoneEarlier earlier (wrote start bytes threads k) none empty
@@ -224,15 +228,15 @@ some_one : {X : Type 0} (x y : X) → Some x ≡ Some y → x ≡ y
 some_one x y is = cc
 
 -- what was just before the event that accepted the newest update
-record IsBelow (earlier : List CallTable) (k : CallTable) (update : Update) : Type 0 where
-  pub older : List CallTable
-  pub before : CallTable
+record IsBelow (earlier : List AbstractMachine) (k : AbstractMachine) (update : Update) : Type 0 where
+  pub older : List AbstractMachine
+  pub before : AbstractMachine
   pub parts : earlier ≡ older ++ before ∷ []
   pub same : lasting before ≡ lasting (withdrawn k update)
   pub rest : AreEarlier older (withdrawn k update)
 
 -- what a write that has no fault leaves, and one of no byte
-module _ (earlier : List CallTable) (k : CallTable) (moment : IsMoment earlier k) where
+module _ (earlier : List AbstractMachine) (k : AbstractMachine) (moment : IsMoment earlier k) where
   wrote_clear : (start : ℕ) (bytes : List ℕ) (threads : List Thread)
       → first_fault (write_fault k.pieces) start (length bytes) ≡ None → IsMoment earlier (wrote start bytes threads k)
   wrote_clear start bytes threads clear = record {
@@ -252,7 +256,8 @@ module _ (earlier : List CallTable) (k : CallTable) (moment : IsMoment earlier k
       let same : written 0 [] k.pieces ≡ k.pieces =
       map_fixed (overlaid_piece 0 []) k.pieces
       (λ i d l. piece_apart 0 [] (get_or k.pieces i d) (inr (omega arith))) in
-      subst (λ (ps : List Piece). let m : CallTable = record k { pieces = ps; threads = threads } in IsMoment earlier m)
+      subst (λ (ps : List Piece). let m : AbstractMachine = record k { pieces = ps; threads = threads }
+      in IsMoment earlier m)
       same (wrote_clear 0 [] threads no_fault)
 
   -- the machine with memory that a step leaves
@@ -330,7 +335,8 @@ module _ (earlier : List CallTable) (k : CallTable) (moment : IsMoment earlier k
   can_be_made plans free name pre post plan is = by_name (name_refusal k name) is
     where
       by_name : (o : Option Refusal)
-          → (unless o k >>= λ (m : CallTable). planned (running_of m) (retired_of m) (gaps_of m) pre post) ≡ Ok plan
+          → (unless o k >>= λ (m : AbstractMachine). planned (running_of m) (retired_of m) (gaps_of m) pre post)
+          ≡ Ok plan
           → CanBeMade (contents_of k) plan
       by_name (Some refusal) is = absurd (cc)
       by_name None is =
@@ -356,19 +362,19 @@ module _ (earlier : List CallTable) (k : CallTable) (moment : IsMoment earlier k
   unfolding applied
   apply_leaves laws plans free name pre post = by_plan (planned_in k name pre post) refl
     where
-      after : List ℕ → Plan → CallTable × Report
+      after : List ℕ → Plan → AbstractMachine × Report
       after name plan = (committed k name plan, plan.report)
 
       by_threads : (plan : Plan) (o : Option Refusal) → CanBeMade (contents_of k) plan
           → Leaves (apply_answered (unless o plan >>= λ (clear : Plan).
-          let r : Result (CallTable × Report) Refusal = Ok (committed k name clear, clear.report) in r))
+          let r : Result (AbstractMachine × Report) Refusal = Ok (committed k name clear, clear.report) in r))
       by_threads plan (Some refusal) can = moment
       by_threads plan None can = committed_moment laws name plan can
 
       by_plan : (r : Result Plan Refusal) → planned_in k name pre post ≡ r
           → Leaves (apply_answered (r >>= λ (plan : Plan). unless (thread_refusal k.pieces plan.guarded k.threads) plan
           >>= λ (clear : Plan).
-          let r : Result (CallTable × Report) Refusal = Ok (committed k name clear, clear.report) in r))
+          let r : Result (AbstractMachine × Report) Refusal = Ok (committed k name clear, clear.report) in r))
       by_plan (Err refusal) is = moment
       by_plan (Ok plan) is =
           by_threads plan (thread_refusal k.pieces plan.guarded k.threads)
@@ -378,7 +384,7 @@ module _ (earlier : List CallTable) (k : CallTable) (moment : IsMoment earlier k
   built_below : (update : Update) → newest_update k ≡ Some update → IsBuilt (withdrawn k update)
   built_below update newest = part k moment.built update newest
     where
-      part : (m : CallTable) → IsBuilt m → (update : Update) → newest_update m ≡ Some update
+      part : (m : AbstractMachine) → IsBuilt m → (update : Update) → newest_update m ≡ Some update
           → IsBuilt (withdrawn m update)
       part _ (Untouched m sound none empty unused) update newest =
           let nothing : last_or None [] ≡ Some update =
@@ -390,7 +396,7 @@ module _ (earlier : List CallTable) (k : CallTable) (moment : IsMoment earlier k
   earlier_below : (update : Update) → newest_update k ≡ Some update → IsBelow earlier k update
   earlier_below update newest = part earlier k moment.are_earlier update newest
     where
-      part : (earlier : List CallTable) (m : CallTable) → AreEarlier earlier m → (update : Update)
+      part : (earlier : List AbstractMachine) (m : AbstractMachine) → AreEarlier earlier m → (update : Update)
           → newest_update m ≡ Some update → IsBelow earlier m update
       part _ _ (NoneEarlier earlier m none empty) update newest =
           let nothing : last_or None [] ≡ Some update =
@@ -408,7 +414,7 @@ module _ (earlier : List CallTable) (k : CallTable) (moment : IsMoment earlier k
       record {
         built = built_below update newest;
         are_earlier =
-            subst (λ (hs : List CallTable). AreEarlier hs (withdrawn k update))
+            subst (λ (hs : List AbstractMachine). AreEarlier hs (withdrawn k update))
             (sym (ap (without_last 1) below.parts ∙ last_back below.older (below.before ∷ []))) below.rest;
         stacks = moment.stacks;
       }
@@ -419,7 +425,7 @@ module _ (earlier : List CallTable) (k : CallTable) (moment : IsMoment earlier k
     where
       by_threads : (update : Update) (o : Option Refusal) → newest_update k ≡ Some update
           → Leaves (undo_answered (unless o update >>= λ (clear : Update).
-          let r : Result (CallTable × List ℕ) Refusal = Ok (withdrawn k clear, clear.name) in r))
+          let r : Result (AbstractMachine × List ℕ) Refusal = Ok (withdrawn k clear, clear.name) in r))
       by_threads update (Some refusal) newest = moment
       by_threads update None newest = withdrawn_moment update newest
 
@@ -443,13 +449,13 @@ module _ (earlier : List CallTable) (k : CallTable) (moment : IsMoment earlier k
     where
       by_threads : (update : Update) (o : Option Refusal) → newest_update k ≡ Some update
           → undo_answered (unless o update >>= λ (clear : Update).
-          let r : Result (CallTable × List ℕ) Refusal = Ok (withdrawn k clear, clear.name) in r) ≡ Ok now
+          let r : Result (AbstractMachine × List ℕ) Refusal = Ok (withdrawn k clear, clear.name) in r) ≡ Ok now
           → option_map lasting (last_or None earlier) ≡ Some (lasting now.machine)
       by_threads update (Some refusal) newest is = absurd (cc)
       by_threads update None newest is =
           let below = earlier_below update newest in
           let machine : withdrawn k update ≡ now.machine = cc in
-          ap (λ (hs : List CallTable). option_map lasting (last_or None hs)) below.parts
+          ap (λ (hs : List AbstractMachine). option_map lasting (last_or None hs)) below.parts
           ∙ ap (option_map lasting) (last_more None below.older below.before)
           ∙ ap (λ (l : Lasting). Some l) (below.same ∙ ap lasting machine)
 
@@ -460,7 +466,7 @@ module _ (earlier : List CallTable) (k : CallTable) (moment : IsMoment earlier k
           by_threads update (thread_refusal k.pieces (ranges_in k update) k.threads) newest is
 
 -- after any list of events
-pub moments : MemoryLaws → PlansCanBeMade → GapsAreFree → (earlier : List CallTable) (k : CallTable)
+pub moments : MemoryLaws → PlansCanBeMade → GapsAreFree → (earlier : List AbstractMachine) (k : AbstractMachine)
     → (events : List Event) → IsMoment earlier k → IsMoment (befores earlier k events) (after_events k events)
 unfolding befores after_events after_event
 moments laws plans free earlier k [] moment = moment

@@ -20,7 +20,7 @@ use Rattle.image_threads.specs.Program.{Program, running_at}
 use Rattle.image_threads.specs.Stepping.{moved}
 use Rattle.update_stack.specs.declared.updates.Update.{Update as Shown}
 use Rattle.update_stack.specs.declared.updates.Kept.{Kept}
-use Rattle.update_stack.specs.CallTable.{CallTable, bodies_in, contents_of}
+use Rattle.update_stack.specs.AbstractMachine.{AbstractMachine, bodies_in, contents_of}
 use Rattle.update_stack.specs.Jumps.{CanJump}
 use Rattle.update_stack.specs.StandsFor.{Seen, patched}
 use Rattle.update_stack.specs.Systems.{machine_of, text_of, Holds}
@@ -88,7 +88,7 @@ LeavesHomes = (contents : Contents) (rows others : List (ℕ × ℕ)) → AreSpl
     → AreSpliced (jumped_memory others contents) rows
 
 -- as many bytes are fetched with the jumps as without them
-counts_beside : LeavesViews → LeavesHomes → (k : CallTable) (thread : Thread) → CanJump k
+counts_beside : LeavesViews → LeavesHomes → (k : AbstractMachine) (thread : Thread) → CanJump k
     → fetched_count (patched k) thread ≡ fetched_count (contents_of k) thread
 unfolding patched
 counts_beside views homes k thread can =
@@ -109,7 +109,7 @@ retold X told f g same (Some running) is = is ∙ same running
 module _ (laws : Laws) (steps : AllSteps) (arena : Range) (gaps : List Range) (updates : List Shown)
     (kept : List Kept) where
   -- a program as the machine
-  abbrev machine : Program → CallTable
+  abbrev machine : Program → AbstractMachine
   machine program = machine_of program arena updates kept
 
   -- what the program's step came to

@@ -20,8 +20,9 @@ use Rattle.update_memory.specs.Withdrawn.{is_one_of, without_pieces, ranges_but,
 use Rattle.image_threads.specs.Program.{Program}
 use Rattle.update_stack.specs.declared.updates.Update.{Update as Shown}
 use Rattle.update_stack.specs.declared.updates.Kept.{Kept}
-use Rattle.update_stack.specs.CallTable.{CallTable, Row, Update, is_home, bodies_in, fence_in, contents_of, jump_rows}
-use Rattle.update_stack.specs.CallTable.{with_replaced}
+use Rattle.update_stack.specs.AbstractMachine.{AbstractMachine, Row, Update, is_home, bodies_in, fence_in, contents_of}
+use Rattle.update_stack.specs.AbstractMachine.{jump_rows}
+use Rattle.update_stack.specs.AbstractMachine.{with_replaced}
 use Rattle.update_stack.specs.StandsFor.{Seen, seen, seen_of, patched}
 use Rattle.update_stack.specs.Undo.{without_last, without_base, withdrawn, newest_update}
 use Rattle.update_stack.specs.Systems.{text_of, replaced_by, table_of, live_update, live_updates, machine_of}
@@ -117,7 +118,7 @@ code_jumped stays (row ∷ rows) pieces address count has =
     (stays pieces row.0 (jump_bytes row.0 row.1) address count has)
 
 -- the homes of the newest update are code
-pub newest_code : (k : CallTable) (update : Update) (one : Kept) → HasNewest k update
+pub newest_code : (k : AbstractMachine) (update : Update) (one : Kept) → HasNewest k update
     → rows_of one.jumps ≡ jump_rows update.report.replaced → All (HasFive k.pieces) one.jumps
 newest_code k update one has rows =
     let spliced : AreSpliced (contents_of k)
@@ -128,7 +129,8 @@ newest_code k update one has rows =
     (subst (All (CodeAt k.pieces)) (sym rows) (λ i d l. (later.each i d l).code))
 
 -- and so are those of the updates before it
-pub kept_code : CodeWasThere → (k : CallTable) (kept : List Kept) (gaps : List Range) → IsBuilt k → AreKept k kept gaps
+pub kept_code : CodeWasThere → (k : AbstractMachine) (kept : List Kept) (gaps : List Range)
+    → IsBuilt k → AreKept k kept gaps
     → All (λ (one : Kept). All (HasJumpCode k.pieces) one.jumps) kept
 kept_code there k kept gaps built (NoneKept _ _ _ none nothing free) =
     subst (All (λ (one : Kept). All (HasJumpCode k.pieces) one.jumps)) (sym nothing) (λ i d l. absurd (omega arith))
@@ -206,13 +208,13 @@ text_dropped past bases (one ∷ later) pieces =
 module _ (laws : Laws) (program : Program) (arena : Range) (gaps : List Range) (updates : List Shown) (kept : List Kept)
     (update : Shown) (one : Kept) (holds : Holds program arena gaps (updates ++ update ∷ []) (kept ++ one ∷ [])) where
   -- the machine, its newest update, and the machine without it
-  abbrev k : CallTable
+  abbrev k : AbstractMachine
   k = machine_of program arena (updates ++ update ∷ []) (kept ++ one ∷ [])
 
   abbrev live : Update
   live = live_update update one
 
-  abbrev before : CallTable
+  abbrev before : AbstractMachine
   before = withdrawn k live
 
   abbrev replaced : List Replaced
@@ -295,7 +297,7 @@ module _ (laws : Laws) (program : Program) (arena : Range) (gaps : List Range) (
   contents_left = λ i. record { pieces = pieces_left i; fences = fences_left i }
 
   module _ (after : Program) (is : seen after ≡ after_taking one (seen program)) where
-    abbrev now : CallTable
+    abbrev now : AbstractMachine
     now = machine_of after arena updates kept
 
     pieces_now : after.contents.pieces
@@ -339,7 +341,7 @@ module _ (laws : Laws) (program : Program) (arena : Range) (gaps : List Range) (
     built = subst IsBuilt (sym same) has.below
 
     are_kept : AreKept now kept one.gaps
-    are_kept = subst (λ (m : CallTable). AreKept m kept one.gaps) (sym same) keeps.before
+    are_kept = subst (λ (m : AbstractMachine). AreKept m kept one.gaps) (sym same) keeps.before
 
     code : All (λ (o : Kept). All (HasJumpCode after.contents.pieces) o.jumps) kept
     unfolding patched

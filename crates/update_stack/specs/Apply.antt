@@ -19,7 +19,7 @@ use Rattle.link_post.specs.Places.{unless_empty, without}
 use Rattle.stack_scan.specs.Standing.{thread_refusal}
 use Rattle.update_plan.specs.declared.types.Plan.{Plan}
 use Rattle.update_plan.specs.Plan.{planned, unless}
-use Rattle.update_stack.specs.CallTable.{CallTable, Update, with_replaced, bodies_in, contents_of}
+use Rattle.update_stack.specs.AbstractMachine.{AbstractMachine, Update, with_replaced, bodies_in, contents_of}
 
 -- so many updates may be live
 abbrev pub most_updates : ℕ
@@ -29,24 +29,24 @@ abbrev pub has_name : List ℕ → Update → Bool
 has_name name update = same_bytes update.name name
 
 -- as many updates are live as may be; or a live one has the name
-unfoldable pub name_refusal : CallTable → List ℕ → Option Refusal
+unfoldable pub name_refusal : AbstractMachine → List ℕ → Option Refusal
 name_refusal k name =
     first_of (refused_where (nat_le most_updates (length k.updates)) TooMany)
     (refused_where (list_any (has_name name) k.updates) (NameTaken name))
 
 -- the running program that functions are looked for in
-abbrev pub running_of : CallTable → Running
+abbrev pub running_of : AbstractMachine → Running
 running_of k = record { contents = contents_of k; bodies = bodies_in k.table; symbols = k.symbols }
 
 -- the ranges that live updates retired, those of the oldest first
-abbrev pub retired_of : CallTable → List Range
+abbrev pub retired_of : AbstractMachine → List Range
 retired_of k = flat_map (λ update. update.retired) k.updates
 
 -- what is free of the arena
-abbrev pub gaps_of : CallTable → List Range
+abbrev pub gaps_of : AbstractMachine → List Range
 gaps_of k = fold without (unless_empty k.arena) (map piece_range k.pieces)
 
-unfoldable pub planned_in : CallTable → (name pre_file post_file : List ℕ) → Result Plan Refusal
+unfoldable pub planned_in : AbstractMachine → (name pre_file post_file : List ℕ) → Result Plan Refusal
 planned_in k name pre_file post_file = do
   free ← unless (name_refusal k name) k
   planned (running_of free) (retired_of free) (gaps_of free) pre_file post_file
@@ -67,7 +67,7 @@ with_new_piece pieces piece = with_piece piece pieces
 
 -- The machine after an update of a name: its pieces are added, each changed function's new base is appended to its
 -- home's row, what it replaces or drops is retired, its symbols are added, and it is the newest update.
-unfoldable pub committed : CallTable → List ℕ → Plan → CallTable
+unfoldable pub committed : AbstractMachine → List ℕ → Plan → AbstractMachine
 committed k name plan = record k {
   pieces = fold with_new_piece k.pieces plan.pieces;
   table = fold with_replaced k.table plan.report.replaced;
@@ -78,7 +78,8 @@ committed k name plan = record k {
 
 -- The machine after an update of a name from one object file to another, and its report; or the first refusal: that
 -- of the name, then the plan's, and then that of the threads.
-unfoldable pub applied : CallTable → (name pre_file post_file : List ℕ) → Result (CallTable × Report) Refusal
+unfoldable pub applied : AbstractMachine → (name pre_file post_file : List ℕ)
+    → Result (AbstractMachine × Report) Refusal
 applied k name pre_file post_file = do
   plan ← planned_in k name pre_file post_file
   clear ← unless (thread_refusal k.pieces plan.guarded k.threads) plan

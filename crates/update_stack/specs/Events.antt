@@ -4,7 +4,7 @@ use Rattle.std.specs.List.{fold}
 use Rattle.ks_base.specs.declared.refusals.Refusal.{Refusal}
 use Rattle.ks_base.specs.declared.reports.Report.{Report}
 use Rattle.ia32_step.specs.declared.types.Outcome.{Outcome}
-use Rattle.update_stack.specs.CallTable.{CallTable}
+use Rattle.update_stack.specs.AbstractMachine.{AbstractMachine}
 use Rattle.update_stack.specs.Steps.{moved, spawned}
 use Rattle.update_stack.specs.Apply.{applied}
 use Rattle.update_stack.specs.Undo.{undone}
@@ -28,42 +28,42 @@ pub data Answer : Type 0 where
 
 -- the machine after an event, and its answer
 pub record Happened : Type 0 where
-  pub machine : CallTable
+  pub machine : AbstractMachine
   pub answer : Answer
 
-abbrev pub happened : CallTable → Answer → Happened
+abbrev pub happened : AbstractMachine → Answer → Happened
 happened k answer = record { machine = k; answer = answer }
 
 -- the thread that was started is the last
-abbrev pub spawn_answered : ℕ → Result CallTable Refusal → Result Happened Refusal
+abbrev pub spawn_answered : ℕ → Result AbstractMachine Refusal → Result Happened Refusal
 spawn_answered number (Err refusal) = Err refusal
 spawn_answered number (Ok now) = Ok (happened now (Spawned number))
 
-abbrev pub step_answered : Result (CallTable × Outcome) Refusal → Result Happened Refusal
+abbrev pub step_answered : Result (AbstractMachine × Outcome) Refusal → Result Happened Refusal
 step_answered (Err refusal) = Err refusal
 step_answered (Ok left) = Ok (happened left.0 (Stepped left.1))
 
-abbrev pub apply_answered : Result (CallTable × Report) Refusal → Result Happened Refusal
+abbrev pub apply_answered : Result (AbstractMachine × Report) Refusal → Result Happened Refusal
 apply_answered (Err refusal) = Err refusal
 apply_answered (Ok left) = Ok (happened left.0 (Applied left.1))
 
-abbrev pub undo_answered : Result (CallTable × List ℕ) Refusal → Result Happened Refusal
+abbrev pub undo_answered : Result (AbstractMachine × List ℕ) Refusal → Result Happened Refusal
 undo_answered (Err refusal) = Err refusal
 undo_answered (Ok left) = Ok (happened left.0 (Undone left.1))
 
-unfoldable pub answered : CallTable → Event → Result Happened Refusal
+unfoldable pub answered : AbstractMachine → Event → Result Happened Refusal
 answered k (Spawn name argument) = spawn_answered (length k.threads) (spawned k name argument)
 answered k (Step thread) = step_answered (moved k thread)
 answered k (Apply name pre post) = apply_answered (applied k name pre post)
 answered k Undo = undo_answered (undone k)
 
-abbrev pub machine_after : CallTable → Result Happened Refusal → CallTable
+abbrev pub machine_after : AbstractMachine → Result Happened Refusal → AbstractMachine
 machine_after k (Err refusal) = k
 machine_after k (Ok now) = now.machine
 
-unfoldable pub after_event : CallTable → Event → CallTable
+unfoldable pub after_event : AbstractMachine → Event → AbstractMachine
 after_event k event = machine_after k (answered k event)
 
 -- the machine after a list of events
-unfoldable pub after_events : CallTable → List Event → CallTable
+unfoldable pub after_events : AbstractMachine → List Event → AbstractMachine
 after_events k events = fold after_event k events

@@ -11,20 +11,21 @@ use Rattle.splice_jump.specs.Jumps.{jumped, olds_at}
 use Rattle.update_memory.specs.Rows.{rows_of, olds_of}
 use Rattle.image_threads.specs.Spawning.{AreStacks}
 use Rattle.update_stack.specs.declared.updates.Kept.{Kept}
-use Rattle.update_stack.specs.CallTable.{CallTable, Update, is_home, bodies_in, contents_of, jump_rows, with_replaced}
+use Rattle.update_stack.specs.AbstractMachine.{AbstractMachine, Update, is_home, bodies_in, contents_of, jump_rows}
+use Rattle.update_stack.specs.AbstractMachine.{with_replaced}
 use Rattle.update_stack.specs.Apply.{gaps_of}
 use Rattle.update_stack.specs.Jumps.{CanJump}
 use Rattle.update_stack.specs.Undo.{withdrawn, ranges_in, newest_update}
 
 -- The jumps of a machine can stand in its memory, each stack is a piece of that, and its arena ends where code may.
-pub record IsSound (k : CallTable) : Type 0 where
+pub record IsSound (k : AbstractMachine) : Type 0 where
   pub jumps : CanJump k
   pub stacks : AreStacks k.pieces k.stacks
   pub arena : k.arena.low < k.arena.high → k.arena.high ≤ 0xFFFF_0000
 
 -- An update on what is there without it: its rows end with its bases, no other retired range is one of its homes',
 -- and what it added and retired is there, each once.
-pub record IsOnTop (k : CallTable) (update : Update) : Type 0 where
+pub record IsOnTop (k : AbstractMachine) (update : Update) : Type 0 where
   pub table : k.table ≡ fold with_replaced (withdrawn k update).table update.report.replaced
   pub once : AllPairs (λ (a b : Replaced). a.home ≢ b.home) update.report.replaced
   pub marked : All (λ (range : Range). is_home k.table range.low ≡ is_home (withdrawn k update).table range.low)
@@ -36,14 +37,14 @@ pub record IsOnTop (k : CallTable) (update : Update) : Type 0 where
   pub symbols : length update.symbols ≤ length k.symbols
 
 -- a machine without updates, or with one on a machine of which this holds
-pub data IsBuilt : CallTable → Type 0 where
-  Untouched : (k : CallTable) → IsSound k → k.updates ≡ [] → k.table ≡ [] → k.retired ≡ [] → IsBuilt k
-  Updated : (k : CallTable) (update : Update) → IsSound k → newest_update k ≡ Some update → IsOnTop k update
+pub data IsBuilt : AbstractMachine → Type 0 where
+  Untouched : (k : AbstractMachine) → IsSound k → k.updates ≡ [] → k.table ≡ [] → k.retired ≡ [] → IsBuilt k
+  Updated : (k : AbstractMachine) (update : Update) → IsSound k → newest_update k ≡ Some update → IsOnTop k update
       → IsBuilt (withdrawn k update) → IsBuilt k
 
 -- What is kept of the newest update: the five bytes that stood at each of its homes, with the jumps of the updates
 -- before it; the ranges of its pieces; and how many symbols it added.
-pub record IsKept (k : CallTable) (update : Update) (one : Kept) : Type 0 where
+pub record IsKept (k : AbstractMachine) (update : Update) (one : Kept) : Type 0 where
   pub rows : rows_of one.jumps ≡ jump_rows update.report.replaced
   pub olds : olds_of one.jumps
       ≡ olds_at (jumped (bodies_in (withdrawn k update).table) k.pieces) (jump_rows update.report.replaced)
@@ -52,9 +53,10 @@ pub record IsKept (k : CallTable) (update : Update) (one : Kept) : Type 0 where
 
 -- What is kept of each live update, the newest last, and what is free of the arena; with each update is kept what was
 -- free before it.
-pub data AreKept : CallTable → List Kept → List Range → Type 0 where
-  NoneKept : (k : CallTable) (kept : List Kept) (gaps : List Range) → k.updates ≡ [] → kept ≡ [] → gaps ≡ gaps_of k
+pub data AreKept : AbstractMachine → List Kept → List Range → Type 0 where
+  NoneKept : (k : AbstractMachine) (kept : List Kept) (gaps : List Range) → k.updates ≡ [] → kept ≡ []
+      → gaps ≡ gaps_of k
       → AreKept k kept gaps
-  OneKept : (k : CallTable) (update : Update) (earlier kept : List Kept) (one : Kept) (gaps : List Range)
+  OneKept : (k : AbstractMachine) (update : Update) (earlier kept : List Kept) (one : Kept) (gaps : List Range)
       → newest_update k ≡ Some update → kept ≡ earlier ++ one ∷ [] → IsKept k update one → gaps ≡ gaps_of k
       → AreKept (withdrawn k update) earlier one.gaps → AreKept k kept gaps

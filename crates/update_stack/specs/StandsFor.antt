@@ -1,5 +1,4 @@
--- When a system stands for the machine that never patches code: its code bytes are the machine's text, but for the
--- jumps at homes.
+-- When a system stands for the abstract machine: its code bytes are the machine's text, but for the jumps at homes.
 use Rattle.std.specs.Prelude.{◌≡◌, List}
 use Rattle.ks_base.specs.declared.places.Range.{Range}
 use Rattle.image_memory.specs.Contents.{Contents}
@@ -7,10 +6,10 @@ use Rattle.symbol_table.specs.declared.symbols.Symbol.{Symbol}
 use Rattle.ia32_step.specs.declared.types.Thread.{Thread}
 use Rattle.image_threads.specs.Program.{Program}
 use Rattle.splice_jump.specs.Jumps.{jumped_memory}
-use Rattle.update_stack.specs.CallTable.{CallTable, bodies_in, contents_of}
+use Rattle.update_stack.specs.AbstractMachine.{AbstractMachine, bodies_in, contents_of}
 
 -- The memory that a system has for the machine: the machine's own, with the jump at the home of each row.
-unfoldable pub patched : CallTable → Contents
+unfoldable pub patched : AbstractMachine → Contents
 patched k = jumped_memory (bodies_in k.table) (contents_of k)
 
 -- what is seen of a program: memory, symbols, stacks and threads, and nothing of what is spare
@@ -30,10 +29,10 @@ seen program =
     }
 
 -- what is seen of a program that stands for the machine
-abbrev pub seen_of : CallTable → Seen
+abbrev pub seen_of : AbstractMachine → Seen
 seen_of k = record { contents = patched k; symbols = k.symbols; stacks = k.stacks; threads = k.threads }
 
 -- A program stands for the machine where this is what is seen of it. The arena, and the names and reports of live
 -- updates, are the system's own: the machine that it is seen as has them from it.
-abbrev pub StandsFor : Program → CallTable → Type 0
+abbrev pub StandsFor : Program → AbstractMachine → Type 0
 StandsFor program k = seen program ≡ seen_of k

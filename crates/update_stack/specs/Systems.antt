@@ -1,5 +1,5 @@
--- A running system, seen as the machine that never patches code: the old code is put back over the jumps that its
--- live updates wrote, and what they replaced makes the table.
+-- A running system, seen as the abstract machine: the old code is put back over the jumps that its live updates wrote,
+-- and what they replaced makes the table.
 use Rattle.std.specs.Prelude.{◌≡◌, List, [], ◌∷◌, map, length}
 use Rattle.std.specs.List.{fold, flat_map, All}
 use Rattle.ks_base.specs.declared.places.Range.{Range}
@@ -14,7 +14,7 @@ use Rattle.link_post.specs.Places.{unless_empty}
 use Rattle.image_threads.specs.Program.{Program}
 use Rattle.update_stack.specs.declared.updates.Update.{Update as Shown}
 use Rattle.update_stack.specs.declared.updates.Kept.{Kept}
-use Rattle.update_stack.specs.CallTable.{CallTable, Row, Update, with_replaced}
+use Rattle.update_stack.specs.AbstractMachine.{AbstractMachine, Row, Update, with_replaced}
 use Rattle.update_stack.specs.StandsFor.{StandsFor}
 use Rattle.update_stack.specs.Stacked.{IsBuilt, AreKept}
 
@@ -47,7 +47,7 @@ live_updates (update ∷ updates) [] = []
 live_updates (update ∷ updates) (one ∷ kept) = live_update update one ∷ live_updates updates kept
 
 -- a program with its arena and its live updates, as the machine
-abbrev pub machine_of : Program → Range → List Shown → List Kept → CallTable
+abbrev pub machine_of : Program → Range → List Shown → List Kept → AbstractMachine
 machine_of program arena updates kept =
     record {
       pieces = text_of kept program.contents.pieces;

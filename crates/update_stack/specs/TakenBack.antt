@@ -8,7 +8,7 @@ use Rattle.image_file.specs.Reading.{Contents as Image, image_of}
 use Rattle.image_memory.specs.declared.types.Piece.{Piece}
 use Rattle.image_memory.specs.Fetch.{is_code}
 use Rattle.symbol_table.specs.declared.symbols.Symbol.{Symbol}
-use Rattle.update_stack.specs.CallTable.{CallTable, Row, first_machine}
+use Rattle.update_stack.specs.AbstractMachine.{AbstractMachine, Row, first_machine}
 use Rattle.update_stack.specs.StandsFor.{patched}
 use Rattle.update_stack.specs.Stacked.{IsBuilt}
 use Rattle.update_stack.specs.Undo.{without_last}
@@ -28,7 +28,7 @@ pub record Lasting : Type 0 where
 abbrev pub is_text : Piece → Bool
 is_text piece = is_code piece.kind
 
-unfoldable pub lasting : CallTable → Lasting
+unfoldable pub lasting : AbstractMachine → Lasting
 lasting k = record {
   text = filter is_text k.pieces;
   code = filter is_text (patched k).pieces;
@@ -38,18 +38,18 @@ lasting k = record {
   data_bases = map (λ (piece : Piece). piece.base) (filter (λ piece. not (is_text piece)) k.pieces);
 }
 
-abbrev pub earlier_after : List CallTable → CallTable → Answer → List CallTable
+abbrev pub earlier_after : List AbstractMachine → AbstractMachine → Answer → List AbstractMachine
 earlier_after earlier k (Spawned thread) = earlier
 earlier_after earlier k (Stepped outcome) = earlier
 earlier_after earlier k (Applied report) = earlier ++ k ∷ []
 earlier_after earlier k (Undone name) = without_last 1 earlier
 
-abbrev pub earlier_by : List CallTable → CallTable → Result Happened Refusal → List CallTable
+abbrev pub earlier_by : List AbstractMachine → AbstractMachine → Result Happened Refusal → List AbstractMachine
 earlier_by earlier k (Err refusal) = earlier
 earlier_by earlier k (Ok now) = earlier_after earlier k now.answer
 
 -- for each live update, oldest first, the machine just before the event that accepted it
-unfoldable pub befores : List CallTable → CallTable → List Event → List CallTable
+unfoldable pub befores : List AbstractMachine → AbstractMachine → List Event → List AbstractMachine
 befores earlier k [] = earlier
 befores earlier k (event ∷ events) = befores (earlier_by earlier k (answered k event)) (after_event k event) events
 

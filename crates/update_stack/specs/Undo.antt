@@ -11,7 +11,7 @@ use Rattle.image_memory.specs.Contents.{piece_range}
 use Rattle.update_memory.specs.Withdrawn.{is_based_at, without_pieces, ranges_but}
 use Rattle.stack_scan.specs.Standing.{thread_refusal}
 use Rattle.update_plan.specs.Plan.{unless}
-use Rattle.update_stack.specs.CallTable.{CallTable, Row, Update}
+use Rattle.update_stack.specs.AbstractMachine.{AbstractMachine, Row, Update}
 
 -- a list without its last items
 abbrev pub without_last : {X : Type 0} → ℕ → List X → List X
@@ -28,7 +28,7 @@ without_base (row ∷ rows) old = if row.home == old.home then shorter row ++ ro
 
 -- The machine without its newest update: without its pieces, its retired ranges and its symbols; the last base of the
 -- row of each home that it replaced is taken away. All else stays, data among it.
-unfoldable pub withdrawn : CallTable → Update → CallTable
+unfoldable pub withdrawn : AbstractMachine → Update → AbstractMachine
 withdrawn k update = record k {
   pieces = without_pieces update.pieces k.pieces;
   table = fold without_base k.table update.report.replaced;
@@ -38,14 +38,14 @@ withdrawn k update = record k {
 }
 
 -- the ranges of an update's pieces
-abbrev pub ranges_in : CallTable → Update → List Range
+abbrev pub ranges_in : AbstractMachine → Update → List Range
 ranges_in k update = map piece_range (filter (is_based_at update.pieces) k.pieces)
 
 -- the newest update
-abbrev pub newest_update : CallTable → Option Update
+abbrev pub newest_update : AbstractMachine → Option Update
 newest_update k = last_or None k.updates
 
-abbrev pub undone_by : CallTable → Option Update → Result (CallTable × List ℕ) Refusal
+abbrev pub undone_by : AbstractMachine → Option Update → Result (AbstractMachine × List ℕ) Refusal
 undone_by k None = Err NothingApplied
 undone_by k (Some update) = do
   clear ← unless (thread_refusal k.pieces (ranges_in k update) k.threads) update
@@ -53,5 +53,5 @@ undone_by k (Some update) = do
 
 -- The machine after its newest update was taken back, with the update's name; or that there is none, or the thread that
 -- stands in one of its pieces.
-unfoldable pub undone : CallTable → Result (CallTable × List ℕ) Refusal
+unfoldable pub undone : AbstractMachine → Result (AbstractMachine × List ℕ) Refusal
 undone k = undone_by k (newest_update k)

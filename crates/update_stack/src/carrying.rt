@@ -2,6 +2,7 @@
 ghost use Rattle.std.specs.Prelude.{◌≡◌, ℕ, List, ◌≤◌, ◌<◌, ◌+◌, ◌^◌, ◌++◌, [], ◌∷◌, length, map, IfOk, OnOk, OnErr};
 ghost use Rattle.std.specs.List.{All};
 ghost use Rattle.std.specs.List.Sorted.{IsPermutation};
+ghost use Rattle.image_memory.specs.Ranges.{Ascends};
 ghost use Rattle.image_memory.specs.Contents.{piece_range, fence_range};
 ghost use Rattle.image_memory.specs.Changes.{ArePlaceable};
 ghost use Rattle.splice_jump.specs.Jumps.{jumped_memory, olds_at};
@@ -9,11 +10,12 @@ ghost use Rattle.update_memory.specs.Added.{AreAddable, with_pieces};
 ghost use Rattle.update_memory.specs.Retired.{AreRetirable, with_fences};
 ghost use Rattle.update_memory.specs.Rows.{olds_of, rows_of};
 ghost use Rattle.update_stack.specs.StandsFor.{seen};
-ghost use Rattle.update_stack.specs.CallTable.{contents_of, jump_rows};
+ghost use Rattle.update_stack.specs.AbstractMachine.{contents_of, jump_rows};
 ghost use Rattle.update_stack.specs.declared.updates.Update.{Update as Shown};
 ghost use Rattle.update_stack.specs.Systems.{Holds, machine_of};
 ghost use Rattle.update_stack.specs.inside.Carrying.{bare_jump, base_of_piece, EndsLow, FitsIn, HasHomeCode};
-ghost use Rattle.update_stack.specs.inside.Carrying.{HoldsAfter, IsCarriedOut, IsKeptOf, shown_as};
+ghost use Rattle.update_stack.specs.inside.Carrying.{HoldsAfter, IsCarriedOut, IsKeptOf, IsPrepared};
+ghost use Rattle.update_stack.specs.inside.Carrying.{gaps_after, shown_as};
 ghost use Rattle.update_stack.specs.declared.updates.Kept.{Kept as KeptOf};
 ghost use Rattle.ks_base.specs.declared.places.Range.{Range as RangeOf};
 ghost use Rattle.image_threads.specs.Program.{Program};
@@ -21,11 +23,11 @@ ghost use Rattle.update_memory.specs.declared.types.Jump.{Jump as Jumped};
 ghost use Rattle.update_plan.specs.declared.types.Plan.{Plan as Planned};
 ghost use Rattle.update_plan.specs.Sound.{CanBeMade};
 
-use crate::updates::{Kept, KeptList, Update, Updates};
-use image_memory::{Fence, Piece, Pieces, Space, sorted};
+use crate::updates::{Kept, KeptList, Prepared, Update, Updates};
+use image_memory::{Fence, Piece, Pieces, Space, ranges_of, sorted};
 use image_threads::Machine;
 use ks_base::{Name, Ranges, Replaced, Report};
-use link_post::gaps_of_pieces;
+use link_post::{gaps_of_pieces, without_all};
 use splice_jump::{
     code_stays_code, homes_stay_spliced, jumps_are_added_and_replaced, jumps_are_taken_back,
     jumps_change_their_bytes_alone,
@@ -39,8 +41,37 @@ use update_memory::{
 use update_pieces::NewSymbols;
 use update_plan::Plan;
 
+/// Makes all that carrying a plan out takes memory for: what is put into the system's lists, where this is free, and room
+/// in the program. What is seen of the program stays.
+pub(crate) fn prepare<S: Space>(
+    alloc: Global,
+    machine: &mut Machine<S>,
+    gaps: &Ranges,
+    name: &Name,
+    plan: &Plan,
+) -> Result<Prepared, AllocError>
+    requires pieces { ArePlaceable plan.now.pieces }
+    requires ends { All EndsLow plan.now.report.replaced }
+    requires gaps { Ascends (λ range. range) 0 gaps.now }
+    ensures prepared { IfOk result (IsPrepared machine.old.contents gaps.now name.now plan.now) }
+    ensures seen { seen machine.new ≡ seen machine.old }
+    ensures ranges { OnOk result (machine.new.room.ranges ≡ map piece_range plan.now.pieces) }
+    ensures fences { OnOk result (length plan.now.fences ≤ machine.new.room.fences) }
+    ensures symbols { OnOk result (length plan.now.symbols ≤ machine.new.table.spare) }
+{
+    reserve(machine, plan)?;
+    let jumps = jumps_of(alloc, machine.space(), plan.report.replaced.as_slice())?;
+    let kept = kept_of(alloc, plan, &jumps, gaps)?;
+    Ok(Prepared {
+        update: shown_as(alloc, name, &plan.report)?,
+        gaps: gaps_after(alloc, plan, gaps)?,
+        kept,
+        jumps,
+    })
+}
+
 /// Makes room in a program for pieces, retired ranges and symbols to come. What is seen of the program stays.
-pub(crate) fn reserve<S: Space>(machine: &mut Machine<S>, plan: &Plan) -> Result<(), AllocError>
+fn reserve<S: Space>(machine: &mut Machine<S>, plan: &Plan) -> Result<(), AllocError>
     requires { ArePlaceable plan.now.pieces }
     ensures seen { seen machine.new ≡ seen machine.old }
     ensures ranges { OnOk result (machine.new.room.ranges ≡ map piece_range plan.now.pieces) }
@@ -102,11 +133,7 @@ fn add_symbols(table: &mut SymbolTable, symbols: NewSymbols)
 
 /// The jumps of replaced functions, each with the code that stands at its home.
 #[tactic(auto, using(crate::proofs::CarryLaws::rows_bare, crate::proofs::CarryLaws::homes_low))]
-pub(crate) fn jumps_of<S: Space>(
-    alloc: Global,
-    space: &S,
-    replaced: &[Replaced],
-) -> Result<Jumps, AllocError>
+fn jumps_of<S: Space>(alloc: Global, space: &S, replaced: &[Replaced]) -> Result<Jumps, AllocError>
     requires { All EndsLow replaced.now }
     ensures rows { IfOk result (λ jumps. rows_of jumps ≡ jump_rows replaced.now) }
     ensures olds { IfOk result
@@ -147,55 +174,54 @@ fn bare_jump(one: &Replaced) -> Jump
     }
 }
 
-/// What is kept of a plan that is carried out with these jumps, where this was free, and its pieces have these ranges.
-pub(crate) fn kept_of(
-    alloc: Global,
-    plan: &Plan,
-    jumps: &Jumps,
-    ranges: &Ranges,
-    gaps: &Ranges,
-) -> Result<Kept, AllocError>
-    requires { ranges.now ≡ map piece_range plan.now.pieces }
+/// What is kept of a plan that is carried out with these jumps, where this was free.
+fn kept_of(alloc: Global, plan: &Plan, jumps: &Jumps, gaps: &Ranges) -> Result<Kept, AllocError>
+    requires { ArePlaceable plan.now.pieces }
     ensures { IfOk result (λ kept. IsKeptOf plan.now jumps.now gaps.now kept) }
 {
+    let symbol_count = counted(plan.symbols.len())?;
+    let retired = retired_of(alloc, plan.fences.as_slice())?;
+    let (pieces, ranges) = places_of(alloc, plan.pieces.as_slice())?;
+    let (symbols, jumps, gaps) = copies_of(&plan.symbols, jumps, gaps)?;
     Ok(Kept {
-        pieces: bases_of(alloc, plan.pieces.as_slice())?,
-        ranges: in_order(alloc, plan, ranges)?,
-        retired: ranges_of(alloc, plan.fences.as_slice())?,
-        symbols: copy_of_symbols(&plan.symbols)?,
-        symbol_count: counted(plan.symbols.len())?,
-        jumps: copy_of_jumps(jumps)?,
-        gaps: copy_of_ranges(gaps)?,
+        pieces,
+        ranges,
+        retired,
+        symbols,
+        symbol_count,
+        jumps,
+        gaps,
     })
 }
 
-/// A copy of symbols. It and the next two say in a clause of their own that a copy is equal, which the proof of what is
-/// kept of a plan needs.
-fn copy_of_symbols(symbols: &NewSymbols) -> Result<NewSymbols, AllocError>
-    ensures { IfOk result (λ copy. copy ≡ symbols.now) }
+/// Copies of symbols, jumps and ranges.
+fn copies_of(
+    symbols: &NewSymbols,
+    jumps: &Jumps,
+    ranges: &Ranges,
+) -> Result<(NewSymbols, Jumps, Ranges), AllocError>
+    ensures symbols { IfOk result (λ copies. copies.0 ≡ symbols.now) }
+    ensures jumps { IfOk result (λ copies. copies.1 ≡ jumps.now) }
+    ensures ranges { IfOk result (λ copies. copies.2 ≡ ranges.now) }
 {
-    symbols.clone()
+    Ok((symbols.clone()?, jumps.clone()?, ranges.clone()?))
 }
 
-/// A copy of jumps.
-fn copy_of_jumps(jumps: &Jumps) -> Result<Jumps, AllocError>
-    ensures { IfOk result (λ copy. copy ≡ jumps.now) }
+/// Where pieces begin, and their ranges in ascending order.
+fn places_of(alloc: Global, pieces: &[Piece]) -> Result<(Addresses, Ranges), AllocError>
+    requires { ArePlaceable pieces.now }
+    ensures bases { IfOk result (λ places. places.0 ≡ map base_of_piece pieces.now) }
+    ensures ranges { IfOk result (λ places. IsPermutation (map piece_range pieces.now) places.1) }
 {
-    jumps.clone()
+    Ok((bases_of(alloc, pieces)?, in_order(alloc, pieces)?))
 }
 
-/// A copy of ranges.
-fn copy_of_ranges(ranges: &Ranges) -> Result<Ranges, AllocError>
-    ensures { IfOk result (λ copy. copy ≡ ranges.now) }
+/// The ranges of pieces in ascending order.
+fn in_order(alloc: Global, pieces: &[Piece]) -> Result<Ranges, AllocError>
+    requires { ArePlaceable pieces.now }
+    ensures { IfOk result (λ sorted. IsPermutation (map piece_range pieces.now) sorted) }
 {
-    ranges.clone()
-}
-
-/// The ranges of a plan's pieces in ascending order.
-fn in_order(alloc: Global, plan: &Plan, ranges: &Ranges) -> Result<Ranges, AllocError>
-    requires { ranges.now ≡ map piece_range plan.now.pieces }
-    ensures { IfOk result (λ sorted. IsPermutation (map piece_range plan.now.pieces) sorted) }
-{
+    let ranges = ranges_of(alloc, pieces)?;
     Ok(Ranges::from_vec(sorted(alloc, ranges.as_slice())?))
 }
 
@@ -209,7 +235,7 @@ fn bases_of(alloc: Global, pieces: &[Piece]) -> Result<Addresses, AllocError>
     Ok(bases)
 }
 
-fn ranges_of(alloc: Global, fences: &[Fence]) -> Result<Ranges, AllocError>
+fn retired_of(alloc: Global, fences: &[Fence]) -> Result<Ranges, AllocError>
     ensures { IfOk result (λ ranges. ranges ≡ map fence_range fences.now) }
 {
     let mut ranges = Ranges::new(alloc);
@@ -219,8 +245,18 @@ fn ranges_of(alloc: Global, fences: &[Fence]) -> Result<Ranges, AllocError>
     Ok(ranges)
 }
 
+/// What is free after a plan was carried out, where this was free before.
+fn gaps_after(alloc: Global, plan: &Plan, gaps: &Ranges) -> Result<Ranges, AllocError>
+    requires pieces { ArePlaceable plan.now.pieces }
+    requires gaps { Ascends (λ range. range) 0 gaps.now }
+    ensures { IfOk result (λ left. left ≡ gaps_after gaps.now plan.now) }
+{
+    let taken = ranges_of(alloc, plan.pieces.as_slice())?;
+    without_all(alloc, gaps, taken.as_slice())
+}
+
 /// The update of a name, as it is shown.
-pub(crate) fn shown_as(alloc: Global, name: &Name, report: &Report) -> Result<Update, AllocError>
+fn shown_as(alloc: Global, name: &Name, report: &Report) -> Result<Update, AllocError>
     ensures { IfOk result (λ update. update ≡ shown_as name.now report.now) }
 {
     Ok(Update {

@@ -1,10 +1,10 @@
-//! What holds of the machine that never patches code, and of the memory that stands for it.
+//! What holds of the abstract machine, and of the memory that stands for it.
 ghost use Rattle.std.specs.Prelude.{◌≡◌, ℕ, List, Ok};
 ghost use Rattle.image_memory.specs.Fetch.{HasCode};
 ghost use Rattle.ia32_step.specs.declared.types.Thread.{Thread};
 ghost use Rattle.update_plan.specs.declared.types.Plan.{Plan};
 ghost use Rattle.update_plan.specs.Sound.{CanBeMade};
-ghost use Rattle.update_stack.specs.CallTable.{CallTable, contents_of};
+ghost use Rattle.update_stack.specs.AbstractMachine.{AbstractMachine, contents_of};
 ghost use Rattle.update_stack.specs.Apply.{planned_in, committed};
 ghost use Rattle.update_stack.specs.Jumps.{CanJump, StepsStand};
 ghost use Rattle.update_stack.specs.Stacked.{IsBuilt};
@@ -22,7 +22,7 @@ use update_plan::plans_can_be_made;
 /// Over the memory with the jumps a thread's step comes to what it comes to on the machine: at a home it goes on at the
 /// newest version, in a retired range it stops, and elsewhere it carries out the machine's text.
 pub fn steps_stand()
-    ensures { (k : CallTable) (thread : Thread) → CanJump k → StepsStand k thread }
+    ensures { (k : AbstractMachine) (thread : Thread) → CanJump k → StepsStand k thread }
 {
     // Nothing is done here: the laws say that a jump's bytes decode to it, that an instruction does the same whatever
     // bytes of code stand beside its data, and what jumps leave of memory.
@@ -38,9 +38,9 @@ pub fn steps_stand()
 /// On a machine whose updates lie each on what was there without it, an update that is planned can be made; and where
 /// it is made, code stays code.
 pub fn updates_can_be_made()
-    ensures can { (k : CallTable) (name pre_file post_file : List ℕ) (plan : Plan) → IsBuilt k →
+    ensures can { (k : AbstractMachine) (name pre_file post_file : List ℕ) (plan : Plan) → IsBuilt k →
         planned_in k name pre_file post_file ≡ Ok plan → CanBeMade (contents_of k) plan }
-    ensures code { (k : CallTable) (name : List ℕ) (plan : Plan) (address count : ℕ) → IsBuilt k →
+    ensures code { (k : AbstractMachine) (name : List ℕ) (plan : Plan) (address count : ℕ) → IsBuilt k →
         CanBeMade (contents_of k) plan → HasCode k.pieces address count →
         HasCode (committed k name plan).pieces address count }
 {

@@ -1,5 +1,5 @@
-//! The running system: a program whose functions can be replaced while it runs, seen as a machine that never patches
-//! code.
+//! The running system: a program whose functions can be replaced while it runs, seen as an abstract machine whose code
+//! is never patched.
 #![tactic(auto)]
 
 mod carrying;

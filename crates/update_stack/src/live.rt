@@ -5,7 +5,7 @@ ghost use Rattle.std.specs.List.Sorted.{IsPermutation};
 ghost use Rattle.indexmap.specs.IndexMap.{insert_all};
 ghost use Rattle.i386_reloc.specs.Normal.{same_bytes};
 ghost use Rattle.symbol_table.specs.Bodies.{newest};
-ghost use Rattle.update_stack.specs.CallTable.{bodies_in, jump_rows};
+ghost use Rattle.update_stack.specs.AbstractMachine.{bodies_in, jump_rows};
 ghost use Rattle.update_stack.specs.Systems.{table_of};
 
 use crate::updates::{Kept, Update};

@@ -6,7 +6,7 @@ ghost use Rattle.ks_base.specs.declared.refusals.Refusal.TheVariants.{Memory};
 ghost use Rattle.ia32_step.specs.Step.{store_fault, after_store, stored, fetched_count};
 ghost use Rattle.image_threads.specs.Program.{running_at};
 ghost use Rattle.image_threads.specs.Spawning.{AreStacks};
-ghost use Rattle.update_stack.specs.CallTable.{contents_of, shown_update};
+ghost use Rattle.update_stack.specs.AbstractMachine.{contents_of, shown_update};
 ghost use Rattle.update_stack.specs.Systems.{gaps_in, machine_of};
 ghost use Rattle.ks_base.specs.Gives.{Gives};
 ghost use Rattle.elf32_object.specs.Rule.{Finds};
@@ -22,18 +22,16 @@ ghost use Rattle.update_stack.specs.Undo.{newest_update};
 ghost use Rattle.update_stack.specs.inside.Stepping.{ComesOfStep};
 ghost use Rattle.update_stack.specs.inside.TakingBack.{undo_refusal, ComesOfUndo};
 
-use crate::carrying::{
-    change, jumps_of, kept_of, plans_are_carried_out, push_both, reserve, shown_as,
-};
+use crate::carrying::{change, plans_are_carried_out, prepare, push_both};
 use crate::laws::steps_stand;
 use crate::live::{bodies_of, is_taken, retired_by};
 use crate::updates::{KeptList, Updates};
-use crate::withdrawing::{take_back, updates_are_taken_back};
+use crate::withdrawing::{pop_both, take_back, updates_are_taken_back};
 use ia32_step::{Outcome, Traced};
-use image_memory::{Space, ranges_of, sorted};
+use image_memory::{Space, sorted};
 use image_threads::Machine;
 use ks_base::{Name, Range, Ranges, Refusal, Report};
-use link_post::{gaps_are_free, without_all};
+use link_post::gaps_are_free;
 use splice_jump::{
     code_stays_code, data_are_written_past_jumps, homes_stay_spliced,
     jumps_change_their_bytes_alone, jumps_leave_views,
@@ -48,8 +46,8 @@ use update_plan::{Plan, alike_programs_have_one_plan, plan, plans_can_be_made};
 const MOST_UPDATES: usize = 64;
 
 /// A program that runs over a memory, with the arena that new versions of its functions are placed in, and its live
-/// updates. A clause sees it as the machine that never patches code: its text stays as it is, and a table says where
-/// the newest version of a function begins.
+/// updates. A clause sees it as the abstract machine, whose code is never patched: its text stays as it is, and a table
+/// says where the newest version of a function begins.
 #[derive(Drop)]
 pub struct System<S: Space> {
     alloc: Global,
@@ -62,10 +60,10 @@ pub struct System<S: Space> {
 }
 
 impl<S: Space> Model for System<S> {
-    ghost use Rattle.update_stack.specs.CallTable.{CallTable};
+    ghost use Rattle.update_stack.specs.AbstractMachine.{AbstractMachine};
     ghost use Rattle.update_stack.specs.Systems.{Holds, machine_of};
 
-    ghost Value = { CallTable };
+    ghost Value = { AbstractMachine };
 
     ghost view = { λ s. machine_of s.machine s.arena s.updates s.kept };
 
@@ -95,8 +93,8 @@ impl<S: Space> System<S> {
         })
     }
 
-    /// The program. It stands for the machine that never patches code: all is equal but the bytes of the jumps at the
-    /// homes of replaced functions.
+    /// The program. It stands for the abstract machine that the system is seen as: all is equal but the bytes of the
+    /// jumps at the homes of replaced functions.
     pub fn machine(&self) -> &Machine<S>
         ensures stands { StandsFor result.now self.now }
         ensures built { IsBuilt self.now }
@@ -247,14 +245,10 @@ impl<S: Space> System<S> {
     {
         // The law says that what is kept of the newest update can be taken away, and what holds then.
         updates_are_taken_back();
-        let Some(update) = self.updates.pop() else {
+        let Some((update, one)) = pop_both(&mut self.updates, &mut self.kept) else {
             return Err(Refusal::NothingApplied);
         };
-        let Some(one) = self.kept.pop() else {
-            return Err(Refusal::NothingApplied);
-        };
-        take_back(&mut self.machine, &one);
-        self.gaps = one.gaps;
+        self.gaps = take_back(&mut self.machine, one);
         Ok(update.name)
     }
 
@@ -325,15 +319,9 @@ impl<S: Space> System<S> {
         // The laws say that the plan fits, and what comes of it.
         plans_are_carried_out();
         gaps_are_free();
-        let update = shown_as(self.alloc, name, &plan.report)?;
-        let replaced = plan.report.replaced.as_slice();
-        let jumps = jumps_of(self.alloc, self.machine.space(), replaced)?;
-        let ranges = ranges_of(self.alloc, plan.pieces.as_slice())?;
-        let gaps = without_all(self.alloc, &self.gaps, ranges.as_slice())?;
-        let kept = kept_of(self.alloc, &plan, &jumps, &ranges, &self.gaps)?;
-        reserve(&mut self.machine, &plan)?;
-        push_both(&mut self.updates, &mut self.kept, update, kept)?;
-        self.gaps = gaps;
+        let made = prepare(self.alloc, &mut self.machine, &self.gaps, name, &plan)?;
+        push_both(&mut self.updates, &mut self.kept, made.update, made.kept)?;
+        self.gaps = made.gaps;
         let Plan {
             report,
             pieces,
@@ -345,7 +333,7 @@ impl<S: Space> System<S> {
             &mut self.machine,
             pieces,
             fences.as_slice(),
-            jumps.as_slice(),
+            made.jumps.as_slice(),
             symbols,
         );
         Ok(report)

@@ -37,3 +37,16 @@ pub(crate) struct Kept {
 
 /// What is kept of updates in order.
 pub(crate) type KeptList = ListOf<Kept>;
+
+/// What is made of a plan before it is carried out, since it takes memory.
+#[derive(Drop)]
+pub(crate) struct Prepared {
+    /// The update, as it is shown.
+    pub(crate) update: Update,
+    /// What is kept of it.
+    pub(crate) kept: Kept,
+    /// The jumps to write, with the code that stands there before.
+    pub(crate) jumps: Jumps,
+    /// What is free of the arena after it.
+    pub(crate) gaps: Ranges,
+}

@@ -1,5 +1,5 @@
 //! What taking the newest update back does.
-ghost use Rattle.std.specs.Prelude.{◌≡◌, List, ◌++◌, [], ◌∷◌, ◌+◌};
+ghost use Rattle.std.specs.Prelude.{◌≡◌, List, ◌++◌, [], ◌∷◌, ◌+◌, length, IfSome, IfNone};
 ghost use Rattle.ks_base.specs.declared.places.Range.{Range as RangeOf};
 ghost use Rattle.image_threads.specs.Program.{Program};
 ghost use Rattle.update_stack.specs.StandsFor.{seen};
@@ -8,9 +8,10 @@ ghost use Rattle.update_stack.specs.declared.updates.Kept.{Kept as KeptOf};
 ghost use Rattle.update_stack.specs.declared.updates.Update.{Update as Shown};
 ghost use Rattle.update_stack.specs.inside.TakingBack.{CanBeTaken, after_taking, IsHeldBefore};
 
-use crate::updates::Kept;
+use crate::updates::{Kept, KeptList, Update, Updates};
 use image_memory::Space;
 use image_threads::Machine;
+use ks_base::Ranges;
 use splice_jump::{
     code_stays_code, homes_stay_spliced, jumps_are_added_and_replaced, jumps_are_taken_back,
     jumps_change_their_bytes_alone,
@@ -20,15 +21,32 @@ use update_memory::{
     withdraw,
 };
 
-/// Takes away what an update changed: its jumps, its retired ranges, its pieces and its symbols. It takes no memory.
-pub(crate) fn take_back<S: Space>(machine: &mut Machine<S>, one: &Kept)
-    requires { CanBeTaken machine.old one.now }
-    ensures { seen machine.new ≡ after_taking one.now (seen machine.old) }
+/// Takes the newest update, and what is kept of it, from both lists; where there is none, they are as before.
+pub(crate) fn pop_both(updates: &mut Updates, kept: &mut KeptList) -> Option<(Update, Kept)>
+    requires { length kept.old ≡ length updates.old }
+    ensures updates { IfSome result (λ newest. updates.old ≡ updates.new ++ newest.0 ∷ []) }
+    ensures kept { IfSome result (λ newest. kept.old ≡ kept.new ++ newest.1 ∷ []) }
+    ensures none { IfNone result (updates.old ≡ []) }
+    ensures same_updates { IfNone result (updates.new ≡ updates.old) }
+    ensures same_kept { IfNone result (kept.new ≡ kept.old) }
+{
+    let update = updates.pop()?;
+    let one = kept.pop()?;
+    Some((update, one))
+}
+
+/// Takes away what an update changed: its jumps, its retired ranges, its pieces and its symbols. Answers what was free
+/// of the arena before it. It takes no memory.
+pub(crate) fn take_back<S: Space>(machine: &mut Machine<S>, one: Kept) -> Ranges
+    requires { CanBeTaken machine.old one }
+    ensures seen { seen machine.new ≡ after_taking one (seen machine.old) }
+    ensures gaps { result ≡ one.gaps }
 {
     let pieces = one.pieces.as_slice();
     let retired = one.retired.as_slice();
     withdraw(machine.space_mut(), pieces, retired, one.jumps.as_slice());
     machine.symbols_mut().remove_last(one.symbol_count);
+    one.gaps
 }
 
 /// What is kept of the newest update can be taken away, and the system holds then, as the machine without that update.

@@ -5,7 +5,7 @@ use Rattle.ia32_step.specs.declared.types.Thread.{Thread}
 use Rattle.ia32_step.specs.Threads.{esp_of}
 use Rattle.image_threads.specs.Program.{running_at}
 use Rattle.image_threads.specs.declared.turns.Turn.{Turn}
-use Rattle.update_stack.specs.CallTable.{CallTable}
+use Rattle.update_stack.specs.AbstractMachine.{AbstractMachine}
 use Rattle.update_stack.specs.Events.{Step}
 use Rattle.frame_watch.specs.declared.types.Verdict.{Verdict}
 use Rattle.frame_watch.specs.declared.types.Verdict.TheVariants.{Disciplined, Broken}
@@ -18,7 +18,7 @@ pub record IsSame (watched : WatchedThread) (thread : Thread) : Type 0 where
   pub esp : watched.esp ≡ esp_of thread
 
 -- A thread that is watched runs, with the stack and the ESP that the watch has, and its frames keep the slot rule.
-pub record Runs (k : CallTable) (watched : WatchedThread) : Type 0 where
+pub record Runs (k : AbstractMachine) (watched : WatchedThread) : Type 0 where
   pub running : IsSomeAnd (running_at k.threads watched.thread) (IsSame watched)
   pub slots : IsTrue (keeps_slots k.pieces watched)
 
@@ -27,7 +27,7 @@ abbrev pub IsStopped : Verdict → List WatchedThread → Type 0
 IsStopped Disciplined threads = Unit {0}
 IsStopped (Broken event thread rule) threads = threads ≡ []
 
-pub record IsInStep (k : CallTable) (watch : Watching) : Type 0 where
+pub record IsInStep (k : AbstractMachine) (watch : Watching) : Type 0 where
   pub each : All (Runs k) watch.threads
   pub stopped : IsStopped watch.verdict watch.threads
 

@@ -18,7 +18,8 @@ use Rattle.image_threads.specs.Program.{Program}
 use Rattle.update_plan.specs.declared.types.Plan.{Plan}
 use Rattle.update_stack.specs.declared.updates.Update.{Update as Shown}
 use Rattle.update_stack.specs.declared.updates.Kept.{Kept}
-use Rattle.update_stack.specs.CallTable.{jump_rows}
+use Rattle.update_stack.specs.declared.updates.Prepared.{Prepared}
+use Rattle.update_stack.specs.AbstractMachine.{jump_rows}
 use Rattle.update_stack.specs.StandsFor.{seen}
 use Rattle.update_stack.specs.Systems.{Holds, machine_of}
 use Rattle.update_stack.specs.Apply.{committed}
@@ -71,6 +72,15 @@ shown_as name report = record { name = name; report = report }
 -- what is free after a plan was carried out
 abbrev pub gaps_after : List Range → Plan → List Range
 gaps_after gaps plan = fold without gaps (map piece_range plan.pieces)
+
+-- what is made of a plan before it is carried out, in a memory and where this is free
+pub record IsPrepared
+    (contents : Contents) (gaps : List Range) (name : List ℕ) (plan : Plan) (prepared : Prepared) : Type 0 where
+  pub shown : prepared.update ≡ shown_as name plan.report
+  pub kept_of_plan : IsKeptOf plan prepared.jumps gaps prepared.kept
+  pub rows : rows_of prepared.jumps ≡ jump_rows plan.report.replaced
+  pub olds : olds_of prepared.jumps ≡ olds_at contents.pieces (jump_rows plan.report.replaced)
+  pub left : prepared.gaps ≡ gaps_after gaps plan
 
 -- what comes of a plan that is carried out: the system holds, as the machine after the update
 pub record HoldsAfter

@@ -14,21 +14,21 @@ use Rattle.image_threads.specs.Program.{Program}
 use Rattle.stack_scan.specs.Standing.{thread_refusal}
 use Rattle.update_stack.specs.declared.updates.Update.{Update as Shown}
 use Rattle.update_stack.specs.declared.updates.Kept.{Kept}
-use Rattle.update_stack.specs.CallTable.{CallTable, Update}
+use Rattle.update_stack.specs.AbstractMachine.{AbstractMachine, Update}
 use Rattle.update_stack.specs.StandsFor.{Seen}
 use Rattle.update_stack.specs.Undo.{without_last, withdrawn, ranges_in, newest_update}
 use Rattle.update_stack.specs.Systems.{live_update, machine_of, Holds}
 
 -- why an update isn't taken back: there is none, or a thread stands in one of its pieces
-abbrev pub refusal_of : CallTable → Option Update → Option Refusal
+abbrev pub refusal_of : AbstractMachine → Option Update → Option Refusal
 refusal_of k None = Some NothingApplied
 refusal_of k (Some update) = thread_refusal k.pieces (ranges_in k update) k.threads
 
-unfoldable pub undo_refusal : CallTable → Option Refusal
+unfoldable pub undo_refusal : AbstractMachine → Option Refusal
 undo_refusal k = refusal_of k (newest_update k)
 
 -- what comes of taking back an update, if there is one
-abbrev pub ComesOfUndo : Option Update → (old new : CallTable) → Result (List ℕ) Refusal → Type 0
+abbrev pub ComesOfUndo : Option Update → (old new : AbstractMachine) → Result (List ℕ) Refusal → Type 0
 ComesOfUndo None old new result = (result ≡ Err NothingApplied) × (new ≡ old)
 ComesOfUndo (Some update) old new result = (result ≡ Ok update.name) × (new ≡ withdrawn old update)
 

@@ -2,7 +2,7 @@
 -- and of its newest update.
 use Rattle.std.proofs.Common.{◌≡◌, List, [], ◌∷◌, ◌++◌, Some, refl, Option, None, subst, ap}
 use Rattle.std.specs.List.{last_or}
-use Rattle.update_stack.specs.CallTable.{CallTable, Update}
+use Rattle.update_stack.specs.AbstractMachine.{AbstractMachine, Update}
 use Rattle.update_stack.specs.Stacked.{IsSound, IsBuilt, Untouched, Updated, IsOnTop}
 use Rattle.update_stack.specs.Undo.{withdrawn, newest_update}
 
@@ -12,18 +12,19 @@ last_more o [] x = refl
 last_more o (y ∷ ys) x = last_more (Some y) ys x
 
 -- of a machine that is built its jumps can stand, and its stacks and its arena are what they should be
-pub built_sound : (k : CallTable) → IsBuilt k → IsSound k
+pub built_sound : (k : AbstractMachine) → IsBuilt k → IsSound k
 built_sound _ (Untouched k sound none empty unused) = sound
 built_sound _ (Updated k update sound newest above built) = sound
 
 -- of a machine with updates: the newest lies on one that is built
-pub record HasNewest (k : CallTable) (update : Update) : Type 0 where
+pub record HasNewest (k : AbstractMachine) (update : Update) : Type 0 where
   pub sound : IsSound k
   pub top : IsOnTop k update
   pub below : IsBuilt (withdrawn k update)
 
 -- where a machine that is built has a newest update, this is so of it
-pub built_newest : (k : CallTable) (update : Update) → IsBuilt k → newest_update k ≡ Some update → HasNewest k update
+pub built_newest : (k : AbstractMachine) (update : Update) → IsBuilt k → newest_update k ≡ Some update
+    → HasNewest k update
 built_newest k update (Untouched _ sound none table retired) is =
     let nothing : newest_update k ≡ None = ap (last_or None) none in
     absurd (cc)

@@ -11,7 +11,7 @@ use Rattle.ia32_step.specs.declared.types.Thread.{Thread}
 use Rattle.ia32_step.specs.Operands.{spelled}
 use Rattle.ia32_step.specs.Step.{Left, context_of, exits, done, store_fault, after_store, unless_barred, change_by}
 use Rattle.ia32_step.specs.laws.OperandLaws.{length-spelled}
-use Rattle.update_stack.specs.CallTable.{CallTable, contents_of, view_in, base_of}
+use Rattle.update_stack.specs.AbstractMachine.{AbstractMachine, contents_of, view_in, base_of}
 use Rattle.update_stack.specs.Steps.{step_at, step_in}
 
 -- What is so of memory as it was, and after each write that has no fault, is so of what a step leaves.
@@ -48,7 +48,7 @@ module _ (Q : Contents → Type 0) (contents : Contents) (same : Q contents)
   by_end thread base met false = by_view thread base met
 
 -- the law: what is so of memory as it was and after each such write is so after a step of the machine
-pub by_step : (Q : Contents → Type 0) (k : CallTable) → Q (contents_of k)
+pub by_step : (Q : Contents → Type 0) (k : AbstractMachine) → Q (contents_of k)
     → ((start : ℕ) (bytes : List ℕ) → first_fault (write_fault k.pieces) start (length bytes) ≡ None
     → Q (after_write (contents_of k) start bytes))
     → (thread : Thread) → Q (step_in k thread).contents

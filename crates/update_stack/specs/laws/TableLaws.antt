@@ -8,7 +8,7 @@ use Rattle.ks_base.specs.declared.reports.Replaced.{Replaced}
 use Rattle.image_memory.specs.Contents.{Contents}
 use Rattle.splice_jump.specs.Jumps.{IsSpliced, AreSpliced}
 use Rattle.update_plan.specs.Sound.{is_replaced_at}
-use Rattle.update_stack.specs.CallTable.{Row, is_home, newest_in, bodies_in, with_replaced}
+use Rattle.update_stack.specs.AbstractMachine.{Row, is_home, newest_in, bodies_in, with_replaced}
 
 -- what holds of all that is read off the items of a list
 pub all_read : {X Y : Type 0} (f : X → Y) (P : Y → Type 0) (xs : List X) → All P (map f xs) → All (λ x. P (f x)) xs

@@ -13,7 +13,8 @@ use Rattle.image_memory.specs.Contents.{fence_range, spliced_at}
 use Rattle.image_memory.specs.Ranges.{lies_in}
 use Rattle.image_memory.specs.Fetch.{AtHome, Stray, Bytes, view, view_at, seen_in, code_from, window_of}
 use Rattle.splice_jump.specs.Jumps.{IsFenced, IsSpliced}
-use Rattle.update_stack.specs.CallTable.{CallTable, Row, is_home, newest_in, bodies_in, fence_in, contents_of, view_in}
+use Rattle.update_stack.specs.AbstractMachine.{AbstractMachine, Row, is_home, newest_in, bodies_in, fence_in}
+use Rattle.update_stack.specs.AbstractMachine.{contents_of, view_in}
 
 -- the retired ranges of a machine are those of its memory
 pub ranges_back : (table : List Row) (retired : List Range) → map fence_range (map (fence_in table) retired) ≡ retired
@@ -78,7 +79,7 @@ none_marked table pc (range ∷ ranges) none =
     (unmarked table pc range (range.low == pc) refl none)
     ∙ none_marked table pc ranges none
 
-marked_by : (k : CallTable) (pc : ℕ) (is : Bool) → is_home k.table pc ≡ is
+marked_by : (k : AbstractMachine) (pc : ℕ) (is : Bool) → is_home k.table pc ≡ is
     → All (λ row. IsSpliced (contents_of k) row.0) (bodies_in k.table)
     → spliced_at (contents_of k).fences pc ≡ is
 marked_by k pc true e all =
@@ -88,7 +89,7 @@ marked_by k pc true e all =
 marked_by k pc false e all = none_marked k.table pc k.retired e
 
 -- the machine and its own memory meet the same
-pub met_alike : (k : CallTable) (pc : ℕ) → All (λ row. IsSpliced (contents_of k) row.0) (bodies_in k.table)
+pub met_alike : (k : AbstractMachine) (pc : ℕ) → All (λ row. IsSpliced (contents_of k) row.0) (bodies_in k.table)
     → view_at (contents_of k) pc ≡ view_in k pc
 unfolding view view_in
 met_alike k pc all =

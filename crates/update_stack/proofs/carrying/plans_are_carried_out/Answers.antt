@@ -1,4 +1,4 @@
-use Rattle.update_stack.specs.CallTable.{contents_of}
+use Rattle.update_stack.specs.AbstractMachine.{contents_of}
 use Rattle.update_stack.specs.Systems.{machine_of}
 use Rattle.update_stack.specs.laws.StackedLaws.{built_sound}
 use Rattle.update_stack.proofs.CarryLaws.{Laws, plan_fits, homes_end, holds_after}

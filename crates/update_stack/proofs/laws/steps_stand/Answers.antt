@@ -1,4 +1,4 @@
-use Rattle.update_stack.specs.CallTable.{bodies_in, contents_of}
+use Rattle.update_stack.specs.AbstractMachine.{bodies_in, contents_of}
 use Rattle.update_stack.specs.StandsFor.{patched}
 use Rattle.update_stack.proofs.LockStep.{step_stands, same_data}
 use Rattle.update_stack.proofs.laws.steps_stand.Goals as goal

@@ -1,7 +1,7 @@
 use Rattle.std.proofs.Common.{ℕ, List, nat_eq, ap, ◌∙◌, arith}
 use Rattle.indexmap.specs.IndexMap.{insert_all}
 use Rattle.ks_base.specs.declared.reports.Replaced.{Replaced}
-use Rattle.update_stack.specs.CallTable.{jump_rows}
+use Rattle.update_stack.specs.AbstractMachine.{jump_rows}
 use Rattle.update_stack.proofs.LiveLaws.{next_put}
 use Rattle.update_stack.proofs.live.newest_bases.Goals as goal
 

@@ -1,5 +1,5 @@
 use Rattle.std.proofs.Common.{◌≡◌, take}
-use Rattle.update_stack.specs.CallTable.{bodies_in}
+use Rattle.update_stack.specs.AbstractMachine.{bodies_in}
 use Rattle.update_stack.specs.Systems.{table_of}
 use Rattle.update_stack.proofs.live.newest_bases.Given as goal
 

@@ -1,6 +1,6 @@
 use Rattle.std.proofs.Common.{◌≡◌, nat_eq, take}
 use Rattle.indexmap.specs.IndexMap.{insert_all}
-use Rattle.update_stack.specs.CallTable.{jump_rows}
+use Rattle.update_stack.specs.AbstractMachine.{jump_rows}
 use Rattle.update_stack.proofs.live.put_replaced.Given as goal
 
 abbrev pub invariant-loop-one : goal.invariant-loop-one

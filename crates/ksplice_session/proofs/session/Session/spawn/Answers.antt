@@ -4,7 +4,7 @@ use Rattle.std.specs.Option.{option_copied}
 use Rattle.image_memory.specs.Contents.{Contents}
 use Rattle.ia32_step.specs.declared.types.Thread.{Thread}
 use Rattle.frame_watch.specs.Frames.{Watching}
-use Rattle.update_stack.specs.CallTable.{CallTable}
+use Rattle.update_stack.specs.AbstractMachine.{AbstractMachine}
 use Rattle.update_stack.specs.Events.{Spawn}
 use Rattle.ksplice_session.specs.Answers.{MadeFront, watched}
 use Rattle.ksplice_session.specs.Watching.{Watched, watched_after}
@@ -24,7 +24,7 @@ returns-in_err-number-clause-front c =
     on_err c.from_residual.result _
     (none_made c.args.self.now
     (watched c.spawn.new.self c.self.inside.watch) (Spawn c.args.name.now c.args.argument ∷ [])
-    (ap (λ (k : CallTable). watched k c.self.inside.watch) c.in_err-number.ensures.refused ∙ c.self.view_is))
+    (ap (λ (k : AbstractMachine). watched k c.self.inside.watch) c.in_err-number.ensures.refused ∙ c.self.view_is))
 
 -- the thread that was started
 got_after : (c : After-space) → slice_get c.spawn.new.self.threads c.in_ok-number.number ≡ Some c.in-Some.thread.now

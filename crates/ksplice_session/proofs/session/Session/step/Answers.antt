@@ -3,7 +3,7 @@ use Rattle.std.specs.List.{slice_get}
 use Rattle.std.specs.Option.{option_copied}
 use Rattle.image_memory.specs.Contents.{Contents}
 use Rattle.ia32_step.specs.declared.types.Thread.{Thread}
-use Rattle.update_stack.specs.CallTable.{CallTable}
+use Rattle.update_stack.specs.AbstractMachine.{AbstractMachine}
 use Rattle.update_stack.specs.Events.{Step, answered}
 use Rattle.frame_watch.specs.Conditions.{HaveWindows}
 use Rattle.ksplice_session.specs.Answers.{watched}
@@ -84,7 +84,7 @@ pub returns-in_default-step_traced-clause-after : goal.returns-in_default-step_t
 returns-in_default-step_traced-clause-after c =
     let w = c.self.inside.watch in
     let came = c.in_default-step_traced.ensures in
-    ap (λ (k : CallTable). watched k w) came.refused ∙ c.self.view_is
+    ap (λ (k : AbstractMachine). watched k w) came.refused ∙ c.self.view_is
     ∙ step_refused c.args.self.now c.args.thread c.in_default-step_traced.field-0
     (subst (λ (s : Watched). answered s.machine (Step c.args.thread) ≡ Err c.in_default-step_traced.field-0)
     c.self.view_is came.answered)

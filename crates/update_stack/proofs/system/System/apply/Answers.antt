@@ -2,7 +2,7 @@ use Rattle.std.proofs.Common.{Result, Ok, sym, ◌∙◌, ap}
 use Rattle.std.proofs.lemmas.Result.{err_from_is_err_and}
 use Rattle.ks_base.specs.declared.refusals.Refusal.{Refusal}
 use Rattle.ks_base.specs.declared.reports.Report.{Report}
-use Rattle.update_stack.specs.CallTable.{CallTable}
+use Rattle.update_stack.specs.AbstractMachine.{AbstractMachine}
 use Rattle.update_stack.specs.Events.{Applied, Happened, happened}
 use Rattle.update_stack.proofs.ApplyLaws.{plan_refused, thread_refused, plan_made}
 use Rattle.update_stack.proofs.system.System.apply.Goals as goal
@@ -26,7 +26,8 @@ pub returns-clause-answered : goal.returns-clause-answered
 returns-clause-answered g c =
     plan_made c.args.self.now c.args.name.now c.args.pre.now c.args.post.now c.in_ok-plan.plan
     c.in_ok-plan.ensures.planned c.in_ok-check_threads.ensures
-    ∙ ap (λ (k : CallTable). let r : Result Happened Refusal = Ok (happened k (Applied c.in_ok-plan.plan.report)) in r)
+    ∙ ap (λ (k : AbstractMachine). let r : Result Happened Refusal =
+    Ok (happened k (Applied c.in_ok-plan.plan.report)) in r)
     (sym c.in_ok-carry_out.ensures.committed)
     ∙ ap (λ (report : Report). let r : Result Happened Refusal =
     Ok (happened c.carry_out.new.self (Applied report)) in r) (sym c.in_ok-carry_out.ensures.report)

@@ -4,7 +4,7 @@ use Rattle.std.specs.List.{last_or, slice_get}
 use Rattle.ks_base.specs.declared.places.Range.{Range}
 use Rattle.stack_scan.specs.Standing.{thread_refusal}
 use Rattle.update_stack.specs.declared.updates.Kept.{Kept}
-use Rattle.update_stack.specs.CallTable.{CallTable}
+use Rattle.update_stack.specs.AbstractMachine.{AbstractMachine}
 use Rattle.update_stack.specs.Systems.{machine_of}
 use Rattle.update_stack.specs.inside.TakingBack.{undo_refusal}
 use Rattle.update_stack.proofs.SeenLaws.{none_refused, last_refused, last_is}
@@ -32,7 +32,7 @@ returns-in-Some g c =
     c.check_ranges.ensures
     ∙ ap (λ (rs : List Range). thread_refusal c.args.self.now.pieces rs c.args.self.now.threads)
     c.as_slice-in-Some.ensures
-    ∙ ap (λ (k : CallTable). thread_refusal k.pieces one.ranges k.threads) (sym c.self.view_is)
+    ∙ ap (λ (k : AbstractMachine). thread_refusal k.pieces one.ranges k.threads) (sym c.self.view_is)
     ∙ last_refused c.order_has_no_say.ensures.threads
     (machine_of inside.machine inside.arena inside.updates inside.kept) inside.kept inside.gaps one
     c.self.invariant.are_kept last

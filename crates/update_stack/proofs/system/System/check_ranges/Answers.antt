@@ -3,7 +3,7 @@ use Rattle.std.specs.List.{All}
 use Rattle.image_memory.specs.Contents.{Contents}
 use Rattle.ia32_step.specs.declared.types.Thread.{Thread}
 use Rattle.stack_scan.specs.Standing.{HasStack, thread_refusal}
-use Rattle.update_stack.specs.CallTable.{CallTable}
+use Rattle.update_stack.specs.AbstractMachine.{AbstractMachine}
 use Rattle.update_stack.proofs.FreshLaws.{all_have_stacks}
 use Rattle.update_stack.proofs.SeenLaws.{program_stacks, refusal_seen}
 use Rattle.update_stack.proofs.system.System.check_ranges.Goals as goal
@@ -30,4 +30,4 @@ returns g c =
     (c.as_slice-threads.ensures ∙ c.threads.ensures.threads)
     ∙ refusal_seen machine inside.arena inside.gaps inside.updates inside.kept c.self.invariant
     c.jumps_change_their_bytes_alone.ensures.data_bytes ranges c.threads.ensures.placed
-    ∙ ap (λ (k : CallTable). thread_refusal k.pieces ranges k.threads) c.self.view_is
+    ∙ ap (λ (k : AbstractMachine). thread_refusal k.pieces ranges k.threads) c.self.view_is

@@ -7,7 +7,7 @@ use Rattle.i386_reloc.specs.Normal.{same_bytes}
 use Rattle.update_plan.specs.declared.types.Plan.{Plan}
 use Rattle.update_plan.specs.Plan.{planned}
 use Rattle.update_stack.specs.declared.updates.Update.{Update as Shown}
-use Rattle.update_stack.specs.CallTable.{CallTable}
+use Rattle.update_stack.specs.AbstractMachine.{AbstractMachine}
 use Rattle.update_stack.specs.Systems.{machine_of, live_updates}
 use Rattle.update_stack.specs.Apply.{has_name, planned_in, running_of, retired_of, gaps_of}
 use Rattle.update_stack.proofs.ApplyLaws.{too_many, name_taken, name_free}
@@ -27,7 +27,8 @@ returns-then-len-ge-MOST_UPDATES-clause-planned g c =
       c.len.ensures,
       c.if-len-ge-MOST_UPDATES.true,
     ) in
-    λ other. ap (λ (m : CallTable). planned_in m c.args.name.now c.args.pre.now c.args.post.now) (sym c.self.view_is)
+    λ other. ap (λ (m : AbstractMachine). planned_in m c.args.name.now c.args.pre.now c.args.post.now)
+    (sym c.self.view_is)
     ∙ too_many k c.args.name.now c.args.pre.now c.args.post.now many
 
 pub returns-then-is_taken-clause-planned : goal.returns-then-is_taken-clause-planned
@@ -45,7 +46,8 @@ returns-then-is_taken-clause-planned g c =
     sym (named_live inside.updates inside.kept c.args.name.now c.self.invariant.paired)
     ∙ ap (list_any (λ (update : Shown). same_bytes update.name c.args.name.now)) (sym c.as_slice.ensures)
     ∙ sym c.is_taken.ensures ∙ c.if-is_taken.true in
-    λ other. ap (λ (m : CallTable). planned_in m c.args.name.now c.args.pre.now c.args.post.now) (sym c.self.view_is)
+    λ other. ap (λ (m : AbstractMachine). planned_in m c.args.name.now c.args.pre.now c.args.post.now)
+    (sym c.self.view_is)
     ∙ name_taken k c.args.name.now c.args.pre.now c.args.post.now few has
     ∙ ap (λ (name : List ℕ). let r : Result Plan Refusal = Err (NameTaken name) in r)
     (sym (c.in_ok-name.ensures ∙ c.as_slice-then-is_taken.ensures))
@@ -65,9 +67,9 @@ returns-clause-planned g c =
     sym (named_live inside.updates inside.kept c.args.name.now c.self.invariant.paired)
     ∙ ap (list_any (λ (update : Shown). same_bytes update.name c.args.name.now)) (sym c.as_slice.ensures)
     ∙ sym c.is_taken.ensures ∙ c.if-is_taken.false in
-    let P : CallTable → Type 0 = λ m. Gives (λ (plan : Plan). plan) c.plan_beside.result
+    let P : AbstractMachine → Type 0 = λ m. Gives (λ (plan : Plan). plan) c.plan_beside.result
     (planned (running_of m) (retired_of m) (gaps_of m) c.args.pre.now c.args.post.now) in
-    subst (λ (m : CallTable). Gives (λ (plan : Plan). plan) c.plan_beside.result
+    subst (λ (m : AbstractMachine). Gives (λ (plan : Plan). plan) c.plan_beside.result
     (planned_in m c.args.name.now c.args.pre.now c.args.post.now)) c.self.view_is
     (subst (Gives (λ (plan : Plan). plan) c.plan_beside.result)
     (sym (name_free k c.args.name.now c.args.pre.now c.args.post.now few none))

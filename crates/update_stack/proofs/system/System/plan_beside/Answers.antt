@@ -12,7 +12,7 @@ use Rattle.update_plan.specs.Plan.{planned}
 use Rattle.update_plan.specs.Sound.{CanBeMade}
 use Rattle.update_stack.specs.declared.updates.Update.{Update as Shown}
 use Rattle.update_stack.specs.declared.updates.Kept.{Kept}
-use Rattle.update_stack.specs.CallTable.{CallTable, bodies_in, contents_of}
+use Rattle.update_stack.specs.AbstractMachine.{AbstractMachine, bodies_in, contents_of}
 use Rattle.update_stack.specs.Apply.{running_of, retired_of, gaps_of}
 use Rattle.update_stack.specs.Systems.{machine_of, table_of}
 use Rattle.update_stack.specs.laws.StackedLaws.{built_sound}
@@ -76,7 +76,7 @@ returns-clause-planned g c =
     subst (λ (r : Result Plan Refusal). Gives (λ (plan : Plan). plan) c.plan.result r)
     (plan_beside laws k contents symbols bodies retired inside.gaps c.args.pre.now c.args.post.now beside)
     c.plan.ensures in
-    subst (λ (m : CallTable). Gives (λ (plan : Plan). plan) c.plan.result
+    subst (λ (m : AbstractMachine). Gives (λ (plan : Plan). plan) c.plan.result
     (planned (running_of m) (retired_of m) (gaps_of m) c.args.pre.now c.args.post.now)) c.self.view_is given
 
 pub returns-clause-sound : goal.returns-clause-sound
@@ -114,6 +114,6 @@ returns-clause-sound g c =
     subst (λ (r : Result Plan Refusal). Gives (λ (plan : Plan). plan) c.plan.result r)
     (plan_beside laws k contents symbols bodies retired inside.gaps c.args.pre.now c.args.post.now beside)
     c.plan.ensures in
-    subst (λ (m : CallTable). IfOk c.plan.result (λ (plan : Plan). CanBeMade (contents_of m) plan)) c.self.view_is
+    subst (λ (m : AbstractMachine). IfOk c.plan.result (λ (plan : Plan). CanBeMade (contents_of m) plan)) c.self.view_is
     (plan_sound c.plans_can_be_made.ensures c.gaps_are_free.ensures.ascend c.gaps_are_free.ensures.below
     c.gaps_are_free.ensures.apart k c.args.pre.now c.args.post.now c.plan.result c.self.invariant.built given)

@@ -1,6 +1,6 @@
 use Rattle.std.proofs.Common.{◌≡◌, ◌≢◌, Ok, Err, MatchResult, subst}
 use Rattle.ks_base.specs.declared.refusals.Refusal.TheVariants.{Memory}
-use Rattle.update_stack.specs.CallTable.{CallTable}
+use Rattle.update_stack.specs.AbstractMachine.{AbstractMachine}
 use Rattle.update_stack.specs.Events.{Spawn, Spawned, happened, answered}
 use Rattle.update_stack.specs.Systems.{machine_of}
 use Rattle.update_stack.proofs.HoldsLaws.{Laws}
@@ -34,7 +34,7 @@ returns-clause-answered g c =
       there = c.code_that_stays.ensures.code;
     } in
     let inside = c.self.inside in
-    let P : CallTable → Type 0 = λ k. MatchResult c.spawn.result
+    let P : AbstractMachine → Type 0 = λ k. MatchResult c.spawn.result
     (λ number. answered k (Spawn c.args.name.now c.args.argument)
     ≡ Ok (happened (machine_of c.spawn.new.self inside.arena inside.updates inside.kept) (Spawned number)))
     (λ refusal. refusal ≢ Memory → answered k (Spawn c.args.name.now c.args.argument) ≡ Err refusal) in

@@ -1,5 +1,5 @@
 use Rattle.std.proofs.Common.{subst}
-use Rattle.update_stack.specs.CallTable.{CallTable}
+use Rattle.update_stack.specs.AbstractMachine.{AbstractMachine}
 use Rattle.update_stack.specs.Systems.{machine_of}
 use Rattle.update_stack.specs.inside.Stepping.{ComesOfStep}
 use Rattle.update_stack.proofs.HoldsLaws.{Laws}
@@ -34,7 +34,7 @@ returns g c =
     let inside = c.self.inside in
     let came = c.step_traced.ensures in
     let now = machine_of c.step_traced.new.self inside.arena inside.updates inside.kept in
-    let Comes : CallTable → Type 0 = λ k. ComesOfStep k now c.args.thread c.step_traced.result in
+    let Comes : AbstractMachine → Type 0 = λ k. ComesOfStep k now c.args.thread c.step_traced.result in
     subst Comes c.self.view_is
     (step_comes laws c.steps_stand.ensures inside.arena inside.gaps inside.updates inside.kept
     c.jumps_leave_views.ensures c.homes_stay_spliced.ensures.jumped inside.machine c.step_traced.new.self c.args.thread

@@ -1,4 +1,4 @@
--- The abstract machine that never patches code. A table says where the newest version of each replaced function
+-- The abstract machine, whose code is never patched. A table says where the newest version of each replaced function
 -- begins, and a thread that comes to the function's home goes on there; the text of every version stays as it was
 -- placed.
 use Rattle.std.specs.Prelude.{ℕ, ◌-◌, Bool, ◌==◌, if◌then◌else◌, List, [], ◌∷◌, ◌++◌, map, replicate, None, unwrap_or}
@@ -35,7 +35,7 @@ pub record Update : Type 0 where
 -- Text and data, ascending, the text being the pieces of code; the table; the retired ranges, ascending; the symbols;
 -- the image's stacks in order and its arena, which never change; all threads by number, those that have ended among
 -- them; and the live updates, oldest first.
-pub record CallTable : Type 0 where
+pub record AbstractMachine : Type 0 where
   pub pieces : List Piece
   pub table : List Row
   pub retired : List Range
@@ -57,11 +57,11 @@ abbrev pub bodies_in : List Row → List (ℕ × ℕ)
 bodies_in table = map newest_in table
 
 -- where the newest version of a home's function begins: the home itself where it has no row
-abbrev pub base_of : CallTable → ℕ → ℕ
+abbrev pub base_of : AbstractMachine → ℕ → ℕ
 base_of k home = newest (bodies_in k.table) home
 
 -- what a thread meets at an address
-unfoldable pub view_in : CallTable → ℕ → View
+unfoldable pub view_in : AbstractMachine → ℕ → View
 view_in k pc = view (is_home k.table) k.retired k.pieces pc
 
 -- the machine as a memory: its own text, and a fence for each retired range, with a jump where that begins at a home
@@ -69,7 +69,7 @@ view_in k pc = view (is_home k.table) k.retired k.pieces pc
 abbrev pub fence_in : List Row → Range → Fence
 fence_in table range = record { range = range; jump = is_home table range.low }
 
-abbrev pub contents_of : CallTable → Contents
+abbrev pub contents_of : AbstractMachine → Contents
 contents_of k = record { pieces = k.pieces; fences = map (fence_in k.table) k.retired }
 
 -- a stack at first: writable memory that holds zeros
@@ -82,7 +82,7 @@ all_pieces regions [] = regions
 all_pieces regions (stack ∷ stacks) = with_piece (stack_piece stack) (all_pieces regions stacks)
 
 -- the machine at its start: nothing was replaced, and there is no thread and no update
-abbrev pub first_machine : Image → CallTable
+abbrev pub first_machine : Image → AbstractMachine
 first_machine image = record {
   pieces = all_pieces image.pieces image.stacks;
   table = [];
