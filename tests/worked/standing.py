@@ -1,5 +1,5 @@
 """Rows of threads that stand in the way of an update, or don't (docs/updates.md)."""
-from .encode import STACKS, at, image, obj, sec, word
+from .encode import STACKS, at, image, obj, sec, word, writable
 from .files import (APPLIED, APPLY, BARE_F, F_FIRST_TO_SECOND, FIRST_TO_SECOND, NEW_WORK, OLD_WORK, PROGRAM, REPLACED,
                     SPIN, WORK, applied, f_alone, f_section, program, sp_program)
 from .rows import run
@@ -71,6 +71,9 @@ ROWS = [
         FIRST_TO_SECOND),
     run("stack-holds-the-address-after-the-function", PROGRAM,
         [("spawn main 0x00100006", "spawned 0 0x00100010 main+0x0"), APPLIED], FIRST_TO_SECOND),
+    run("word-just-above-the-stack-is-passed-over",
+        sp_program("esp", STACKS[0][1] - 4, regions=[writable(STACKS[0][1], "05 00 10 00")]),
+        [IN_SP, ESP_SET, APPLIED], F_FIRST_TO_SECOND),
     run("odd-stack-pointer-is-rounded-down", sp_program("esp", 0x00400FF1),
         [("spawn sp 0x00100005", IN_SP[1]), ESP_SET, busy("stack 0x00400ff0 0x00100005")], F_FIRST_TO_SECOND),
     run("empty-stack-is-accepted", sp_program("esp", 0x00401000), [IN_SP, ESP_SET, APPLIED], F_FIRST_TO_SECOND),

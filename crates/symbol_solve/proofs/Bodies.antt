@@ -1,9 +1,8 @@
--- What is said of a body, said of its candidate.
+-- What is said of bodies and of what came of matching, said of candidates.
 use Rattle.std.proofs.Common.{◌≡◌, ℕ, Bool, not, ◌&&◌, cond, List, [], ◌∷◌, Option, Some, refl, sym, ap, ◌∙◌}
 use Rattle.std.specs.Prelude.{Result}
-use Rattle.std.specs.Option.{option_map}
+use Rattle.std.specs.Option.{option_map, option_or}
 use Rattle.std.specs.List.{find}
-use Rattle.ks_base.specs.declared.refusals.Refusal.{Refusal}
 use Rattle.i386_reloc.specs.declared.types.NormalSection.{NormalSection}
 use Rattle.i386_reloc.specs.Normal.{same_bytes}
 use Rattle.image_memory.specs.Contents.{Contents}
@@ -13,10 +12,11 @@ use Rattle.run_pre_match.specs.declared.types.MatchFault.{MatchFault}
 use Rattle.run_pre_match.specs.Candidate.{Candidate, same_number, Body, body_of, is_number_of}
 use Rattle.run_pre_match.specs.Matched.{PreSection, outcome}
 use Rattle.run_pre_match.specs.Bodies.{body_at}
-use Rattle.propagation.specs.Conflicts.{first_some}
-use Rattle.symbol_solve.specs.Clashes.{is_unmet, contradict, claims_in, claims_of}
-use Rattle.symbol_solve.specs.Conflicts.{claims_conflict, interior_conflict, conflict_of_claims}
-use Rattle.symbol_solve.specs.inside.Left.{is_unmet_in}
+use Rattle.match_candidates.specs.declared.trials.Tried.{Tried}
+use Rattle.symbol_solve.specs.Clashes.{is_unmet, claims_in, claims_of, interiors_in}
+use Rattle.symbol_solve.specs.Conflicts.{conflict_of_claims, interior_conflict, conflict_of_interiors, clash_between}
+use Rattle.symbol_solve.specs.inside.Left.{IsOf, is_unmet_in}
+use Rattle.symbol_solve.specs.inside.Reported.{first_contradicted, unmet_in, first_unmet, first_unmet_at, first_clash}
 
 -- the body at a candidate's base is the candidate's
 pub body_here : (d : Candidate) (pre : PreSection) (contents : Contents) (base : ℕ)
@@ -40,38 +40,39 @@ find_same p q same [] = refl
 find_same p q same (x ∷ xs) =
     ap (λ b. cond b (Some x) (find p xs)) (same x) ∙ ap (λ rest. cond (q x) (Some x) rest) (find_same p q same xs)
 
--- the first that isn't met in a candidate
-pub unmet_found : (d : Candidate) (pre : PreSection) (contents : Contents)
-    (base : ℕ) (body : Body) (interiors : List Interior) (o : Option Interior) → body ≡ body_at pre contents base
-    → d.section ≡ pre.section → d.contents ≡ contents → d.base ≡ base
-    → o ≡ find (is_unmet_in body pre.section.name) interiors → o ≡ find (is_unmet d) interiors
-unmet_found d pre contents base body interiors o at section memory there first =
-    first
-    ∙ ap (λ b. find (is_unmet_in b pre.section.name) interiors)
-    (at ∙ body_here d pre contents base section memory there)
-    ∙ ap (λ (s : NormalSection). find (is_unmet_in (body_of d) s.name) interiors) (sym section)
-    ∙ sym (find_same (is_unmet d) (is_unmet_in (body_of d) d.section.name) (unmet_by d) interiors)
+-- the first of some interiors that isn't met in a body
+pub unmet_found : (pre : PreSection) (contents : Contents) (base : ℕ)
+    (body : Body) (interiors : List Interior) (o : Option Interior) → body ≡ body_at pre contents base
+    → o ≡ find (is_unmet_in body pre.section.name) interiors
+    → option_map (unmet_in body) o ≡ first_unmet_at pre contents base interiors
+unmet_found pre contents base body interiors o at first =
+    ap (option_map (unmet_in body)) first ∙ ap (λ b. first_unmet b pre.section.name interiors) at
 
--- and what is reported of it
-pub unmet_reported : (d : Candidate) (pre : PreSection) (contents : Contents) (base : ℕ)
-    (body : Body) (interiors : List Interior) (i : Interior) (refusal : Refusal) → body ≡ body_at pre contents base
-    → d.section ≡ pre.section → d.contents ≡ contents → d.base ≡ base
-    → Some i ≡ find (is_unmet_in body pre.section.name) interiors
-    → ((e : Candidate) → body ≡ body_of e → refusal ≡ interior_conflict e i)
-    → Some refusal ≡ option_map (interior_conflict d) (find (is_unmet d) interiors)
-unmet_reported d pre contents base body interiors i refusal at section memory there first told =
-    ap (λ (r : Refusal). Some r) (told d (at ∙ body_here d pre contents base section memory there))
+-- and in a candidate
+unmet_here : (d : Candidate) (pre : PreSection) (contents : Contents) (t : Tried) (interiors : List Interior)
+    → IsOf pre d t → d.contents ≡ contents → first_unmet_at pre contents t.base interiors
+    ≡ option_map (interior_conflict d) (find (is_unmet d) interiors)
+unmet_here d pre contents t interiors is memory =
+    ap (λ b. first_unmet b pre.section.name interiors) (body_here d pre contents t.base is.section memory (sym is.base))
+    ∙ ap (λ (s : NormalSection). first_unmet (body_of d) s.name interiors) (sym is.section)
     ∙ ap (option_map (interior_conflict d))
-    (unmet_found d pre contents base body interiors (Some i) at section memory there first)
+    (sym (find_same (is_unmet d) (is_unmet_in (body_of d) d.section.name) (unmet_by d) interiors))
 
--- what is reported of claims
-pub claims_told : (c d : Candidate) (one other : Result Matched MatchFault) (report : Option Refusal)
-    → outcome c ≡ one → outcome d ≡ other
-    → report ≡ first_some (λ a. option_map (claims_conflict a) (find (contradict a) (claims_in other))) (claims_in one)
-    → report ≡ conflict_of_claims c d
-claims_told c d one other report is_one is_other told =
-    told
-    ∙ ap (λ o. first_some (λ a. option_map (claims_conflict a) (find (contradict a) (claims_in o))) (claims_in one))
-    (sym is_other)
-    ∙ ap (λ o. first_some (λ a. option_map (claims_conflict a) (find (contradict a) (claims_of d))) (claims_in o))
-    (sym is_one)
+-- what is reported of two candidates
+pub clash_here : (contents : Contents) (a b : PreSection) (t u : Tried) (one other : Result Matched MatchFault)
+    (c d : Candidate) → IsOf a c t → c.contents ≡ contents → outcome c ≡ one
+    → IsOf b d u → d.contents ≡ contents → outcome d ≡ other
+    → first_clash contents a t.base one b u.base other ≡ clash_between (c, d)
+clash_here contents a b t u one other c d held memory comes kept there came =
+    let first : first_contradicted (claims_in one) (claims_in other) ≡ conflict_of_claims c d =
+    ap (λ (o : Result Matched MatchFault). first_contradicted (claims_in o) (claims_in other)) (sym comes)
+    ∙ ap (λ (o : Result Matched MatchFault). first_contradicted (claims_of c) (claims_in o)) (sym came) in
+    let next : first_unmet_at b contents u.base (interiors_in one) ≡ conflict_of_interiors c d =
+    unmet_here d b contents u (interiors_in one) kept there
+    ∙ ap (λ (o : Result Matched MatchFault).
+    option_map (interior_conflict d) (find (is_unmet d) (interiors_in o))) (sym comes) in
+    let last : first_unmet_at a contents t.base (interiors_in other) ≡ conflict_of_interiors d c =
+    unmet_here c a contents t (interiors_in other) held memory
+    ∙ ap (λ (o : Result Matched MatchFault).
+    option_map (interior_conflict c) (find (is_unmet c) (interiors_in o))) (sym came) in
+    λ i. option_or (first i) (option_or (next i) (last i))

@@ -100,23 +100,22 @@ module _ (running : Running) (object : List NormalSection) where
       ∙ remaining_among candidate_rules self cs (all_apart cs (candidates_ordered running object))
 
 -- what is reported of the pair that was found
-pub reported_here : (count : ℕ) (cs : List Candidate) (report : Option Refusal) (places : Option (ℕ × ℕ))
-    → report ≡ option_and_then clash_between (option_and_then (pair_at cs) places)
+pub reported_here : (count : ℕ) (cs : List Candidate) (places : Option (ℕ × ℕ))
     → option_and_then (pair_at cs) places ≡ conflict candidate_rules (by_place count (forced candidate_rules cs))
-    → report ≡ reported count cs
+    → reported count cs ≡ option_and_then clash_between (option_and_then (pair_at cs) places)
 unfolding reported
-reported_here count cs report places told found = told ∙ ap (option_and_then clash_between) found
+reported_here count cs places found = ap (option_and_then clash_between) (sym found)
 
 -- the answer, by what stands in its way
 pub refused_by : (report twin : Option Refusal) (refusal : Refusal) (chosen : List Candidate)
-    → Some refusal ≡ report → values_unless (option_or report twin) chosen ≡ Err refusal
-refused_by report twin refusal chosen is = ap (λ (o : Option Refusal). values_unless (option_or o twin) chosen) (sym is)
+    → report ≡ Some refusal → values_unless (option_or report twin) chosen ≡ Err refusal
+refused_by report twin refusal chosen is = ap (λ (o : Option Refusal). values_unless (option_or o twin) chosen) is
 
 pub refused_next : (report twin : Option Refusal) (refusal : Refusal) (chosen : List Candidate)
-    → None ≡ report → Some refusal ≡ twin → values_unless (option_or report twin) chosen ≡ Err refusal
+    → report ≡ None → twin ≡ Some refusal → values_unless (option_or report twin) chosen ≡ Err refusal
 refused_next report twin refusal chosen none is =
-    λ i. values_unless (option_or (sym none i) (sym is i)) chosen
+    λ i. values_unless (option_or (none i) (is i)) chosen
 
 pub answered : (report twin : Option Refusal) (chosen : List Candidate)
-    → None ≡ report → None ≡ twin → values_unless (option_or report twin) chosen ≡ Ok (values chosen)
-answered report twin chosen none is = λ i. values_unless (option_or (sym none i) (sym is i)) chosen
+    → report ≡ None → twin ≡ None → values_unless (option_or report twin) chosen ≡ Ok (values chosen)
+answered report twin chosen none is = λ i. values_unless (option_or (none i) (is i)) chosen

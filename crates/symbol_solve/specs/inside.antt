@@ -3,3 +3,4 @@ pub mod Numbers
 pub mod Points
 pub mod Claims
 pub mod Left
+pub mod Reported

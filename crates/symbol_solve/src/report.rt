@@ -1,24 +1,32 @@
 //! What is reported of two candidates that clash.
-ghost use Rattle.std.specs.Prelude.{◌≡◌, ◌<◌, IfOk};
+ghost use Rattle.std.specs.Prelude.{◌≡◌, IfOk};
 ghost use Rattle.std.specs.Option.{option_copied, option_map};
 ghost use Rattle.std.specs.List.{find};
-ghost use Rattle.run_pre_match.specs.Candidate.{Candidate, body_of};
-ghost use Rattle.run_pre_match.specs.Matched.{outcome};
-ghost use Rattle.propagation.specs.Conflicts.{first_some};
-ghost use Rattle.symbol_solve.specs.Clashes.{contradict, is_unmet, claims_in, interiors_in};
-ghost use Rattle.symbol_solve.specs.Conflicts.{unknown_name, claims_conflict, interior_conflict, clash_between};
-ghost use Rattle.symbol_solve.specs.Conflicts.{conflict_of_claims, conflict_of_interiors};
+ghost use Rattle.run_pre_match.specs.Candidate.{Candidate};
+ghost use Rattle.symbol_solve.specs.Clashes.{claims_in, interiors_in};
+ghost use Rattle.symbol_solve.specs.Conflicts.{unknown_name, claims_conflict, clash_between};
 ghost use Rattle.symbol_solve.specs.inside.Claims.{GiveOneValue, IsAtOne};
 ghost use Rattle.symbol_solve.specs.inside.Left.{IsOf, RunsIn, is_unmet_in};
+ghost use Rattle.symbol_solve.specs.inside.Reported.{unmet_conflict, refusal_of, first_contradicted, first_unmet_at};
+ghost use Rattle.symbol_solve.specs.inside.Reported.{first_clash, Refuses};
 
 use crate::first_claims::{contradiction, first_claims};
 use crate::left::Held;
 use image_memory::Space;
 use ks_base::{ConflictName, Name, Refusal, Spot};
 use match_candidates::{Running, outcome_of};
-use run_pre_match::{Body, Claim, Interior, MatchFault, Matched, PreCode};
+use run_pre_match::{Body, Claim, Interior, MatchFault, Matched};
 use std::alloc::{AllocError, Global};
 use symbol_table::Unknown;
+
+/// What two candidates clash over.
+#[derive(Clone, Copy)]
+enum Clash<'o, 'a> {
+    /// A claim of the first, and the first claim of the second that contradicts it.
+    Contradicted(&'o Claim<'a>, &'o Claim<'a>),
+    /// An interior that isn't met, and the address to which it would have to go.
+    Unmet(&'o Interior<'a>, u32),
+}
 
 fn name_of(unknown: Unknown) -> Name
     ensures { result ≡ unknown_name unknown }
@@ -44,53 +52,12 @@ fn claims_conflict(alloc: Global, a: &Claim<'_>, b: &Claim<'_>) -> Result<Refusa
     ))
 }
 
-/// What is reported of the first of some claims that one of the others contradicts, and of the first that does; nothing
-/// where none is contradicted. It is told where those of the others that are of one thing give it one value.
-#[tactic(auto, unfolding(propagation::specs::Conflicts::first_some))]
-fn conflict_of_claims(
+fn unmet_conflict(
     alloc: Global,
-    ones: &[Claim<'_>],
-    others: &[Claim<'_>],
-) -> Result<Option<Refusal>, AllocError>
-    ensures { GiveOneValue others.now → IfOk result (λ report. report
-        ≡ first_some (λ a. option_map (claims_conflict a) (find (contradict a) others.now)) ones.now) }
-{
-    let first = first_claims(alloc, others)?;
-    for claim in ones {
-        if let Some(other) = contradiction(alloc, &first, claim)? {
-            return Ok(Some(claims_conflict(alloc, claim, other)?));
-        }
-    }
-    Ok(None)
-}
-
-/// Whether an interior goes to the section of a name and doesn't stand, in its body, for the number of its offset.
-fn is_unmet<S: Space>(body: &Body<'_, '_, '_, S>, name: &[u8], interior: &Interior<'_>) -> bool
-    ensures { result ≡ is_unmet_in body.now name.now interior.now }
-{
-    interior.section.as_slice() == name && !body.is_number_of(interior.offset, interior.address)
-}
-
-/// The first interior that goes to the section of a name and isn't met in its body.
-fn first_unmet<'i, 'a, S: Space>(
-    body: &Body<'_, '_, '_, S>,
-    name: &[u8],
-    interiors: &'i [Interior<'a>],
-) -> Option<&'i Interior<'a>>
-    ensures { option_copied result ≡ find (is_unmet_in body.now name.now) interiors.now }
-{
-    interiors
-        .iter()
-        .find(|interior| is_unmet(body, name, *interior))
-}
-
-fn interior_conflict<S: Space>(
-    alloc: Global,
-    body: &Body<'_, '_, '_, S>,
     interior: &Interior<'_>,
+    address: u32,
 ) -> Result<Refusal, AllocError>
-    ensures { IfOk result (λ refusal. (d : Candidate) → body.now ≡ body_of d
-        → refusal ≡ interior_conflict d interior.now) }
+    ensures { IfOk result (λ refusal. refusal ≡ unmet_conflict interior.now address) }
 {
     let name = interior.section.as_slice();
     let named = ConflictName {
@@ -104,30 +71,79 @@ fn interior_conflict<S: Space>(
     Ok(Refusal::Conflict(
         named,
         interior.address,
-        body.address_of(interior.offset),
+        address,
         interior.place.owned(alloc)?,
         target,
     ))
 }
 
-/// The first of some interiors that isn't met in a candidate of a code section.
-#[tactic(auto, using(crate::proofs::Bodies::unmet_found))]
-fn conflict_of_interiors<S: Space>(
+/// What is reported of a clash.
+fn refusal_of(alloc: Global, clash: Clash<'_, '_>) -> Result<Refusal, AllocError>
+    ensures { IfOk result (λ refusal. refusal ≡ refusal_of clash.entry) }
+{
+    match clash {
+        Clash::Contradicted(claim, other) => claims_conflict(alloc, claim, other),
+        Clash::Unmet(interior, address) => unmet_conflict(alloc, interior, address),
+    }
+}
+
+/// The first of some claims that one of the others contradicts, with the first that does. It is told where those of the
+/// others that are of one thing give it one value.
+#[tactic(auto, unfolding(propagation::specs::Conflicts::first_some))]
+fn first_contradicted<'o, 'a>(
+    alloc: Global,
+    ones: &'o [Claim<'a>],
+    others: &'o [Claim<'a>],
+) -> Result<Option<Clash<'o, 'a>>, AllocError>
+    ensures { GiveOneValue others.now
+        → IfOk result (λ clash. option_map refusal_of clash ≡ first_contradicted ones.now others.now) }
+{
+    let first = first_claims(alloc, others)?;
+    for claim in ones {
+        if let Some(other) = contradiction(alloc, &first, claim)? {
+            return Ok(Some(Clash::Contradicted(claim, other)));
+        }
+    }
+    Ok(None)
+}
+
+/// Whether an interior goes to the section of a name and doesn't stand, in its body, for the number of its offset.
+fn is_unmet<S: Space>(body: &Body<'_, '_, '_, S>, name: &[u8], interior: &Interior<'_>) -> bool
+    ensures { result ≡ is_unmet_in body.now name.now interior.now }
+{
+    interior.section.as_slice() == name && !body.is_number_of(interior.offset, interior.address)
+}
+
+/// The first interior that goes to the section of a name and isn't met in its body.
+fn find_unmet<'i, 'a, S: Space>(
+    body: &Body<'_, '_, '_, S>,
+    name: &[u8],
+    interiors: &'i [Interior<'a>],
+) -> Option<&'i Interior<'a>>
+    ensures { option_copied result ≡ find (is_unmet_in body.now name.now) interiors.now }
+{
+    interiors
+        .iter()
+        .find(|interior| is_unmet(body, name, *interior))
+}
+
+/// The first of some interiors that isn't met in a candidate.
+fn first_unmet_at<'i, 'a, S: Space>(
     alloc: Global,
     space: &S,
-    interiors: &[Interior<'_>],
-    code: &PreCode<'_, '_>,
-    base: u32,
-) -> Result<Option<Refusal>, AllocError>
-    ensures { IfOk result (λ report. (d : Candidate) → d.section ≡ code.now.section
-        → d.contents ≡ S.contents space.now → d.base ≡ base
-        → report ≡ option_map (interior_conflict d) (find (is_unmet d) interiors.now)) }
+    held: &Held<'_, '_, '_>,
+    interiors: &'i [Interior<'a>],
+) -> Result<Option<Clash<'i, 'a>>, AllocError>
+    ensures { IfOk result (λ clash. option_map refusal_of clash
+        ≡ first_unmet_at held.now.code.now (S.contents space.now) held.now.tried.now.base interiors.now) }
 {
-    let body = code.body(alloc, space, base)?;
-    match first_unmet(&body, code.section().name.as_slice(), interiors) {
-        Some(interior) => Ok(Some(interior_conflict(alloc, &body, interior)?)),
-        None => Ok(None),
-    }
+    let body = held.code.body(alloc, space, held.tried.base)?;
+    let name = held.code.section().name.as_slice();
+    let Some(interior) = find_unmet(&body, name, interiors) else {
+        return Ok(None);
+    };
+    let address = body.address_of(interior.offset);
+    Ok(Some(Clash::Unmet(interior, address)))
 }
 
 /// The claims of a candidate, none where it doesn't match.
@@ -150,74 +166,61 @@ fn interiors_of<'o, 'a>(outcome: &'o Result<Matched<'a>, MatchFault>) -> &'o [In
     }
 }
 
-fn claims_between(
-    alloc: Global,
-    one: &Result<Matched<'_>, MatchFault>,
-    other: &Result<Matched<'_>, MatchFault>,
-) -> Result<Option<Refusal>, AllocError>
-    ensures { IfOk result (λ report. (c d : Candidate) → outcome c ≡ one.now → outcome d ≡ other.now → IsAtOne d
-        → report ≡ conflict_of_claims c d) }
-{
-    conflict_of_claims(alloc, claims_of(one), claims_of(other))
-}
-
-fn interiors_between<S: Space>(
-    alloc: Global,
-    space: &S,
-    one: &Result<Matched<'_>, MatchFault>,
-    other: &Held<'_, '_, '_>,
-) -> Result<Option<Refusal>, AllocError>
-    ensures { IfOk result (λ report. (c d : Candidate) → outcome c ≡ one.now
-        → IsOf other.now.code.now d other.now.tried.now → d.contents ≡ S.contents space.now
-        → report ≡ conflict_of_interiors c d) }
-{
-    conflict_of_interiors(
-        alloc,
-        space,
-        interiors_of(one),
-        other.code,
-        other.tried.base,
-    )
-}
-
-/// What is reported of two candidates, given what came of matching them.
-fn clash_of<S: Space>(
+/// What two candidates clash over, given what came of matching them: the first claim of the first one that the second
+/// contradicts, or else the first interior of either that isn't met in the other.
+fn first_clash<'o, 'a, S: Space>(
     alloc: Global,
     space: &S,
     one: &Held<'_, '_, '_>,
-    of_one: &Result<Matched<'_>, MatchFault>,
+    of_one: &'o Result<Matched<'a>, MatchFault>,
     other: &Held<'_, '_, '_>,
-    of_other: &Result<Matched<'_>, MatchFault>,
-) -> Result<Option<Refusal>, AllocError>
-    ensures { IfOk result (λ report. (c d : Candidate) → IsOf one.now.code.now c one.now.tried.now
-        → c.contents ≡ S.contents space.now → outcome c ≡ of_one.now
-        → IsOf other.now.code.now d other.now.tried.now → d.contents ≡ S.contents space.now
-        → outcome d ≡ of_other.now → IsAtOne d → report ≡ clash_between (c, d)) }
+    of_other: &'o Result<Matched<'a>, MatchFault>,
+) -> Result<Option<Clash<'o, 'a>>, AllocError>
+    ensures { GiveOneValue (claims_in of_other.now) → IfOk result (λ clash. option_map refusal_of clash
+        ≡ first_clash (S.contents space.now) one.now.code.now one.now.tried.now.base of_one.now
+        other.now.code.now other.now.tried.now.base of_other.now) }
 {
-    let report = claims_between(alloc, of_one, of_other)?;
-    if report.is_some() {
-        return Ok(report);
+    if let Some(clash) = first_contradicted(alloc, claims_of(of_one), claims_of(of_other))? {
+        return Ok(Some(clash));
     }
-    let report = interiors_between(alloc, space, of_one, other)?;
-    if report.is_some() {
-        return Ok(report);
+    if let Some(clash) = first_unmet_at(alloc, space, other, interiors_of(of_one))? {
+        return Ok(Some(clash));
     }
-    interiors_between(alloc, space, of_other, one)
+    first_unmet_at(alloc, space, one, interiors_of(of_other))
 }
 
-/// What is reported of two candidates: the first claim of the first one that the second contradicts, or else the first
-/// interior of either that isn't met in the other.
-pub(crate) fn clash_between<S: Space>(
+/// Refuses two candidates that clash, given what came of matching them.
+fn check_outcomes<'a, S: Space>(
+    alloc: Global,
+    space: &S,
+    one: &Held<'_, '_, '_>,
+    of_one: &Result<Matched<'a>, MatchFault>,
+    other: &Held<'_, '_, '_>,
+    of_other: &Result<Matched<'a>, MatchFault>,
+) -> Result<(), Refusal>
+    ensures { GiveOneValue (claims_in of_other.now) → Refuses result
+        (first_clash (S.contents space.now) one.now.code.now one.now.tried.now.base of_one.now
+        other.now.code.now other.now.tried.now.base of_other.now) }
+{
+    match first_clash(alloc, space, one, of_one, other, of_other)? {
+        Some(clash) => Err(refusal_of(alloc, clash)?),
+        None => Ok(()),
+    }
+}
+
+/// Refuses two candidates that clash, with the first claim of the first one that the second contradicts, or else the
+/// first interior of either that isn't met in the other.
+pub(crate) fn check_clash<'a, S: Space>(
     alloc: Global,
     running: &Running<'_, S>,
-    one: &Held<'_, '_, '_>,
-    other: &Held<'_, '_, '_>,
-) -> Result<Option<Refusal>, AllocError>
-    ensures { IfOk result (λ report. (c d : Candidate) → IsOf one.now.code.now c one.now.tried.now
-        → RunsIn running.now c → IsOf other.now.code.now d other.now.tried.now → RunsIn running.now d → IsAtOne d
-        → report ≡ clash_between (c, d)) }
+    one: &Held<'_, '_, 'a>,
+    other: &Held<'_, '_, 'a>,
+) -> Result<(), Refusal>
+    ensures { (c d : Candidate) → IsOf one.now.code.now c one.now.tried.now → RunsIn running.now c
+        → IsOf other.now.code.now d other.now.tried.now → RunsIn running.now d → IsAtOne d
+        → Refuses result (clash_between (c, d)) }
 {
     let of_one = outcome_of(alloc, running, one.code, one.tried)?;
     let of_other = outcome_of(alloc, running, other.code, other.tried)?;
-    clash_of(alloc, running.space, one, &of_one, other, &of_other)
+    check_outcomes(alloc, running.space, one, &of_one, other, &of_other)
 }

@@ -10,11 +10,12 @@ ghost use Rattle.symbol_solve.specs.Conflicts.{clash_between, reported};
 ghost use Rattle.symbol_solve.specs.Solve.{first_twins, left_of, values, values_unless, solved};
 ghost use Rattle.symbol_solve.specs.inside.Claims.{IsAtOne};
 ghost use Rattle.symbol_solve.specs.inside.Left.{IsOf, IsOneOf, RunsIn, pair_at};
+ghost use Rattle.symbol_solve.specs.inside.Reported.{Refuses};
 
 use crate::left::{Held, held_at, marked};
 use crate::propagated::propagate_candidates;
-use crate::report::clash_between;
-use crate::twins::twins;
+use crate::report::check_clash;
+use crate::twins::check_apart;
 use crate::values::put_candidate;
 use i386_reloc::Normal;
 use image_memory::Space;
@@ -24,40 +25,38 @@ use match_candidates::{Running, Trials, try_all};
 use std::alloc::{AllocError, Global};
 use symbol_table::{Bodies, SymbolTable, Values};
 
-/// What is reported of two candidates at two places.
-fn reported<S: Space>(
+/// Refuses the candidates at two places, if they clash.
+fn check_conflict<S: Space>(
     alloc: Global,
     running: &Running<'_, S>,
     trials: &Trials<'_, '_>,
     places: Option<(usize, usize)>,
-) -> Result<Option<Refusal>, AllocError>
-    ensures { IfOk result (λ report. (cs : List Candidate) → AllZip (IsOneOf trials.now.codes) cs trials.now.tried
+) -> Result<(), Refusal>
+    ensures { (cs : List Candidate) → AllZip (IsOneOf trials.now.codes) cs trials.now.tried
         → All (RunsIn running.now) cs → All IsAtOne cs
-        → report ≡ option_and_then clash_between (option_and_then (pair_at cs) places)) }
+        → Refuses result (option_and_then clash_between (option_and_then (pair_at cs) places)) }
 {
     let Some((first, second)) = places else {
-        return Ok(None);
+        return Ok(());
     };
     let Some(one) = held_at(trials.codes(), trials.tried(), first) else {
-        return Ok(None);
+        return Ok(());
     };
     let Some(other) = held_at(trials.codes(), trials.tried(), second) else {
-        return Ok(None);
+        return Ok(());
     };
-    clash_between(alloc, running, &one, &other)
+    check_clash(alloc, running, &one, &other)
 }
 
-/// The refusal of the first two neighbours that are of one section.
-fn first_twins(alloc: Global, held: &[Held<'_, '_, '_>]) -> Result<Option<Refusal>, AllocError>
-    ensures { IfOk result (λ refusal. (cs : List Candidate) → AllZip (λ c h. IsOf h.code.now c h.tried.now) cs held.now
-        → refusal ≡ first_twins cs) }
+/// Refuses the first two neighbours that are of one section.
+fn check_twins(alloc: Global, held: &[Held<'_, '_, '_>]) -> Result<(), Refusal>
+    ensures { (cs : List Candidate) → AllZip (λ c h. IsOf h.code.now c h.tried.now) cs held.now
+        → Refuses result (first_twins cs) }
 {
     for k in 1..held.len() {
-        if let Some(refusal) = twins(alloc, &held[k - 1], &held[k])? {
-            return Ok(Some(refusal));
-        }
+        check_apart(alloc, &held[k - 1], &held[k])?;
     }
-    Ok(None)
+    Ok(())
 }
 
 /// The values of candidates.
@@ -77,6 +76,25 @@ fn values_of<S: Space>(
     Ok(found)
 }
 
+/// The candidates that are left. Two that must be chosen and clash are refused.
+fn held_left<'h, 'n, 'a, S: Space>(
+    alloc: Global,
+    pre: &Normal<'_>,
+    running: &Running<'_, S>,
+    trials: &'h Trials<'n, 'a>,
+) -> Result<Vec<Held<'h, 'n, 'a>>, Refusal>
+    requires codes { trials.now.codes ≡ code_sections pre.now }
+    requires tried { AreTried running.now pre.now trials.now.tried }
+    ensures held { IfOk result (λ held.
+        AllZip (λ c h. IsOf h.code.now c h.tried.now) (left_of running.now pre.now) held.items) }
+    ensures refused { Refuses result (reported (length pre.now) (candidates running.now pre.now)) }
+{
+    let found = propagate_candidates(alloc, pre, running, trials)?;
+    check_conflict(alloc, running, trials, found.conflict)?;
+    let left = found.left.as_slice();
+    Ok(marked(alloc, trials.codes(), trials.tried(), left)?)
+}
+
 /// The values by candidates of which each section has one that matches by itself, or why there are none.
 fn solve_trials<S: Space>(
     alloc: Global,
@@ -91,14 +109,8 @@ fn solve_trials<S: Space>(
         (first_twins (left_of running.now pre.now)))
         (left_of running.now pre.now)) }
 {
-    let found = propagate_candidates(alloc, pre, running, trials)?;
-    if let Some(refusal) = reported(alloc, running, trials, found.conflict)? {
-        return Err(refusal);
-    }
-    let held = marked(alloc, trials.codes(), trials.tried(), found.left.as_slice())?;
-    if let Some(refusal) = first_twins(alloc, held.as_slice())? {
-        return Err(refusal);
-    }
+    let held = held_left(alloc, pre, running, trials)?;
+    check_twins(alloc, held.as_slice())?;
     Ok(values_of(alloc, running, held.as_slice())?)
 }
 

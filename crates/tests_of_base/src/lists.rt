@@ -270,20 +270,28 @@ fn refusal_of(alloc: Global, number: u8) -> Result<Refusal, AllocError> {
     }
 }
 
+fn put(line: &mut Line, refusal: Refusal) -> Result<(), AllocError> {
+    line.put_refusal(&refusal)
+}
+
+fn put_conflicts(alloc: Global, line: &mut Line) -> Result<(), AllocError> {
+    put(line, conflict(alloc, None)?)?;
+    put(line, conflict(alloc, Some(11))?)
+}
+
+fn put_busy(line: &mut Line) -> Result<(), AllocError> {
+    put(line, busy(Place::Pc, 0x0010_0000))?;
+    put(line, busy(Place::Register(6), 0x0010_0000))?;
+    put(line, busy(Place::Stack(0x0040_0ff0), 0x0010_0005))
+}
+
 /// The refusals of a number, of which some have several forms.
 fn put_refusals(alloc: Global, line: &mut Line, number: u8) -> Result<(), AllocError> {
     match number {
-        15 => line.put_refusal(&mismatch(alloc)?),
-        17 => {
-            line.put_refusal(&conflict(alloc, None)?)?;
-            line.put_refusal(&conflict(alloc, Some(11))?)
-        }
-        25 => {
-            line.put_refusal(&busy(Place::Pc, 0x0010_0000))?;
-            line.put_refusal(&busy(Place::Register(6), 0x0010_0000))?;
-            line.put_refusal(&busy(Place::Stack(0x0040_0ff0), 0x0010_0005))
-        }
-        _ => line.put_refusal(&refusal_of(alloc, number)?),
+        15 => put(line, mismatch(alloc)?),
+        17 => put_conflicts(alloc, line),
+        25 => put_busy(line),
+        _ => put(line, refusal_of(alloc, number)?),
     }
 }
 

@@ -138,7 +138,13 @@ fn looks<S: Space>(space: &S) -> bool {
 
 /// Whether the bytes that are fetched are these, with zeros behind them.
 fn fetches<S: Space>(space: &S, pc: u32, length: u32, bytes: [u8; 15]) -> bool {
-    matches!(space.window(pc), Ok(window) if window.length == length && window.bytes == bytes)
+    match space.window(pc) {
+        Ok(window) => {
+            let fetched = window.bytes;
+            window.length == length && fetched == bytes
+        }
+        Err(_) => false,
+    }
 }
 
 /// What is fetched of the example.

@@ -76,13 +76,20 @@ fn put_extract(line: &mut Line, answer: &Result<Extract, Refusal>) -> Result<(),
     }
 }
 
-fn difference(alloc: Global, pre: &[Section], post: &[Section]) -> Result<Line, Fail> {
-    let (pre, post) = (object(alloc, pre)?, object(alloc, post)?);
-    let pre = normal_of(alloc, pre.as_slice())?;
-    let post = normal_of(alloc, post.as_slice())?;
+/// What comes of two objects, as their files have them.
+fn difference_of_files(alloc: Global, pre: &[u8], post: &[u8]) -> Result<Line, Fail> {
+    let pre = normal_of(alloc, pre)?;
+    let post = normal_of(alloc, post)?;
+    let answer = extract(alloc, &pre, &post);
     let mut line = Line::new(alloc);
-    put_extract(&mut line, &extract(alloc, &pre, &post))?;
+    put_extract(&mut line, &answer)?;
     Ok(line)
+}
+
+fn difference(alloc: Global, pre: &[Section], post: &[Section]) -> Result<Line, Fail> {
+    let pre = object(alloc, pre)?;
+    let post = object(alloc, post)?;
+    difference_of_files(alloc, pre.as_slice(), post.as_slice())
 }
 
 /// Two objects, and what comes of them.

@@ -41,8 +41,8 @@ use update_memory::{
 use update_pieces::NewSymbols;
 use update_plan::Plan;
 
-/// Makes all that carrying a plan out takes memory for: what is put into the system's lists, where this is free, and room
-/// in the program. What is seen of the program stays.
+/// Makes all that carrying a plan out takes memory for: what is put into the system's lists, the places that are free
+/// then, and room in the program. What is seen of the program stays.
 pub(crate) fn prepare<S: Space>(
     alloc: Global,
     machine: &mut Machine<S>,

@@ -8,7 +8,7 @@ use Rattle.propagation.specs.Conflicts.{first_some}
 use Rattle.run_pre_match.specs.declared.types.Claim.{Claim}
 use Rattle.symbol_solve.specs.Clashes.{contradict}
 use Rattle.symbol_solve.specs.Conflicts.{claims_conflict}
-use Rattle.symbol_solve.proofs.report.conflict_of_claims.Goals as goal
+use Rattle.symbol_solve.proofs.report.first_contradicted.Goals as goal
 
 module _ {X Y : Type 0} (f : X → Option Y) (xs : List X) (i : ℕ) where
   first_here : (x : X)
@@ -39,8 +39,7 @@ returns-in-Some c = λ one.
     sym (c.in_ok-other.ensures c.args.others.now c.in_ok-first.ensures one) ∙ ap option_copied c.in-Some.is in
     sym (c.loop-claim.invariant one
     ∙ first_found (told c.args.others.now) c.args.ones.now c.loop-claim.claim-index a (claims_conflict a
-    c.in-Some.other.now) c.loop-claim-test.true c.claim-item.is (ap (option_map (claims_conflict a)) found)
-    ∙ ap (λ (r : Refusal). Some r) (sym c.in_ok-claims_conflict.ensures))
+    c.in-Some.other.now) c.loop-claim-test.true c.claim-item.is (ap (option_map (claims_conflict a)) found))
 
 pub loop-claim-preserved : goal.loop-claim-preserved
 loop-claim-preserved c = λ one.

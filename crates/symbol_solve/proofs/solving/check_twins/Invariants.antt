@@ -3,7 +3,7 @@ use Rattle.std.specs.List.{AllZip}
 use Rattle.run_pre_match.specs.Candidate.{Candidate}
 use Rattle.symbol_solve.specs.Solve.{first_twins}
 use Rattle.symbol_solve.specs.inside.Left.{IsOf}
-use Rattle.symbol_solve.proofs.solving.first_twins.Given as goal
+use Rattle.symbol_solve.proofs.solving.check_twins.Given as goal
 
 abbrev pub invariant-loop-k : goal.invariant-loop-k
 invariant-loop-k l =
