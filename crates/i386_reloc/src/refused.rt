@@ -15,7 +15,7 @@ pub fn object_refusal(fault: ObjectFault) -> Refusal
         ObjectFault::BadHeader(offset) => Refusal::BadHeader(offset),
         ObjectFault::BadSection(index) => Refusal::BadSection(index),
         ObjectFault::BadSymbol(index) => Refusal::BadSymbol(index),
-        ObjectFault::BadReloc(section, entry) => Refusal::BadReloc(section, entry),
+        ObjectFault::BadReloc(section, entry) => Refusal::BadReloc { section, entry },
         ObjectFault::TooLarge(what) => Refusal::TooLarge(limit(what)),
         ObjectFault::Memory => Refusal::Memory,
     }

@@ -73,7 +73,11 @@ fn check_kind(
     ensures field { OnOk result (has_field r ≡ true) }
 {
     if !is_known(class_of(section), r, names_strings(source, r)) {
-        return Err(Refusal::UnknownReloc(Name::from_slice(alloc, section.name)?, r.index, r.kind));
+        return Err(Refusal::UnknownReloc {
+            section: Name::from_slice(alloc, section.name)?,
+            entry: r.index,
+            kind: r.kind,
+        });
     }
     Ok(())
 }

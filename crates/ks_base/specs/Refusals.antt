@@ -6,6 +6,8 @@ use Rattle.ks_base.specs.declared.places.Spot.{Spot}
 use Rattle.ks_base.specs.declared.refusals.Large.{Large}
 use Rattle.ks_base.specs.declared.refusals.Large.TheVariants.{Bytes, Sections, Symbols, Relocations as LargeRelocations}
 use Rattle.ks_base.specs.declared.refusals.Large.TheVariants.{Name as LargeName, Content as LargeContent}
+use Rattle.ks_base.specs.declared.refusals.LinkLimit.{LinkLimit}
+use Rattle.ks_base.specs.declared.refusals.LinkLimit.TheVariants as link
 use Rattle.ks_base.specs.declared.refusals.DifferenceKind.{DifferenceKind}
 use Rattle.ks_base.specs.declared.refusals.DifferenceKind.TheVariants.{End, Undecoded, Opcode, Operand}
 use Rattle.ks_base.specs.declared.refusals.DifferenceKind.TheVariants.{Target, Value, Content}
@@ -15,6 +17,8 @@ use Rattle.ks_base.specs.declared.refusals.Place.TheVariants.{Pc, Register, Stac
 use Rattle.ks_base.specs.declared.refusals.ImageFault.{ImageFault}
 use Rattle.ks_base.specs.declared.refusals.ImageFault.TheVariants.{Short, Magic, Limit, Kind}
 use Rattle.ks_base.specs.declared.refusals.ImageFault.TheVariants.{Range, Order, Name, Trailing}
+use Rattle.ks_base.specs.declared.refusals.Fault.{Fault}
+use Rattle.ks_base.specs.declared.refusals.Fault.TheVariants as faults
 use Rattle.ks_base.specs.declared.refusals.ConflictName.{ConflictName}
 use Rattle.ks_base.specs.declared.refusals.Refusal.{Refusal}
 use Rattle.ks_base.specs.declared.refusals.Refusal.TheVariants.{NotElf, NotRel386, BadHeader, BadSection, BadSymbol}
@@ -23,8 +27,11 @@ use Rattle.ks_base.specs.declared.refusals.Refusal.TheVariants.{TooLarge, DataCh
 use Rattle.ks_base.specs.declared.refusals.Refusal.TheVariants.{Mismatch, Ambiguous, Conflict, Unresolved, TwoNames}
 use Rattle.ks_base.specs.declared.refusals.Refusal.TheVariants.{PreUndecoded, TooSmall, Overlap, NoRoom, TooMany}
 use Rattle.ks_base.specs.declared.refusals.Refusal.TheVariants.{Busy, StackOut, NothingApplied, BadImage, BadLine}
-use Rattle.ks_base.specs.declared.refusals.Refusal.TheVariants.{NoThread, NoSymbol, NoStack, BadString, BadTarget}
-use Rattle.ks_base.specs.declared.refusals.Refusal.TheVariants.{TooManyThreads, NameTaken, Memory}
+use Rattle.ks_base.specs.declared.refusals.Refusal.TheVariants.{NoThread, NoSymbol, NoStack, Covered, Needed}
+use Rattle.ks_base.specs.declared.refusals.Refusal.TheVariants.{BadString, BadTarget, TooManyThreads, NameTaken}
+use Rattle.ks_base.specs.declared.refusals.Refusal.TheVariants.{NoUpdate, DoubleGlobal, Undefined, LinkTooLarge}
+use Rattle.ks_base.specs.declared.refusals.Refusal.TheVariants.{PokeOpen, NoPoke, NotOneChanged}
+use Rattle.ks_base.specs.declared.refusals.Refusal.TheVariants.{HookFault, HookBudget, BadHooks, Memory}
 
 -- the word for a limit of an object
 abbrev pub large_word : Large → List ℕ
@@ -34,6 +41,11 @@ large_word Symbols = codes "symbols"
 large_word LargeRelocations = codes "relocations"
 large_word LargeName = codes "name"
 large_word LargeContent = codes "content"
+
+-- the word for a limit of a linked image
+abbrev pub link_word : LinkLimit → List ℕ
+link_word link.Bytes = codes "bytes"
+link_word link.Symbols = codes "symbols"
 
 -- the word for a kind of difference
 abbrev pub difference_word : DifferenceKind → List ℕ
@@ -55,6 +67,18 @@ image_word Range = codes "range"
 image_word Order = codes "order"
 image_word Name = codes "name"
 image_word Trailing = codes "trailing"
+
+-- the word for why a thread stops
+abbrev pub fault_word : Fault → List ℕ
+fault_word faults.Stray = codes "stray"
+fault_word faults.Unmapped = codes "unmapped"
+fault_word faults.CodeAccess = codes "code-access"
+fault_word faults.ReadOnlyWrite = codes "read-only-write"
+fault_word faults.Undecoded = codes "undecoded"
+fault_word faults.Unsupported = codes "unsupported"
+fault_word faults.Divide = codes "divide"
+fault_word faults.Trap = codes "trap"
+fault_word faults.BadLock = codes "bad-lock"
 
 -- the general registers' names by number
 abbrev pub register_names : List (List ℕ)
@@ -94,7 +118,7 @@ value_at_text value at = codes " " ++ hex_text value ++ codes " at " ++ shown_na
 abbrev pub conflict_text : ConflictName → ℕ → ℕ → Spot → Spot → List ℕ
 conflict_text unknown a b at_a at_b = conflict_name_text unknown ++ value_at_text a at_a ++ value_at_text b at_b
 
--- the number of a refusal; 0 stands for want of memory, which has no reply
+-- the number of a refusal; 0 where memory ran out, which has no reply
 unfoldable pub refusal_number : Refusal → ℕ
 refusal_number NotElf = 1
 refusal_number NotRel386 = 2
@@ -128,10 +152,22 @@ refusal_number (BadLine number) = 29
 refusal_number (NoThread thread) = 30
 refusal_number (NoSymbol name) = 31
 refusal_number NoStack = 32
+refusal_number (Covered name) = 33
+refusal_number (Needed update section offset) = 34
 refusal_number (BadString section index) = 35
 refusal_number (BadTarget section index) = 36
 refusal_number TooManyThreads = 37
 refusal_number (NameTaken name) = 38
+refusal_number (NoUpdate name) = 39
+refusal_number (DoubleGlobal name) = 40
+refusal_number (Undefined name) = 41
+refusal_number (LinkTooLarge what) = 42
+refusal_number (PokeOpen name) = 43
+refusal_number NoPoke = 44
+refusal_number NotOneChanged = 45
+refusal_number (HookFault function fault pc) = 46
+refusal_number (HookBudget name) = 47
+refusal_number (BadHooks offset) = 48
 refusal_number Memory = 0
 
 -- the text of a refusal
@@ -172,13 +208,27 @@ refusal_text (BadLine number) = codes "bad line " ++ number_text number
 refusal_text (NoThread thread) = codes "no thread " ++ number_text thread
 refusal_text (NoSymbol name) = codes "no symbol " ++ shown_name name
 refusal_text NoStack = codes "no stack"
+refusal_text (Covered name) = codes "covered " ++ shown_name name
+refusal_text (Needed update section offset) = codes "needed " ++ shown_name update ++ codes " " ++ shown_name section
+    ++ codes "+" ++ offset_text offset
 refusal_text (BadString section index) = codes "bad string " ++ shown_name section ++ codes " " ++ number_text index
 refusal_text (BadTarget section index) = codes "bad target " ++ shown_name section ++ codes " " ++ number_text index
 refusal_text TooManyThreads = codes "too many threads"
 refusal_text (NameTaken name) = codes "name taken " ++ shown_name name
+refusal_text (NoUpdate name) = codes "no update " ++ shown_name name
+refusal_text (DoubleGlobal name) = codes "double global " ++ shown_name name
+refusal_text (Undefined name) = codes "undefined " ++ shown_name name
+refusal_text (LinkTooLarge what) = codes "link too large " ++ link_word what
+refusal_text (PokeOpen name) = codes "poke open " ++ shown_name name
+refusal_text NoPoke = codes "no poke"
+refusal_text NotOneChanged = codes "not one changed"
+refusal_text (HookFault function fault pc) = codes "hook " ++ shown_name function ++ codes " " ++ fault_word fault
+    ++ codes " " ++ hex_text pc
+refusal_text (HookBudget name) = codes "hook budget " ++ shown_name name
+refusal_text (BadHooks offset) = codes "bad hooks " ++ offset_text offset
 refusal_text Memory = []
 
--- the line that is printed for a refusal, with its line feed; nothing for want of memory
+-- the line that is printed for a refusal, with its line feed; nothing where memory ran out
 unfoldable pub refusal_line : Refusal → List ℕ
 refusal_line refusal =
     if refusal_number refusal == 0 then [] else codes "refused " ++ number_text (refusal_number refusal)

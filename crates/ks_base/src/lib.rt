@@ -2,6 +2,7 @@
 //! object, the refusals, and the bytes of one reply.
 #![tactic(auto)]
 
+mod fields;
 mod list;
 mod parts;
 mod places;
@@ -13,7 +14,8 @@ mod reports;
 pub use list::ListOf;
 pub use places::{Bytes, Name, Names, Range, Ranges, Spot};
 pub use refusals::{
-    ConflictName, Difference, DifferenceKind, Fault, ImageFault, Large, Place, Refusal, Standing,
+    ConflictName, Difference, DifferenceKind, Fault, ImageFault, Large, LinkLimit, Place, Refusal,
+    Standing,
 };
 pub use reply::Line;
 pub use reports::{Added, AddedList, Replaced, ReplacedList, Report};

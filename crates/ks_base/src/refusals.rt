@@ -1,6 +1,7 @@
 //! Why a request is refused.
 use crate::places::{Name, Spot};
 use std::alloc::AllocError;
+use std::fmt;
 
 /// Why a thread stops.
 #[derive(Clone, Copy, PartialEq, Eq, Debug)]
@@ -40,6 +41,15 @@ pub enum Large {
     Name,
     /// The loaded sections' sizes sum to too much.
     Content,
+}
+
+/// Which limit of a linked image is passed.
+#[derive(Clone, Copy, PartialEq, Eq, Debug)]
+pub enum LinkLimit {
+    /// The lengths of its regions sum to too much.
+    Bytes,
+    /// It has too many symbols.
+    Symbols,
 }
 
 /// In what the pre code and the running code differ first.
@@ -118,7 +128,7 @@ pub enum ImageFault {
 }
 
 /// What two candidates give two values: a section or an outside name, or an offset of a section.
-#[derive(PartialEq, Eq, Debug, Drop)]
+#[derive(Drop)]
 pub struct ConflictName {
     /// The section's or the outside name.
     pub name: Name,
@@ -126,8 +136,9 @@ pub struct ConflictName {
     pub offset: Option<u32>,
 }
 
-/// Why a request is refused. Each has a number and a text; for [`Refusal::Memory`] no reply is written.
-#[derive(PartialEq, Eq, Debug, Drop)]
+/// Why a request is refused. Each has a number and a text; for [`Refusal::Memory`] no reply is written. Nothing is
+/// refused with 33, 34 or 39 to 48 yet: they are for calls that are still to be written.
+#[derive(Drop)]
 pub enum Refusal {
     /// 1: the object doesn't begin with the ELF magic.
     NotElf,
@@ -139,10 +150,22 @@ pub enum Refusal {
     BadSection(u32),
     /// 5: the symbol of this index is wrong.
     BadSymbol(u32),
-    /// 6: in the relocation section of this index, the entry of this index is wrong.
-    BadReloc(u32, u32),
-    /// 7: a section's relocation of this index has a type (last) that isn't accepted there.
-    UnknownReloc(Name, u32, u8),
+    /// 6: an entry of a relocation section is wrong.
+    BadReloc {
+        /// The index of the relocation section.
+        section: u32,
+        /// The index of the entry in it.
+        entry: u32,
+    },
+    /// 7: a relocation has a type that isn't accepted in its section.
+    UnknownReloc {
+        /// The section that the relocation changes.
+        section: Name,
+        /// The index of the entry in the relocation section.
+        entry: u32,
+        /// The relocation's type.
+        kind: u8,
+    },
     /// 8: a code section has no function symbol at 0, or one above 0.
     NotOneFunction(Name),
     /// 9: a loaded section has the name of an earlier one.
@@ -159,28 +182,63 @@ pub enum Refusal {
     NoCandidate(Name),
     /// 15: no candidate of a section matches; the first difference of the lowest.
     Mismatch(Name, Difference),
-    /// 16: two candidates of a section are left; their addresses.
-    Ambiguous(Name, u32, u32),
-    /// 17: two candidates give one thing two values, at two places.
-    Conflict(ConflictName, u32, u32, Spot, Spot),
+    /// 16: several candidates of a section are left.
+    Ambiguous {
+        /// The section.
+        section: Name,
+        /// The home of the lowest.
+        first: u32,
+        /// The home of the next.
+        second: u32,
+    },
+    /// 17: two candidates give one thing two values.
+    Conflict {
+        /// The thing.
+        unknown: ConflictName,
+        /// The value that the first candidate gives it.
+        value: u32,
+        /// The value that the second candidate gives it.
+        other_value: u32,
+        /// Where the first candidate has its value.
+        place: Spot,
+        /// Where the second candidate has its value.
+        other_place: Spot,
+    },
     /// 18: no address is known for the name.
     Unresolved(Name),
-    /// 19: two addresses are known for the name.
-    TwoNames(Name, u32, u32),
+    /// 19: several addresses are known for a name.
+    TwoNames {
+        /// The name.
+        name: Name,
+        /// The lowest address.
+        first: u32,
+        /// The next one.
+        second: u32,
+    },
     /// 20: pre code of a section can't be decoded or matched at this offset.
     PreUndecoded(Name, u32),
     /// 21: a first version of a section has too little room for the jump; its room in bytes.
     TooSmall(Name, u32),
-    /// 22: a new retired range meets another body or range; the lows of both.
-    Overlap(u32, u32),
+    /// 22: a range that would be retired meets another body, or a retired range.
+    Overlap {
+        /// The low of the range that would be retired.
+        retired: u32,
+        /// The low of what it meets.
+        other: u32,
+    },
     /// 23: the arena has no place for so many bytes.
     NoRoom(u32),
     /// 24: as many updates are live as may be.
     TooMany,
     /// 25: a thread stands in a range.
     Busy(Standing),
-    /// 26: the thread of this number has this ESP, which is outside its stack.
-    StackOut(u32, u32),
+    /// 26: a thread's ESP is outside its stack.
+    StackOut {
+        /// The thread's number.
+        thread: u32,
+        /// Its ESP.
+        esp: u32,
+    },
     /// 27: no update is live.
     NothingApplied,
     /// 28: the image breaks a rule at the field at this offset.
@@ -193,6 +251,17 @@ pub enum Refusal {
     NoSymbol(Name),
     /// 32: every stack has a running thread.
     NoStack,
+    /// 33: a later update that is live, of this name, retired code of the one that is to be taken back.
+    Covered(Name),
+    /// 34: a later update that is live needs code or data of the one that is to be taken back.
+    Needed {
+        /// The later update's name.
+        update: Name,
+        /// The section of its field that leads there.
+        section: Name,
+        /// The field's offset in the section, in bytes.
+        offset: u32,
+    },
     /// 35: a section's relocation of this index has a text that isn't in its section, or doesn't end.
     BadString(Name, u32),
     /// 36: a section's relocation of this index has a symbol that can't be a target.
@@ -201,8 +270,42 @@ pub enum Refusal {
     TooManyThreads,
     /// 38: a live update has the name.
     NameTaken(Name),
-    /// Memory was wanting. It has no number, and no reply is written for it.
+    /// 39: no live update has the name.
+    NoUpdate(Name),
+    /// 40: two of the objects that are to be linked define the global name.
+    DoubleGlobal(Name),
+    /// 41: none of the objects that are to be linked defines the name.
+    Undefined(Name),
+    /// 42: a limit of the linked image is passed.
+    LinkTooLarge(LinkLimit),
+    /// 43: the jump of the update of this name is written in part.
+    PokeOpen(Name),
+    /// 44: no jump is at the stage from which the call goes on.
+    NoPoke,
+    /// 45: other than one changed function, and none added or dropped.
+    NotOneChanged,
+    /// 46: a function that an update runs has stopped.
+    HookFault {
+        /// The function's name.
+        function: Name,
+        /// Why it stopped.
+        fault: Fault,
+        /// The program counter where it did.
+        pc: u32,
+    },
+    /// 47: a function of this name that an update runs has made as many steps as it may without ending.
+    HookBudget(Name),
+    /// 48: the list of functions that an update is to run breaks a rule at this offset.
+    BadHooks(u32),
+    /// Memory ran out. It has no number, and no reply is written for it.
     Memory,
+}
+
+impl fmt::Debug for Refusal {
+    /// Shows the number alone, 0 for [`Refusal::Memory`].
+    fn fmt<W: fmt::Write>(&self, f: &mut fmt::Formatter<W>) -> fmt::Result {
+        fmt::Debug::fmt(&self.number(), f)
+    }
 }
 
 impl From<AllocError> for Refusal {

@@ -1,9 +1,7 @@
 -- How a reply shows an address and the state of a thread.
 use Rattle.std.specs.Prelude.{ℕ, List, [], ◌++◌, codes, Option, Some, None}
 use Rattle.ks_base.specs.Text.{hex_text, offset_text, shown_name}
-use Rattle.ks_base.specs.declared.refusals.Fault.{Fault}
-use Rattle.ks_base.specs.declared.refusals.Fault.TheVariants.{Stray, Unmapped, CodeAccess, ReadOnlyWrite}
-use Rattle.ks_base.specs.declared.refusals.Fault.TheVariants.{Undecoded, Unsupported, Divide, Trap, BadLock}
+use Rattle.ks_base.specs.Refusals.{fault_word}
 use Rattle.symbol_table.specs.declared.symbols.Symbol.{Symbol}
 use Rattle.symbol_table.specs.Symbols.{name_below}
 use Rattle.ia32_step.specs.declared.types.State.{State}
@@ -19,21 +17,10 @@ named_text (Some place) = codes " " ++ shown_name place.0 ++ codes "+" ++ offset
 unfoldable pub place_text : List Symbol → ℕ → List ℕ
 place_text symbols address = hex_text address ++ named_text (name_below symbols address)
 
-abbrev pub fault_text : Fault → List ℕ
-fault_text Stray = codes "stray"
-fault_text Unmapped = codes "unmapped"
-fault_text CodeAccess = codes "code-access"
-fault_text ReadOnlyWrite = codes "read-only-write"
-fault_text Undecoded = codes "undecoded"
-fault_text Unsupported = codes "unsupported"
-fault_text Divide = codes "divide"
-fault_text Trap = codes "trap"
-fault_text BadLock = codes "bad-lock"
-
 abbrev pub state_at : List Symbol → ℕ → State → List ℕ
 state_at symbols pc Running = codes "running " ++ place_text symbols pc
 state_at symbols pc (Exited value) = codes "exited " ++ hex_text value
-state_at symbols pc (Stopped fault) = codes "stopped " ++ fault_text fault ++ codes " " ++ place_text symbols pc
+state_at symbols pc (Stopped fault) = codes "stopped " ++ fault_word fault ++ codes " " ++ place_text symbols pc
 
 -- whether a thread runs, and where; with what it exited; or why and where it stopped
 unfoldable pub state_text : List Symbol → Thread → List ℕ

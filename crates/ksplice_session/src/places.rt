@@ -1,10 +1,10 @@
 //! An address and the state of a thread.
 ghost use Rattle.std.specs.Prelude.{◌≡◌, ◌++◌, OnOk};
 ghost use Rattle.std.specs.Option.{option_map};
-ghost use Rattle.ksplice_session.specs.Places.{named_text, place_text, fault_text, state_text};
+ghost use Rattle.ksplice_session.specs.Places.{named_text, place_text, state_text};
 
 use ia32_step::{State, Thread};
-use ks_base::{Fault, Line, Name};
+use ks_base::{Line, Name};
 use std::alloc::AllocError;
 use symbol_table::SymbolTable;
 
@@ -33,22 +33,6 @@ pub(crate) fn put_place(
     put_named(line, symbols.name_at(address))
 }
 
-fn fault_word(fault: Fault) -> &'static str
-    ensures { result.now ≡ fault_text fault }
-{
-    match fault {
-        Fault::Stray => "stray",
-        Fault::Unmapped => "unmapped",
-        Fault::CodeAccess => "code-access",
-        Fault::ReadOnlyWrite => "read-only-write",
-        Fault::Undecoded => "undecoded",
-        Fault::Unsupported => "unsupported",
-        Fault::Divide => "divide",
-        Fault::Trap => "trap",
-        Fault::BadLock => "bad-lock",
-    }
-}
-
 /// The state of a thread.
 #[tactic(auto, unfolding(crate::specs::Places::state_text))]
 pub(crate) fn put_state(
@@ -69,7 +53,7 @@ pub(crate) fn put_state(
         }
         State::Stopped(fault) => {
             line.put_text("stopped ")?;
-            line.put_text(fault_word(fault))?;
+            line.put_text(fault.word())?;
             line.put_text(" ")?;
             put_place(line, symbols, thread.pc)
         }

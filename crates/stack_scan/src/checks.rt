@@ -37,7 +37,10 @@ fn check_thread<S: Space>(thread: &Thread, space: &S, targets: &Targets<'_>) -> 
     ensures { result_err result ≡ standing_refused (stands (S.contents space.now).pieces targets.now thread.now) }
 {
     match stands_among(thread, space, targets) {
-        Err(out) => Err(Refusal::StackOut(out.thread, out.esp)),
+        Err(out) => Err(Refusal::StackOut {
+            thread: out.thread,
+            esp: out.esp,
+        }),
         Ok(None) => Ok(()),
         Ok(Some(standing)) => Err(Refusal::Busy(standing)),
     }

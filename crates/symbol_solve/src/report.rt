@@ -43,13 +43,13 @@ fn claims_conflict(alloc: Global, a: &Claim<'_>, b: &Claim<'_>) -> Result<Refusa
         name: name_of(a.unknown.owned(alloc)?),
         offset: None,
     };
-    Ok(Refusal::Conflict(
-        named,
-        a.value,
-        b.value,
-        a.place.owned(alloc)?,
-        b.place.owned(alloc)?,
-    ))
+    Ok(Refusal::Conflict {
+        unknown: named,
+        value: a.value,
+        other_value: b.value,
+        place: a.place.owned(alloc)?,
+        other_place: b.place.owned(alloc)?,
+    })
 }
 
 fn unmet_conflict(
@@ -68,13 +68,13 @@ fn unmet_conflict(
         section: Name::from_slice(alloc, name)?,
         offset: interior.offset,
     };
-    Ok(Refusal::Conflict(
-        named,
-        interior.address,
-        address,
-        interior.place.owned(alloc)?,
-        target,
-    ))
+    Ok(Refusal::Conflict {
+        unknown: named,
+        value: interior.address,
+        other_value: address,
+        place: interior.place.owned(alloc)?,
+        other_place: target,
+    })
 }
 
 /// What is reported of a clash.

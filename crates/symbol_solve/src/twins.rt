@@ -21,5 +21,9 @@ pub(crate) fn check_apart(
         return Ok(());
     }
     let name = Name::from_slice(alloc, one.code.section().name.as_slice())?;
-    Err(Refusal::Ambiguous(name, one.tried.home, other.tried.home))
+    Err(Refusal::Ambiguous {
+        section: name,
+        first: one.tried.home,
+        second: other.tried.home,
+    })
 }

@@ -256,7 +256,11 @@ pub fn only_address(
 {
     match addresses {
         [address] => Ok(*address),
-        [low, high, ..] => Err(Refusal::TwoNames(Name::from_slice(alloc, name)?, *low, *high)),
+        [first, second, ..] => Err(Refusal::TwoNames {
+            name: Name::from_slice(alloc, name)?,
+            first: *first,
+            second: *second,
+        }),
         [] => Err(missing.refusal(Name::from_slice(alloc, name)?)),
     }
 }

@@ -7,8 +7,8 @@ ghost use Rattle.std.specs.Cmp.Lexicographic.{slice_cmp};
 ghost use Rattle.std.specs.BTreeMap.{get};
 
 use ks_base::{
-    ConflictName, Difference, DifferenceKind, ImageFault, Large, Line, Name, Names, Place, Range,
-    Ranges, Refusal, Spot, Standing,
+    ConflictName, Difference, DifferenceKind, Fault, ImageFault, Large, Line, LinkLimit, Name,
+    Names, Place, Range, Ranges, Refusal, Spot, Standing,
 };
 use std::alloc::{AllocError, Global};
 use std::collections::BTreeMap;
@@ -155,19 +155,32 @@ fn plain(number: u8) -> Refusal {
         3 => Refusal::BadHeader(20),
         4 => Refusal::BadSection(1),
         5 => Refusal::BadSymbol(2),
-        6 => Refusal::BadReloc(3, 0),
+        6 => Refusal::BadReloc {
+            section: 3,
+            entry: 0,
+        },
         10 => Refusal::TooLarge(Large::Relocations),
         12 => Refusal::NoChange,
-        22 => Refusal::Overlap(0x0010_0000, 0x0010_0002),
+        22 => Refusal::Overlap {
+            retired: 0x0010_0000,
+            other: 0x0010_0002,
+        },
         23 => Refusal::NoRoom(6),
         24 => Refusal::TooMany,
-        26 => Refusal::StackOut(0, 0x003f_fffc),
+        26 => Refusal::StackOut {
+            thread: 0,
+            esp: 0x003f_fffc,
+        },
         27 => Refusal::NothingApplied,
         28 => Refusal::BadImage(4, ImageFault::Short),
         29 => Refusal::BadLine(2),
         30 => Refusal::NoThread(7),
         32 => Refusal::NoStack,
         37 => Refusal::TooManyThreads,
+        42 => Refusal::LinkTooLarge(LinkLimit::Symbols),
+        44 => Refusal::NoPoke,
+        45 => Refusal::NotOneChanged,
+        48 => Refusal::BadHooks(4),
         _ => Refusal::Memory,
     }
 }
@@ -175,21 +188,44 @@ fn plain(number: u8) -> Refusal {
 /// The refusals that hold a name alone, or a name and numbers, by their number.
 fn named(number: u8, name: Name) -> Refusal {
     match number {
-        7 => Refusal::UnknownReloc(name, 0, 10),
+        7 => Refusal::UnknownReloc {
+            section: name,
+            entry: 0,
+            kind: 10,
+        },
         8 => Refusal::NotOneFunction(name),
         9 => Refusal::DoubleName(name),
         11 => Refusal::DataChanged(name),
         13 => Refusal::Interior(name, 4),
         14 => Refusal::NoCandidate(name),
-        16 => Refusal::Ambiguous(name, 0x0010_0000, 0x0010_0010),
+        16 => Refusal::Ambiguous {
+            section: name,
+            first: 0x0010_0000,
+            second: 0x0010_0010,
+        },
         18 => Refusal::Unresolved(name),
-        19 => Refusal::TwoNames(name, 0x0010_0000, 0x0010_0010),
+        19 => Refusal::TwoNames {
+            name,
+            first: 0x0010_0000,
+            second: 0x0010_0010,
+        },
         20 => Refusal::PreUndecoded(name, 18),
         21 => Refusal::TooSmall(name, 4),
         31 => Refusal::NoSymbol(name),
+        33 => Refusal::Covered(name),
         35 => Refusal::BadString(name, 4),
         36 => Refusal::BadTarget(name, 5),
         38 => Refusal::NameTaken(name),
+        39 => Refusal::NoUpdate(name),
+        40 => Refusal::DoubleGlobal(name),
+        41 => Refusal::Undefined(name),
+        43 => Refusal::PokeOpen(name),
+        46 => Refusal::HookFault {
+            function: name,
+            fault: Fault::CodeAccess,
+            pc: 0x0080_001a,
+        },
+        47 => Refusal::HookBudget(name),
         _ => Refusal::Memory,
     }
 }
@@ -209,7 +245,21 @@ fn conflict(alloc: Global, offset: Option<u32>) -> Result<Refusal, AllocError> {
     let p = spot_at(alloc, b".text.p", 1)?;
     let q = spot_at(alloc, b".text.q", 1)?;
     let unknown = ConflictName { name, offset };
-    Ok(Refusal::Conflict(unknown, 0x0020_0000, 0x0020_0008, p, q))
+    Ok(Refusal::Conflict {
+        unknown,
+        value: 0x0020_0000,
+        other_value: 0x0020_0008,
+        place: p,
+        other_place: q,
+    })
+}
+
+fn needed(alloc: Global) -> Result<Refusal, AllocError> {
+    Ok(Refusal::Needed {
+        update: name_of(alloc, b"u2")?,
+        section: name_of(alloc, b".text.g")?,
+        offset: 1,
+    })
 }
 
 fn busy(place: Place, value: u32) -> Refusal {
@@ -256,10 +306,22 @@ refused 29 bad line 2
 refused 30 no thread 7
 refused 31 no symbol .text.f
 refused 32 no stack
+refused 33 covered .text.f
+refused 34 needed u2 .text.g+0x1
 refused 35 bad string .text.f 4
 refused 36 bad target .text.f 5
 refused 37 too many threads
 refused 38 name taken .text.f
+refused 39 no update .text.f
+refused 40 double global .text.f
+refused 41 undefined .text.f
+refused 42 link too large symbols
+refused 43 poke open .text.f
+refused 44 no poke
+refused 45 not one changed
+refused 46 hook .text.f code-access 0x0080001a
+refused 47 hook budget .text.f
+refused 48 bad hooks 0x4
 ";
 
 /// The refusal of a number, of those that hold no name or one.
@@ -291,6 +353,7 @@ fn put_refusals(alloc: Global, line: &mut Line, number: u8) -> Result<(), AllocE
         15 => put(line, mismatch(alloc)?),
         17 => put_conflicts(alloc, line),
         25 => put_busy(line),
+        34 => put(line, needed(alloc)?),
         _ => put(line, refusal_of(alloc, number)?),
     }
 }
@@ -298,10 +361,8 @@ fn put_refusals(alloc: Global, line: &mut Line, number: u8) -> Result<(), AllocE
 #[test]
 fn refusals(rt: HostRuntime) -> Result<(), Fail> {
     let mut line = Line::new(rt.alloc());
-    for number in 1..39 {
-        if number != 33 && number != 34 {
-            put_refusals(rt.alloc(), &mut line, number)?;
-        }
+    for number in 1..49 {
+        put_refusals(rt.alloc(), &mut line, number)?;
     }
     let got = std::str::from_utf8(line.bytes()).unwrap_or("");
     assert!(rt; line.bytes() == LINES.as_bytes(), "{got}");

@@ -193,8 +193,8 @@ fn is_answer(found: &Result<(), Refusal>, answer: Answer) -> bool {
         (Err(Refusal::TooSmall(section, room)), Answer::Room(name, wanted)) => {
             section.as_slice() == name && *room == wanted
         }
-        (Err(Refusal::Overlap(one, other)), Answer::Overlap(low, other_low)) => {
-            *one == low && *other == other_low
+        (Err(Refusal::Overlap { retired, other }), Answer::Overlap(low, other_low)) => {
+            *retired == low && *other == other_low
         }
         _ => false,
     }

@@ -72,8 +72,8 @@ fn is_answer(found: &Result<(), Refusal>, answer: Answer) -> bool {
     match (found, answer) {
         (Ok(()), Answer::Nothing) => true,
         (Err(Refusal::Busy(standing)), Answer::Busy(wanted)) => *standing == wanted,
-        (Err(Refusal::StackOut(number, esp)), Answer::Out(thread, wanted)) => {
-            *number == thread && *esp == wanted
+        (Err(Refusal::StackOut { thread, esp }), Answer::Out(number, wanted)) => {
+            *thread == number && *esp == wanted
         }
         _ => false,
     }

@@ -77,7 +77,10 @@ fn overlap_with(
     ensures { result ≡ overlap_with range (other_bodies old.now olds.now ++ retired.now) }
 {
     match first_met(range, old, olds, retired) {
-        Some(other) => Some(Refusal::Overlap(range.low, other.low)),
+        Some(other) => Some(Refusal::Overlap {
+            retired: range.low,
+            other: other.low,
+        }),
         None => None,
     }
 }
