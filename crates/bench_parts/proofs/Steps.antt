@@ -6,7 +6,7 @@ use Rattle.ia32_decode.specs.declared.types.Decoded.{Decoded}
 use Rattle.ia32_decode.specs.Decode.{decoded_from}
 use Rattle.bench_parts.specs.Meets.{Meets}
 
--- what is met of the rest comes behind what was met so far, and each has a byte of its own
+-- what is met of the rest comes after what was met so far, and each has a byte of its own
 abbrev pub MetBefore : List ℕ → List ℕ → ℕ → ℕ → Type 0
 MetBefore bytes rest i u = ((m n : ℕ) → Meets rest m n → Meets bytes (i + m) (u + n))
     × (i + u + length rest ≤ length bytes)

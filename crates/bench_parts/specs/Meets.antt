@@ -1,9 +1,9 @@
--- What decoding meets from front to end of some bytes.
+-- What decoding meets from start to end of some bytes.
 use Rattle.std.specs.Prelude.{◌≡◌, ℕ, suc, ◌+◌, List, [], ◌∷◌, drop, Some, None}
 use Rattle.ia32_decode.specs.declared.types.Decoded.{Decoded}
 use Rattle.ia32_decode.specs.Decode.{decoded_from}
 
--- so many instructions, and so many bytes at which nothing decodes: it goes on behind each instruction, and behind each
+-- so many instructions, and so many bytes at which nothing decodes: it goes on after each instruction, and after each
 -- such byte
 pub data Meets : List ℕ → ℕ → ℕ → Type 0 where
   ends : Meets [] 0 0

@@ -13,7 +13,7 @@ pub struct Tally {
     pub undecoded: u64,
 }
 
-/// What decoding meets from front to end: it goes on behind an instruction, and behind a byte at which nothing decodes.
+/// What decoding meets from start to end: it goes on after an instruction, and after a byte at which nothing decodes.
 pub fn count(bytes: &[u8]) -> Tally
     ensures meets { Meets bytes.now result.instructions result.undecoded }
     ensures bound { result.instructions + result.undecoded ≤ length bytes.now }

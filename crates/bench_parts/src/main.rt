@@ -1,6 +1,6 @@
 //! `bench_parts` carries out a part of the program by itself, so that it can be timed:
 //!
-//! - `decode FILE TIMES` decodes the bytes of a file from front to end, TIMES times over, and prints how many
+//! - `decode FILE TIMES` decodes the bytes of a file from start to end, TIMES times over, and prints how many
 //!   instructions it met, and how many bytes at which nothing decodes, in all.
 //! - `place SECTIONS GAPS` places so many sections among so many gaps, which it makes itself, and prints the sum of
 //!   their places.

@@ -3,7 +3,7 @@ use ks_base::{Name, Range, Ranges};
 use link_post::{SectionSize, ascend, place};
 use std::alloc::{AllocError, Global};
 
-/// So many gaps of 16 bytes, one every 64 bytes, and a large one behind them.
+/// So many gaps of 16 bytes, one every 64 bytes, and a large one after them.
 fn gaps_of(alloc: Global, count: u32) -> Result<Ranges, AllocError> {
     let mut gaps = Ranges::new(alloc);
     for k in 0..count {

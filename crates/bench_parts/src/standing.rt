@@ -24,7 +24,7 @@ fn ranges_of(alloc: Global, count: u32) -> Result<Ranges, AllocError> {
     Ok(ranges)
 }
 
-/// So many dwords, spread over the ranges: each lies behind one of them, and the last in one.
+/// So many dwords, spread over the ranges: each lies just after one of them, and the last in one.
 fn stack_of(alloc: Global, count: u32, ranges: u32) -> Result<Bytes, AllocError> {
     let mut bytes = Vec::new(alloc);
     for k in 1..count {

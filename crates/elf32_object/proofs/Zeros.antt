@@ -40,7 +40,7 @@ is_short xs n e =
     let size = length-take (position_or_len is_zero xs) xs in
     grind (arith, nat_tests)
 
--- the texts that a zero ends begin before the place behind the last zero
+-- the texts that a zero ends begin before the place after the last zero
 pub ends_before : (xs : List ℕ) (end : ℕ) → end ≤ length xs → (0 < end → get_or xs (end - 1) 0 ≡ 0)
     → list_any is_zero (drop end xs) ≡ false → (place : ℕ) → ends_in xs place ≡ nat_lt place end
 ends_before xs end within last behind place =

@@ -1,5 +1,5 @@
 -- The fields of a 32-bit object file (System V gABI, chapter 4), each a function of the whole file. All numbers
--- are little-endian. A byte behind the file's end reads as 0, so that each field has a value in every file.
+-- are little-endian. A byte past the file's end reads as 0, so that each field has a value in every file.
 use Rattle.std.specs.Prelude.{◌≡◌, ◌<◌, ℕ, ◌+◌, ◌*◌, ◌/◌, ◌%◌, Bool, true, not, ◌&&◌, ◌||◌, ◌==◌}
 use Rattle.std.specs.Prelude.{nat_eq, nat_lt, nat_le, if◌then◌else◌, List, [], ◌∷◌, ◌++◌, take, drop}
 use Rattle.std.specs.Prelude.{length, slice_index, bit_and, codes, Option, Some, None, unwrap_or}

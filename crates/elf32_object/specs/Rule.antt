@@ -16,7 +16,7 @@ first_broken [] = None
 first_broken (rule ∷ rules) = if rule.holds then first_broken rules else Some rule.fault
 
 -- What a check answers, against the fault that the rules name: Ok where there is none, else that fault. Where the check
--- answers for want of memory, nothing is said.
+-- answers that memory ran out, nothing is said.
 abbrev pub Finds : {X Fault : Type 0} → Fault → Result X Fault → Option Fault → Type 0
 Finds memory (Ok x) fault = fault ≡ None
 Finds memory (Err e) fault = e ≢ memory → fault ≡ Some e

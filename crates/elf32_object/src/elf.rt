@@ -1,6 +1,5 @@
 //! The numbers of the format, named as in the System V gABI (chapter 4, "Object Files") and its supplement for the
-//! Intel386. The definitions have these numbers of their own (`specs/Numbers.antt`), so that one that is wrong here is
-//! found.
+//! Intel386. The definitions state these numbers once more (`specs/Numbers.antt`), so that a wrong one here is found.
 
 // "ELF Header": places in e_ident, and the values that a 32-bit little-endian file has there.
 pub(crate) const EI_CLASS: usize = 4;

@@ -34,8 +34,8 @@ fn is_free(fields: &BTreeSet<u64>, section: u32, offset: u32) -> bool
     }
 }
 
-/// Whether the four bytes at an offset of a section are apart from the fields that earlier entries change. The set
-/// has those fields, and it alone is asked: the file, and the place of the entry, are for the contract.
+/// Whether the four bytes at an offset of a section are apart from the fields that earlier entries change. The set has
+/// those fields, and only it is read: the file, and the place of the entry, are there for the contract.
 fn is_apart(
     layout: &Layout<'_>,
     fields: &BTreeSet<u64>,

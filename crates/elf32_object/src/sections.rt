@@ -109,7 +109,7 @@ fn check_symbol_table(layout: &Layout<'_>, tables: u32, i: u32) -> Result<(), Ob
 }
 
 /// Checks a relocation section of a loaded section, where the section is one. `total` is the number of such relocations
-/// in earlier sections, and the answer that with this section's.
+/// in earlier sections, and the answer adds this section's.
 #[tactic(auto, unfolding(crate::specs::Rules::relocation_section_fault, crate::specs::Fields::entry_count))]
 fn check_relocation_section(layout: &Layout<'_>, total: u32, i: u32) -> Result<u32, ObjectFault>
     requires within { i < layout.now.count }
@@ -151,7 +151,7 @@ fn loaded_size(layout: &Layout<'_>, i: u32) -> u32
 }
 
 /// Checks that no relocations with addends change a loaded section, and how many bytes are loaded. `total` is what
-/// earlier sections load, and the answer that with this section's.
+/// earlier sections load, and the answer adds this section's.
 #[tactic(auto, unfolding(crate::specs::Rules::content_fault))]
 fn check_content(layout: &Layout<'_>, total: u64, i: u32) -> Result<u64, ObjectFault>
     requires within { i < layout.now.count }

@@ -28,7 +28,7 @@ pub(crate) fn text(table: &[u8], place: u32) -> &[u8]
     &rest[..first_zero(rest)]
 }
 
-/// Whether a text ends, or a zero ends it, behind no more bytes than a name may have.
+/// Whether a text ends, or a zero ends it, after no more bytes than a name may have.
 fn ends_as_name(text: &[u8]) -> bool
     ensures { result ≡ nat_le (position_or_len is_zero text.now) 4096 }
 {
@@ -44,7 +44,7 @@ pub(crate) fn is_name(table: &[u8], place: u32) -> bool
     ends_as_name(&rest[..rest.len().min(LONGEST_NAME + 1)])
 }
 
-/// The place behind the last zero, or 0 where there is none.
+/// The place after the last zero, or 0 where there is none.
 fn behind_last_zero(bytes: &[u8]) -> usize
     ensures within { result ≤ length bytes.now }
     ensures zero_before { 0 < result → slice_index bytes.now (result - 1) ≡ 0 }
@@ -60,7 +60,7 @@ fn behind_last_zero(bytes: &[u8]) -> usize
     end
 }
 
-/// A string table, and the place behind its last zero.
+/// A string table, and the place after its last zero.
 #[derive(Clone, Copy)]
 pub(crate) struct Strings<'a> {
     pub bytes: &'a [u8],

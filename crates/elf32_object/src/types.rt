@@ -25,7 +25,7 @@ pub enum Large {
 pub enum ObjectFault {
     /// The file doesn't begin with the ELF magic number.
     NotElf,
-    /// It is an ELF file, but no relocatable one for the i386.
+    /// It is an ELF file, but not a relocatable one for the i386.
     NotRel386,
     /// A field of the ELF header, by its offset; or the file's length, where it ends inside the header.
     BadHeader(u32),

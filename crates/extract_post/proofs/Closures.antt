@@ -147,7 +147,7 @@ backward_refers sections distinct i j it =
       | inr other ↦ absurd (let e : false ≡ true = rw other at one in cc)
     ]
 
--- one more reference in front
+-- one more reference before
 pub reaches_before : (sections : List NormalSection) (name between other : List ℕ) →
     refers_on sections name between ≡ true → Reaches sections between other → Reaches sections name other
 reaches_before sections name between other refers (Refers a b next) =

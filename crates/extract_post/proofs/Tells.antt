@@ -13,7 +13,7 @@ use Rattle.extract_post.proofs.Closures.{forward_sound, forward_complete, backwa
 use Rattle.extract_post.proofs.Membership.{member_sound_pre, member_sound_post}
 use Rattle.extract_post.proofs.Membership.{member_complete_pre, member_complete_post}
 
--- facts that follow from each other are told alike
+-- a mark tells alike of facts that follow from each other
 pub tells_through : {P Q : Type 0} (mark : Bool) → (P → Q) → (Q → P) → Tells mark P → Tells mark Q
 tells_through true there back p = there p
 tells_through false there back none = λ q. none (back q)

@@ -29,13 +29,13 @@ pub data IsFirst {X : Type 0} (P : X → Type 0) : List X → X → Type 0 where
 abbrev pub NoneIs : {X : Type 0} → (X → Type 0) → List X → Type 0
 NoneIs P xs = All (λ x. P x → ⊥) xs
 
--- whether two sections are there, and of two classes
+-- whether two sections are there, and of different classes
 abbrev pub other_class : Option NormalSection → Option NormalSection → Bool
 other_class (Some old) (Some new) = not (same_class old.class new.class)
 other_class _ _ = false
 
--- A section of both objects has other data in them: another class; or it is a data section that isn't the same, or that
--- in one of them reaches a read-only section that isn't.
+-- A section of both objects has different data in them: a different class; or it is a data section that isn't the same,
+-- or that in one of them reaches a read-only section that isn't.
 pub data DataDiffers (pre post : List NormalSection) : List ℕ → Type 0 where
   OtherClass : (name : List ℕ) → IsTrue (other_class (section_named pre name) (section_named post name)) →
       DataDiffers pre post name
@@ -72,8 +72,8 @@ pub record IsExtract (pre post : List NormalSection) (extract : Extract) : Type 
   pub new_data : Picks (λ name. IsTrue (is_new_data pre post name)) post extract.new_data
   pub dropped : Picks (IsDropped pre post) pre extract.dropped
 
--- What comes of two objects, the first that fits: a section of post with other data; a broken reference of post; that
--- there are no members; the extract.
+-- What comes of two objects, the first that fits: a section of post with different data; a broken reference of post;
+-- that there are no members; the extract.
 pub data Extracts (pre post : List NormalSection) : Result Extract Refusal → Type 0 where
   OtherData : (section : NormalSection) → IsFirst (λ s. DataDiffers pre post s.name) post section →
       Extracts pre post (Err (refusal.DataChanged section.name))

@@ -73,7 +73,7 @@ is_carried pre post name =
     list_any (λ from. (is_member pre post from && is_in is_code_class post from || is_new_data pre post from)
     && reaches post from name) (names_of post)
 
--- data that are others, and references of data that can't be kept
+-- data that differ, and references of data that can't be kept
 abbrev pub data_differs : List NormalSection → List NormalSection → List ℕ → Bool
 data_differs pre post name =
     other_class (section_named pre name) (section_named post name)
@@ -106,7 +106,7 @@ lists_of pre post =
       dropped = picked (is_dropped pre post) pre;
     }
 
--- the answer, by the first reference that is broken, and by the first section with other data
+-- the answer, by the first reference that is broken, and by the first section with different data
 abbrev pub extracted_with : List NormalSection → List NormalSection → Option (List ℕ × Ref) → Result Extract Refusal
 extracted_with pre post (Some x) = Err (refusal.Interior x.0 x.1.offset)
 extracted_with pre post None =

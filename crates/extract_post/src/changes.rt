@@ -1,4 +1,4 @@
-//! Which sections of the second object are other than in the first.
+//! Which sections of the second object differ from the first's.
 ghost use Rattle.std.specs.Prelude.{IfOk};
 ghost use Rattle.extract_post.specs.Extract.{DataDiffers};
 ghost use Rattle.extract_post.specs.inside.Seeds.{IsSeed};
@@ -9,7 +9,7 @@ use crate::types::{Asked, Wanted};
 use i386_reloc::Normal;
 use std::alloc::{AllocError, Global};
 
-/// Which sections of both objects have other data in the second.
+/// Which sections of both objects have different data in the second.
 pub(crate) fn differing_data(
     alloc: Global,
     pre: &Normal<'_>,

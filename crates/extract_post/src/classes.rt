@@ -39,7 +39,7 @@ fn is_in(wanted: Wanted, normal: &Normal<'_>, name: &[u8]) -> bool
     }
 }
 
-/// Whether both objects have a section of this name, of two classes.
+/// Whether both objects have a section of this name, of different classes.
 fn is_of_other_class(pre: &Normal<'_>, post: &Normal<'_>, name: &[u8]) -> bool
     ensures { result ≡ other_class (section_named pre.now name.now) (section_named post.now name.now) }
 {

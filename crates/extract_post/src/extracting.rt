@@ -14,8 +14,9 @@ use ks_base::Refusal;
 use std::alloc::Global;
 
 /// What an update from `pre` to `post` is made of. Refuses the first that holds of these: a section of `post` is in
-/// `pre` too and has other data there (`DataChanged`); a reference of `post` from data to the interior of a function
-/// can't be kept (`Interior`); no function differs and none is added (`NoChange`).
+/// `pre` too and has different data there (`DataChanged`); a reference of `post` from data to the interior of a
+/// function can't be kept (`Interior`); no function differs and none is added (`NoChange`). `Memory` comes only if
+/// memory runs out.
 pub fn extract<'a>(alloc: Global, pre: &Normal<'a>, post: &Normal<'a>) -> Result<Extract, Refusal>
     ensures ok { IfOk result (λ extract. Extracts pre.now post.now (Ok extract)) }
     ensures refused { IfErr result

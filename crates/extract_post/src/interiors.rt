@@ -53,7 +53,7 @@ fn data_of(
     Ok(reached(alloc, post, links, starts)?.and(&wanted))
 }
 
-/// What the references of a section are tried by: whether the section is old data and whether it is new, and which
+/// What the references of a section are tested by: whether the section is old data and whether it is new, and which
 /// sections are changed and which stay.
 #[derive(Clone, Copy)]
 struct Trial<'m> {

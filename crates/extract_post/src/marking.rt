@@ -11,7 +11,7 @@ use ks_base::{Name, Names};
 use std::alloc::{AllocError, Global};
 use std::marker::Model;
 
-/// A mark for each of some sections, by its place. A place behind the last one isn't marked.
+/// A mark for each of some sections, by its place. A place past the last one isn't marked.
 #[derive(Drop)]
 pub(crate) struct Marks {
     marks: Vec<bool>,
@@ -49,7 +49,7 @@ impl Marks {
         Ok(Marks::new(marks))
     }
 
-    /// The marks that a list hasn't.
+    /// The marks that a list doesn't have.
     pub(crate) fn unmarked(alloc: Global, marks: &[bool]) -> Result<Self, AllocError>
         ensures { IfOk result (λ others. others ≡ map not marks.now) }
     {
@@ -93,7 +93,7 @@ impl Marks {
         self
     }
 
-    /// The marks that either of two has, which are as many.
+    /// The marks that either of two lists of the same length has.
     pub(crate) fn or(mut self, other: &Marks) -> Self
         requires { length other.now ≡ length self }
         ensures { AreEither self other.now result }
@@ -104,7 +104,7 @@ impl Marks {
         self
     }
 
-    /// The marks that the other one hasn't.
+    /// The marks that the other one doesn't have.
     pub(crate) fn without(mut self, other: &Marks) -> Self
         ensures { AreApart self other.now result }
     {

@@ -15,7 +15,7 @@ use i386_reloc::Normal;
 use ks_base::Refusal;
 use std::alloc::{AllocError, Global};
 
-/// The refusal that names a section whose data are others.
+/// The refusal that names a section whose data differ.
 pub(crate) fn data_changed(
     alloc: Global,
     post: &Normal<'_>,

@@ -10,7 +10,7 @@ use std::alloc::{AllocError, Global};
 use std::collections::BTreeMap;
 
 /// The role of the section of each name that an extract lists, so that a section is looked up by halving. `Err` comes
-/// for want of memory alone.
+/// only if memory runs out.
 #[tactic(auto, unfolding(crate::specs::Roles::role_of))]
 pub fn roles_of<'e>(
     alloc: Global,

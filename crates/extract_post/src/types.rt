@@ -48,7 +48,7 @@ pub(crate) enum Asked {
     Here(Wanted),
     /// Those of a wanted class, which are of one in the other object, too.
     InBoth(Wanted),
-    /// Those of a wanted class whose name the other object hasn't.
+    /// Those of a wanted class whose name the other object doesn't have.
     Alone(Wanted),
     /// Those that are of another class in the other object.
     OtherClass,

@@ -9,7 +9,7 @@ pub first_below_more : {X : Type 0} (f : ℕ → Option X) (i : ℕ) → first_b
     → first_below f (i + 1) ≡ None
 first_below_more f i before here = rw (add-one, before, here) refl
 
--- the first refusal, which may be want of memory
+-- the first refusal, which may be that memory ran out
 pub finds_first : (f : ℕ → Option Refusal) (i n : ℕ) (why : Refusal) → first_below f i ≡ None → i < n
     → (why ≢ refusal.Memory → f i ≡ Some why) → why ≢ refusal.Memory → first_below f n ≡ Some why
 finds_first f i n why before within here known = first_at f n i why before (here known) within

@@ -178,7 +178,7 @@ among_found fault (r ∷ rs) (suc k) d why before within here =
     rw (none_first (fault r) (first_among fault (take k rs)) before)
     (among_found fault rs k d why (none_second (fault r) (first_among fault (take k rs)) before) (omega arith) here)
 
--- the same for a refusal that may be want of memory
+-- the same for a refusal that may be that memory ran out
 pub finds_among : (fault : Reloc → Option Refusal) (rs : List Reloc) (k : ℕ) (r d : Reloc) (why : Refusal)
     → first_among fault (take k rs) ≡ None → k < length rs → r ≡ get_or rs k d
     → (why ≢ refusal.Memory → fault r ≡ Some why) → why ≢ refusal.Memory → first_among fault rs ≡ Some why

@@ -89,7 +89,7 @@ not_zero x nonzero =
 pub is_zero_true : (x : ℕ) → x ≡ 0 → is_zero x ≡ true
 is_zero_true x e = rw e refl
 
--- what the first zero at or behind an offset says of the text there
+-- what the first zero at or after an offset says of the text there
 text_by_zero : (bytes : List ℕ) (offset z : ℕ) → offset ≤ z → z < length bytes → slice_index bytes z ≡ 0
     → ((k : ℕ) → offset ≤ k → k < z → slice_index bytes k ≡ 0 → ⊥)
     → (ends_in bytes offset ≡ true) × (take (z - offset + 1) (drop offset bytes) ≡ text_through bytes offset)

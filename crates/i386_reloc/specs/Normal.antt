@@ -26,7 +26,7 @@ unfoldable pub function_symbol : List ℕ → ℕ → Option ℕ
 function_symbol bytes i =
     if is_code bytes i then least_below (starts bytes i) (symbol_count bytes) else None
 
--- whether a function symbol stands behind the section's start
+-- whether a function symbol stands after the section's start
 unfoldable pub has_inner_function : List ℕ → ℕ → Bool
 has_inner_function bytes i =
     any_below (λ k. is_function_of bytes i k && nat_lt 0 (symbol_entry bytes k).value) (symbol_count bytes)
@@ -73,7 +73,7 @@ is_name_twice bytes j =
     is_loaded bytes j
     && any_below (λ i. is_loaded bytes i && same_bytes (section_name bytes i) (section_name bytes j)) j
 
--- A code section isn't one function: none begins at its start, or one begins behind it.
+-- A code section isn't one function: none begins at its start, or one begins after it.
 unfoldable pub is_not_one_function : List ℕ → ℕ → Bool
 is_not_one_function bytes i = is_code bytes i && (is_none (function_symbol bytes i) || has_inner_function bytes i)
 

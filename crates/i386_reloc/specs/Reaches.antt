@@ -61,7 +61,7 @@ pub data Reaches (sections : List NormalSection) : List ℕ → List ℕ → Typ
       → Reaches sections name other
 
 -- A reference to a code section goes to its entry where it is absolute and has the addend 0, or relative and has -4:
--- the processor counts a relative value from the field's end, four bytes behind its begin. Every other one goes to its
+-- the processor counts a relative value from the field's end, four bytes after its start. Every other one goes to its
 -- interior.
 abbrev pub is_entry_by : Form → ℕ → Bool
 is_entry_by Absolute addend = addend == 0

@@ -61,7 +61,7 @@ target_fault bytes i r =
     ∷ (is_outside (symbol_of bytes r) || is_loaded bytes (symbol_of bytes r).section orElse bad_target_at bytes i r)
     ∷ [])
 
--- It names a text that no zero ends in its section, as one that begins at the section's end or behind.
+-- It names a text that no zero ends in its section, such as one that begins at the section's end or after it.
 abbrev pub names_end : List ℕ → ℕ → Reloc → Bool
 names_end bytes i r =
     ends_in (section_bytes bytes (symbol_of bytes r).section) (text_offset (symbol_of bytes r) (addend_in bytes i r))
@@ -87,7 +87,7 @@ unfoldable pub relocation_fault_at : List ℕ → ℕ → Option Refusal
 relocation_fault_at bytes i =
     if is_loaded bytes i then first_among (relocation_fault_of bytes i) (relocations_of bytes i) else None
 
--- A name that stands twice is looked for in all sections, then a section that isn't one function, and then the first
+-- A name that occurs twice is looked for in all sections, then a section that isn't one function, and then the first
 -- relocation that is refused: of one relocation all is looked at before the next.
 unfoldable pub name_fault : List ℕ → Option Refusal
 name_fault bytes = first_below (name_fault_at bytes) (section_count bytes)

@@ -1,4 +1,4 @@
--- What the code keeps on its way, said by contracts inside this crate alone.
+-- What the code keeps on its way, cited only by contracts inside this crate.
 pub mod Fields
 pub mod Functions
 pub mod Known

@@ -10,7 +10,7 @@ use ks_base::Refusal;
 use std::alloc::Global;
 
 /// The loaded sections of an object file. Refuses what is wrong with the file's form, else what is wrong with its
-/// sections.
+/// sections. [`Refusal::Memory`] comes only if memory runs out.
 #[tactic(auto, unfolding(crate::specs::Sections::sections_of))]
 pub fn read_sections(alloc: Global, bytes: &[u8]) -> Result<Normal<'_>, Refusal>
     ensures { Gives (λ sections. sections) result (sections_of bytes.now) }

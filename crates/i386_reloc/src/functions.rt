@@ -14,7 +14,7 @@ use std::alloc::{AllocError, Global};
 pub struct Functions {
     /// The index of the first symbol at the section's start.
     pub first: Option<u32>,
-    /// Whether a symbol stands behind the start.
+    /// Whether a symbol stands after the start.
     pub inner: bool,
 }
 

@@ -31,7 +31,7 @@ impl Class {
 }
 
 impl<'a> Ref<'a> {
-    /// Whether the reference, where it goes to a function, goes elsewhere than to its entry. A call of the entry has
+    /// Whether the reference, where it goes to a function, goes somewhere other than its entry. A call of the entry has
     /// the addend -4, since a relative value is counted from the field's start.
     pub fn is_interior(&self) -> bool
         ensures { result ≡ is_interior self.now }

@@ -35,10 +35,10 @@ use elf32_object::types::{Reloc, Section};
 use ks_base::{Bytes, ListOf, Refusal};
 use std::alloc::{AllocError, Global};
 
-/// The loaded sections of an object. Refuses the first that comes of these, each being looked for in all sections in
-/// turn: a loaded section with the name of an earlier one, a code section that isn't one function, and a relocation
+/// The loaded sections of an object. Refuses the first of these faults, each being looked for in all sections before
+/// the next: a loaded section with the name of an earlier one, a code section that isn't one function, and a relocation
 /// that makes no reference. A relocation is refused for its type and where it stands, for its symbol, or for its text,
-/// in this order.
+/// in this order. [`Refusal::Memory`] comes only if memory runs out.
 ///
 /// The references of a section are those of its relocations that change a field, by offset.
 #[tactic(auto, unfolding(crate::specs::Refused::normal_fault))]

@@ -5,7 +5,7 @@ ghost use Rattle.i386_reloc.specs.Refused.{limit_of, refusal_of_fault};
 use elf32_object::types::{Large, ObjectFault};
 use ks_base::Refusal;
 
-/// The refusal of an object that isn't read: of the same name and fields. Want of memory stays so.
+/// The refusal of an object that isn't read: the one of the same name and fields. `Memory` stays `Memory`.
 pub fn object_refusal(fault: ObjectFault) -> Refusal
     ensures { result ≡ refusal_of_fault fault }
 {

@@ -91,8 +91,8 @@ impl<'a> Normal<'a> {
         self.sections.as_slice()
     }
 
-    /// Where the section of a name stands among the sections, counted from 0; `None` exactly where there is none. It
-    /// takes the logarithm of the number of sections.
+    /// Where the section of a name stands among the sections, counted from 0; `None` exactly where there is none. The
+    /// time is logarithmic in the number of sections.
     pub fn place(&self, name: &[u8]) -> Option<usize>
         ensures { result ≡ place_named self.now name.now }
     {

@@ -68,7 +68,7 @@ impl<'o, 'a> Source<'o, 'a> {
         }
     }
 
-    /// The section of an index that is that of a loaded one.
+    /// The loaded section at an index.
     pub fn section(&self, j: u16) -> &Known<'a>
         requires { is_loaded self.now.object.now j ≡ true }
         ensures name { result.now.name ≡ section_name self.now.object.now j }

@@ -39,7 +39,7 @@ impl<'a> Texts<'a> {
         })
     }
 
-    /// Whether a zero ends the text that begins at an offset. It takes the logarithm of the number of zeros.
+    /// Whether a zero ends the text that begins at an offset. The time is logarithmic in the number of zeros.
     pub fn ends(&self, offset: u32) -> bool
         ensures { result ≡ ends_in self.now offset }
     {
@@ -57,7 +57,7 @@ impl<'a> Texts<'a> {
         }
     }
 
-    /// Where the text ends that begins at an offset, behind its zero.
+    /// Where the text that begins at an offset ends, after its zero.
     fn end(&self, offset: u32) -> Option<usize>
         ensures { MatchOption result (ends_in self.now offset ≡ false)
             (λ end. (offset ≤ end) × (end ≤ length self.now) × (ends_in self.now offset ≡ true)

@@ -50,7 +50,7 @@ binary_of Or k a b flags = bitwise bit_or k a b
 binary_of Xor k a b flags = bitwise bit_xor k a b
 binary_of Test k a b flags = compared k a (bitwise bit_and k a b)
 
--- NOT turns each bit, and no flag changes
+-- NOT inverts each bit, and no flag changes
 abbrev pub unary_of : Unary → ℕ → ℕ → Flags → ℕ × Flags
 unary_of Inc k a flags = keeping_carry flags (sum_of k a 1 false)
 unary_of Dec k a flags = keeping_carry flags (difference_of k a 1 false)

@@ -33,16 +33,16 @@ shifted_right_signed k a c =
     let value : ℕ = wrapped k (int_shr (signed k a) c) in
     (value, flags_of k value (wrapped 1 (int_shr (signed k a) (c - 1)) == 1) false)
 
--- 32 bits turned around to the left. CF is the result's lowest bit. OF after one place: highest bit and CF differ;
--- after more: clear (own). ZF, SF and PF stay.
+-- 32 bits rotated to the left. CF is the result's lowest bit. OF after one place: highest bit and CF differ; after
+-- more: clear (own). ZF, SF and PF stay.
 unfoldable pub rotated_left : ℕ → ℕ → Flags → ℕ × Flags
 rotated_left a c flags =
     let value : ℕ = rotate_left w32 (unsigned 32 a) c in
     let carry : Bool = bit_at value 0 == 1 in
     (value, record flags { cf = carry; of = c == 1 && differ (highest 32 value) carry })
 
--- 32 bits turned around to the right. CF is the result's highest bit. OF after one place: the two highest bits differ;
--- after more: clear (own). ZF, SF and PF stay.
+-- 32 bits rotated to the right. CF is the result's highest bit. OF after one place: the two highest bits differ; after
+-- more: clear (own). ZF, SF and PF stay.
 unfoldable pub rotated_right : ℕ → ℕ → Flags → ℕ × Flags
 rotated_right a c flags =
     let value : ℕ = rotate_right w32 (unsigned 32 a) c in

@@ -84,7 +84,7 @@ fn is_odd(z: i64) -> bool
     z.cast_unsigned() % 2 == 1
 }
 
-/// 32 bits turned around to the left.
+/// 32 bits rotated to the left.
 #[tactic(auto, unfolding(crate::specs::Shifts::rotated_left))]
 fn rotate_left(a: u32, by: u32, flags: Flags) -> (u32, Flags)
     ensures value { result ≡ rotated_left a by flags }
@@ -103,7 +103,7 @@ fn rotate_left(a: u32, by: u32, flags: Flags) -> (u32, Flags)
     )
 }
 
-/// 32 bits turned around to the right.
+/// 32 bits rotated to the right.
 #[tactic(auto, unfolding(crate::specs::Shifts::rotated_right))]
 fn rotate_right(a: u32, by: u32, flags: Flags) -> (u32, Flags)
     ensures value { result ≡ rotated_right a by flags }

@@ -41,7 +41,7 @@ pub enum Unary {
     Inc,
     /// One less; the carry flag stays.
     Dec,
-    /// Each bit turned; the flags stay.
+    /// Each bit inverted; the flags stay.
     Not,
     /// The operand subtracted from 0.
     Neg,

@@ -320,7 +320,7 @@ end_within line v h d is =
 is_other : ℕ → Bool
 is_other byte = not (is_prefix byte)
 
--- as many prefixes stand at the front, where there are fewer than n
+-- as many prefixes stand at the start, where there are fewer than n
 count_same : (v w : List ℕ) (n : ℕ) → Agree v w n → prefix_count v < n → prefix_count w ≡ prefix_count v
 unfolding prefix_count is_other
 count_same v w n a few = by_place v w n a (position is_other v) refl few

@@ -83,7 +83,7 @@ opcode_below w p n bytes =
     either (byte_in w n == 0x0F) (record { prefixes = p; escaped = true; opcode = byte_in w (n + 1); end = n + 2 })
     (record { prefixes = p; escaped = false; opcode = byte_in w n; end = n + 1 }) (bytes (n + 1)) (bytes n)
 
--- the bytes of a front are those of the list, and then 0
+-- the first bytes of a list are those of the list, and then 0
 pub front_bytes : (n : ℕ) (bytes : List ℕ) (i : ℕ) → ((k : ℕ) → get_or bytes k 0 < 256)
     → get_or (take n bytes) i 0 < 256
 front_bytes zero bytes i small = lit< tt

@@ -1,4 +1,4 @@
--- What the bytes at the front of a window spell: one instruction, where its line, and how long it is.
+-- What the bytes at the start of a window spell: one instruction, where its line, and how long it is.
 use Rattle.std.specs.Prelude.{◌≡◌, ◌≤◌, ℕ, ◌+◌, Bool, true, false, ◌&&◌, not, List, Option, Some, None, take, length}
 use Rattle.std.specs.Prelude.{nat_le, ◌==◌, if◌then◌else◌}
 use Rattle.ia32_decode.specs.declared.opcode_table.Line.{Line}
@@ -100,11 +100,11 @@ read_with line w head a = if accepts line w head a then if_complete w (completed
 unfoldable pub read_line : Line → List ℕ → Head → Option Decoded
 read_line line w head = read_with line w head (line_addressing (shape_of line) w head)
 
--- the instruction at the front of at most 15 bytes
+-- the instruction at the start of at most 15 bytes
 unfoldable pub read_front : List ℕ → Option Decoded
 read_front w = read_line (line_of (head_of w).escaped (head_of w).opcode) w (head_of w)
 
--- the instruction at the front of a window
+-- the instruction at the start of a window
 abbrev pub decoded_from : List ℕ → Option Decoded
 decoded_from window = read_front (front_of window)
 
@@ -120,7 +120,7 @@ takes_rest line w = accepts line w (head_of w) (line_addressing (shape_of line) 
 abbrev pub spelled : Line → List ℕ → Decoded
 spelled line w = completed line w (head_of w) (line_addressing (shape_of line) w (head_of w))
 
--- A line of the opcode table spells the instruction, with a front of the window of at most 15 bytes.
+-- A line of the opcode table spells the instruction, with the first bytes of the window, at most 15.
 pub record Spells (window : List ℕ) (d : Decoded) : Type 0 where
   pub line : Line
   pub stands : stands_at line (front_of window) ≡ true

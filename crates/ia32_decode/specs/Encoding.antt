@@ -1,7 +1,7 @@
 -- How the bytes of an instruction are laid out: prefixes, opcode, ModRM byte, SIB byte, displacement and immediate
 -- (Intel SDM volume 2, sections 2.1.1 to 2.1.5). A byte past the end of the window counts as 0, so that each part is
 -- defined at every window. An instruction with such a byte is longer than the window, and so isn't decoded; a byte
--- behind an instruction, as the one after a ModRM byte that has no SIB byte, counts for nothing.
+-- after an instruction, such as the one after a ModRM byte that has no SIB byte, doesn't matter.
 use Rattle.std.specs.Prelude.{ℕ, ◌+◌, ◌*◌, ◌/◌, ◌%◌, Bool, true, false, ◌&&◌, ◌||◌, not, List, [], ◌∷◌, Option, Some}
 use Rattle.std.specs.Prelude.{None, take, length, unwrap_or, nat_lt, ◌==◌, if◌then◌else◌}
 use Rattle.std.specs.List.{list_any, slice_index_or, position}
@@ -40,7 +40,7 @@ is_prefix byte =
     byte == 0x66 || byte == 0xF0 || byte == 0xF2 || byte == 0xF3 || byte == 0x26 || byte == 0x2E || byte == 0x36
     || byte == 0x3E || byte == 0x64 || byte == 0x65
 
--- how many prefixes stand at the front: the place of the first byte that isn't one
+-- how many prefixes stand at the start: the place of the first byte that isn't one
 unfoldable pub prefix_count : List ℕ → ℕ
 prefix_count w = unwrap_or (position (λ byte. not (is_prefix byte)) w) (length w)
 
@@ -70,7 +70,7 @@ head_after w prefixes n =
     then record { prefixes = prefixes; escaped = true; opcode = byte_in w (n + 1); end = n + 2 }
     else record { prefixes = prefixes; escaped = false; opcode = byte_in w n; end = n + 1 }
 
--- the prefixes and the opcode at the front of the window
+-- the prefixes and the opcode at the start of the window
 abbrev pub head_of : List ℕ → Head
 head_of w = head_after w (prefixes_of (take (prefix_count w) w) (prefix_count w)) (prefix_count w)
 

@@ -132,8 +132,8 @@ fn fields(follows: Follows, end: u32, addressing: &Addressing, width: u32) -> Fi
 }
 
 /// The instruction that a head begins, of at most 15 bytes. It is made last and in one place, once it is known to
-/// be whole: it is large, and each function that handed it on would copy it. It stands in place at both
-/// calls: where there is no prefix, that settles many of its tests.
+/// be whole: it is large, and each function that handed it on would copy it. It is inlined at both calls: where there
+/// is no prefix, that settles many of its tests.
 #[inline(always)]
 #[tactic(auto, unfolding(crate::specs::Decode::read_front, crate::specs::Decode::read_line, crate::specs::Decode::read_with, crate::specs::Decode::assembled))]
 fn read_after(window: &[u8], head: &Head) -> Option<Decoded>
@@ -169,7 +169,7 @@ fn read_after(window: &[u8], head: &Head) -> Option<Decoded>
     })
 }
 
-/// The instruction that a front of the window spells, `None` exactly where no line of the opcode table spells
+/// The instruction that the first bytes of the window spell, `None` exactly where no line of the opcode table spells
 /// one in at most 15 bytes. It takes no memory.
 #[inline(never)]
 pub fn decode(window: &[u8]) -> Option<Decoded>

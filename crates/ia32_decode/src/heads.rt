@@ -1,4 +1,4 @@
-//! The front of an instruction: its prefixes and its opcode.
+//! The start of an instruction: its prefixes and its opcode.
 ghost use Rattle.std.specs.Prelude.{◌≡◌, ◌≤◌, ◌<◌, ◌^◌, length, not, [], false, IfSome};
 ghost use Rattle.std.specs.List.{position};
 ghost use Rattle.ia32_decode.specs.Encoding.{byte_in, word_in, dword_in, is_prefix, prefix_count, has_byte};
@@ -74,7 +74,7 @@ fn first_other(window: &[u8]) -> Option<usize>
     window.iter().position(|byte| !is_prefix_byte(*byte))
 }
 
-/// How many prefixes stand at the front.
+/// How many prefixes stand at the start.
 #[tactic(auto, unfolding(crate::specs::Encoding::prefix_count))]
 fn count_prefixes(window: &[u8]) -> usize
     ensures value { result ≡ prefix_count window.now }
@@ -154,7 +154,7 @@ fn opcode_after(window: &[u8], prefixes: Prefixes, n: u32) -> Head
     }
 }
 
-/// The prefixes and the opcode at the front of a window.
+/// The prefixes and the opcode at the start of a window.
 #[cold]
 #[inline(never)]
 pub(crate) fn read_head(window: &[u8]) -> Head
@@ -168,7 +168,7 @@ pub(crate) fn read_head(window: &[u8]) -> Head
 }
 
 /// Whether a window begins with a prefix. No prefix stands in the opcode table, in which the byte is looked up in any
-/// case: so it alone answers for most instructions.
+/// case: so for most instructions this lookup alone is enough.
 pub(crate) fn begins_with_prefix(window: &[u8]) -> bool
     ensures { result ≡ is_prefix (byte_in window.now 0) }
 {
@@ -179,7 +179,7 @@ pub(crate) fn begins_with_prefix(window: &[u8]) -> bool
     }
 }
 
-/// The opcode at the front of a window that doesn't begin with a prefix. Most don't, and ten looks for prefixes
+/// The opcode at the start of a window that doesn't begin with a prefix. Most don't, and ten searches for prefixes
 /// among no bytes would take longer than all else here.
 #[tactic(auto, using(crate::proofs::PlainHead::head_of_plain))]
 pub(crate) fn plain_head(window: &[u8]) -> Head

@@ -20,7 +20,7 @@ pub fn instructions_have_bytes()
         decoded.length ≤ length window }
 {}
 
-/// At most one line of the opcode table spells a front of a window, and so one instruction stands there.
+/// At most one line of the opcode table spells the first bytes of a window, and so one instruction stands there.
 pub fn one_line_spells()
     ensures line { (window : List ℕ) (one other : Decoded) (s : Spells window one) (t : Spells window other) →
         ((i : ℕ) → byte_in window i < 256) → s.line ≡ t.line }

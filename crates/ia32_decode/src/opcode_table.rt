@@ -130,7 +130,7 @@ pub(crate) enum Line {
     Int3,
     /// 0F 0B: UD2.
     Ud2,
-    /// Opcodes of one byte without an operand, of which the length alone matters, as of all below.
+    /// Opcodes of one byte without an operand, of which only the length matters, as for all below.
     OpcodeOnly,
     /// CD: INT.
     Int,
@@ -233,7 +233,7 @@ pub(crate) struct Shape {
     pub follows: Follows,
 }
 
-/// The line of each opcode of one byte, eight opcodes a row from the one that is named behind it.
+/// The line of each opcode of one byte, eight opcodes a row, from the one named at its end.
 static ONE_BYTE: [Line; 256] = [
     AluTo, AluTo, AluFrom, AluFrom, AluEax, AluEax, NoLine, NoLine, // 00
     AluTo, AluTo, AluFrom, AluFrom, AluEax, AluEax, NoLine, NoLine, // 08

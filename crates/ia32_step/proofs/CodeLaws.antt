@@ -1,4 +1,4 @@
--- Why a step leaves code as it was, and why bytes of code have no say in what an instruction does.
+-- Why a step leaves code as it was, and why bytes of code don't matter to what an instruction does.
 use Rattle.std.proofs.Common.{◌≡◌, ℕ, zero, suc, ◌+◌, ◌-◌, ◌≤◌, ◌<◌, Bool, true, false, cond, if◌then◌else◌, ◌==◌}
 use Rattle.std.proofs.Common.{not, ◌⊎◌, inl, inr, List, [], ◌∷◌, length, get_or, map, replicate, Option, Some, None}
 use Rattle.std.proofs.Common.{Result, Ok, Err, refl, sym, ap, ◌∙◌, arith}

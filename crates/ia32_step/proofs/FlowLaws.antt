@@ -543,7 +543,7 @@ read_below limit (x ∷ xs) a low good =
       | false ↦ λ _ later. read_below limit xs a (All-tail P x xs low) later
     ] refl good
 
--- so ESP doesn't go round below 0 at a call
+-- so ESP doesn't wrap below 0 at a call
 pub call_falls : (thread : Thread) (call : Decoded) (after : Left) → IsCalled thread call after
     → ArePlaced after.contents.pieces
     → esp_of thread < 2 ^ 32 → esp_of after.thread + 4 ≡ esp_of thread

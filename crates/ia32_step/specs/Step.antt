@@ -81,19 +81,19 @@ abbrev pub change_in : List Piece → Context → Result Window Fault → Result
 change_in pieces context (Err fault) = Err fault
 change_in pieces context (Ok window) = change_by pieces context (decoded_from (fetched window))
 
--- what the instruction does that is fetched at a thread's pc, or why there is none, or the first of its faults but
+-- what the instruction that is fetched at a thread's pc does, or why there is none, or the first of its faults but
 -- those of what it writes
 unfoldable pub next_change : Contents → Thread → Result Change Fault
 next_change contents thread = change_in contents.pieces (context_of thread) (window_at contents thread.pc)
 
--- a thread at the address to which the function returns that it was started at ends
+-- a thread ends at the address to which the function that it was started at returns
 abbrev pub exited : Thread → Thread
 exited thread = record thread { state = states.Exited (accumulator (context_of thread) Dword) }
 
 abbrev pub exits : Contents → Thread → Left
 exits contents thread = left_by contents (exited thread) (Exited (accumulator (context_of thread) Dword))
 
--- One step of a running thread. At 0xFFFF0000, to which the function returns that it was started at, it ends; elsewhere
+-- One step of a running thread. At 0xFFFF0000, to which the function that it was started at returns, it ends; elsewhere
 -- it carries out the instruction that is fetched at its pc.
 unfoldable pub stepped : Contents → Thread → Left
 stepped contents thread =

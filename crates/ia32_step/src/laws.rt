@@ -47,8 +47,8 @@ pub fn steps_leave_code()
         ArePlaced contents.pieces → KeepsCode contents.pieces (done contents thread change).contents.pieces }
 {}
 
-/// Bytes of code have no say in what an instruction does, only in which is fetched. On memories that differ in code
-/// alone a decoded instruction does the same, by the same fault where it can't, and leaves memories that differ in
+/// Bytes of code don't matter to what an instruction does, only to which one is fetched. On memories that differ in
+/// code alone a decoded instruction does the same, or fails with the same fault, and leaves memories that differ in
 /// code alone. What is written where all is code leaves a memory that differs in code alone.
 pub fn code_bytes_have_no_say()
     ensures changes { (a b : List Piece) → SameData a b → (context : Context) (decoded : Option Decoded) →
@@ -67,7 +67,7 @@ pub fn code_bytes_have_no_say()
 
 /// A call lowers ESP by 4, and the address after the instruction stands there and can be read; a return goes on at the
 /// address that stood where ESP pointed. ESP is counted modulo 2^32, but since no piece ends above 0xFFFF0000 no call
-/// that is carried out takes it round below 0.
+/// that is carried out wraps it below 0.
 pub fn calls_and_returns()
     ensures calls { (contents : Contents) (thread : Thread) → length thread.registers ≡ 8 →
         (stepped contents thread).outcome ≡ Moved Call →

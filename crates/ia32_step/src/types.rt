@@ -14,7 +14,7 @@ pub enum State {
     Stopped(Fault),
 }
 
-/// The address to which the function returns that a thread is started at. Where a thread comes to it, it ends.
+/// The address to which the function that a thread is started at returns. A thread that comes to it ends.
 pub const RETURN_ADDRESS: u32 = 0xFFFF_0000;
 
 /// The number of ESP among a thread's registers.

@@ -21,7 +21,7 @@ module _ {X : Type 0} (range : X → Range) where
   Ascends-push floor [] x up low full = (low, full, tt)
   Ascends-push floor (y ∷ ys) x up low full = (up.0, up.1, Ascends-push (range y).high ys x up.2 low full)
 
-  -- what stands between the things before it and those behind it
+  -- what stands between the things before it and those after it
   pub ends_below : (floor : ℕ) (before : List X) (x : X) (after : List X) →
       Ascends range floor (before ++ x ∷ after) → end_of range floor before ≤ (range x).low
   ends_below floor [] x after up = up.0

@@ -1,4 +1,4 @@
--- Spellings put behind one another.
+-- Spellings put one after another.
 use Rattle.std.proofs.Common.{◌≡◌, ℕ, ◌+◌, List, [], ◌∷◌, ◌++◌, take, Some, append_assoc}
 use Rattle.std.specs.List.{slice_get, flat_map}
 use Rattle.std.proofs.lemmas.List.{take_more, flat_map_more}

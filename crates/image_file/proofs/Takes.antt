@@ -78,7 +78,7 @@ field_taken bytes offset rules n to there fits e =
     subst (λ (m : ℕ). Takes bytes offset (number m) to × (all_hold (rules m) ≡ true)) k.1
     (number_taken bytes offset b.0 to there fits b.1, k.0)
 
--- the items that were read one after another, behind those that were read before
+-- the items that were read one after another, after those that were read before
 pub record AreTaken {X : Type 0} (bytes : List ℕ) (spell : X → List ℕ) (n : ℕ) (before : List X) (offset : ℕ)
     (read : List X × ℕ) : Type 0 where
   pub items : List X

@@ -38,14 +38,14 @@ checked offset [] x = Ok x
 checked offset (rule ∷ rules) x =
     if rule.holds then checked offset rules x else Err (BadImage offset rule.fault)
 
--- the number at an offset, which is tried on its rules in their order
+-- the number at an offset, which is tested by its rules in their order
 abbrev pub field : List ℕ → ℕ → (ℕ → List Rule) → Result ℕ Refusal
 field bytes offset rules = do
   n ← number_at bytes offset
   checked offset (rules n) n
 
 -- So many items one after another, each read by the items before it and its offset, and as wide as
--- width says; and the offset behind them. The items so far and the first offset are given.
+-- width says; and the offset after them. The items so far and the first offset are given.
 unfoldable pub items_at : {X : Type 0} → ℕ → (List X → ℕ → Result X Refusal) → (X → ℕ) → List X → ℕ →
     Result (List X × ℕ) Refusal
 items_at zero item width before offset = Ok (before, offset)

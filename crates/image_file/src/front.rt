@@ -1,4 +1,4 @@
-//! The front of the file: its magic bytes, its counts and the arena.
+//! The header of the file: its magic bytes, its counts and the arena.
 ghost use Rattle.std.specs.Prelude.{◌≡◌, ◌≤◌, IfOk, IsTrue};
 ghost use Rattle.ks_base.specs.Gives.{Gives};
 ghost use Rattle.image_file.specs.Fields.{field};

@@ -12,7 +12,7 @@ ghost use Rattle.image_file.specs.Seen.{contents_of};
 
 use crate::types::Image;
 
-/// Reading the spelling of what keeps the rules of an image gives that again.
+/// Reading the spelling of contents that keep the rules of an image gives them again.
 pub fn spelling_is_read()
     ensures { (image : Contents) → Keeps image → image_of (spelling image) ≡ Ok image }
 {}

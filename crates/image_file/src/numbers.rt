@@ -6,7 +6,7 @@ ghost use Rattle.image_file.specs.Rules.{no_rules, count_rules};
 
 use ks_base::{ImageFault, Refusal};
 
-/// The bytes at an offset, so many.
+/// So many bytes at an offset.
 #[tactic(auto, unfolding(crate::specs::Fields::content_at))]
 pub(crate) fn content_of(bytes: &[u8], offset: u32, count: u32) -> Result<&[u8], Refusal>
     requires { offset + count < 2 ^ 32 }

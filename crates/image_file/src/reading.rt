@@ -18,8 +18,8 @@ use std::alloc::Global;
 /// [`Refusal::BadImage`] has the offset of the field that breaks a rule, in bytes from the file's start,
 /// and which rule it is; it comes exactly where a rule is broken, and names the first one in the order of
 /// the file. Where one field breaks several, the limit comes first, then the kind, the range, the order
-/// and the name. A file that ends inside a field is short at its own end. [`Refusal::Memory`] comes for
-/// want of memory alone.
+/// and the name. A file that ends inside a field is short at its own end. [`Refusal::Memory`] comes only
+/// if memory runs out.
 #[tactic(auto, unfolding(crate::specs::Reading::image_of))]
 pub fn read_image(alloc: Global, bytes: &[u8]) -> Result<Image, Refusal>
     ensures exact { Gives contents_of result (image_of bytes.now) }

@@ -15,7 +15,7 @@ use image_memory::{END_LIMIT, Kind, Piece, Pieces, meets};
 use ks_base::{Bytes, ImageFault, Range, Refusal};
 use std::alloc::Global;
 
-/// The offset of a region's base, behind its kind.
+/// The offset of a region's base, after its kind.
 const BASE_OFFSET: u32 = 4;
 
 /// The offset of the number of its bytes.
@@ -24,7 +24,7 @@ const LENGTH_OFFSET: u32 = 8;
 /// The offset of its bytes.
 const BYTES_OFFSET: u32 = 12;
 
-/// The regions of a file, and the offset behind them.
+/// The regions of a file, and the offset after them.
 pub(crate) fn regions_of(
     alloc: Global,
     bytes: &[u8],

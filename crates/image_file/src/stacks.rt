@@ -18,7 +18,7 @@ use std::alloc::Global;
 /// A stack has at least so many bytes.
 const LEAST_STACK: u32 = 32;
 
-/// The stacks of a file from an offset on, and the offset behind them.
+/// The stacks of a file from an offset on, and the offset after them.
 pub(crate) fn stacks_of(
     alloc: Global,
     bytes: &[u8],

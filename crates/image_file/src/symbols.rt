@@ -32,7 +32,7 @@ pub(crate) const LOCAL: u32 = 0;
 /// The number of a global symbol.
 pub(crate) const GLOBAL: u32 = 1;
 
-/// The symbols of a file from an offset on, and the offset behind them.
+/// The symbols of a file from an offset on, and the offset after them.
 pub(crate) fn symbols_of(
     alloc: Global,
     bytes: &[u8],

@@ -16,8 +16,8 @@ use ks_base::{Bytes, Range};
 use std::alloc::{AllocError, Global};
 use symbol_table::{Symbol, SymbolTable};
 
-/// The one spelling of an image as the bytes of a file, which are read as that image again. `Err` comes for
-/// want of memory alone.
+/// The one spelling of an image as the bytes of a file, which are read as that image again. `Err` comes
+/// only if memory runs out.
 #[tactic(auto, unfolding(crate::specs::Spelling::spelling))]
 pub fn write_image(alloc: Global, image: &Image) -> Result<Bytes, AllocError>
     ensures exact { IfOk result (λ bytes. bytes ≡ spelling (contents_of image.now)) }

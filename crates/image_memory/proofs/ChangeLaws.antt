@@ -151,7 +151,7 @@ removed_first range ranges place there at =
     let same : place ≡ n = let e = sym at ∙ first_is range ranges there in cc in
     rw same (remove_first range ranges)
 
--- what is left of a list from a place on, after the thing there or one behind it was taken out
+-- what is left of a list from a place on, after the thing there or a later one was taken out
 pub front_passed : (n : ℕ) (ranges : List Range) → remove (drop n ranges) 0 ≡ drop (n + 1) ranges
 front_passed n ranges = drop-drop 1 n ranges
 

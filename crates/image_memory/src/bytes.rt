@@ -13,7 +13,7 @@ pub(crate) fn front(bytes: &[u8], count: usize) -> &[u8]
     }
 }
 
-/// Copies as many bytes as fit to the front, and answers how many.
+/// Copies as many bytes as fit to the start, and answers how many.
 pub(crate) fn copy_front(into: &mut [u8], from: &[u8]) -> usize
     ensures count { result ≡ min (length into.old) (length from.now) }
     ensures copied { into.new ≡ take result from.now ++ drop result into.old }

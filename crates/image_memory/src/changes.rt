@@ -11,7 +11,7 @@ use ks_base::Ranges;
 use std::alloc::{AllocError, Global};
 
 /// Puts a piece among pieces that ascend, before the first that begins above it. Its place is found by halving.
-/// For want of memory the pieces are as before.
+/// If memory runs out the pieces are as before.
 pub fn put_piece(pieces: &mut Vec<Piece>, piece: Piece) -> Result<(), AllocError>
     requires { Ascends piece_range 0 pieces.old.items }
     ensures ok { OnOk result (pieces.new.items ≡ with_piece piece pieces.old.items) }
@@ -46,7 +46,7 @@ pub(crate) fn insert_spare<T: Drop>(items: &mut Vec<T>, at: usize, item: T)
     let _ = items.insert(at, item);
 }
 
-/// The ranges of pieces, in their order. `Err` comes for want of memory alone.
+/// The ranges of pieces, in their order. `Err` comes only if memory runs out.
 pub fn ranges_of(alloc: Global, pieces: &[Piece]) -> Result<Ranges, AllocError>
     requires { All (λ piece. (piece_range piece).high < 2 ^ 32) pieces.now }
     ensures { IfOk result (λ ranges. ranges ≡ map piece_range pieces.now) }

@@ -39,7 +39,7 @@ pub struct FlatSpace {
 
 impl FlatSpace {
     /// A memory that holds the pieces, with no retired range and nothing spare. [`are_placed`] tells
-    /// whether pieces may be handed in. `Err` comes for want of memory alone.
+    /// whether pieces may be handed in. `Err` comes only if memory runs out.
     ///
     /// [`are_placed`]: crate::are_placed
     pub fn new(alloc: Global, pieces: Pieces) -> Result<Self, AllocError>

@@ -14,7 +14,7 @@ use std::alloc::Global;
 use std::mem;
 
 impl Access {
-    /// Why data of a piece of a kind, or of no piece, can't be used so.
+    /// Why data of a piece of a kind, or of no piece, can't be used that way.
     pub(crate) fn fault(self, kind: Option<Kind>) -> Option<Fault>
         ensures { result ≡ access_fault self kind }
     {
@@ -120,7 +120,7 @@ impl Window {
         }
     }
 
-    /// Fifteen bytes as a window, as nearly all are: a copy of a length that is known is a quick one.
+    /// Fifteen bytes as a window, as nearly all are: a copy of a known length is quick.
     fn whole(bytes: &[u8]) -> Self
         requires { length bytes.now ≡ 15 }
         ensures { result ≡ shown bytes.now }

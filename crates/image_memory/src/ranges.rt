@@ -13,7 +13,7 @@ pub fn meets(a: Range, b: Range) -> bool
     a.low.max(b.low) < a.high.min(b.high)
 }
 
-/// Ranges in ascending order of their lows. `Err` comes for want of memory alone.
+/// Ranges in ascending order of their lows. `Err` comes only if memory runs out.
 pub fn sorted(alloc: Global, ranges: &[Range]) -> Result<Vec<Range>, AllocError>
     ensures same { IfOk result (λ sorted. IsPermutation ranges.now sorted.items) }
     ensures order { IfOk result (λ sorted. IsNonDecreasingBy (λ range. range.low) sorted.items) }
@@ -21,7 +21,7 @@ pub fn sorted(alloc: Global, ranges: &[Range]) -> Result<Vec<Range>, AllocError>
     Ok(in_order(Vec::from_slice(alloc, ranges)?))
 }
 
-/// The same, of ranges of one's own.
+/// The same, for a vector of ranges.
 fn in_order(mut ranges: Vec<Range>) -> Vec<Range>
     ensures same { IsPermutation ranges.items result.items }
     ensures order { IsNonDecreasingBy (λ range. range.low) result.items }

@@ -58,9 +58,9 @@ pub trait Space {
     fn spliced(&self, pc: u32) -> bool
         ensures { result ≡ spliced_at (contents self.now).fences pc };
 
-    /// Makes room for pieces and retired ranges to come: the spare ranges are then those of `pieces`, and so many
-    /// retired ranges are spare at least. What the memory holds stays, whatever the answer is. `Err` comes for want
-    /// of memory alone, and nothing is said of the room then.
+    /// Makes room for pieces and retired ranges to come: the spare ranges are then those of `pieces`, and at least
+    /// `fences` retired ranges are spare. What the memory holds stays, whatever the answer is. `Err` comes only if
+    /// memory runs out, and nothing is said of the room then.
     fn reserve(&mut self, pieces: &Pieces, fences: u32) -> Result<(), AllocError>
         requires { ArePlaceable pieces.now }
         ensures contents { contents self.new ≡ contents self.old }
@@ -76,7 +76,7 @@ pub trait Space {
         ensures room { room self.new
             ≡ record (room self.old) { ranges = without_first (piece_range piece) (room self.old).ranges } };
 
-    /// Takes the piece away that begins at a base. No range is spare then.
+    /// Takes away the piece that begins at a base. No range is spare then.
     fn drop_piece(&mut self, base: u32)
         requires { HasPiece (contents self.old) base }
         ensures contents { contents self.new ≡ after_drop (contents self.old) base }
@@ -97,7 +97,7 @@ pub trait Space {
         ensures contents { contents self.new ≡ after_fence (contents self.old) (record { range = range; jump = jump }) }
         ensures room { room self.new ≡ record (room self.old) { fences = (room self.old).fences - 1 } };
 
-    /// Retires a range no longer, and its low is no spliced home then.
+    /// Ends the retirement of a range; its low is then no spliced home.
     fn unfence(&mut self, range: Range)
         requires { IsRetired (contents self.old) range }
         ensures contents { contents self.new ≡ after_unfence (contents self.old) range }

@@ -56,7 +56,7 @@ pub(crate) const WINDOW_LENGTH: usize = 15;
 /// What is fetched at an address.
 #[derive(Clone, Copy, PartialEq, Eq, Debug)]
 pub struct Window {
-    /// The bytes from the address on, zeros behind `length`.
+    /// The bytes from the address on, zeros after `length`.
     pub bytes: [u8; WINDOW_LENGTH],
     /// How many bytes were fetched, at most 15.
     pub length: u32,

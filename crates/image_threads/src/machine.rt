@@ -54,7 +54,7 @@ impl<S: Space> Machine<S> {
     ghost use Rattle.image_threads.specs.contracts.machine.Machine.{the_row};
     ghost use Rattle.symbol_table.specs.contracts.table.SymbolTable.{the_row as symbols_row};
 
-    /// The program of an image over a memory, with no thread. `Err` comes for want of memory alone.
+    /// The program of an image over a memory, with no thread. `Err` comes only if memory runs out.
     ///
     /// The memory is to hold the image's regions and its stacks, these as writable pieces of zeros.
     pub fn new(alloc: Global, image: Image, space: S) -> Result<Self, AllocError>
@@ -145,7 +145,7 @@ impl<S: Space> Machine<S> {
         free_among(self.stacks.as_slice(), &self.threads)
     }
 
-    /// Starts a thread at an address on a stack, and answers its number. For want of memory all is as before.
+    /// Starts a thread at an address on a stack, and answers its number. If memory runs out all is as before.
     fn start(&mut self, pc: u32, stack: Range, argument: u32) -> Result<u32, AllocError>
         requires few { length self.old.threads < 4096 }
         requires tall { stack.low + 32 ≤ stack.high }
@@ -169,8 +169,8 @@ impl<S: Space> Machine<S> {
     /// has, filled with zeros; ESP is 20 below the stack's end, where the address 0xFFFF0000 and then the argument
     /// stand; all other registers and the flags are clear. [`Refusal::NoSymbol`] comes exactly where no function symbol
     /// has the name, then [`Refusal::TwoNames`] where several addresses have, [`Refusal::TooManyThreads`] where 4,096
-    /// threads were started, [`Refusal::NoStack`] where each stack has a running thread, and [`Refusal::Memory`] for
-    /// want of memory alone; all is then as before.
+    /// threads were started, [`Refusal::NoStack`] where each stack has a running thread, and [`Refusal::Memory`] only
+    /// if memory runs out; all is then as before.
     #[tactic(auto, unfolding(crate::specs::Spawning::spawned, crate::specs::Spawning::started))]
     pub fn spawn(&mut self, name: &Name, argument: u32) -> Result<u32, Refusal>
         requires { AreStacks self.old.contents.pieces self.old.stacks }

@@ -102,7 +102,7 @@ impl ThreadList {
         any_has(self.threads.as_slice(), self.running.as_slice(), stack)
     }
 
-    /// Starts a thread, and answers its number. For want of memory all is as before.
+    /// Starts a thread, and answers its number. If memory runs out all is as before.
     pub(crate) fn push(&mut self, stack: Range, pc: u32) -> Result<u32, AllocError>
         requires few { length self.old < 4096 }
         requires tall { 20 ≤ stack.high }

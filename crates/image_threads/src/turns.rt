@@ -49,15 +49,15 @@ impl Turns {
         }
     }
 
-    /// The number of the thread that steps next, which runs, and that step is then made; `None` exactly where no step
-    /// is left or no thread runs. It takes no memory.
+    /// The number of the thread that steps next, which runs; its step then counts as made. `None` exactly where no step
+    /// is left or no thread runs, and then nothing changes. It takes no memory.
     #[tactic(auto, using(crate::proofs::TurnLaws::turn_runs))]
     pub fn next<S: Space>(&mut self, machine: &Machine<S>) -> Option<u32>
         ensures thread { result ≡ option_map thread_of (next_turn self.old machine.now.threads) }
         ensures schedule { self.new ≡ after_turn self.old (next_turn self.old machine.now.threads) }
         ensures runs { IfSome result (λ number. IsSome (running_at machine.now.threads number)) }
     {
-        // The threads of a machine are numbered by their places.
+        // Nothing is done here: the call says that the program's threads are numbered by their places.
         let _threads = machine.threads();
         match self.next_turn(machine) {
             Some(turn) => {

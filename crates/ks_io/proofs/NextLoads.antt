@@ -37,7 +37,7 @@ one_lost told file Failed loaded before now shown memory gives tells =
 one_lost told file Memory loaded before now shown memory gives tells =
     record { are_held = tt; ends = memory refl; rises = tells }
 
--- the files that are wanted are those before one, that one, and those behind it
+-- the files that are wanted are those before one, that one, and those after it
 parted : (wanted : List Wanted) (index : ℕ) (d : Wanted) → index < length wanted
     → map needed_by (take index wanted) ++ needed_by (get_or wanted index d) ∷ map needed_by (drop (index + 1) wanted)
     ≡ map needed_by wanted

@@ -4,7 +4,7 @@ use Rattle.ks_io.specs.Outside.{Counts, Rose, IsLonger}
 use Rattle.ks_io.specs.declared.types.FileFault.{FileFault}
 use Rattle.ks_io.specs.declared.types.FileFault.TheVariants.{Missing, TooLong, Failed, Memory}
 
--- where the file of this name is told, what a load with this limit answered agrees with it:
+-- where the file of this name is given, what a load with this limit answered agrees with it:
 -- an Ok has loaded exactly its bytes, Missing found none, TooLong one that is longer than the limit
 abbrev pub LoadGives : {T : Type 0} → Option (List ℕ) → ℕ → Result T FileFault → List ℕ → Type 0
 LoadGives file limit (Ok _) loaded = file ≡ Some loaded

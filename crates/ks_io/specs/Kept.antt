@@ -2,8 +2,7 @@
 use Rattle.std.specs.Prelude.{◌≡◌, ℕ, ◌≤◌, List, Option}
 use Rattle.ks_io.specs.Outside.{Counts, NeverFall}
 
--- The files stay what they are told to be, and no count falls. Where no call fails, none does later, and no fault is
--- counted.
+-- The given files stay the same, and no count falls. Where no call fails, none does later, and no fault is counted.
 pub record FilesKept {X : Type 0} (told : X → Option (List ℕ → Option (List ℕ)))
     (counts : X → Counts) (quiet : X → Type 0) (old new : X) : Type 0 where
   pub told_kept : told new ≡ told old

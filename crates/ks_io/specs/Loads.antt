@@ -18,11 +18,12 @@ pub record Needed : Type 0 where
 abbrev pub needed_by : Wanted → Needed
 needed_by wanted = record { name = wanted.name.now; limit = wanted.limit }
 
--- the files by their names, where they are told
+-- the files by their names, where they are given
 abbrev pub Told : Type 0
 Told = Option (List ℕ → Option (List ℕ))
 
--- A file was held: it has no more bytes than it may have, and where the files are told these are the bytes of its name.
+-- A file was held: it has no more bytes than it may have, and where the files are given these are the bytes of its
+-- name.
 pub record IsHeld (told : Told) (file : Needed) (bytes : List ℕ) : Type 0 where
   pub fits : length bytes ≤ file.limit
   pub is_told : (files : List ℕ → Option (List ℕ)) → told ≡ Some files → files file.name ≡ Some bytes
@@ -37,32 +38,33 @@ AreHeld told (file ∷ needed) (bytes ∷ held) = IsHeld told file bytes × AreH
 abbrev pub first_lacking : List Needed → List (List ℕ) → Option Needed
 first_lacking needed held = slice_get needed (length held)
 
--- what a fault says of a file that is told
+-- what a fault says of a file that is given
 abbrev pub FaultTells : FileFault → ℕ → Option (List ℕ) → Type 0
 FaultTells Missing limit file = file ≡ None
 FaultTells TooLong limit file = IsLonger limit file
 FaultTells Failed limit file = Unit {0}
 FaultTells Memory limit file = ⊥
 
--- A file wasn't loaded for a fault of the outside, which shows in its count.
+-- A file wasn't loaded because of a fault of the outside, which shows in its count.
 pub record IsLost (told : Told) (fault : FileFault) (before now : Counts) (file : Needed) : Type 0 where
   pub shown : ShowsIn fault before now
   pub is_outside : fault ≢ Memory
   pub is_told : (files : List ℕ → Option (List ℕ)) → told ≡ Some files → FaultTells fault file.limit (files file.name)
 
--- the load of the first file that wasn't held was answered with a fault; where no fault is told, nothing was counted
+-- the load of the first file that wasn't held was answered with a fault; where no fault is reported, nothing was
+-- counted
 abbrev pub EndsLoads : Told → Option Needed → Option FileFault → Counts → Counts → Type 0
 EndsLoads told file None before now = now ≡ before
 EndsLoads told None (Some fault) before now = ⊥
 EndsLoads told (Some file) (Some fault) before now = IsLost told fault before now file
 
--- Where the files are told, absences and excesses rose only for the first file that wasn't held.
+-- Where the files are given, absences and excesses rose only for the first file that wasn't held.
 abbrev pub RoseFor : (List ℕ → Option (List ℕ)) → Option Needed → Counts → Counts → Type 0
 RoseFor files None before now = (now.absences ≡ before.absences) × (now.excesses ≡ before.excesses)
 RoseFor files (Some file) before now = CountsTell (files file.name) file.limit before now
 
 -- What loading came to of files that are needed one after another: the bytes of those that were held, and the fault of
--- the outside for which the next was not, if there was one. Without such a fault the counts stay.
+-- the outside because of which the next one wasn't, if there was one. Without such a fault the counts stay.
 pub record CameTo (told : Told)
     (needed : List Needed) (held : List (List ℕ)) (lost : Option FileFault) (before now : Counts) : Type 0 where
   pub are_held : AreHeld told needed held
@@ -70,8 +72,8 @@ pub record CameTo (told : Told)
   pub rises : (files : List ℕ → Option (List ℕ))
       → told ≡ Some files → RoseFor files (first_lacking needed held) before now
 
--- Of files that are needed, which may hang on those before them, the first that wasn't held was lost for a fault of the
--- outside.
+-- Of files that are needed, which may depend on those before them, the first that wasn't held was lost because of a
+-- fault of the outside.
 pub record LosesOne (needed : List (List ℕ) → List Needed) (told : Told) (before now : Counts) : Type 0 where
   pub held : List (List ℕ)
   pub are_held : AreHeld told (needed held) held

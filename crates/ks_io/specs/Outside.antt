@@ -1,5 +1,5 @@
--- What the outside is to this program: files that may be told, bytes that a sink may show as taken, and
--- counts of what went wrong, by which an answer that isn't Ok is known to have its cause outside.
+-- What the outside is to this program: files that may be given, bytes that a sink may show as taken,
+-- and counts of what went wrong, by which an answer that isn't Ok is known to have its cause outside.
 use Rattle.std.specs.Prelude.{◌≡◌, ◌≢◌, ℕ, ◌+◌, ◌-◌, ◌^◌, ◌≤◌, ◌<◌, min, Option}
 use Rattle.std.specs.Prelude.{Some, None, IsSomeAnd, List, [], ◌++◌, length}
 
@@ -12,11 +12,11 @@ pub record Counts : Type 0 where
 abbrev pub no_counts : Counts
 no_counts = record { absences = 0; excesses = 0; faults = 0 }
 
--- a count that rises by one, and stands still at the end of 64 bits
+-- a count that rises by one, and stops at 2^64 - 1
 abbrev pub raised : ℕ → ℕ
 raised count = min (count + 1) (2 ^ 64 - 1)
 
--- a count rose in a call; one that stands at the end of 64 bits counts as risen
+-- a count rose in a call; one that stands at 2^64 - 1 counts as risen
 abbrev pub Rose : ℕ → ℕ → Type 0
 Rose before now = raised before ≤ now
 
@@ -38,14 +38,14 @@ abbrev pub grown : Option (List ℕ) → List ℕ → Option (List ℕ)
 grown None more = None
 grown (Some taken) more = Some (taken ++ more)
 
--- of a piece some front was taken, maybe none of it and maybe all
+-- some prefix of a piece was taken, maybe none of it and maybe all
 pub record TookFront (old : Option (List ℕ)) (piece : List ℕ) (new : Option (List ℕ)) : Type 0 where
   pub front : List ℕ
   pub rest : List ℕ
   pub splits : front ++ rest ≡ piece
   pub taken : new ≡ grown old front
 
--- of a piece some front was taken, maybe none of it, and not all
+-- some prefix of a piece was taken, maybe none of it, and not all
 pub record TookPart (old : Option (List ℕ)) (piece : List ℕ) (new : Option (List ℕ)) : Type 0 where
   pub front : List ℕ
   pub rest : List ℕ

@@ -1,4 +1,4 @@
--- Laws of the fronts of what was written (Fronts), of what stays (KeptLaws) and of loads (LoadLaws), proved, for the
+-- Laws of the prefixes of what was written (Fronts), of what stays (KeptLaws) and of loads (LoadLaws), proved, for the
 -- crates above.
 pub mod Fronts
 pub mod KeptLaws

@@ -6,8 +6,7 @@ ghost use Rattle.ks_io.specs.InMemory.{counts_after};
 use crate::types::FileFault;
 use std::marker::Model;
 
-/// How often a load found no file, a file longer than its limit, and a fault. Each stands still at the end
-/// of 64 bits.
+/// How often a load found no file, a file longer than its limit, and a fault. Each stops at 2^64 - 1.
 #[derive(Drop)]
 pub(crate) struct Counters {
     absences: u64,

@@ -1,6 +1,6 @@
 //! The outside of the program: files that are loaded by name, and a sink that takes bytes. Each is a trait
 //! whose contract says when an answer may be anything but Ok: a fault of the outside shows in a count of
-//! it that rose in the call. `MemoryFiles` and `MemorySink` are bodies of the two that live in memory.
+//! it that rose in the call. `MemoryFiles` and `MemorySink` implement the two in memory.
 #![tactic(auto)]
 
 mod counters;

@@ -17,7 +17,7 @@ pub fn load_all<F: Files>(
     ensures loads { LoadsCameTo
         (F.told files.old) (map needed_by wanted.now) (F.counts files.old) (F.counts files.new) result }
     ensures within { IfErr result (λ lost. lost.index < length wanted.now) }
-    // Where all are loaded, and where memory was wanting, nothing is counted.
+    // Where all are loaded, and where memory ran out, nothing is counted.
     ensures steady { OnOk result (F.counts files.new ≡ F.counts files.old) }
     ensures memory { IfErr result (λ lost. lost.fault ≡ FileFault.Memory → F.counts files.new ≡ F.counts files.old) }
     ensures kept { FilesKept F.told F.counts F.quiet files.old files.new }

@@ -12,7 +12,7 @@ use crate::types::FileFault;
 use std::alloc::{AllocError, Global};
 use std::collections::BTreeMap;
 
-/// Files that live in memory. All of them are told, and the loads that fail are chosen by their numbers.
+/// Files that live in memory. All of them are given, and the loads that fail are chosen by their numbers.
 #[derive(Drop)]
 pub struct MemoryFiles {
     alloc: Global,

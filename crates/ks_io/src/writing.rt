@@ -7,7 +7,7 @@ use crate::outside::Sink;
 use crate::types::SinkFault;
 
 /// Writes the whole piece, in as many writes as the sink wants. SinkFailed: the sink failed, or took nothing of bytes
-/// that were left. Memory: the sink could not grow. After either, a front of the piece was taken, and not all of it.
+/// that were left. Memory: the sink could not grow. After either, a prefix of the piece was taken, and not all of it.
 pub fn write_all<O: Sink>(out: &mut O, piece: &[u8]) -> Result<(), SinkFault>
     ensures ok { OnOk result (O.taken out.new ≡ grown (O.taken out.old) piece.now) }
     ensures part { OnErr result (TookPart (O.taken out.old) piece.now (O.taken out.new)) }

@@ -1,5 +1,5 @@
 //! Makes objects for tests, of sections, functions and references: the file's header, the section headers, and then the
-//! contents, with relocations, symbols and names behind the given sections. What is referred to and is no section is a
+//! contents, with relocations, symbols and names after the given sections. What is referred to and is no section is a
 //! name that the object doesn't define.
 #![tactic(auto)]
 
@@ -14,7 +14,7 @@ pub enum Kind {
     Local(&'static str),
     /// Data that the program reads.
     ReadOnly,
-    /// Texts, each with a zero behind it.
+    /// Texts, each with a zero after it.
     Strings,
     /// Data that the program may change.
     Data,
@@ -220,7 +220,7 @@ impl Draft {
         word(self.symbols.len() / SYMBOL)
     }
 
-    /// The offset of a name, which is put behind the others.
+    /// The offset of a name, which is put after the others.
     fn name(&mut self, name: &str) -> Result<u32, AllocError> {
         let offset = word(self.names.len());
         self.names.extend_from_slice(name.as_bytes())?;
@@ -353,7 +353,7 @@ impl Draft {
     }
 }
 
-/// The object of these sections, as a file. An error comes for want of memory alone.
+/// The object of these sections, as a file. An error comes only if memory runs out.
 pub fn object(alloc: Global, sections: &[Section]) -> Result<Vec<u8>, AllocError> {
     let mut draft = Draft::new(alloc, section_count(sections))?;
     draft.put_sections(sections)?;

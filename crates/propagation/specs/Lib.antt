@@ -1,5 +1,5 @@
--- Public clauses cite Rounds (which items are left), Conflicts (which of them are in each other's way) and Choices (the
--- same for choices whose claims and demands are numbers). What stands in inside is the code's own.
+-- Public clauses cite Rounds (which items are left), Conflicts (which of them clash) and Choices (the same for choices
+-- whose claims and demands are numbers). What stands in inside is the code's own.
 pub mod Rounds
 pub mod Conflicts
 pub mod Choices

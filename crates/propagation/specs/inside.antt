@@ -1,4 +1,4 @@
--- The state of the code, said by contracts inside this crate alone.
+-- The state of the code, cited only by contracts inside this crate.
 pub mod Engine
 pub mod State
 pub mod Striking

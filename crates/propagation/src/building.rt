@@ -183,8 +183,8 @@ fn put_numbers(
     Ok(())
 }
 
-/// By section, the numbers of the demands that choices of other sections make on it, each once where a number stands
-/// for demands on one section alone. There is room to tell so many numbers.
+/// By section, the numbers of the demands that choices of other sections make on it, each once where a number is below
+/// `room` and stands for demands on one section alone.
 pub(crate) fn numbers_by_section(
     alloc: Global,
     choices: &[Choice],

@@ -1,4 +1,4 @@
-//! Which choices that must be chosen are in each other's way.
+//! Which choices that must be chosen clash.
 ghost use Rattle.std.specs.Prelude.{◌≡◌, ◌<◌, ◌&&◌, ℕ, false, true, length, IfOk};
 ghost use Rattle.std.specs.Prelude.{IfNone, IfSome, IsSome, All, map, option_map};
 ghost use Rattle.std.specs.List.{list_any};

@@ -12,8 +12,7 @@ use crate::tables::Entry;
 use std::alloc::{AllocError, Global};
 use std::marker::Model;
 
-/// Which choices are left, and which sections are to be looked at, since the number of those of their choices that are
-/// left fell.
+/// Which choices are left, and which sections are to be looked at, since fewer of their choices are left than before.
 #[derive(Drop)]
 pub(crate) struct Marks {
     left: Vec<bool>,
@@ -175,8 +174,8 @@ impl Marks {
         self.is_left(choice) && choice != except
     }
 
-    /// Of the first `end` choices of a list, where the last stands that is left and isn't `except`: the length of the
-    /// front that ends with it, 0 where there is none.
+    /// Among the first `end` choices of a list, where the last one stands that is left and isn't `except`: the length
+    /// of the prefix that ends with it, 0 where there is none.
     fn end_of_left(&self, list: &[usize], end: usize, except: usize) -> usize
         requires { end ≤ length list.now }
         ensures { IsEnd self.now.left list.now end except result }
@@ -198,8 +197,8 @@ impl Marks {
         self.left.len()
     }
 
-    /// A list without choices at its end that aren't left, and without those before its last one. What is dropped is
-    /// dropped once, so this takes constant time beside it.
+    /// A list without the choices that aren't left at its end, and without those just before its last one. Each is
+    /// dropped once, so beyond that this takes constant time.
     pub(crate) fn narrowed(&self, mut list: Vec<usize>) -> Vec<usize>
         ensures { IsNarrowed self.now.left list.items result.items }
     {

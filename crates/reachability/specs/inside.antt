@@ -1,2 +1,2 @@
--- The walk of the code, said by contracts inside this crate alone.
+-- The walk of the code, cited only by contracts inside this crate.
 pub mod Walk

@@ -40,7 +40,7 @@ impl Graph {
         Ok(Graph { successors })
     }
 
-    /// Adds the edge from one node to another. For want of memory the graph is as before.
+    /// Adds the edge from one node to another. If memory runs out the graph is as before.
     pub(crate) fn add(&mut self, from: usize, to: usize) -> Result<(), AllocError>
         requires from { from < length self.old }
         requires to { to < length self.old }

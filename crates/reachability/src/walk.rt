@@ -45,7 +45,7 @@ impl Reaching {
         self.queue.len()
     }
 
-    /// The node that was marked as the one of a number, counted from 0.
+    /// The marked node of a number, counted from 0 in the order in which nodes were marked.
     fn node_at(&self, turn: usize) -> usize
         requires { turn < length self.now.queue }
         ensures { result ≡ slice_index self.now.queue turn }
@@ -105,7 +105,7 @@ impl Reaching {
         Ok(())
     }
 
-    /// Marks the successors of the node that was marked as the one of a number.
+    /// Marks the successors of the marked node of a number.
     fn visit(&mut self, graph: &[Successors], turn: usize) -> Result<(), AllocError>
         requires queued { turn < length self.old.queue }
         requires node { slice_index self.old.queue turn < length graph.now }

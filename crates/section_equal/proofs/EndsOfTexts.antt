@@ -162,7 +162,7 @@ ends_in_section (Some section) offset text h =
           ∙ ap (λ k. get_or section.bytes k 0) at;
     }
 
--- a text that stands at an offset ends behind it by its length
+-- a text that stands at an offset ends its length after it
 pub ends_in : (sections : List NormalSection) (place offset : ℕ) (text : List ℕ) → HoldsAt sections place offset text
     → EndsIn (bytes_at sections place) (offset + length text) text
 ends_in sections place offset text h = ends_in_section (slice_get sections place) offset text h

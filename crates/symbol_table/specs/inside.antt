@@ -1,4 +1,4 @@
--- The indices that the table keeps, said by contracts inside this crate alone.
+-- The indices that the table keeps, cited only by contracts inside this crate.
 pub mod Blocks
 pub mod Entries
 pub mod Functions

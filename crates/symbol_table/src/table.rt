@@ -62,7 +62,7 @@ impl SymbolTable {
     }
 
     /// The table of some symbols, in their order, without spare places. Each index is sorted once, so that it is
-    /// made faster than by [`add`](SymbolTable::add) of each symbol. An error comes for want of memory alone.
+    /// made faster than by [`add`](SymbolTable::add) of each symbol. An error comes only if memory runs out.
     pub fn from_symbols(alloc: Global, symbols: Vec<Symbol>) -> Result<Self, AllocError>
         ensures { IfOk result (λ table. table ≡ record { symbols = symbols.items; spare = 0 }) }
     {
@@ -108,8 +108,8 @@ impl SymbolTable {
     }
 
     /// The one address of the function symbols of a name. [`Refusal::NoSymbol`] comes exactly where there is
-    /// none, [`Refusal::TwoNames`] with the two lowest where there are several, and [`Refusal::Memory`] for
-    /// want of memory alone.
+    /// none, [`Refusal::TwoNames`] with the two lowest where there are several, and [`Refusal::Memory`] only if memory
+    /// runs out.
     pub fn function_named(&self, name: &Name) -> Result<u32, Refusal>
         ensures { Gives (λ address. address) result (function_named self.now.symbols name.now) }
     {
@@ -189,8 +189,8 @@ impl SymbolTable {
         )
     }
 
-    /// Makes the spare places that are missing of `n`, if any. The symbols stay. `Err` comes for want of memory alone,
-    /// and the table is then as before.
+    /// Makes spare places until there are `n`, if there are fewer. The symbols stay. `Err` comes only if memory runs
+    /// out, and the table is then as before.
     pub fn reserve(&mut self, n: u32) -> Result<(), AllocError>
         ensures symbols { self.new.symbols ≡ self.old.symbols }
         ensures spare { OnOk result (self.new.spare ≡ max self.old.spare n) }
@@ -243,9 +243,9 @@ impl SymbolTable {
     }
 }
 
-/// The one address of ascending ones that a name has. The refusal that is said to be for a name without one comes exactly
-/// where there is none, [`Refusal::TwoNames`] with the two lowest exactly where there are several, and
-/// [`Refusal::Memory`] for want of memory alone.
+/// The one address of a name, whose addresses are given in ascending order. The refusal that `missing` names comes
+/// exactly where there is none, [`Refusal::TwoNames`] with the two lowest exactly where there are several, and
+/// [`Refusal::Memory`] only if memory runs out.
 pub fn only_address(
     alloc: Global,
     name: &[u8],

@@ -1,4 +1,4 @@
-//! Whole calls over files and a sink in memory, which fail in mid-stream, and for which memory is wanting.
+//! Whole calls over files and a sink in memory, which fail in mid-stream, and in which memory runs out.
 use crate::images::{LISTING, PAIR, PROGRAM};
 use crate::objects::OBJECTS;
 use ks_io::{MemoryFiles, MemorySink};
@@ -78,7 +78,7 @@ type Call = (
 enum End {
     /// With its output and its status.
     AsTold,
-    /// With a front of its output, for want of memory.
+    /// With a prefix of its output, since memory ran out.
     WithoutMemory,
     Otherwise,
 }
@@ -221,7 +221,7 @@ static CALLS: [Call; 8] = [
     ),
 ];
 
-/// A call that memory is wanting for ends with 6 and a front of its output. `rt try --test --fail-alloc N` makes the
+/// A call in which memory runs out ends with 6 and a prefix of its output. `rt try --test --fail-alloc N` makes the
 /// allocation of this number fail; where that is one for the files, no call is made, and the test ends with that.
 #[test]
 fn want_of_memory(rt: HostRuntime) -> Result<(), Fail> {

@@ -1,6 +1,6 @@
 //! Images for the tests, byte by byte.
 
-/// Code at 0x00100000: `f` is `mov eax, 1` and `ret`, `main` 16 bytes behind it calls it, with padding behind each. A
+/// Code at 0x00100000: `f` is `mov eax, 1` and `ret`, `main` 16 bytes after it calls it, with padding after each. A
 /// stack and an arena.
 pub const PROGRAM: [u8; 113] = [
     0x4b, 0x49, 0x4d, 0x31, 0x01, 0x00, 0x00, 0x00, 0x02, 0x00, 0x00, 0x00, 0x01, 0x00, 0x00, 0x00,
@@ -13,7 +13,7 @@ pub const PROGRAM: [u8; 113] = [
     0x00,
 ];
 
-/// Code at 0x00100000: `p` and, 16 bytes behind it, `q` load words at 0x00200000 and 0x00200008 and return; then two
+/// Code at 0x00100000: `p` and, 16 bytes after it, `q` load words at 0x00200000 and 0x00200008 and return; then two
 /// functions `tw` that return 0; then `start`, which calls the second of them and `ext`; and `ext`, which returns. An
 /// arena.
 pub const PAIR: [u8; 227] = [

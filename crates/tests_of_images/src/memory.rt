@@ -136,7 +136,7 @@ fn looks<S: Space>(space: &S) -> bool {
         && !space.spliced(0x0010_0000)
 }
 
-/// Whether the bytes that are fetched are these, with zeros behind them.
+/// Whether the bytes that are fetched are these, with zeros after them.
 fn fetches<S: Space>(space: &S, pc: u32, length: u32, bytes: [u8; 15]) -> bool {
     match space.window(pc) {
         Ok(window) => {

@@ -1,8 +1,8 @@
 //! What is decoded, how long it is, where its fields stand, and what is padding.
 use ia32_decode::{Decoded, Field, Instr, Operand, Register, Width, decode, is_padding};
 
-/// Windows, and of the instruction at the front of each how long it is and whether it is padding: padding, what is none,
-/// one behind which another stands, and no instruction.
+/// Windows, and how long the instruction at the start of each is and whether it is padding: padding, one that isn't,
+/// one that another follows, and no instruction.
 static WINDOWS: [(&[u8], Option<(u32, bool)>); 4] = [
     (&[0x0F, 0x1F, 0x44, 0, 0], Some((5, true))),
     (&[0x66, 0xB8, 1, 0], Some((4, false))),

@@ -168,7 +168,7 @@ fn runs_once(machine: &mut Machine<FlatSpace>, alloc: Global, number: u32) -> bo
     started == Some(number)
 }
 
-/// Where a thread of the machine stands in a range.
+/// Where a thread of the program stands in a range.
 fn standing(
     machine: &Machine<FlatSpace>,
     number: usize,
@@ -218,7 +218,7 @@ fn stack_of_an_ended_thread(rt: HostRuntime) -> Result<(), Fail> {
     Ok(())
 }
 
-/// An unknown name is told before the want of a stack.
+/// An unknown name is reported before a lack of stacks.
 #[test]
 fn unknown_function(rt: HostRuntime) -> Result<(), Fail> {
     let alloc = rt.alloc();

@@ -83,7 +83,7 @@ in_order (x ∷ xs) zero (suc j) a b each less at_i at_j =
 in_order (x ∷ xs) (suc i) (suc j) a b each less at_i at_j =
     in_order xs i j a b (and_parts (list_all (comes_before x) xs) (stand_in_order xs) each).1 (omega arith) at_i at_j
 
--- what is tested of a list that isn't empty, with the lists that a slice is parted in
+-- what is tested of a list that isn't empty, with the lists that a slice is split into
 pub rise_of : (xs : List ℕ) → 0 < length xs → rise xs
     ≡ (list_all (nat_lt (get_or xs 0 0)) (take (length xs - 1) (drop 1 xs)) && rise (take (length xs - 1) (drop 1 xs)))
 unfolding rise

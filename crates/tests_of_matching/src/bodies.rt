@@ -1,4 +1,4 @@
-//! A section of an object beside what runs: what is told of a match, and what no image has.
+//! A section of an object beside what runs: what is reported of a match, and what no image has.
 ghost use Rattle.std.specs.Prelude.{◌≡◌};
 ghost use Rattle.i386_reloc.specs.Classes.{is_code_class};
 ghost use Rattle.i386_reloc.specs.Reaches.{is_in};
@@ -27,7 +27,7 @@ const F: Section = Section {
     references: &[],
 };
 
-/// `ret`, with padding behind it.
+/// `ret`, with padding after it.
 const PADDED: Section = Section {
     name: ".text.f",
     kind: Kind::Global("f"),
@@ -114,7 +114,7 @@ type Row = (
     &'static str,
 );
 
-/// What is told of a match, beside a symbol `ext`.
+/// What is reported of a match, beside a symbol `ext`.
 static TOLD: [Row; 9] = [
     (
         &[L, X],
@@ -140,7 +140,7 @@ static TOLD: [Row; 9] = [
         "length 11\ncode .text.f 0x00100000 at .text.f+0x0\ncode .text.g 0x00100020 at .text.f+0x1\n\
          inside .text.g+0x1 0x00100025 at .text.f+0x6\n",
     ),
-    // padding before the first instruction is counted, and not that behind the last one
+    // padding before the first instruction is counted, and not that after the last one
     (
         &[PADDED],
         &[(CODE, HOME, b"\x66\x90\xc3\x66\x90\x90")],
@@ -175,7 +175,7 @@ static TOLD: [Row; 9] = [
     ),
 ];
 
-/// `f` as it is, with more behind it; the same where no code may be; and no memory.
+/// `f` as it is, with more after it; the same where no code may be; and no memory.
 const AS_F: &[Part<'static>] = &[(CODE, HOME, b"\xb8\x01\0\0\0\xc3\x90\x90\x90\x90\x90\x90")];
 
 const NO_CODE: &[Part<'static>] = &[(CONSTANT, HOME, b"\xb8\x01\0\0\0\xc3")];
@@ -208,7 +208,7 @@ static BREAKS: [(&[Part<'static>], Retired, &str); 8] = [
         Some((0x0010_0001, 0x0010_0006, true)),
         "refused 15 mismatch .text.f index 0 pre 0x0 run 0x00100000 undecoded\n",
     ),
-    // the base, the middle of a retired range, and behind the last instruction
+    // the base, the middle of a retired range, and after the last instruction
     (
         AS_F,
         Some((HOME, 0x0010_0005, true)),

@@ -69,8 +69,8 @@ fn one_code_at_two_places(rt: HostRuntime) -> Result<(), Fail> {
     Ok(())
 }
 
-/// The instruction that runs at a place: its place, the address behind it, its length twice, its bytes, and whether it is
-/// kept.
+/// The instruction that runs at a place: its place, the address after it, its length twice, its bytes, and whether it
+/// is kept.
 fn put_running(line: &mut Line, space: &FlatSpace, place: u32) -> Result<(), AllocError> {
     let Some(found) = instruction_at(space, place) else {
         return line.put_text("none\n");

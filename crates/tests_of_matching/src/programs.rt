@@ -46,7 +46,7 @@ const X: Section = Section {
     references: &[],
 };
 
-/// Two twins, and a call of the second one and of what stands behind.
+/// Two twins, then code that calls the second one and what stands after that code.
 const TWINS: &[Part<'static>] = &[
     (CODE, HOME, b"\x31\xc0\xc3"),
     (CODE, 0x0010_0010, b"\x31\xc0\xc3"),

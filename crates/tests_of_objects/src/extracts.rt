@@ -15,7 +15,7 @@ const WORK: Section = Section {
     references: &[(1, RELATIVE, ".text.unlikely.work")],
 };
 
-/// A jump back, behind that jump.
+/// A jump back to just after that jump.
 const COLD: Section = Section {
     name: ".text.unlikely.work",
     kind: Kind::Local("work.cold"),

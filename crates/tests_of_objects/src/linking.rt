@@ -144,7 +144,7 @@ fn is_at(values: &Values, index: usize, which: &Unknown, address: u32) -> bool {
         && values.get(which).copied() == Some(Solved::Address(address))
 }
 
-/// Whether the values stand in the order of the references: behind the home of `f`, which is known, those of `.data.y`,
+/// Whether the values stand in the order of the references: after the home of `f`, which is known, those of `.data.y`,
 /// `.data.x`, which begins below address 0, and `spin`.
 fn are_in_order(alloc: Global) -> Result<bool, Fail> {
     let values = values_of(alloc, &[(true, "spin", 0x0010_0020), (false, "x", 2)])?;

@@ -28,14 +28,14 @@ const OBJECT: &[u8] =
     \0\0\0\0\0\xfc\0\0\0\x0d\0\0\0\0\0\0\0\0\0\0\0\x01\0\0\0\0\0\0\0X\0\0\0\x03\0\0\0\0\0\0\0\0\0\0\0\x0c\x01\0\0b\0\
     \0\0\0\0\0\0\0\0\0\0\x01\0\0\0\0\0\0\0";
 
-/// How many bytes stand behind the object, and the rule that is broken then.
+/// How many bytes stand after the object, and the rule that is broken then.
 static TOO_LONG: [(usize, Option<ObjectFault>); 3] = [
     (0, None),
     (8_387_800, None),
     (8_387_801, Some(ObjectFault::TooLarge(Large::Bytes))),
 ];
 
-/// The fault of the object with zeros behind it.
+/// The fault of the object with zeros after it.
 fn fault_of(alloc: Global, more: usize) -> Result<Option<ObjectFault>, AllocError> {
     let mut bytes = OBJECT.to_vec(alloc)?;
     for _ in 0..more {

@@ -125,7 +125,7 @@ fn put_ascending(line: &mut Line, first: u32) -> Result<(), AllocError> {
     Ok(())
 }
 
-/// 1,000 gaps of 16 bytes, every 64 bytes, and one of 64 KiB behind them.
+/// 1,000 gaps of 16 bytes, every 64 bytes, and one of 64 KiB after them.
 fn many_gaps(alloc: Global) -> Result<Vec<(u32, u32)>, AllocError> {
     let mut gaps = Vec::new(alloc);
     for k in 0..1_000u32 {
@@ -135,7 +135,7 @@ fn many_gaps(alloc: Global) -> Result<Vec<(u32, u32)>, AllocError> {
     Ok(gaps)
 }
 
-/// Sections of which the first fills none of many gaps, the next ones fill one each, and the last ones lie behind them.
+/// Sections of which the first fills none of many gaps, the next ones fill one each, and the last ones lie after them.
 fn put_filled(alloc: Global, found: &mut Line, wanted: &mut Line) -> Result<(), Fail> {
     let gaps = many_gaps(alloc)?;
     let mut sizes = Vec::new(alloc);
@@ -148,7 +148,7 @@ fn put_filled(alloc: Global, found: &mut Line, wanted: &mut Line) -> Result<(), 
     Ok(wanted.put_text("0x00900040\n0x00900020\n")?)
 }
 
-/// A thousand small sections that lie apart, as many that lie between them, and one behind.
+/// A thousand small sections that lie apart, as many that lie between them, and one after them.
 fn put_split(alloc: Global, found: &mut Line, wanted: &mut Line) -> Result<(), Fail> {
     let mut sizes = Vec::new(alloc);
     push_all(&mut sizes, 1, 64)?;

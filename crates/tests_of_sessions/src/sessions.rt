@@ -33,7 +33,7 @@ const NEW: [Section; 1] = [Section {
     references: &[],
 }];
 
-/// Thread 0 stands in `f`, behind its first instruction, and a step later in `main`. Thread 1 runs the new version: its
+/// Thread 0 stands in `f`, after its first instruction, and a step later in `main`. Thread 1 runs the new version: its
 /// steps are the call, the jump at the home, two in the new version, the return of `main` and the end.
 const UPDATING: &str = "spawn main 7
 step 0 2

@@ -17,7 +17,7 @@ pub(crate) type Part = (Kind, u32, &'static [u8]);
 /// A function: its section, which is named after it, home, base, length and fate.
 pub(crate) type Old = (&'static [u8], u32, u32, u32, Fate);
 
-/// What stands in the way.
+/// What blocks the update.
 #[derive(Clone, Copy)]
 enum Answer {
     Nothing,
@@ -41,7 +41,7 @@ const PADDED: [Part; 1] = [(
     b"\x31\xc0\xc3\x90\x90\x90\x90\x90\x90\x90\x90\x90\x90\x90\x90\x90",
 )];
 
-/// The same function with another one behind it.
+/// The same function with another one after it.
 const CLOSE: [Part; 1] = [(Kind::Code, HOME, b"\x31\xc0\xc3\xc3\x90\x90\x90\x90")];
 
 const DATA: [Part; 1] = [(Kind::Writable, HOME, b"\x31\xc0\xc3\x90\x90\x90\x90")];
@@ -65,7 +65,7 @@ const INSIDE: [Old; 3] = [
     (b".text.x", 0x0010_0002, 0x0010_0002, 2, Fate::Kept),
 ];
 
-/// An overlap, and behind it a function without room: the room is looked at first.
+/// An overlap, and after it a function without room: the room is looked at first.
 const ROOM_BEHIND: [Old; 3] = [
     (b".text.z", HOME, HOME, 6, Fate::Dropped),
     (b".text.y", 0x0010_0002, 0x0010_0002, 2, Fate::Kept),
@@ -200,7 +200,7 @@ fn is_answer(found: &Result<(), Refusal>, answer: Answer) -> bool {
     }
 }
 
-/// Whether what stands in the way in a case is what it says.
+/// Whether what blocks the update in a case is what the case says.
 fn is_answered(rt: &impl Abort, alloc: Global, case: &Case) -> Result<bool, Fail> {
     let (parts, symbols, retired, rows, answer) = *case;
     let space = space_of(rt, alloc, parts)?;
@@ -222,7 +222,7 @@ fn refusals(rt: HostRuntime) -> Result<(), Fail> {
     Ok(())
 }
 
-/// A function that is replaced, one that stays, one that is dropped behind a jump at its home, and one without.
+/// A function that is replaced, one that stays, one that is dropped with a jump at its home, and one without.
 const FOUR: [Old; 4] = [
     (b".text.z", 0x0010_0020, 0x0010_0020, 3, Fate::Replaced),
     (b".text.y", 0x0010_0028, 0x0010_0028, 3, Fate::Kept),

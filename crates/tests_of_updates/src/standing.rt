@@ -1,4 +1,4 @@
-//! Which of two threads stands in the way of a change of code.
+//! Which of two threads blocks a change of code.
 ghost use Rattle.std.specs.Prelude.{◌≡◌};
 
 use crate::retired::{pieces_of, ranges_of};

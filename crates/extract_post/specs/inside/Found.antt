@@ -17,6 +17,6 @@ abbrev pub Broken : List NormalSection → List NormalSection → Option (ℕ ×
 Broken pre post None = NoneIs (IsBroken pre post) (places post)
 Broken pre post (Some found) = FirstBroken pre post found.0 found.1
 
--- no section of post has other data
+-- no section of post has different data
 abbrev pub HasNoOther : List NormalSection → List NormalSection → Type 0
 HasNoOther pre post = NoneIs (λ section. DataDiffers pre post section.name) post

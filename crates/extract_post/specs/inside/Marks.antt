@@ -68,7 +68,7 @@ pub record AreEither (a b either : List Bool) : Type 0 where
   pub len : length either ≡ length a
   pub each : (place : ℕ) → marked either place ≡ (marked a place || marked b place)
 
--- the marks that the first list has and the second hasn't
+-- the marks that the first list has and the second doesn't
 pub record AreApart (a b apart : List Bool) : Type 0 where
   pub len : length apart ≡ length a
   pub each : (place : ℕ) → marked apart place ≡ (marked a place && not (marked b place))

@@ -22,7 +22,7 @@ goes_behind : (a b : Range) → nat_lt a.low b.low ≡ false → a.low < a.high 
 goes_behind a b first full apart = grind (arith, nat_tests)
 
 module _ {X : Type 0} (range : X → Range) where
-  -- a thing put at the place behind all that begin at or below it
+  -- a thing put at the place after all that begin at or below it
   pub insert_is_put : (x : X) (xs : List X) (n : ℕ) → n ≤ length xs
       → ((k : ℕ) (d : X) → k < n → (range (get_or xs k d)).low ≤ (range x).low)
       → ((k : ℕ) (d : X) → n ≤ k → k < length xs → (range x).low < (range (get_or xs k d)).low)

@@ -75,7 +75,7 @@ CameTo-then told xs ys h h' lost before between now all first second =
           (sym (first_lacking-append xs ys h h' all)) (later.rises files is_told);
     }
 
--- Where a file was lacking, those behind it change nothing.
+-- Where a file was lacking, those after it change nothing.
 pub CameTo-within : (told : Told)
     (xs ys : List Needed) (h : List (List ℕ)) (lost : Option FileFault) (before now : Counts) → length h < length xs
     → CameTo told xs h lost before now → CameTo told (xs ++ ys) h lost before now

@@ -95,7 +95,7 @@ abbrev pub IsClosed : List Choice → List Bool → Choice → Type 0
 IsClosed choices left c =
     (place : ℕ) (other : Choice) → At choices place other → IsLeft left place → clash other c ≡ false
 
--- The front of a list that ends with the last choice that is left, and isn't at a place, among the first ones.
+-- The prefix of a list that ends with the last choice, among the first ones, that is left and isn't at a place.
 pub record IsEnd (left : List Bool) (list : List ℕ) (bound except end : ℕ) : Type 0 where
   pub within : end ≤ bound
   pub found : 0 < end → is_other left except (slice_index list (end - 1)) ≡ true

@@ -7,7 +7,7 @@ use Rattle.symbol_table.specs.declared.entries.Entry.{Entry}
 abbrev pub any_address : List Entry → (ℕ → Bool) → Bool
 any_address entries test = list_any (λ entry. test entry.address) entries
 
--- of numbers, told by whether some number passes a test, the least above a number
+-- of numbers, given by whether some number passes a test, the least above a number
 abbrev pub IsNext : ℕ → ((ℕ → Bool) → Bool) → Option ℕ → Type 0
 IsNext low any None = any (nat_lt low) ≡ false
 IsNext low any (Some n) = (nat_lt low n ≡ true) × (any (λ m. n == m) ≡ true)

@@ -1,4 +1,4 @@
--- The place behind all pieces that begin at or below the new one.
+-- The place after all pieces that begin at or below the new one.
 use Rattle.std.proofs.Common.{◌∙◌, arith}
 use Rattle.image_memory.specs.Contents.{piece_range}
 use Rattle.image_memory.specs.laws.PutLaws.{insert_is_put}

@@ -1,4 +1,4 @@
--- After a write the front of the piece that was taken has grown by what the write took.
+-- After a write the prefix of the piece that was taken has grown by what the write took.
 use Rattle.std.proofs.Common.{◌≡◌, ◌++◌, ℕ, List, take, drop, ◌∙◌, ap, arith, append_assoc}
 use Rattle.std.proofs.lemmas.List.{take-append-drop}
 use Rattle.std.proofs.lemmas.Grind.{common_steps}

@@ -3,7 +3,7 @@ use Rattle.ks_io.specs.Kept.{SinkKept}
 use Rattle.ks_io.specs.Outside.{grown}
 use Rattle.ks_io.proofs.writing.write_all.Given as goal
 
--- what was written so far is the front of the piece before the rest
+-- what was written so far is the prefix of the piece before the rest
 abbrev pub invariant-loop-rest : goal.invariant-loop-rest
 invariant-loop-rest g l = record {
   front : List ℕ;

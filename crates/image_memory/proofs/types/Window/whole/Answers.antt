@@ -3,7 +3,7 @@ use Rattle.image_memory.specs.declared.types.Window.{Window}
 use Rattle.image_memory.specs.Fetch.{shown}
 use Rattle.image_memory.proofs.types.Window.whole.Goals as goal
 
--- fifteen bytes need no zeros behind them
+-- fifteen bytes need no zeros after them
 whole_shown : (bytes : List ℕ) → length bytes ≡ 15 → (let w : Window = record { bytes = bytes; length = 15 } in w)
     ≡ shown bytes
 whole_shown bytes full =
