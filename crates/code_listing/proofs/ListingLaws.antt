@@ -8,7 +8,7 @@ use Rattle.match_instructions.specs.RunCode.{run_instruction_at}
 use Rattle.code_listing.specs.Lines.{instruction_line, end_line}
 use Rattle.code_listing.specs.Listing.{lines_by, lines_of, listing}
 
--- an instruction ends behind the address at which it is met
+-- an instruction ends above the address at which it is met
 abbrev pub GoForward : Type 0
 GoForward = (contents : Contents) (address : ℕ) (i : Instruction)
     → run_instruction_at contents address ≡ Some i → address < after i

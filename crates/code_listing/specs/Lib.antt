@@ -1,4 +1,4 @@
--- Public clauses cite Lines and Listing. What stands in inside is the code's own.
+-- Public clauses cite Lines and Listing. What `inside` holds is the code's own.
 pub mod Lines
 pub mod Listing
 pub mod inside

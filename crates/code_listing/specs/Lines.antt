@@ -17,7 +17,7 @@ unfoldable pub instruction_line : ℕ → Decoded → List ℕ → List ℕ
 instruction_line address d bytes =
     hex_text address ++ codes " " ++ number_text d.length ++ flat_map spaced_byte bytes ++ padding_word d ++ 10 ∷ []
 
--- the address behind the last instruction
+-- the address after the last instruction
 unfoldable pub end_line : ℕ → List ℕ
 end_line address = codes "end " ++ hex_text address ++ 10 ∷ []
 

@@ -10,7 +10,7 @@ use Rattle.match_instructions.specs.Instructions.{Instruction, after}
 use Rattle.match_instructions.specs.RunCode.{run_instruction_at}
 use Rattle.code_listing.specs.Lines.{instruction_line, end_line, undecoded_line}
 
--- the lines from an address on, by the instruction that is met there and the lines from behind it on
+-- the lines from an address on, by the instruction that is met there and the lines from its end on
 abbrev pub lines_by : ℕ → Option Instruction → (ℕ → List ℕ) → List ℕ
 lines_by address None rest = undecoded_line address
 lines_by address (Some i) rest = instruction_line address i.decoded i.bytes ++ rest (after i)

@@ -36,13 +36,13 @@ impl Code {
         Code { memory, end }
     }
 
-    /// Puts the line of an address, and answers the address of the line behind it, `None` where it is the last one.
+    /// Puts the line of an address, and answers the address of the next line, `None` where it is the last one.
     fn put_line(&self, address: u32, page: &mut Line) -> Result<Option<u32>, AllocError>
         ensures lines { IfOk result (λ next. page.old ++ listing self.now.contents self.now.end address
             ≡ page.new ++ remaining self.now.contents self.now.end next) }
         ensures grows { IfOk result (λ _. length page.old < length page.new) }
     {
-        // Nothing is done here: the law says what the line of an address is, and that those behind it follow.
+        // Nothing is done here: the law says what the line of an address is, and that those after it follow.
         lines_follow_one_another();
         if self.end <= address {
             put_end(page, address)?;
@@ -56,8 +56,8 @@ impl Code {
         Ok(Some(instruction.after()))
     }
 
-    /// Puts the lines from an address on until the page is full, and answers the address of the line behind them,
-    /// `None` where none is left.
+    /// Puts the lines from an address on until the page is full, and answers the address of the line after them, `None`
+    /// where none is left.
     pub(crate) fn put_lines(
         &self,
         first: Option<u32>,

@@ -7,8 +7,8 @@ ghost use Rattle.code_listing.specs.Listing.{lines_by, listing};
 
 use match_instructions::run_code_goes_on;
 
-/// Below its end a listing is the line of the instruction at its address and then the listing from behind that
-/// instruction on, or the one line that says that no instruction stands there; at its end, or behind it, it is its last
+/// Below its end a listing is the line of the instruction at its address and then the listing from the end of that
+/// instruction on, or the one line that says that no instruction stands there; at its end, or past it, it is its last
 /// line. Each instruction has at least one byte, and so the number of lines that the definition allows never cuts a
 /// listing short.
 pub fn lines_follow_one_another()

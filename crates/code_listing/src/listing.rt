@@ -32,7 +32,7 @@ impl Model for Listing {
 
 impl Listing {
     /// Takes the next lines: 65,536 bytes at least, or all that are left. They are none exactly where none is left.
-    /// `Err` comes for want of memory alone, and the listing is then as before.
+    /// `Err` comes only if memory runs out, and the listing is then as before.
     pub fn next_page(&mut self, alloc: Global) -> Result<Line, AllocError>
         ensures page { IfOk result (λ page. self.old ≡ page ++ self.new) }
         ensures full { IfOk result (λ page. length page < 65536 → self.new ≡ []) }
@@ -47,10 +47,10 @@ impl Listing {
 
 /// The instructions of the function of a name in an image: a line for each, with its address, its length and its bytes,
 /// from the function's address on, while they begin below the next symbol's address and in the function's region; and a
-/// line for the address behind them, or for the one at which no instruction stands.
+/// line for the address after them, or for the one at which no instruction stands.
 ///
 /// [`Refusal::NoSymbol`] comes exactly where no function symbol has the name, [`Refusal::TwoNames`] exactly where
-/// several addresses do, and [`Refusal::Memory`] for want of memory alone.
+/// several addresses do, and [`Refusal::Memory`] only if memory runs out.
 #[tactic(auto, unfolding(crate::specs::Listing::code_of))]
 pub fn list_code(alloc: Global, image: Image, name: &Name) -> Result<Listing, Refusal>
     ensures { Gives (λ lines. lines) result (code_of (contents_of image) name.now) }

@@ -224,7 +224,7 @@ same_slot keeps slot f same =
     let hit : (f.slot == slot) ≡ true = grind (arith, nat_tests) in
     rw hit refl
 
--- only the frame behind those with higher slots can have it
+-- only the frame after those with higher slots can have it
 pub kept_by : (keeps : Frame → Bool) (slot : ℕ) (frames : List Frame) (n : ℕ) (f : Frame) → Falls frames
     → slice_get frames n ≡ Some f
     → ((k : ℕ) (d : Frame) → k < n → k < length frames → slot < (get_or frames k d).slot)

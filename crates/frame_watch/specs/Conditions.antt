@@ -62,7 +62,7 @@ HoldBut pieces threads store =
     All (λ watched. All (λ (frame : Frame). touches store frame.slot ≡ false
     → holds_dword pieces frame.slot frame.address ≡ true) watched.frames) threads
 
--- the same while no rule was broken, so that what was written may be told; after that nothing is asked
+-- the same while no rule was broken, so that what was written may be reported; after that nothing is asked
 abbrev pub MayHoldBut : List Piece → Watching → Option Store → Type 0
 MayHoldBut pieces w store = w.verdict ≡ Disciplined → HoldBut pieces w.threads store
 

@@ -29,7 +29,7 @@ pub record Sight : Type 0 where
 abbrev pub sight_of : Contents → Sight
 sight_of contents = record { view = view_at contents; pieces = contents.pieces }
 
--- one event more; the count stands still at the end of 64 bits
+-- one event more; the count stops at the greatest number of 64 bits
 abbrev pub counted : Watching → Watching
 counted w = record w { events = min (w.events + 1) (2 ^ 64 - 1) }
 

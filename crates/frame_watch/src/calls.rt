@@ -1,4 +1,4 @@
-//! What is told to a watch, and what it says.
+//! What is reported to a watch, and what it says.
 ghost use Rattle.std.specs.Prelude.{◌≡◌, OnOk, OnErr, None};
 ghost use Rattle.frame_watch.specs.Frames.{first_watching};
 ghost use Rattle.frame_watch.specs.Discipline.{sight_of, spawn_noted, step_noted, update_noted};
@@ -14,8 +14,8 @@ use image_memory::Space;
 use std::alloc::{AllocError, Global};
 use std::marker::Model;
 
-/// Watches a run: it is told each event, keeps the open frames of each running thread, and says whether the run has
-/// kept the rules. Once one was broken it only counts events.
+/// Watches a run: each event is reported to it; it keeps the open frames of each running thread, and says whether the
+/// run has kept the rules. Once one was broken it only counts events.
 #[derive(Drop)]
 pub struct Watch {
     alloc: Global,
@@ -45,7 +45,7 @@ impl Watch {
     }
 
     /// A thread was started. This looks at each open frame, and takes room for all frames that the thread's stack can
-    /// hold. `Err` comes for want of memory alone, and the watch is then as before.
+    /// hold. `Err` comes only if memory runs out, and the watch is then as before.
     pub fn note_spawn<S: Space>(&mut self, thread: &Thread, space: &S) -> Result<(), AllocError>
         requires { MayStart self.old thread.now }
         ensures noted { OnOk result (self.new ≡ spawn_noted (sight_of (S.contents space.now)) thread.now self.old) }
@@ -57,7 +57,7 @@ impl Watch {
     }
 
     /// A thread was started, and since the event before nothing was written but its own stack. This looks at no frame
-    /// of another thread, and is else as [`note_spawn`](Watch::note_spawn).
+    /// of another thread, and is otherwise as [`note_spawn`](Watch::note_spawn).
     pub fn note_spawn_alone<S: Space>(
         &mut self,
         thread: &Thread,
@@ -88,7 +88,7 @@ impl Watch {
         self.notes.test_all(space);
     }
 
-    /// A thread made a step that tells what it wrote and how many bytes it fetched. This looks only at frames whose
+    /// A thread made a step that reports what it wrote and how many bytes it fetched. This looks only at frames whose
     /// slots the written bytes touch, found by halving, and at memory for a window only where the thread has left the
     /// bytes that it fetched. It takes no memory.
     pub fn note_traced<S: Space>(

@@ -112,7 +112,7 @@ impl ThreadList {
         self.threads.get(at?)
     }
 
-    /// A thread is started. For want of memory all is as before.
+    /// A thread is started. If memory runs out all is as before.
     pub(crate) fn start(&mut self, alloc: Global, thread: &Thread) -> Result<(), AllocError>
         requires start { IsStart self.old thread.now }
         requires in_place { AreInPlace self.old }
@@ -231,7 +231,7 @@ impl ThreadList {
         }
     }
 
-    /// The least-numbered thread that has a broken frame, by a look at all.
+    /// The least-numbered thread that has a broken frame, by looking at all threads.
     pub(crate) fn least_broken<S: Space>(&self, space: &S) -> Option<u32>
         ensures { result ≡ least (breaking (S.contents space.now).pieces self.now) }
     {

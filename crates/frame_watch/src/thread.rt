@@ -123,7 +123,7 @@ impl ThreadFrames {
     }
 
     /// Whether each slot is a multiple of 4 at or above ESP and inside the stack, where all but the last are multiples
-    /// of 4 inside it: then the last, which is the least, tells.
+    /// of 4 inside it: then the last, which is the least, decides.
     pub(crate) fn is_in_place(&self) -> bool
         requires { is_based self.now ≡ true }
         ensures { result ≡ is_in_place self.now }

@@ -1,5 +1,5 @@
--- What loading came to is one, over told files, where the outside failed the same load or none, and memory didn't run
--- out.
+-- What loading came to is the same, over given files, where the outside failed the same load or none, and memory didn't
+-- run out.
 use Rattle.std.proofs.Common.{◌≡◌, ℕ, ◌<◌, ◌≤◌, Bool, List, [], ◌∷◌, length, Option, Some}
 use Rattle.std.proofs.Common.{None, Result, Ok, Err, refl, sym, ◌∙◌, ap, subst, arith}
 use Rattle.std.proofs.lemmas.Option.{same_Some}
@@ -170,7 +170,7 @@ same_call files (Some (Match image pre)) held held' lost lost' =
     same_by files (named_files (Some (Match image pre))) held held' lost lost'
 same_call files (Some (Run image script)) held held' lost lost' = same_run files image script held held' lost lost'
 
--- loads that ended, but not for want of memory
+-- loads that ended, but not because memory ran out
 ended : (files : List ℕ → Option (List ℕ)) (first : Option Needed) (lost : Option FileFault) (before now : Counts)
     → EndsLoads (Some files) first lost before now
     → (lost ≡ None → first ≡ None) → Ended files first lost

@@ -32,7 +32,7 @@ lines_come_out pre post lines output old new status difference e out =
     Answered (answer_of lines 0) (record { reply = Ok lines; difference = difference; told = refl })
     (subst (λ (x : List ℕ). ComesOut (answer_of x 0) old new status) e out)
 
--- a refusal comes out, where it isn't want of memory
+-- a refusal comes out, unless it is that memory ran out
 is_memory : (refusal : Refusal) → (refusal ≡ Memory) ⊎ (refusal ≢ Memory)
 is_memory Memory = inl refl
 is_memory other = inr (λ e. cc)

@@ -37,12 +37,12 @@ abbrev pub lost_status : Option FileFault → ℕ
 lost_status None = 6
 lost_status (Some fault) = 4
 
--- the line of a file that was not loaded, with its status; want of memory has no line
+-- the line of a file that was not loaded, with its status; there is no line where memory ran out
 abbrev pub lost_answer : Needed → Option FileFault → Answer
 lost_answer file lost = answer_of (lost_line (Some file) lost) (lost_status lost)
 
--- An answer comes out: with its status and its whole output; or with 5, for a fault of the sink, or 6, for want of
--- memory, and a front of its output.
+-- An answer comes out: with its status and its whole output; or with 5, for a fault of the sink, or 6, where memory ran
+-- out, and a prefix of its output.
 abbrev pub ComesOut : Answer → Option (List ℕ) → Option (List ℕ) → ℕ → Type 0
 ComesOut answer old new status =
     MatchBool (status == 5 || status == 6)

@@ -1,5 +1,5 @@
 -- Public clauses cite Calls (what a call comes to), by Words, Reply, Difference, Solution and Answer, and Promises in
--- laws. What stands in inside is the code's own.
+-- laws. What `inside` holds is the code's own.
 pub mod Words
 pub mod Difference
 pub mod Solution

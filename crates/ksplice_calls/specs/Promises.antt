@@ -12,8 +12,8 @@ use Rattle.ksplice_calls.specs.Calls.{IsReplyTo, needed}
 use Rattle.ksplice_calls.specs.Reply.{session_of}
 use Rattle.ksplice_calls.specs.Words.{Asked, Run}
 
--- The reply to what the words ask for came out, for some files within their limits; where the files are told, these are
--- they.
+-- The reply to what the words ask for came out, for some files within their limits; where the files are given, these
+-- are they.
 pub record RepliesSome (asked : Option Asked) (told : Told) (old new : Option (List ℕ)) (status : ℕ) : Type 0 where
   pub command : Asked
   pub asked_for : asked ≡ Some command
@@ -34,8 +34,8 @@ abbrev pub replies_before : Option Asked → List (List ℕ) → List ℕ
 replies_before (Some (Run image script)) (bytes ∷ lines ∷ held) = session_replies (session_of bytes lines) held
 replies_before asked held = []
 
--- The line of the first file that the call needs and lacks came out, behind the replies to the lines before it, and
--- what was wrong with the file shows in its count.
+-- The line of the first file that the call needs and lacks came out, after the replies to the lines before it, and what
+-- was wrong with the file shows in its count.
 pub record EndsWithFile
     (asked : Option Asked) (told : Told) (before now : Counts) (old new : Option (List ℕ)) : Type 0 where
   pub held : List (List ℕ)
@@ -46,7 +46,7 @@ pub record EndsWithFile
   pub lost : IsLost told fault before now file
   pub line : new ≡ grown old (replies_before asked held ++ file_line file.name fault)
 
--- Of the told files that the call needs, those before one are held, and that one is so.
+-- Of the given files that the call needs, those before one are held, and that one is so.
 pub record OneIs (asked : Option Asked) (files : List ℕ → Option (List ℕ)) (IsSo : Needed → Type 0) : Type 0 where
   pub held : List (List ℕ)
   pub are_held : AreHeld (Some files) (needed asked held) held

@@ -29,8 +29,8 @@ const USAGE: &str =
 ///   lines.
 /// - 4: a file that a word or a line of the script names is missing, longer than its limit, or could not be read, each
 ///   of which shows in its count. The output ends with the file's line.
-/// - 5: the sink failed, which shows in its count. It has taken a front of the output.
-/// - 6: memory ran out. The sink has taken a front of the output.
+/// - 5: the sink failed, which shows in its count. It has taken a prefix of the output.
+/// - 6: memory ran out. The sink has taken a prefix of the output.
 /// - 7: the image or the script isn't in its form, and nothing of the script has run. The output is the refusal's line.
 pub fn ksplice<F: Files, O: Sink>(
     alloc: Global,

@@ -10,8 +10,8 @@ ghost use Rattle.ksplice_calls.specs.Words.{Asked};
 
 use extract_post::objects_have_one_extract;
 
-/// Over told files, and for the load that the outside fails or none, a call has one answer, one output and one status,
-/// unless memory runs out.
+/// Over given files, and where the outside fails the same load or none, a call has one answer, one output and one
+/// status, unless memory runs out.
 pub fn calls_have_one_answer()
     ensures { (files : List ℕ → Option (List ℕ))
         (asked : Option Asked) (held held' : List (List ℕ)) (lost lost' : Option FileFault)
@@ -38,12 +38,12 @@ pub fn answers_tell()
         → Answers asked told before now old new status
         → (status ≡ 0) ⊎ (status ≡ 3) ⊎ (status ≡ 7) → RepliesSome asked told old new status }
 
-    // 4 comes only with the line of the first file that the call lacks, behind the replies to the lines before it, and
+    // 4 comes only with the line of the first file that the call lacks, after the replies to the lines before it, and
     // the file's fault shows in its count.
     ensures file { (asked : Option Asked) (told : Told) (before now : Counts) (old new : Option (List ℕ))
         → Answers asked told before now old new 4 → EndsWithFile asked told before now old new }
 
-    // Where the files are told, absences and excesses rise only for a file that the call needs.
+    // Where the files are given, absences and excesses rise only for a file that the call needs.
     ensures rises { (asked : Option Asked)
         (files : List ℕ → Option (List ℕ)) (before now : Counts) (old new : Option (List ℕ)) (status : ℕ)
         → Answers asked (Some files) before now old new status → CountsTellOf asked files before now }

@@ -1,5 +1,5 @@
-//! The outside as the operating system gives it: its files, and standard output. Of what a file holds, or of what a
-//! reader of the output sees, nothing is told; the counts are kept as the traits ask.
+//! The outside as the operating system gives it: its files, and standard output. What a file holds, and what a reader
+//! of the output sees, isn't given in advance; the counts are kept as the traits ask.
 ghost use Rattle.std.specs.Prelude.{◌≡◌, ◌≢◌, ◌≤◌, ◌<◌, ◌↔◌, [], length, take, IfOk, IfSome, OnOk, IsErrOf};
 ghost use Rattle.std.specs.IoError.{error_kind};
 ghost use Rattle.std.specs.Io.KnownBytes.{Appends};
@@ -139,7 +139,7 @@ impl<R: Print> Sink for RealSink<'_, R> {
     }
 }
 
-/// Writes a front of the piece and flushes it; answers how many bytes that is.
+/// Writes a prefix of the piece and flushes it; answers how many bytes that is.
 fn write_through<W: Write>(output: &mut W, piece: &[u8]) -> io::Result<usize>
     ensures within { IfOk result (λ count. count ≤ length piece.now) }
     ensures front { IfOk result

@@ -12,7 +12,7 @@ use ks_io::{FileFault, Sink, SinkFault, Wanted, write_all};
 use ksplice_session::write_file_line;
 use std::alloc::Global;
 
-/// Writes the output and ends with the status; with another one where the sink doesn't take the output.
+/// Writes the output and ends with the status, or with 5 or 6 where the sink doesn't take the output.
 #[tactic(auto, using(ks_io::specs::laws::Fronts::front_of_part))]
 pub fn say<O: Sink>(out: &mut O, output: &[u8], status: Status) -> Status
     requires { (status.code == 5 || status.code == 6) ≡ false }
@@ -30,7 +30,7 @@ pub fn say<O: Sink>(out: &mut O, output: &[u8], status: Status) -> Status
     }
 }
 
-/// Ends the call with a refusal's line. Want of memory has none.
+/// Ends the call with a refusal's line. [`Refusal::Memory`] has none.
 #[tactic(auto, using(ks_io::specs::laws::Fronts::nothing_taken))]
 pub fn refuse<O: Sink>(alloc: Global, refusal: &Refusal, out: &mut O) -> Status
     ensures answer { refusal.now ≢ Refusal.Memory
@@ -63,8 +63,7 @@ fn status_of(refusal: &Refusal) -> Status
     }
 }
 
-/// Ends the call with the line of a file that was not loaded, and why. A file that memory was wanting for has
-/// no line.
+/// Ends the call with the line of a file that was not loaded, and why. A file for which memory ran out has no line.
 #[tactic(auto, using(ks_io::specs::laws::Fronts::nothing_taken, ks_io::specs::laws::Fronts::front_of_part))]
 pub fn end_with_file<O: Sink>(
     alloc: Global,

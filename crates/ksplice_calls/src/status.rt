@@ -19,10 +19,10 @@ impl Status {
     /// A file was missing, too long, or could not be read. The file's line is written.
     pub const NO_FILE: Status = Status { code: 4 };
 
-    /// The sink failed, or took nothing. A front of the output is written.
+    /// The sink failed, or took nothing. A prefix of the output is written.
     pub const NO_SINK: Status = Status { code: 5 };
 
-    /// Memory ran out. A front of the output is written.
+    /// Memory ran out. A prefix of the output is written.
     pub const NO_MEMORY: Status = Status { code: 6 };
 
     /// The image or the script isn't in its form. The refusal is written.

@@ -30,7 +30,7 @@ fn run(rt: &HostRuntime, words: io::Result<Vec<String>>) -> Status
     let mut output = RealSink::new(rt);
     match words {
         Ok(words) => ksplice(rt.alloc(), words.as_slice(), &mut files, &mut output),
-        // A word that isn't UTF-8 has no reading, and neither has a call without words: it stands for that.
+        // A word that isn't UTF-8 has no reading, and neither has a call without words, which is made in its place.
         Err(error) if error.kind() == ErrorKind::InvalidData => ksplice(
             rt.alloc(),
             &[],

@@ -119,7 +119,7 @@ nothing_came s now event refusal none (Unnoted [] rest name argument whole is) =
 nothing_came s now event refusal none (Unnoted (e ∷ []) rest name argument whole is) = cc
 nothing_came s now event refusal none (Unnoted (e ∷ f ∷ es) rest name argument whole is) = cc
 
--- where memory ran out in a start, a front of what its line tells was made
+-- where memory ran out in a start, a prefix of what its line tells was made
 pub front_told : (s now : Watched) (name : List ℕ) (argument : ℕ) → MadeFront s (SpawnEvent name argument ∷ []) now
     → MadeFront s (told_of s (Spawn name argument) []).events now
 unfolding told_of answered

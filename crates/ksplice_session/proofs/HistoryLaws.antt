@@ -41,7 +41,8 @@ pub record WasCalled (start : Watched) (events : List Event) (n i : ℕ) (frame 
 abbrev pub CameFrom : Watched → List Event → (n i : ℕ) → Frame → Type 0
 CameFrom start events n i frame = (frame.address ≡ 0xFFFF_0000) ⊎ WasCalled start events n i frame
 
--- where a thread stands: at a window, at the end, or where a return brought it to whose call had no window behind it
+-- where a thread stands: at a window, at the end, or where a return brought it whose call had no window at its return
+-- address
 abbrev pub Stands : Watched → List Event → Watched → (n pc : ℕ) → Type 0
 Stands start events s n pc = IsTrue (window_in s.machine pc) ⊎ ((pc ≡ 0xFFFF_0000) ⊎ ReturnedNowhere start events n)
 
@@ -82,7 +83,7 @@ no_step n (Step m) other = by_test (n == m) refl
     by_test true same = absurd (other (ap Step (sym (same_number n m same))))
     by_test false isnt = refl
 
--- one item more behind some
+-- one item more after some
 All-more : {X : Type 0} (P : X → Type 0) (xs : List X) (x : X) → All P xs → P x → All P (xs ++ x ∷ [])
 All-more P [] x all last = All-cons P x [] last (λ i d l. absurd (omega arith))
 All-more P (y ∷ ys) x all last =

@@ -18,7 +18,7 @@ use Rattle.ksplice_session.specs.Safety.{OpenFramesKeepWindows, NoReturnIsLost, 
 use Rattle.ksplice_session.proofs.WatchedLaws.{machine_after_all, watched_after_both}
 use Rattle.ksplice_session.proofs.OpenFrames.{front_disciplined}
 
--- the events that were noted, and made, as a front of others
+-- the events that were noted, and made, as a prefix of others
 record Made (s now : Watched) (events : List Event) : Type 0 where
   noted : List Event
   rest : List Event
@@ -37,7 +37,7 @@ all_made s now made rest events front is =
       machine = inl (ap (λ (x : Watched). x.machine) is ∙ machine_after_all s made);
     }
 
--- a front of what lies between some events and others
+-- a prefix of what lies between some events and others
 between : (before made left events rest whole : List Event) → made ++ left ≡ events → before ++ (events ++ rest) ≡ whole
     → (before ++ made) ++ (left ++ rest) ≡ whole
 between before made left events rest whole front is =
@@ -46,7 +46,7 @@ between before made left events rest whole front is =
     (sym (append_assoc made left rest) ∙ ap (λ (l : List Event). l ++ rest) front)
     ∙ is
 
--- a front of some events that were made behind others
+-- a prefix of some events that were made after others
 front_made : (s mid now : Watched) (before events rest whole : List Event) → before ++ (events ++ rest) ≡ whole
     → mid ≡ watched_after_all s before → MadeFront mid events now → Made s now whole
 front_made s mid now before events rest whole of there (Noted made left front is) =
@@ -89,7 +89,7 @@ played_events : (k : Watched) (ran : List Ran) → (played k ran).session ≡ wa
 unfolding played
 played_events k ran = fold_events (nothing_played k) ran
 
--- the events of lines, and of those behind them
+-- the events of lines, and of those after them
 along-append : (k : Watched) (ran later : List Ran)
     → events_along k (ran ++ later)
     ≡ events_along k ran ++ events_along (watched_after_all k (events_along k ran)) later
@@ -103,7 +103,7 @@ along-append k (r ∷ ran) later =
     ∙ sym (append_assoc made more (events_along (watched_after_all mid more) later))
     ∙ ap (λ (x : Watched). (made ++ more) ++ events_along x later) (sym (watched_after_both k made more))
 
--- the events of lines are those before one of them, those of that line, and those behind it
+-- the events of lines are those before one of them, those of that line, and those after it
 along-at : (k : Watched) {ran : List Ran} (at : At ran)
     → events_along k at.before ++ ((told_at k at).events
     ++ events_along (watched_after_all (played k at.before).session (told_at k at).events) at.behind)

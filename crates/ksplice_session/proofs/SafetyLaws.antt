@@ -40,7 +40,7 @@ ends_not_stops k thread fault is stops = by_test (thread.pc == 0xFFFF_0000) (is_
     by_test true same stops = cc
     by_test false same stops = cc
 
--- at a window no step stops for want of code
+-- at a window no step stops for lack of code
 stray_has_none : Premises → (k : AbstractMachine) (thread : Thread) → (step_in k thread).outcome ≡ Stopped faults.Stray
     → IsTrue (window_in k thread.pc) → ⊥
 unfolding step_in
@@ -66,7 +66,7 @@ unmapped_has_none : (k : AbstractMachine) (thread : Thread) → view_in k thread
 unmapped_has_none k thread unmapped window =
     let none : has_window Unmapped ≡ true = subst (λ (met : View). has_window met ≡ true) unmapped window in cc
 
--- where a step stops for want of code its thread has no window, and hasn't ended
+-- where a step stops for lack of code its thread has no window, and hasn't ended
 stopped_at : Premises → (s : Watched) (n : ℕ) (thread : Thread) → running_at s.machine.threads n ≡ Some thread
     → StopsAtFetch s n
     → (fault : Fault) × ((step_in s.machine thread).outcome ≡ Stopped fault)

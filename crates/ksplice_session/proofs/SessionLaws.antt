@@ -59,7 +59,7 @@ ran_by-stops line lines held few =
     let less : nat_le (length (files_of line)) (length held) ≡ false = grind (arith, nat_tests) in
     rw less refl
 
--- lines that have all their files are run, and then those behind them
+-- lines that have all their files are run, and then those after them
 ran_by-append : (ran : List Ran) (lines : List Command) (more : List (List ℕ)) → AreFiled ran
     → ran_by (map line_of ran ++ lines) (flat_map held_of ran ++ more) ≡ ran ++ ran_by lines more
 ran_by-append [] lines more filed = refl
@@ -246,7 +246,7 @@ module _ (files : ToldFiles)
         TookPart (grown old (played k run.ran).output) (told_of n line held).reply new') run.session
         (subst (λ (t : Option (List ℕ)). TookPart t (told_of now line held).reply new') run.taken part)
 
-    -- a front of what comes when the lines before were run is a front of all
+    -- a prefix of what comes when the lines before were run is a prefix of all
     front_of : (new' : Option (List ℕ))
         → TookFront (grown old (played k run.ran).output) (told_of (played k run.ran).session line held).reply new'
         → TookFront old (whole_output k whole total None) new'
@@ -456,7 +456,7 @@ stays_where_all_ran {files} {k} {script} {before} {after} {old} {new} {now} {end
     stays_where_all_held files (files_along script) ended.held ended.lost before after ended.loads
     (none_lacks k script ended.held ended.lost old new now end ended.ends (is_ran_all end ran))
 
--- a line, those before it and those behind it
+-- a line, those before it and those after it
 pub whole_at : (xs : List Command) (i : ℕ) (x : Command)
     → i < length xs → x ≡ get_or xs i x → take i xs ++ x ∷ drop (i + 1) xs ≡ xs
 whole_at [] i x l is = absurd (omega arith)

@@ -26,7 +26,7 @@ after_both : (k : AbstractMachine) (gap events : List Event)
 unfolding after_events
 after_both k gap events = fold-append after_event k gap events
 
--- a front of what is made after a gap
+-- a prefix of what is made after a gap
 front_after : (s now : Watched) (gap events : List Event) → MadeFront (watched_after_all s gap) events now
     → MadeFront s (gap ++ events) now
 front_after s now gap events (Noted made rest whole is) =

@@ -11,7 +11,7 @@ use Rattle.ksplice_session.specs.Replies.{Told}
 abbrev pub watched : AbstractMachine → Watching → Watched
 watched machine watch = record { machine = machine; watch = watch }
 
--- A front of some events was made. Where the last of them is a start, the watch may lack it.
+-- A prefix of some events was made. Where the last of them is a start, the watch may lack it.
 pub data MadeFront (s : Watched) (events : List Event) (now : Watched) : Type 0 where
   Noted : (made rest : List Event) → made ++ rest ≡ events → now ≡ watched_after_all s made → MadeFront s events now
   Unnoted : (made rest : List Event) (name : List ℕ) (argument : ℕ)
@@ -23,7 +23,7 @@ pub data MadeFront (s : Watched) (events : List Event) (now : Watched) : Type 0 
 abbrev pub answer_of : Told → Answer
 answer_of told = record { line = told.reply; refused = told.refused }
 
--- All of the line's events were made, and this is its answer; or memory ran out when a front of them had been made.
+-- All of the line's events were made, and this is its answer; or memory ran out when a prefix of them had been made.
 abbrev pub Answers : Watched → Told → Watched → Result Answer AllocError → Type 0
 Answers s told now (Ok answer) = (answer ≡ answer_of told) × (now ≡ watched_after_all s told.events)
 Answers s told now (Err _) = MadeFront s told.events now

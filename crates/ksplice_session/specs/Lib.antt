@@ -1,5 +1,5 @@
 -- Public clauses cite Session (a whole session and its ends), by Watching, Replies, Answers, Running, Lines and Places,
--- and Safety (what the discipline of a run is good for). What stands in inside is the code's own.
+-- and Safety (what the discipline of a run is good for). What `inside` holds is the code's own.
 pub mod Places
 pub mod Lines
 pub mod Running

@@ -93,7 +93,7 @@ is_busy _ = false
 abbrev pub after_gap : List Event → Told → Told
 after_gap gap told = record { events = gap ++ told.events; reply = told.reply; refused = told.refused }
 
--- The tries of an update from the one numbered `try` on, with `left` more allowed behind it. Where a thread stands in
+-- The tries of an update from the one numbered `try` on, with `left` more allowed after it. Where a thread stands in
 -- the way and another try is allowed, the threads make at most `gap` steps in turn, one at a time, and the update is
 -- tried again. Every other refusal ends the line, and after the last try no step is made.
 unfoldable pub tried : Trial → (gap try left : ℕ) → AbstractMachine → Told
@@ -104,7 +104,7 @@ tried trial gap try (suc left) k =
     else try_told trial try (applied_by k trial)
 
 -- an update from the first of two files to the second, in at most so many tries; a line has both its files when it is
--- run, so the last case doesn't come
+-- run, so the last case doesn't occur
 abbrev pub apply_told : AbstractMachine → (name : List ℕ) (tries gap : ℕ) → List (List ℕ) → Told
 apply_told k name tries gap (pre ∷ post ∷ []) =
     tried (record { name = name; pre = pre; post = post }) gap 1 (tries - 1) k

@@ -90,14 +90,14 @@ abbrev pub MetNothing : AbstractMachine → Option Thread → Type 0
 MetNothing k None = ⊥
 MetNothing k (Some thread) = view_in k thread.pc ≡ Unmapped
 
--- A step stops for want of code: the thread's pc lies in a retired range, or in no code at all.
+-- A step stops for lack of code: the thread's pc lies in a retired range, or in no code at all.
 abbrev pub StopsAtFetch : Watched → ℕ → Type 0
 StopsAtFetch s thread =
     (step_outcome s thread ≡ Some (Stopped faults.Stray))
     ⊎ ((step_outcome s thread ≡ Some (Stopped faults.Unmapped))
     × MetNothing s.machine (running_at s.machine.threads thread))
 
--- In a disciplined list no step stops for want of code, except directly after a return to an address that had no window
+-- In a disciplined list no step stops for lack of code, except directly after a return to an address that had no window
 -- when its call was made.
 abbrev pub NoReturnIsLost : Type 0
 NoReturnIsLost =
@@ -107,7 +107,7 @@ NoReturnIsLost =
     → StopsAtFetch (watched_after_all (first_watched image) events) thread
     → ReturnedNowhere (first_watched image) events thread
 
--- Both for one list of events: a frame that is opened by a step of it, and a step of it that stops for want of code.
+-- Both for one list of events: a frame that is opened by a step of it, and a step of it that stops for lack of code.
 pub record IsSafe (first : Watched) (events : List Event) : Type 0 where
   pub frames : (before later behind : List Event) (thread : ℕ) (called : Watched)
       → before ++ Step thread ∷ (later ++ behind) ≡ events
@@ -129,9 +129,9 @@ pub record HasStartedMore (k : AbstractMachine) (events rest : List Event) (now 
   pub next : Spawn name argument ∷ behind ≡ rest
   pub machine : now ≡ after_events k (events ++ Spawn name argument ∷ [])
 
--- What a session is that made a front of some events from its start. Those that its watch has noted are a front of
--- them. They are all that its machine made, but for the next one where that is a start that was left unnoted for want
--- of memory. And of each front of them that is disciplined both hold.
+-- A session that made a prefix of some events from its start. Those that its watch has noted are a prefix of them, and
+-- are all that its machine made, except where the next one is a start that was left unnoted because memory ran out. And
+-- both hold of each prefix of the noted ones that is disciplined.
 pub record RanSafely (first : Watched) (events : List Event) (now : Watched) : Type 0 where
   pub noted : List Event
   pub rest : List Event

@@ -82,7 +82,7 @@ script_events k script held = events_along k (ran_by script held)
 abbrev pub session_played : Watched → List Command → List (List ℕ) → Played
 session_played k script held = played k (ran_by script held)
 
--- the line of a file that was not loaded; want of memory has none
+-- the line of a file that was not loaded; there is none where memory ran out
 abbrev pub file_fault_text : FileFault → List ℕ
 file_fault_text Missing = codes "missing"
 file_fault_text TooLong = codes "too long"
@@ -101,7 +101,7 @@ lost_line (Some file) (Some fault) = file_line file.name fault
 abbrev pub whole_output : Watched → List Command → List (List ℕ) → Option FileFault → List ℕ
 whole_output k script held lost = (session_played k script held).output ++ lost_line (lacking script held) lost
 
--- lines that were run, one that was begun, and those behind it
+-- lines that were run, one that was begun, and those after it
 pub record At (ran : List Ran) : Type 0 where
   pub before : List Ran
   pub line : Ran
@@ -115,7 +115,7 @@ before_line k at = played k at.before
 abbrev pub told_at : {ran : List Ran} → Watched → At ran → Told
 told_at k at = told_of (before_line k at).session at.line.line at.line.held
 
--- No file of a line behind that one was loaded, and none was lost.
+-- No file of a line after that one was loaded, and none was lost.
 pub record NoneBehind (held : List (List ℕ)) (lost : Option FileFault) {ran : List Ran} (at : At ran) : Type 0 where
   pub through : held ≡ held_along at.before ++ at.line.held
   pub none_lost : lost ≡ None
@@ -162,7 +162,7 @@ pub data Ends
       TookPart (grown old (session_played k script held).output) (file_line file.name fault) new →
       now ≡ (session_played k script held).session →
       Ends k script held lost old new now SinkEnd
-  -- Memory ran out in a line: a front of its events was made, and nothing of its reply came out.
+  -- Memory ran out in a line: a prefix of its events was made, and nothing of its reply came out.
   MemoryInLine : (at : At (ran_by script held)) →
       NoneBehind held lost at →
       new ≡ grown old (before_line k at).output →
@@ -195,5 +195,5 @@ pub record SessionEnds
   pub lost : Option FileFault
   pub loads : CameTo told (files_along script) held lost before after
   pub ends : Ends k script held lost old new now end
-  -- however it ends, no more has come out than a front of the whole output
+  -- however it ends, no more has come out than a prefix of the whole output
   pub front : TookFront old (whole_output k script held lost) new

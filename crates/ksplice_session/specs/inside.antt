@@ -1,4 +1,4 @@
--- What the code has in the middle of a session, said by contracts inside this crate alone.
+-- What the code has in the middle of a session, which only contracts inside this crate cite.
 pub mod LineEnds
 pub mod Loading
 pub mod InStep

@@ -25,8 +25,8 @@ use ks_base::{Line, Name, Refusal, Report};
 use script_lines::Command;
 use std::alloc::{AllocError, Global};
 
-/// Runs a line of a script that has its files, given the bytes of each, and answers it. `Err` comes for want of memory
-/// alone, when a front of the line's events was made.
+/// Runs a line of a script that has its files, given the bytes of each, and answers it. `Err` comes only if memory runs
+/// out, after a prefix of the line's events was made.
 #[tactic(auto, unfolding(crate::specs::Replies::told_of, crate::specs::Replies::files_of))]
 pub fn answer(
     alloc: Global,
@@ -215,7 +215,7 @@ fn told(line: Result<Line, AllocError>) -> Result<Answer, AllocError>
     })
 }
 
-/// The answer to a line that is refused. Want of memory has none.
+/// The answer to a line that is refused. [`Refusal::Memory`] has none.
 fn refused(alloc: Global, refusal: &Refusal) -> Result<Answer, AllocError>
     ensures { IfOk result (λ answer. (answer ≡ record { line = refusal_line refusal.now; refused = true })
         × (refusal.now ≢ Memory)) }

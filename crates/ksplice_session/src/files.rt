@@ -79,8 +79,8 @@ fn object_file(name: &Name) -> Wanted<'_>
     }
 }
 
-/// Writes the line of a file that was not loaded, and why. `Err` is a fault of the sink, or want of memory; a part of
-/// the line may have come out then.
+/// Writes the line of a file that was not loaded, and why. `Err` says that the sink failed or that memory ran out; a
+/// part of the line may have come out then.
 pub fn write_file_line<O: Sink>(
     alloc: Global,
     name: &str,
@@ -111,7 +111,7 @@ fn file_line(alloc: Global, name: &str, fault: FileFault) -> Result<Line, AllocE
     Ok(line)
 }
 
-/// Why a file was not loaded. Want of memory has no word.
+/// Why a file was not loaded. [`FileFault::Memory`] has no word.
 fn file_fault_word(fault: FileFault) -> &'static str
     ensures { result.now ≡ file_fault_text fault }
 {

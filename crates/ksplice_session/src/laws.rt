@@ -9,8 +9,8 @@ use update_safety::{
 use update_stack::machines_are_built;
 
 /// In every list of events from the start of an image that keeps the discipline, an open frame whose address had a
-/// window when its call was made has one at each later moment while it is open; and no step stops for want of code, but
-/// directly after a return to an address that had no window when its call was made.
+/// window when its call was made has one at each later moment while it is open; and no step stops for lack of code,
+/// except directly after a return to an address that had no window when its call was made.
 pub fn disciplined_runs_are_safe()
     ensures frames { OpenFramesKeepWindows }
     ensures returns { NoReturnIsLost }

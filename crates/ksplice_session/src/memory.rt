@@ -8,8 +8,8 @@ use image_memory::{Kind, Piece, Pieces, pieces_stay_placed, put_piece};
 use ks_base::{Bytes, Range, Ranges};
 use std::alloc::{AllocError, Global};
 
-/// Regions that ascend, and a writable piece of zeros for each stack put among them. `Err` comes for want of memory
-/// alone.
+/// Regions that ascend, and a writable piece of zeros for each stack put among them. `Err` comes only if memory runs
+/// out.
 pub(crate) fn all_pieces(
     alloc: Global,
     regions: &Pieces,

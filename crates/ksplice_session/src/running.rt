@@ -24,11 +24,11 @@ use script_lines::{Command, Script};
 use std::alloc::Global;
 
 /// Runs the lines of a script one after another. A line's files are loaded before it is run, and its reply is written
-/// when it was run; a refused line changes nothing but by the steps between its tries, and the next is run. The session
-/// ends at a file that can't be loaded, when that file's line was written, at a fault of the sink, or for want of
-/// memory. Where it ran from the start of an image, the events that its watch has noted are a front of those of the
-/// lines over the files that were held; and as long as they kept the discipline, no open frame has lost the code that
-/// it returns to.
+/// after that; a refused line changes nothing but by the steps between its tries, and the next is run. The session ends
+/// at a file that can't be loaded, when that file's line was written, at a fault of the sink, or when memory runs out.
+/// Where it ran from the start of an image, the events that its watch has noted are a prefix of those of the lines over
+/// the files that were held; and as long as they kept the discipline, no open frame has lost the code that it returns
+/// to.
 pub fn run_session<F: Files, O: Sink>(
     alloc: Global,
     session: &mut Session,
@@ -50,7 +50,7 @@ pub fn run_session<F: Files, O: Sink>(
     ensures sink { result ≡ SessionEnd.SinkEnd → Rose (O.faults out.old) (O.faults out.new) }
     ensures steady { result ≢ SessionEnd.SinkEnd → O.faults out.new ≡ O.faults out.old }
     ensures quiet { O.quiet out.old → result ≢ SessionEnd.SinkEnd }
-    // For whichever files it ends so with, and so for those of `ends`.
+    // This is so for all files with which it ends so, among them those of `ends`.
     ensures safe { (file : List ℕ) (image : Image) (held : List (List ℕ)) (lost : Option Fault) →
         image_of file ≡ Ok image → session.old ≡ first_watched image →
         Ends session.old script.now held lost (O.taken out.old) (O.taken out.new) session.new result →
@@ -144,7 +144,7 @@ fn reply<O: Sink>(
     }
 }
 
-/// What a line ends with whose reply was written, or not.
+/// What a line ends with, by whether its reply was written.
 fn written_end(written: Result<(), SinkFault>, refused: bool) -> Result<bool, SessionEnd>
     ensures { result ≡ written_end written refused }
 {
@@ -174,7 +174,7 @@ fn end_at_file<O: Sink>(
     file_end(write_file_line(alloc, file.name, fault, out))
 }
 
-/// What the session ends with when the line of a file was written, or not.
+/// What the session ends with, by whether the line of a file was written.
 fn file_end(written: Result<(), SinkFault>) -> SessionEnd
     ensures { result ≡ file_end written }
 {

@@ -44,7 +44,7 @@ impl Model for Session {
 }
 
 impl Session {
-    /// The session of an image: nothing was replaced, and there is no thread. `Err` comes for want of memory alone.
+    /// The session of an image: nothing was replaced, and there is no thread. `Err` comes only if memory runs out.
     pub fn new(alloc: Global, image: Image) -> Result<Self, AllocError>
         ensures { IfOk result (λ session. session ≡ first_watched (contents_of image)) }
     {
@@ -72,7 +72,7 @@ impl Session {
         ensures system { result.0 ≡ self.machine }
         ensures watch { result.1 ≡ self.watch }
     {
-        // The pattern leaves no rest: beside these a session has nothing that it could answer from.
+        // The pattern names all fields: a session has nothing else that it could answer from.
         let Session { system, watch } = self;
         (system, watch)
     }
@@ -84,7 +84,7 @@ impl Session {
         self.watch.verdict()
     }
 
-    /// Starts a thread at the function of a name, and answers its number, as the system does. For want of memory the
+    /// Starts a thread at the function of a name, and answers its number, as the system does. If memory runs out the
     /// thread may have been started, and the watch lack it.
     pub(crate) fn spawn(&mut self, name: &Name, argument: u32) -> Result<u32, Refusal>
         ensures answered { MatchResult result
@@ -96,7 +96,7 @@ impl Session {
             (λ refusal. refusal ≢ Memory → self.new ≡ self.old) }
         ensures front { OnErr result (MadeFront self.old (Spawn name.now argument ∷ []) self.new) }
     {
-        // Each thread has a stack of its own, and jumps have no say in what is seen of a machine.
+        // Each thread has a stack of its own, and jumps don't matter for what is seen of a machine.
         jumps_leave_views();
         jumps_change_their_bytes_alone();
         let _threads = self.system.machine().threads();

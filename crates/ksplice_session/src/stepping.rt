@@ -23,7 +23,7 @@ impl Session {
         let Some(before) = self.thread(thread) else {
             return false;
         };
-        // The laws say what a step does, which windows stay, and that jumps have no say in what is seen of a machine.
+        // The laws say what a step does, which windows stay, and that jumps don't matter for what is seen of a machine.
         steps_stand();
         calls_and_returns();
         jumps_leave_views();

@@ -94,7 +94,7 @@ find_none name (x ∷ xs) d none =
     let first : has_name name x ≡ false = none 0 (omega arith) in
     rw first (find_none name xs d (λ k less. none (suc k) (omega arith)))
 
--- what stands before the place that halving finds, and what stands behind the section there
+-- what stands before the place that halving finds, and what stands after the section there
 module _ (post : List NormalSection) (name : List ℕ) (xs : List Placed) (i : ℕ)
     (below : (k : ℕ) (d : Placed) → 0 ≤ k → k < i → is_before post (place_in post name) (get_or xs k d) ≡ true)
     (above : (k : ℕ) (d : Placed) → i ≤ k → k < length xs

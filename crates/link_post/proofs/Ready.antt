@@ -1,4 +1,4 @@
--- What a value is told for has an address.
+-- What a value is given for has an address.
 use Rattle.std.proofs.Common.{◌≡◌, ℕ, Bool, true, false, ◌&&◌, List, Option, Some, None, refl, inl, inr, is_some}
 use Rattle.std.specs.Prelude.{IsSome, option_map}
 use Rattle.std.specs.Option.{option_or}

@@ -1,5 +1,5 @@
 -- Public clauses cite Values (what references need), Places (where sections are placed, and what is left of free
--- ranges) and Linked (the sections' bytes there). What stands in inside is the code's own.
+-- ranges) and Linked (the sections' bytes there). What `inside` holds is the code's own.
 pub mod Values
 pub mod Places
 pub mod Linked

@@ -23,7 +23,7 @@ use Rattle.link_post.specs.declared.types.Placed.{Placed}
 use Rattle.link_post.specs.Values.{ValueList, solved_as}
 use Rattle.link_post.specs.Places.{base_in}
 
--- where the section of a name stands among those of post, or behind them where there is none
+-- where the section of a name stands among those of post, or past them where there is none
 abbrev pub place_in : List NormalSection → List ℕ → ℕ
 place_in post name = unwrap_or (place_named post name) (length post)
 

@@ -1,5 +1,5 @@
--- How the first fitting gap and a section's place are found, and what is left of free ranges, said by contracts inside
--- this crate alone.
+-- How the first fitting gap and a section's place are found, and what is left of free ranges, which only contracts
+-- inside this crate cite.
 pub mod Rooms
 pub mod Lookups
 pub mod Blocks

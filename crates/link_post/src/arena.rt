@@ -11,7 +11,7 @@ use ks_base::{Range, Ranges};
 use std::alloc::{AllocError, Global};
 
 /// What is left of free ranges that ascend where others were taken, which may come in any order, meet, or be empty.
-/// `Err` comes for want of memory alone. The time grows as n log n.
+/// `Err` comes only if memory runs out. The time grows as n log n.
 pub fn without_all(alloc: Global, free: &Ranges, taken: &[Range]) -> Result<Ranges, AllocError>
     requires { Ascends (λ range. range) 0 free.now }
     ensures { IfOk result (λ left. left ≡ fold without free.now taken.now) }

@@ -14,7 +14,8 @@ pub fn order_has_no_say()
     ensures { (free a b : List Range) → IsPermutation a b → fold without free a ≡ fold without free b }
 {}
 
-/// What pieces leave of free ranges, and what pieces put among them leave of that, is what all of them leave.
+/// Where pieces are put among others, all of them together leave of free ranges what the added ones leave of what the
+/// others leave.
 pub fn gaps_of_pieces()
     ensures { (free : List Range) (pieces more : List Piece)
         → fold without free (map piece_range (fold (λ pieces piece. with_piece piece pieces) pieces more))

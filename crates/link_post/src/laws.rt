@@ -35,8 +35,8 @@ pub fn values_are_found()
         → AreFound pre post sections earlier found }
 {}
 
-/// Where values tell what a reference needs, what it goes to has an address in [`linked`](crate::linked). Of a
-/// reference that needs no value nothing is said.
+/// Where values give what a reference needs, its target has an address in [`linked`](crate::linked). Nothing is said of
+/// a reference that needs no value.
 pub fn needed_targets_have_addresses()
     ensures { (pre post : List NormalSection) (placement : List Placed) (values : ValueList) (r : Ref) (target : Target)
         → IsSome (needed_by pre post target) → Tell values (needed_by pre post target)

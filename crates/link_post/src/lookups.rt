@@ -24,7 +24,7 @@ fn place_in(post: &Normal<'_>, name: &[u8]) -> usize
     }
 }
 
-/// Whether places of sections stand in the order of these sections in the object, of none two.
+/// Whether places stand in the order in which the object has their sections, none of them twice.
 pub fn in_order(post: &Normal<'_>, placement: &Placement) -> bool
     ensures { IsTrue result ↔ AreInOrder post.now placement.now }
 {
@@ -66,7 +66,7 @@ pub(crate) fn base_in(post: &Normal<'_>, placement: &[Placed], name: &[u8]) -> O
     }
 }
 
-/// What an unknown came to, `None` exactly where the values tell nothing of it.
+/// What an unknown came to, `None` exactly where the values say nothing of it.
 pub fn solved_as(values: &Values, which: &Unknown) -> Option<Solved>
     ensures { result ≡ solved_as values.now.entries which.now }
 {

@@ -29,8 +29,8 @@ pub fn ascend(gaps: &Ranges) -> bool
 
 /// Gives each section its place, in order: the lowest address of the gaps that is a multiple of 16 and of the
 /// section's alignment and at which the section's bytes lie in one gap and are no bytes of an earlier one.
-/// [`Refusal::NoRoom`] comes with the size of the first section that has no such address, and [`Refusal::Memory`] for
-/// want of memory alone.
+/// [`Refusal::NoRoom`] comes with the size of the first section that has no such address, and [`Refusal::Memory`] only
+/// if memory runs out.
 #[tactic(auto, unfolding(crate::specs::Places::placed))]
 pub fn place(alloc: Global, sizes: &[SectionSize], gaps: &Ranges) -> Result<Placement, Refusal>
     requires { Ascends (λ range. range) 0 gaps.now }

@@ -21,8 +21,8 @@ use symbol_table::{Missing, Solved, SymbolTable, Unknown, Values, only_address};
 ///
 /// At the first reference, section by section and in each by offset, whose name has no address,
 /// [`Refusal::Unresolved`] comes with the name, or with the section's where it has no variable; where there are
-/// several, [`Refusal::TwoNames`] with the two lowest. [`Refusal::Memory`] comes for want of memory alone. The time
-/// is n log n in the references.
+/// several, [`Refusal::TwoNames`] with the two lowest. [`Refusal::Memory`] comes only if memory runs out. The time is n
+/// log n in the references.
 #[tactic(auto, unfolding(crate::specs::Values::resolved))]
 pub fn resolve_post(
     alloc: Global,

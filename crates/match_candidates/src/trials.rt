@@ -25,7 +25,7 @@ pub struct Tried {
     /// Where its newest version begins.
     pub base: u32,
     /// How many bytes its running body has, or why it doesn't match. What a match says isn't kept: it takes memory for
-    /// each reference, and [`outcome_of`](crate::outcome_of) tells it again.
+    /// each reference, and [`outcome_of`](crate::outcome_of) gives it again.
     pub outcome: Result<u32, MatchFault>,
 }
 
@@ -73,9 +73,10 @@ impl<'n, 'a> Trials<'n, 'a> {
 /// of its function's name whose newest version is still there.
 ///
 /// [`Refusal::PreUndecoded`] comes exactly where a code section can't be matched, with the first such section and the
-/// least offset; otherwise [`Refusal::NoCandidate`] where there is nothing that one may be, with the name of the first
-/// one's function; otherwise [`Refusal::Mismatch`] where all that one may be differ from it, with the first such
-/// section and the difference of the lowest home. [`Refusal::Memory`] comes for want of memory alone.
+/// least offset; otherwise [`Refusal::NoCandidate`] where there is no function that one may be, with the name of
+/// the first such section's function; otherwise [`Refusal::Mismatch`] where one differs from every function that it may
+/// be, with the first such section and the difference of the lowest home. [`Refusal::Memory`] comes only if memory runs
+/// out.
 pub fn try_all<'n, 'a, S: Space>(
     alloc: Global,
     object: &'n Normal<'a>,

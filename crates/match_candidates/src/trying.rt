@@ -36,7 +36,7 @@ fn outcome_at<'a, S: Space>(
 }
 
 /// What comes of matching once more one that was tried, given the code of its section: what the match says, or why it
-/// doesn't match. `Err` comes for want of memory alone.
+/// doesn't match. `Err` comes only if memory runs out.
 pub fn outcome_of<'a, S: Space>(
     alloc: Global,
     running: &Running<'_, S>,

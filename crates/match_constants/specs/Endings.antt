@@ -14,7 +14,7 @@ pub record Agree (object : List NormalSection) (x y : End) (count : ℕ) : Type 
   pub each : (i : ℕ) → i < count → slice_index (bytes_at object x.place) (x.end - suc i)
       ≡ slice_index (bytes_at object y.place) (y.end - suc i)
 
--- the end of a number, behind the last one the front of the first section
+-- the end of a number; past the last one, the beginning of the first section
 abbrev pub end_at : List End → ℕ → End
 end_at ends i = slice_index_or ends i (record { place = 0; end = 0 })
 

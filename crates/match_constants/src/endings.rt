@@ -12,14 +12,15 @@ use std::alloc::{AllocError, Global};
 use std::cmp::Ordering;
 use std::collections::{BTreeMap, BTreeSet};
 
-/// Where a text ends: in which section of the object, and behind how many bytes of it.
+/// Where a text ends: in which section of the object, and after how many bytes of it.
 #[derive(Clone, Copy, PartialEq, Eq, PartialOrd, Ord, Debug)]
 pub(crate) struct End {
     pub(crate) place: usize,
     pub(crate) end: usize,
 }
 
-/// For each end that has one `step` places further in the order: how many bytes before both are equal at least.
+/// For each end that has another `step` places further on in the order: at least how many bytes before the two are
+/// equal.
 #[derive(Drop)]
 pub(crate) struct Level {
     pub(crate) step: usize,
@@ -75,7 +76,7 @@ fn alike(normal: &Normal<'_>, x: End, y: End) -> usize
     bound
 }
 
-/// The byte before so many others before an end, 0 in front of a section.
+/// The byte before so many others before an end, 0 where the section has no byte there.
 fn byte_before(normal: &Normal<'_>, end: End, count: usize) -> u8 {
     if count < end.end {
         return byte_or_zero(bytes_at(normal, end.place), end.end - 1 - count);
@@ -219,7 +220,7 @@ impl Walk {
 }
 
 impl Endings {
-    /// The ends of an object's texts. `Err` comes for want of memory alone.
+    /// The ends of an object's texts. `Err` comes only if memory runs out.
     pub fn new(alloc: Global, normal: &Normal<'_>) -> Result<Self, AllocError>
         ensures { IfOk result (λ endings. AreEndings normal.now endings) }
     {

@@ -118,8 +118,8 @@ fn is_more(known: &KnownTexts, address: u64, count: usize) -> bool {
     }
 }
 
-/// Keeps how many bytes before an end stand before an address. Where there is no memory for it nothing is kept, and no
-/// more than time is lost.
+/// Keeps how many bytes before an end stand before an address. If memory runs out nothing is kept, and only time is
+/// lost.
 fn keep(known: &mut KnownTexts, address: u64, now: Known)
     ensures { (object : List NormalSection) (pieces : List Piece) → AreKnown object pieces known.old
         → IsKnown object pieces address now → AreKnown object pieces known.new }
@@ -138,9 +138,9 @@ fn keep_most(known: &mut KnownTexts, address: u64, now: Known)
     keep(known, address, now);
 }
 
-/// Whether the text of so many bytes that stands at an offset in the section at a place of an object stands, as it does
-/// there, in read-only memory at an address. What is known of the object's texts in this memory spares looking at bytes
-/// again, and is known better afterwards.
+/// Whether a text of an object, so many bytes from an offset of the section at a place on, stands in read-only memory
+/// at an address. What is known of the object's texts in this memory saves looking at bytes again, and more is known
+/// afterwards.
 pub fn text_stands<S: Space>(
     space: &S,
     known: &mut KnownTexts,

@@ -9,7 +9,7 @@ use Rattle.match_instructions.specs.RunCode.{run_code, run_body}
 use Rattle.match_instructions.specs.Places.{Places, places_of, with_place, AreBelow}
 use Rattle.match_instructions.specs.inside.Met.{followed_by, rest_of_body, Lists}
 
--- an instruction at the front of what follows is put behind what is listed
+-- the first instruction of what follows is put after what is listed
 pub moved : (p : Places) (i : Instruction) (is : List Instruction) (b : Bool) → i.kept ≡ b →
     followed_by p (i ∷ is) ≡ followed_by (with_place p i.place b) is
 moved p i is true kept = rw kept (ap (λ kept. record {
@@ -42,7 +42,7 @@ still_wanted : (n : ℕ) (p : Places) (place : ℕ) (kept b : Bool) → kept ≡
 still_wanted n p place kept true is more = rw is (omega (arith, length-append p.kept (place ∷ [])))
 still_wanted n p place kept false is more = rw is (omega arith)
 
--- what is left of the body is the instruction that is met and what is left behind it
+-- what is left of the body is the instruction that is met and what is left after it
 left : (contents : Contents) (n place : ℕ) (p : Places) (i : Instruction) (b : Bool) → i.kept ≡ b → length p.kept < n →
     run_code contents place ≡ i ∷ run_code contents (after i)
     → rest_of_body contents n p place ≡ i ∷ rest_of_body contents n (with_place p i.place b) (after i)
@@ -91,7 +91,7 @@ nothing_left contents base n place p lists none = (
   sym (lists.last ∙ ap (end_of place) none),
 )
 
--- the list is the body where nothing is met behind it
+-- the list is the body where nothing is met after it
 pub breaks_off : (contents : Contents) (base n place : ℕ) (p : Places) → Lists contents base n p place →
     run_code contents place ≡ [] → IsBody contents base n p place
 breaks_off contents base n place p lists none =

@@ -67,7 +67,7 @@ listed_first there bound within (suc n) place i enough found =
     ∙ ap (λ (is : List Instruction). i ∷ is)
     (listed_enough there bound within n (bound - after i) (after i) (omega (arith, enough, ends.0)) (omega arith))
 
--- where an instruction stands, it and those behind it
+-- where an instruction stands, it and those after it
 pub rest_first : (there : ℕ → Option Instruction) (bound : ℕ) → AreWithin there bound → (place : ℕ) (i : Instruction) →
     there place ≡ Some i → rest_from there bound place ≡ i ∷ rest_from there bound (after i)
 rest_first there bound within place i found =

@@ -51,7 +51,7 @@ pub number_low : (xs : List ℕ) → IsStrictlyIncreasing xs → (i : ℕ) → i
 number_low xs up i within = let h =
     rises xs up 0 i (omega arith) in omega (arith, h, ap (λ k. get_or xs k 0) (zero-add i))
 
--- they stand below any place above the one that is put behind them
+-- they stand below any place above the one that is put after them
 pub put_below : (xs ys : List ℕ) (place next : ℕ) → ys ≡ xs ++ place ∷ [] → All (λ k. k < place) xs → place < next →
     All (λ k. k < next) ys
 put_below xs ys place next is below above =

@@ -1,4 +1,4 @@
--- What stands before and behind a partition point is what a filter keeps.
+-- What stands before a partition point, and what stands after it, is what a filter keeps.
 use Rattle.std.proofs.Common.{◌≡◌, ℕ, zero, suc, ◌+◌, ◌≤◌, Bool, true, false, not, ◌&&◌, cond, List, [], ◌∷◌, length}
 use Rattle.std.proofs.Common.{take, drop, refl, ap, ◌∙◌, arith}
 use Rattle.std.specs.List.{filter, AllWithin}

@@ -1,5 +1,5 @@
 -- Public clauses cite Instructions, PreCode and RunCode (the two lists of instructions), Landing (where a section's
--- code can't be matched), and Places and PreLists (what is kept of a list). What stands in inside is the code's own.
+-- code can't be matched), and Places and PreLists (what is kept of a list). What `inside` holds is the code's own.
 pub mod Instructions
 pub mod PreCode
 pub mod Landing

@@ -29,7 +29,7 @@ run_instruction_at contents address = run_instruction_in address (view_at conten
 unfoldable pub run_code : Contents → ℕ → List Instruction
 run_code contents base = listed (run_instruction_at contents) (2 ^ 32 - base) base
 
--- the run body of n kept instructions, or what there is of it: it goes up to the end of the last kept one
+-- the run body of n kept instructions, or as much of it as there is: it goes up to the end of the last kept one
 abbrev pub run_body : Contents → ℕ → ℕ → List Instruction
 run_body contents base n = through_kept n (run_code contents base)
 

@@ -178,7 +178,7 @@ fn count_before(references: &[Ref<'_>], offset: u32) -> usize
     references.partition_point(|r| r.offset < offset)
 }
 
-/// The references at an offset and behind it.
+/// The references at an offset and after it.
 fn references_from<'s, 'a>(references: &'s [Ref<'a>], offset: u32) -> &'s [Ref<'a>]
     requires { IsNonDecreasingBy (λ r. r.offset) references.now }
     ensures which { result.now ≡ filter (begins_from offset) references.now }
@@ -214,7 +214,7 @@ fn code_bytes<'s>(section: &'s NormalSection<'_>) -> &'s [u8]
     &bytes[..bytes.len().min(section.size as usize)]
 }
 
-/// The bytes from an offset on, none where it lies behind the end.
+/// The bytes from an offset on, none where it lies past the end.
 fn from(bytes: &[u8], offset: usize) -> &[u8]
     ensures which { result.now ≡ drop offset bytes.now }
     ensures size { length result.now ≡ length bytes.now - offset }

@@ -25,7 +25,7 @@ fn is_landing(places: &Places, offset: u32) -> bool
     places.number_of(offset).is_some()
 }
 
-/// Whether an instruction is a direct branch without a reference that doesn't go to a landing offset.
+/// Whether an instruction is a direct branch that has no reference and doesn't go to a landing offset.
 fn goes_astray(places: &Places, instruction: &PreInstruction<'_, '_>) -> bool
     ensures { (code : List Instruction) → places.now ≡ places_of code → result ≡ goes_astray code instruction.now }
 {
@@ -82,7 +82,7 @@ fn empty_offset(places: &Places, size: u32) -> Option<u32>
 
 /// The least offset at which the code of a section can't be matched, `None` where it can be, from the list of its
 /// instructions and the offsets in it that references name: where decoding breaks off, a field where none may stand, a
-/// branch or a reference to an offset that is none to land at, or the end where nothing is kept.
+/// branch or a reference to an offset that isn't a landing offset, or the end where nothing is kept.
 pub fn undecoded_offset(section: &NormalSection<'_>, list: &PreList, named: &[u32]) -> Option<u32>
     requires order { HasFieldsInOrder section.now }
     requires list { IsListOf section.now list.now }

@@ -17,7 +17,7 @@ use std::alloc::{AllocError, Global};
 pub type Offsets = ListOf<u32>;
 
 /// For each section the offsets in it that references of code and of read-only data name, from one pass over these.
-/// `Err` comes for want of memory alone.
+/// `Err` comes only if memory runs out.
 pub fn offsets_named(alloc: Global, normal: &Normal<'_>) -> Result<Vec<Offsets>, AllocError>
     ensures { IfOk result (λ named. named.items ≡ all_offsets normal.now) }
 {

@@ -38,7 +38,7 @@ impl Places {
         }
     }
 
-    /// Puts the place of an instruction that is kept, or that isn't, behind those before it.
+    /// Puts the place of an instruction, kept or padding, after those before it.
     pub(crate) fn push(&mut self, place: u32, kept: bool) -> Result<(), AllocError>
         requires { AreBelow place self.old }
         ensures put { OnOk result (self.new ≡ with_place self.old place kept) }
@@ -57,7 +57,7 @@ impl Places {
         self.kept.len()
     }
 
-    /// The place of a kept instruction by its number, `None` where there are no more than so many.
+    /// The place of the kept instruction of a number, counted from 0; `None` where there is no such one.
     pub fn kept_at(&self, number: usize) -> Option<u32>
         ensures place { result ≡ slice_get self.now.kept number }
         ensures low { IfSome result (λ place. number ≤ place) }
@@ -87,7 +87,7 @@ impl Places {
     }
 }
 
-/// Puts a place behind those before it.
+/// Puts a place after those before it.
 fn push_above(places: &mut Vec<u32>, place: u32) -> Result<(), AllocError>
     requires below { All (λ k. k < place) places.old.items }
     requires order { IsStrictlyIncreasing places.old.items }

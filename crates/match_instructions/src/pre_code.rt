@@ -23,7 +23,7 @@ pub struct PreList {
     pub places: Places,
     /// Where they end.
     pub end: u32,
-    /// Where the first one stands that has a field where none may stand, `None` where there is none such.
+    /// Where the first one stands that has a field where none may stand, `None` where there is no such one.
     pub misplaced: Option<u32>,
 }
 
@@ -46,7 +46,7 @@ impl PreList {
     }
 }
 
-/// The instruction at an offset stands there, has a byte, and ends in the section.
+/// An instruction of a section stands at its offset, has at least one byte, and ends in the section.
 pub fn instructions_lie_within()
     ensures { (section : NormalSection) (offset : ℕ) (i : Instruction) → pre_instruction_at section offset ≡ Some i →
         (i.place ≡ offset) × (offset < after i) × (after i ≤ section.size) }
@@ -55,8 +55,8 @@ pub fn instructions_lie_within()
     instructions_have_bytes();
 }
 
-/// The instructions of a section from its start on, up to the first place at which there is none. `Err` comes for want
-/// of memory alone.
+/// The instructions of a section from its start on, up to the first place at which there is none. `Err` comes only if
+/// memory runs out.
 pub fn list_pre(alloc: Global, section: &NormalSection<'_>) -> Result<PreList, AllocError>
     requires { HasFieldsInOrder section.now }
     ensures { IfOk result (λ list. IsListOf section.now list) }

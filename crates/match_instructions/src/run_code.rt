@@ -19,7 +19,7 @@ pub struct RunList {
 }
 
 impl RunList {
-    /// Puts the instruction at the end of the list behind the others.
+    /// Puts the instruction at the end of the list.
     fn push(&mut self, instruction: &RunInstruction) -> Result<(), AllocError>
         requires below { AreBelow self.old.end self.old.places }
         requires place { instruction.now.place ≡ self.old.end }
@@ -35,8 +35,8 @@ impl RunList {
     }
 }
 
-/// The run body of `count` kept instructions from a base on, or what there is of it. `Err` comes for want of memory
-/// alone.
+/// The run body of `count` kept instructions from a base on, or as much of it as there is. `Err` comes only if memory
+/// runs out.
 pub fn list_run<S: Space>(
     alloc: Global,
     space: &S,

@@ -41,7 +41,7 @@ impl Model for RunInstruction {
 }
 
 impl RunInstruction {
-    /// The instruction at the front of what is met at an address.
+    /// The instruction with which what is met at an address begins.
     fn at_front(place: u32, window: Window) -> Option<Self>
         requires low { place < 0xFFFF_0000 }
         requires short { window.length ≤ 15 }
@@ -126,7 +126,7 @@ pub fn break_kind<S: Space>(space: &S, address: u32) -> DifferenceKind
     }
 }
 
-/// The running code from an address on is the instruction there and the running code from behind it on. Each
+/// The running code from an address on is the instruction there and then the running code from its end on. Each
 /// instruction has 1 to 15 bytes and ends at 0xFFFF0000 or below.
 pub fn run_code_goes_on()
     ensures next { (contents : Contents) (address : ℕ) → IsValid contents → address < 2 ^ 32 → run_code contents address

@@ -15,7 +15,7 @@ use Rattle.run_pre_match.specs.Matched.{outcome}
 use Rattle.run_pre_match.proofs.Claims.{no_difference}
 use Rattle.run_pre_match.proofs.Valuations.{matches}
 
--- ---- a body that isn't empty ends behind its base, in code
+-- ---- a body that isn't empty ends above its base, in code
 -- each instruction has a byte, and ends at a bound or before
 abbrev AreWithin : (ℕ → Option Instruction) → ℕ → Type 0
 AreWithin there bound =

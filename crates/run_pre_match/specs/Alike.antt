@@ -6,8 +6,8 @@ use Rattle.image_memory.specs.Fetch.{view_at}
 use Rattle.match_constants.specs.Constants.{constant_at}
 use Rattle.run_pre_match.specs.Candidate.{Candidate}
 
--- The same is met at each address of both, and the same byte of read-only memory stands there, or none. A jump at a
--- spliced home, and every other byte of a retired range, has no say.
+-- The same is met at each address of both, and the same byte of read-only memory stands there, or none. The jump at a
+-- spliced home, and any other byte of a retired range, doesn't matter.
 pub record AreAlike (a b : Contents) : Type 0 where
   pub views : (pc : ℕ) → view_at a pc ≡ view_at b pc
   pub constants : (address : ℕ) → constant_at a.pieces address ≡ constant_at b.pieces address

@@ -14,7 +14,7 @@ abbrev pub body_at : PreSection → Contents → ℕ → Body
 body_at pre contents base =
     record { pre = pre_code pre.section; run = run_body contents base (length (kept_of (pre_code pre.section))) }
 
--- the address of the kept instruction of a number, 0 where there is none such
+-- the address of the kept instruction of a number, 0 where there is no such one
 abbrev pub address_in : List Instruction → ℕ → ℕ
 address_in run k = unwrap_or (option_map place_of (slice_get (kept_of run) k)) 0
 

@@ -46,7 +46,7 @@ abbrev pub is_number : ℕ → Option ℕ → Bool
 is_number k None = false
 is_number k (Some number) = number == k
 
--- whether an address stands for a number in a list of so many kept instructions; each number behind them counts as
+-- whether an address stands for a number in a list of so many kept instructions; each number past them counts as
 -- agreeing
 abbrev pub has_number : ℕ → Option ℕ → Option ℕ → Bool
 has_number count there None = false
@@ -61,7 +61,7 @@ abbrev pub body_of : Candidate → Body
 body_of c = record { pre = pre_list c; run = run_list c }
 
 -- Whether an address stands in a running body for the number of an offset. Where the run list breaks off, a number that
--- is that of the break or a later one counts as agreeing; in a whole body there is none such.
+-- is that of the break or a later one counts as agreeing; in a whole body there is no such number.
 abbrev pub is_number_of : Body → ℕ → ℕ → Bool
 is_number_of body offset address =
     has_number (length (kept_of body.run)) (stands_for body.run address) (stands_for body.pre offset)

@@ -30,7 +30,7 @@ prefix_bytes i = take i.decoded.prefixes.count i.bytes
 abbrev pub opcode_bytes : Instruction → List ℕ
 opcode_bytes i = take i.decoded.fields.opcode_end i.bytes
 
--- two direct branches of other prefixes or kinds, one direct branch alone, or other prefixes or opcode bytes
+-- two direct branches of different prefixes or kinds, one direct branch alone, or different prefixes or opcode bytes
 abbrev pub differs_in_opcode : Option Branch → Option Branch → Pair → Bool
 differs_in_opcode (Some a) (Some b) pair =
     not (same_kind a.kind b.kind && same_bytes (prefix_bytes pair.pre) (prefix_bytes pair.run))
@@ -50,7 +50,7 @@ differs_in_operand None None pair =
 differs_in_operand (Some a) branch pair = false
 differs_in_operand None (Some b) pair = false
 
--- Both are direct branches, the object's has no reference, and their targets stand for other numbers.
+-- Both are direct branches, the object's has no reference, and their targets stand for different numbers.
 abbrev pub differs_in_landing : Option Branch → Option Branch → Candidate → Pair → Bool
 differs_in_landing (Some a) (Some b) c pair =
     has_no_reference pair.pre && not (same_number c (target_of pair.pre) (target_of pair.run))

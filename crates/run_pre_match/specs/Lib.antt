@@ -2,7 +2,7 @@
 -- anything is found), Bodies (where an offset stands in a running body) and Borrowed (what an unknown is whose name is
 -- borrowed), and laws Alike (memories in which all of this is the same). What comes of a candidate stands on Goals,
 -- Found and Differences. The lists of instructions and what lies in read-only memory are those of match_instructions
--- and match_constants. What stands in inside is the code's own.
+-- and match_constants. What `inside` holds is the code's own.
 pub mod Candidate
 pub mod Goals
 pub mod Found

@@ -51,7 +51,7 @@ pub(crate) fn has_number(pre: &Places, run: &Places, offset: u32, address: u32) 
 }
 
 impl<'n, 'a> PreCode<'n, 'a> {
-    /// The body that runs at a base, as far as it goes with the code. `Err` comes for want of memory alone.
+    /// The body that runs at a base, as far as it goes with the code. `Err` comes only if memory runs out.
     pub fn body<'c, S: Space>(
         &'c self,
         alloc: Global,

@@ -46,7 +46,7 @@ impl<'a> BorrowedUnknown<'a> {
         }
     }
 
-    /// The same with a name of its own. `Err` comes for want of memory alone.
+    /// The same with a name of its own. `Err` comes only if memory runs out.
     pub fn owned(&self, alloc: Global) -> Result<Unknown, AllocError>
         ensures { IfOk result (λ unknown. unknown ≡ self.now) }
     {
@@ -85,7 +85,7 @@ impl<'a> BorrowedSpot<'a> {
         }
     }
 
-    /// The same with a name of its own. `Err` comes for want of memory alone.
+    /// The same with a name of its own. `Err` comes only if memory runs out.
     pub fn owned(&self, alloc: Global) -> Result<Spot, AllocError>
         ensures { IfOk result (λ spot. spot ≡ self.now) }
     {

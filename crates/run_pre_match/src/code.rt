@@ -75,7 +75,7 @@ impl<'n, 'a> Model for PreCode<'n, 'a> {
 }
 
 impl<'n, 'a> PreObject<'n, 'a> {
-    /// The object of some sections. `Err` comes for want of memory alone.
+    /// The object of some sections. `Err` comes only if memory runs out.
     pub fn new(alloc: Global, normal: &'n Normal<'a>) -> Result<Self, AllocError>
         ensures { IfOk result (λ object. object ≡ normal.now) }
     {
@@ -97,7 +97,7 @@ impl<'n, 'a> PreObject<'n, 'a> {
 
     /// The code of the section at a place. [`MatchFault::Undecoded`] comes exactly where it can't be matched, with the
     /// least offset at which it can't: where decoding breaks off, a field stands where none may, or a branch or a
-    /// reference leads to no instruction. [`MatchFault::Memory`] comes for want of memory alone.
+    /// reference leads to no instruction. [`MatchFault::Memory`] comes only if memory runs out.
     pub fn code(&self, alloc: Global, place: usize) -> Result<PreCode<'n, 'a>, MatchFault>
         requires { place < length self.now }
         ensures { (section : NormalSection) → slice_get self.now place ≡ Some section
@@ -119,9 +119,9 @@ impl<'n, 'a> PreObject<'n, 'a> {
 }
 
 impl<'n, 'a> PreCode<'n, 'a> {
-    /// Whether the code is what runs at a base, for a function whose home is given: its length, claims and interiors
-    /// then, or [`MatchFault::Differs`] with the first difference. [`MatchFault::Memory`] comes for want of memory
-    /// alone.
+    /// Whether the code is what runs at a base, for a function whose home is given. Answers its length, claims and
+    /// interiors then, and otherwise [`MatchFault::Differs`] with the first difference. [`MatchFault::Memory`] comes
+    /// only if memory runs out.
     pub fn matched<S: Space>(
         &self,
         alloc: Global,
@@ -180,10 +180,10 @@ impl<'n, 'a> PreCode<'n, 'a> {
 
 /// Whether the code section of a name is what runs at a base, for a function whose home is given.
 ///
-/// Its length in bytes, what it claims of functions, data and outside names, and where its references lead into other
-/// functions, with names that are borrowed from the object's file. [`MatchFault::Undecoded`] comes exactly where the
-/// section's own code can't be matched, with the least offset, [`MatchFault::Differs`] exactly where it can and differs
-/// from what runs, with the first difference, and [`MatchFault::Memory`] for want of memory alone.
+/// Answers its length in bytes, what it claims of functions, data and outside names, and where its references lead into
+/// other functions, with names that are borrowed from the object's file. [`MatchFault::Undecoded`] comes exactly where
+/// the section's own code can't be matched, with the least offset, [`MatchFault::Differs`] exactly where it can and
+/// differs from what runs, with the first difference, and [`MatchFault::Memory`] only if memory runs out.
 pub fn match_body<'a, S: Space>(
     alloc: Global,
     pre: &Normal<'a>,

@@ -49,7 +49,7 @@ impl Marks {
 }
 
 impl<'m, 'a, S: Space> Candidate<'m, 'a, S> {
-    /// Whether both are direct branches without a reference, and their targets stand for other numbers.
+    /// Whether both are direct branches without a reference, and their targets stand for different numbers.
     fn differs_in_landing(&self, pair: &Pair<'_, '_, 'a>) -> bool
         ensures { result ≡ differs_in_landing (direct_branch pair.now.pre)
             (direct_branch pair.now.run) self.now pair.now }

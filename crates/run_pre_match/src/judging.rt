@@ -24,7 +24,7 @@ use match_constants::{Lies, TextPlace, lies_at, text_stands};
 use std::alloc::{AllocError, Global};
 use std::collections::BTreeMap;
 
-/// What is said of a value, and whether the fields of a read-only section are to be followed, of which it is the first.
+/// What is said of a value, and whether it is the first for a read-only section whose fields are to be followed.
 #[derive(Clone, Copy, PartialEq, Eq, Debug)]
 pub(crate) struct Judged {
     pub(crate) verdict: Verdict,

@@ -18,8 +18,8 @@ ghost use Rattle.run_pre_match.specs.declared.types.Matched.{Matched};
 
 use match_instructions::run_code_goes_on;
 
-/// The claims of a match in an object whose names are distinct give one thing one value, and the own home is the first
-/// of them.
+/// In an object whose names are distinct the claims of a match give each thing one value, and the first claim is the
+/// own home.
 pub fn claims_agree()
     ensures agree { (c : Candidate) (m : Matched) → slice_get c.object c.place ≡ Some c.section →
         IsDistinct same_bytes (map name_of c.object) → outcome c ≡ Ok m →
@@ -28,7 +28,7 @@ pub fn claims_agree()
 {}
 
 /// Where a section's code can be matched, a candidate comes out as a match exactly where some valuation makes it one.
-/// There is no second valuation, and the values and interiors that are told are what it gives.
+/// There is no second valuation, and the values and interiors that are reported are what it gives.
 pub fn matches_have_one_valuation()
     ensures some { (c : Candidate) (m : Matched) → outcome c ≡ Ok m → (v : Valuation) × Match c v }
     ensures comes { (c : Candidate) (v : Valuation) → Match c v → (m : Matched) × (outcome c ≡ Ok m) }
@@ -38,8 +38,8 @@ pub fn matches_have_one_valuation()
 {}
 
 /// In memories where the same is met at each address and the same stands in read-only memory, a candidate comes to the
-/// same, and so does what stands at each place of its body. Of bytes that are never met, as those of a jump at a home,
-/// nothing is seen.
+/// same, and so does what stands at each place of its body. Bytes that are never met, such as those of a jump at a
+/// home, don't matter.
 pub fn alike_memories_match_alike()
     ensures outcome { (c : Candidate) (contents : Contents) → AreAlike c.contents contents
         → All HasFieldsInside c.object

@@ -44,14 +44,14 @@ fn same_kind(a: BranchKind, b: BranchKind) -> bool
     }
 }
 
-/// The first so many of some bytes, or all of them.
+/// The first `count` of some bytes, or all where there are no more.
 fn front(bytes: &[u8], count: usize) -> &[u8]
     ensures { result.now ≡ take count bytes.now }
 {
     &bytes[..count.min(bytes.len())]
 }
 
-/// The byte of an instruction at an offset, 0 behind its end.
+/// The byte of an instruction at an offset, 0 past its end.
 fn byte_in(bytes: &[u8], at: usize) -> u8
     ensures { result ≡ byte_in bytes.now at }
 {
@@ -102,7 +102,7 @@ fn blanked(refs: &[Ref<'_>], place: usize, byte: u8) -> u8
 }
 
 impl Pair<'_, '_, '_> {
-    /// Whether two direct branches have other prefixes or are of other kinds.
+    /// Whether two direct branches have different prefixes or are of different kinds.
     fn differ_as_branches(&self, a: &Branch, b: &Branch) -> bool
         ensures { result ≡ differs_in_opcode (Some a.now) (Some b.now) self.now }
     {

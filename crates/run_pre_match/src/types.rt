@@ -53,7 +53,7 @@ pub enum MatchFault {
     /// The section's own code can't be matched at this offset: it doesn't decode there, a field stands where none may,
     /// or a branch or reference leads to no instruction.
     Undecoded(u32),
-    /// Memory was wanting.
+    /// Memory ran out.
     Memory,
 }
 

@@ -42,7 +42,7 @@ with_first : (front : List ℕ) (parts : List (List ℕ)) → 0 < length parts
 with_first front [] some = absurd (omega arith)
 with_first front (part ∷ parts) some = refl
 
--- what is behind a place, as a slice gives it
+-- what is after a place, as a slice gives it
 pub behind : (n : ℕ) (bs : List ℕ) → take (length bs - n) (drop n bs) ≡ drop n bs
 behind n bs = take_all (length bs - n) (drop n bs) (omega (arith, length-drop n bs))
 

@@ -49,7 +49,7 @@ fn is_comment(word: &[u8]) -> bool
     }
 }
 
-/// The command of a first word and the text behind it.
+/// The command of a first word and the text after it.
 fn command_of(alloc: Global, word: &[u8], text: &[u8]) -> Result<Option<Command>, AllocError>
     ensures { IfOk result (λ command. command ≡ command_of word.now (words_of text.now)) }
 {
@@ -213,7 +213,7 @@ fn two(text: &[u8]) -> Option<(&[u8], &[u8])>
     Some((first, second))
 }
 
-/// The first three words of a text, and what stands behind them.
+/// The first three words of a text, and what follows them.
 fn first_three(text: &[u8]) -> Option<(&[u8], &[u8], &[u8], &[u8])>
     ensures { option_map (λ words. (words.0.now, words.1.now, words.2.now, words_of words.3.now)) result
         ≡ first_three (words_of text.now) }

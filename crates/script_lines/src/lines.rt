@@ -6,7 +6,7 @@ ghost use Rattle.script_lines.specs.Lines.{lines_of, words_of, is_line_end, is_s
 /// The longest line, in bytes.
 const LONGEST_LINE: usize = 4096;
 
-/// The first line, and what stands behind its end.
+/// The first line, and what follows its end.
 #[tactic(auto, using(crate::proofs::Cuts::line_cuts))]
 pub(crate) fn first_line(bytes: &[u8]) -> (&[u8], &[u8])
     requires { 0 < length bytes.now }
@@ -19,7 +19,7 @@ pub(crate) fn first_line(bytes: &[u8]) -> (&[u8], &[u8])
     }
 }
 
-/// The first word, and what stands behind it. `None` where there is no word.
+/// The first word, and what follows it. `None` where there is no word.
 #[tactic(auto, using(crate::proofs::Cuts::word_starts))]
 pub(crate) fn first_word(line: &[u8]) -> Option<(&[u8], &[u8])>
     ensures { MatchOption result (words_of line.now ≡ [])
@@ -29,7 +29,7 @@ pub(crate) fn first_word(line: &[u8]) -> Option<(&[u8], &[u8])>
     Some(word_at_front(&line[start..]))
 }
 
-/// The word that a text begins with, and what stands behind it.
+/// The word that a text begins with, and what follows it.
 #[tactic(auto, using(crate::proofs::Cuts::word_cuts))]
 fn word_at_front(text: &[u8]) -> (&[u8], &[u8])
     requires some { 0 < length text.now }

@@ -6,7 +6,7 @@ ghost use Rattle.std.specs.Str.Parse.{digits_value};
 ghost use Rattle.script_lines.specs.Numbers.{number_of, numeral, when};
 ghost use Rattle.script_lines.specs.Forms.{number_within};
 
-/// The number that a word writes, in decimal, or in hexadecimal behind `0x`.
+/// The number that a word writes, in decimal, or in hexadecimal after `0x`.
 pub(crate) fn number_of(word: &[u8]) -> Option<u32>
     ensures { result ≡ number_of word.now }
 {

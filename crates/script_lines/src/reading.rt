@@ -18,7 +18,7 @@ const MOST_LINES: u32 = 65_536;
 ///
 /// [`Refusal::BadLine`] has the number of the first line that isn't in the grammar, counted from 1, and
 /// comes exactly where there is one; a line after 65,536 others is never in the grammar.
-/// [`Refusal::Memory`] comes for want of memory alone.
+/// [`Refusal::Memory`] comes only if memory runs out.
 #[tactic(auto, unfolding(crate::specs::Script::script_of))]
 pub fn read_script(alloc: Global, bytes: &[u8]) -> Result<Script, Refusal>
     ensures exact { Gives (λ script. script) result (script_of bytes.now) }

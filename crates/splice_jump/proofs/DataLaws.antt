@@ -107,7 +107,7 @@ pub data_stays : (contents : Contents) (rows : List (ℕ × ℕ)) (a : ℕ) → 
 data_stays contents rows a valid spliced none =
     byte_stays rows contents.pieces a (no_jump contents rows a valid spliced none)
 
--- one write behind or before others
+-- one write after or before others
 pub last_write : (w : ℕ × List ℕ) (ws : List (ℕ × List ℕ)) (ps : List Piece)
     → written w.0 w.1 (unjumped ws ps) ≡ unjumped (ws ++ w ∷ []) ps
 unfolding unjumped
@@ -128,7 +128,7 @@ first_byte : (w : ℕ × List ℕ) (ws : List (ℕ × List ℕ)) (a b : ℕ)
 unfolding byte_after
 first_byte w ws a b = refl
 
--- a write that shares no address with others may come before them or behind them
+-- a write that shares no address with others may come before them or after them
 swapped : (w : ℕ × List ℕ) (ws : List (ℕ × List ℕ)) (ps : List Piece) → Ascends piece_range 0 ps
     → ((a : ℕ) → w.0 ≤ a → a < w.0 + length w.1 → All (Misses a) ws)
     → written w.0 w.1 (unjumped ws ps) ≡ unjumped ws (written w.0 w.1 ps)

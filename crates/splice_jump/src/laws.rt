@@ -49,8 +49,8 @@ pub fn jumps_change_their_bytes_alone()
         byte_at (jumped rows contents.pieces) address ≡ byte_at contents.pieces address }
 {}
 
-/// Data that can be written are written in memory with jumps as in memory without them, and as well before as after old
-/// bytes are put back over code.
+/// It comes to the same whether data that can be written are written before or after jumps at spliced homes, and before
+/// or after old bytes are put back over code.
 pub fn data_are_written_past_jumps()
     ensures jumps { (contents : Contents) (rows : List (ℕ × ℕ)) (start : ℕ) (bytes : List ℕ) → IsValid contents →
         AreSpliced contents rows → first_fault (write_fault contents.pieces) start (length bytes) ≡ None →
@@ -62,8 +62,8 @@ pub fn data_are_written_past_jumps()
         ≡ written start bytes (with_old home old contents.pieces) }
 {}
 
-/// A piece that meets none is put among pieces with jumps, and any piece is taken out, as among and out of pieces
-/// without them.
+/// It comes to the same whether a piece that meets none is put among pieces before or after jumps at spliced homes, and
+/// whether any piece is taken out before or after jumps.
 pub fn pieces_come_and_go_past_jumps()
     ensures added { (contents : Contents) (rows : List (ℕ × ℕ)) (piece : Piece) → IsValid contents →
         AreSpliced contents rows → MeetsNone piece_range (piece_range piece) contents.pieces →

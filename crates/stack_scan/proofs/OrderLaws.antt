@@ -1,4 +1,4 @@
--- The order of ranges has no say in where a thread stands.
+-- The order of ranges doesn't matter for where a thread stands.
 use Rattle.std.proofs.Common.{◌≡◌, ℕ, Bool, if◌then◌else◌, List, [], ◌∷◌, Option, Result, Ok, Err, refl, ◌∙◌, ap}
 use Rattle.std.specs.Option.{option_map, option_or}
 use Rattle.std.specs.List.{find}

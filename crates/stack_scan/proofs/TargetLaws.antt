@@ -46,7 +46,7 @@ past_all word ranges ended = list_any_none (lies_in word) ranges (λ k d l.
 order_of : (k n : ℕ) → (k < n) ⊎ ((k ≡ n) ⊎ (n < k))
 order_of k n = grind arith
 
--- where ranges are in order, the first that ends above a word tells
+-- where ranges are in order, the first that ends above a word decides
 pub by_first : (word n : ℕ) (d : Range) (ranges : List Range) → AreInOrder (length ranges) ranges → n < length ranges
     → AllWithin (λ range. range.high ≤ word) ranges 0 n
     → AllWithin (λ range. word < range.high) ranges n (length ranges)

@@ -1,3 +1,3 @@
--- Public clauses cite `Standing` alone. What stands in inside is the code's own.
+-- Public clauses cite `Standing` alone. What `inside` holds is the code's own.
 pub mod Standing
 pub mod inside

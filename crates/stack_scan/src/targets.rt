@@ -8,7 +8,7 @@ ghost use Rattle.stack_scan.specs.inside.Words.{AreInOrder};
 use ks_base::Range;
 use std::marker::Model;
 
-/// Ranges with what a look-up is quick by. Contracts see the ranges.
+/// Ranges with what makes a look-up quick. Contracts see the ranges.
 #[derive(Drop)]
 pub(crate) struct Targets<'a> {
     ranges: &'a [Range],

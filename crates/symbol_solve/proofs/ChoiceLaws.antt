@@ -133,7 +133,7 @@ pub push_choice : (f : Candidate → Choice)
 push_choice f cs i c old new choice at before same pushed =
     pushed ∙ (λ j. before j ++ same j ∷ []) ∙ sym (map_more f cs i c at)
 
--- what a call told, by a choice that is the same
+-- what a call answered, by a choice that is the same
 pub told_as : {E : Type 0} (r : Result Choice E) (x y : Choice)
     → x ≡ y → IfOk r (λ choice. choice ≡ x) → IfOk r (λ choice. choice ≡ y)
 told_as r x y same =

@@ -298,7 +298,7 @@ module _ (running : Running) (object : List NormalSection) where
       by [] one two = absurd cc
       by (c ∷ cs) one two = either c cs (list_any matches (c ∷ cs)) refl two
 
-  -- sections are told by their places
+  -- sections are determined by their places
   one_section : (a b : PreSection)
       → Has (code_sections object) a → Has (code_sections object) b → a.place ≡ b.place → a ≡ b
   one_section a b has_a has_b place =

@@ -40,7 +40,7 @@ module _ (running : Running) (object : List NormalSection) where
       (All-map (λ (d : Candidate). d.place ≡ pre.place)
       (candidate_at running pre) (homes_of running pre) (λ k d lt. refl)) has
 
-  -- a candidate is told by its section and home
+  -- a candidate is determined by its section and home
   pub same_one : (c d : Candidate) → Has (candidates running object) c
       → Has (candidates running object) d → c.place ≡ d.place → c.home ≡ d.home → c ≡ d
   same_one c d has_c has_d place home =

@@ -17,7 +17,7 @@ use Rattle.run_pre_match.specs.Matched.{outcome, matched_unless}
 use Rattle.run_pre_match.specs.Match.{Valuation, Match}
 use Rattle.symbol_solve.specs.inside.Points.{LiesIn}
 
--- instructions one behind another, from a place on
+-- instructions one after another, from a place on
 Follow : ℕ → List Instruction → Type 0
 Follow place [] = Unit {0}
 Follow place (i ∷ is) = (i.place ≡ place) × (0 < i.decoded.length) × Follow (after i) is

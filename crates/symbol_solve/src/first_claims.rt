@@ -42,8 +42,8 @@ pub(crate) fn first_claims<'c, 'a>(
     Ok(first)
 }
 
-/// The first of some claims that gives the thing of another claim another value, by the first claim of each thing. It
-/// is told where those of the claims that are of one thing give it one value.
+/// The first of some claims that gives the thing of another claim another value, by the first claim of each thing. That
+/// is so where the claims of each thing give it one value.
 pub(crate) fn contradiction<'c, 'a>(
     alloc: Global,
     first: &FirstClaims<'c, 'a>,

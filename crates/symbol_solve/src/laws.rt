@@ -44,8 +44,8 @@ pub fn answer_is_only_solution()
 {}
 
 /// In running programs that are alike an object has the same answer, from the same candidates but for the memories that
-/// these hold. So bytes that are never met have no say, as those of a jump at a home, nor has the order in which newest
-/// bases are listed.
+/// these hold. So bytes that are never met, such as those of a jump at a home, don't matter, nor does the order in
+/// which newest bases are listed.
 pub fn alike_programs_have_one_answer()
     ensures left { (one other : Running) (object : List NormalSection) → RunAlike one other
         → All HasFieldsInside object

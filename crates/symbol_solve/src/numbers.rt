@@ -183,7 +183,7 @@ impl Numbers {
     }
 }
 
-/// A number as 32 bits. More than these have no memory.
+/// A number of items as 32 bits; there is no memory for more.
 pub(crate) fn word(number: usize) -> Result<u32, AllocError>
     ensures { IfOk result (λ word. word ≡ number) }
 {

@@ -87,8 +87,8 @@ fn refusal_of(alloc: Global, clash: Clash<'_, '_>) -> Result<Refusal, AllocError
     }
 }
 
-/// The first of some claims that one of the others contradicts, with the first that does. It is told where those of the
-/// others that are of one thing give it one value.
+/// The first of some claims that one of the others contradicts, with the first that does. That is so where the others
+/// of each thing give it one value.
 #[tactic(auto, unfolding(propagation::specs::Conflicts::first_some))]
 fn first_contradicted<'o, 'a>(
     alloc: Global,

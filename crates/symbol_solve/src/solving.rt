@@ -119,9 +119,9 @@ fn solve_trials<S: Space>(
 /// and outside names that it claims and that aren't listed yet, in the order of their places.
 ///
 /// [`Refusal::PreUndecoded`] comes where a code section can't be matched; otherwise [`Refusal::NoCandidate`] where
-/// there is no function that one may be; otherwise [`Refusal::Mismatch`] where all that one may be differ from it;
-/// otherwise [`Refusal::Conflict`] where two that are forced clash; otherwise [`Refusal::Ambiguous`] where two are left
-/// of one section. [`Refusal::Memory`] comes for want of memory alone.
+/// there is no function that one may be; otherwise [`Refusal::Mismatch`] where one differs from every function that it
+/// may be; otherwise [`Refusal::Conflict`] where two that are forced clash; otherwise [`Refusal::Ambiguous`] where two
+/// are left of one section. [`Refusal::Memory`] comes only if memory runs out.
 #[tactic(auto, unfolding(crate::specs::Solve::solved, crate::specs::Solve::obstacle))]
 pub fn solve<S: Space>(
     alloc: Global,

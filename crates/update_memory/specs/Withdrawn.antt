@@ -31,7 +31,7 @@ ranges_but taken ranges = filter (λ range. not (is_one_of taken range)) ranges
 abbrev pub without_ranges : List Range → List Fence → List Fence
 without_ranges taken fences = filter (λ fence. not (is_one_of taken fence.range)) fences
 
--- A memory after an update was taken back: old bytes are put back at homes, ranges are retired no longer, and the
+-- A memory after an update was taken back: old bytes are put back at homes, ranges are no longer retired, and the
 -- pieces that begin at some addresses are gone.
 unfoldable pub withdrawn_memory : List ℕ → List Range → List (ℕ × List ℕ) → Contents → Contents
 withdrawn_memory bases taken olds contents =

@@ -77,7 +77,7 @@ pub fn changes_are_withdrawn()
         map fence_range (without_ranges taken fences) ≡ ranges_but taken (map fence_range fences) }
 {}
 
-/// Pieces are taken away before as after bytes are written, for a write changes no base.
+/// It comes to the same whether pieces are taken away before or after bytes are written, for a write changes no base.
 pub fn dropping_goes_past_writes()
     ensures written { (bases : List ℕ) (start : ℕ) (bytes : List ℕ) (pieces : List Piece) →
         without_pieces bases (written start bytes pieces) ≡ written start bytes (without_pieces bases pieces) }
@@ -105,7 +105,8 @@ pub fn code_that_stays()
         bytes_at (without_pieces bases contents.pieces) address count ≡ bytes_at contents.pieces address count }
 {}
 
-/// Pieces are added before as after old bytes are put back over code, and as after jumps are written at spliced homes.
+/// It comes to the same whether pieces are added before or after old bytes are put back over code, and before or after
+/// jumps are written at spliced homes.
 pub fn pieces_are_added_past_code()
     ensures old { (contents : Contents) (pieces : List Piece) (olds : List (ℕ × List ℕ)) → IsValid contents →
         ArePlaceable pieces → AreAddable contents pieces →

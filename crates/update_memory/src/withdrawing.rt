@@ -1,4 +1,4 @@
-//! An update's changes of memory are taken back: old bytes are put back at homes, ranges are retired no longer, and
+//! An update's changes of memory are taken back: old bytes are put back at homes, ranges are no longer retired, and
 //! pieces are dropped. None of it takes memory.
 ghost use Rattle.std.specs.Prelude.{◌≡◌, ◌≢◌, false, map};
 ghost use Rattle.std.specs.List.{All, AllPairs};
@@ -28,7 +28,7 @@ pub fn restore_code<S: Space>(space: &mut S, jumps: &[Jump])
     }
 }
 
-/// Retires ranges no longer. None stands twice.
+/// Takes ranges out of the retired ones. None of them stands twice.
 pub fn unretire<S: Space>(space: &mut S, ranges: &[Range])
     requires retired { All (IsRetired (S.contents space.old)) ranges.now }
     requires once { AllPairs (λ range other. are_same range other ≡ false) ranges.now }
@@ -56,8 +56,8 @@ pub fn drop_pieces<S: Space>(space: &mut S, bases: &[u32])
     }
 }
 
-/// Takes an update's changes back: puts the old bytes back at each home, retires the ranges no longer, and takes the
-/// pieces away that begin at the bases. No range is spare then, unless there are no bases.
+/// Takes an update's changes back: puts the old bytes back at each home, takes the ranges out of the retired ones, and
+/// takes the pieces away that begin at the bases. No range is spare then, unless there are no bases.
 pub fn withdraw<S: Space>(space: &mut S, bases: &[u32], ranges: &[Range], jumps: &[Jump])
     requires code { All (λ jump. HasCode (S.contents space.old).pieces jump.home 5) jumps.now }
     requires retired { All (IsRetired (S.contents space.old)) ranges.now }

@@ -1,5 +1,5 @@
 -- Public clauses cite Parts (the sections that an update places), Pieces, NewSymbols and Reports (what comes of them),
--- and Apart (what holds of new pieces). What stands in inside is the code's own.
+-- and Apart (what holds of new pieces). What `inside` holds is the code's own.
 pub mod Parts
 pub mod Pieces
 pub mod NewSymbols

@@ -1,2 +1,2 @@
--- The map of old functions, said by contracts inside this crate alone.
+-- The map of old functions, which only contracts inside this crate cite.
 pub mod OldMaps

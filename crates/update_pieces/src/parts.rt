@@ -47,8 +47,8 @@ impl<'p, 'a> Part<'p, 'a> {
     }
 }
 
-/// What [`place`](link_post::place) needs of the sections that an update places, in their order. `Err` comes for want
-/// of memory alone.
+/// What [`place`](link_post::place) needs of the sections that an update places, in their order. `Err` comes only if
+/// memory runs out.
 pub fn sizes(alloc: Global, parts: &[Part<'_, '_>]) -> Result<Vec<SectionSize>, AllocError>
     ensures { IfOk result (λ sizes. sizes.items ≡ map size_of parts.now) }
 {

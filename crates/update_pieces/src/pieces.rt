@@ -14,7 +14,7 @@ use symbol_table::Values;
 /// The pieces of an update, one for each section that it places, in their order: at the section's place its linked
 /// bytes, which are zeros of a section of zeros. Functions become code, data that the program may change writable, and
 /// texts and other data read-only. Places are given in the order of the sections, as [`place`](link_post::place) does.
-/// `Err` comes for want of memory alone.
+/// `Err` comes only if memory runs out.
 pub fn new_pieces(
     alloc: Global,
     post: &Normal<'_>,

@@ -18,7 +18,7 @@ use update_retired::OldFunction;
 /// What an update reports: the functions that it replaces and those that it adds, in the order of the new object's
 /// sections, and those that it drops, in the order of the old object's. A replaced function is named as the old object
 /// names it, with its home, its new base, and the length of the body that ran until then; it is the old function of the
-/// same section. `Err` comes for want of memory alone.
+/// same section. `Err` comes only if memory runs out.
 pub fn report_of(
     alloc: Global,
     parts: &[Part<'_, '_>],

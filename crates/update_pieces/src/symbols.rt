@@ -14,8 +14,8 @@ use symbol_table::Symbol;
 pub type NewSymbols = ListOf<Symbol>;
 
 /// The symbols of an update, in the order of its sections: of each function that it adds, and of each variable of new
-/// data in the order of the object's symbol table. Each is global where it is so in the object. `Err` comes for want of
-/// memory alone.
+/// data in the order of the object's symbol table. Each is global where it is so in the object. `Err` comes only if
+/// memory runs out.
 pub fn new_symbols(
     alloc: Global,
     parts: &[Part<'_, '_>],

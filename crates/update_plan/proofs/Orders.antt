@@ -32,7 +32,7 @@ rise_lower : (n m : ℕ) (ns : List ℕ) → m ≤ n → Rise n ns → Rise m ns
 rise_lower n m [] lower up = tt
 rise_lower n m (k ∷ ks) lower up = (omega (arith, up.0), up.1)
 
--- ---- where a name stands, behind the first section or at it
+-- ---- where a name stands, after the first section or at it
 one_later : (o : Option ℕ) (n : ℕ) → unwrap_or (option_map suc o) (suc n) ≡ suc (unwrap_or o n)
 one_later None n = refl
 one_later (Some k) n = refl

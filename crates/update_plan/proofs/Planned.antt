@@ -27,7 +27,7 @@ pub ends : {A B : Type 0} (r : Result A Refusal) (refusal : Refusal) (f : A → 
     → (r >>= f) ≡ Err refusal
 ends r refusal f is = ap (λ o. o >>= f) is
 
--- ---- behind the difference and the old object's values
+-- ---- after the difference and the old object's values
 module _ (running : Running) (retired gaps : List Range) (pre post : List NormalSection) (extract : Extract)
     (found : ValueList) (parts : List NewPart) (are_parts : parts ≡ parts_of extract post) where
   abbrev given_values : List NewPart → Result ValueList Refusal
@@ -66,7 +66,7 @@ module _ (running : Running) (retired gaps : List Range) (pre post : List Normal
     olds_go_on olds p =
         with_values ∙ goes_on given_olds olds (λ olds. planned_at running gaps post parts values olds) p
 
--- ---- behind the objects
+-- ---- after the objects
 module _ (running : Running) (retired gaps : List Range) (pre post : List NormalSection) where
   abbrev solution : Result ValueList Refusal
   solution = solved pre running.bodies running.contents running.symbols

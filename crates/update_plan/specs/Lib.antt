@@ -1,6 +1,6 @@
 -- Public clauses cite these: the functions of the old object as they run (Olds), the sections of the new object that
--- are placed (Placing), the plan or why there is none (Plan), and that a plan can be carried out (Sound). What stands
--- in inside is the code's own.
+-- are placed (Placing), the plan or why there is none (Plan), and that a plan can be carried out (Sound). What `inside`
+-- holds is the code's own.
 pub mod Olds
 pub mod Placing
 pub mod Plan

@@ -42,10 +42,10 @@ pub fn matched_bodies_are_in_use()
     answer_is_only_solution();
 }
 
-/// A plan can be carried out, for a program whose homes with newer versions are spliced and of whose retired ranges
-/// none is left out: its pieces fit beside those that are there, and what it retires lies apart. Each replaced function
-/// has a home of its own, at which a jump fits and where a range begins that is retired, by the plan or already; and no
-/// other of the plan's ranges is marked as having a jump.
+/// A plan can be carried out, for a program whose homes with newer versions are spliced and whose retired ranges are
+/// all listed: its pieces fit beside those that are there, and what it retires lies apart. Each replaced function has a
+/// home of its own, at which a jump fits and where a range begins that is retired, by the plan or already; and no other
+/// of the plan's ranges is marked as having a jump.
 pub fn plans_can_be_made()
     ensures { (running : Running) (retired gaps : List Range) (pre_file post_file : List ℕ) (plan : Plan)
         → IsValid running.contents → AreSpliced running.contents running.bodies

@@ -15,7 +15,7 @@ use symbol_table::{Solved, Unknown, Values};
 use update_retired::{Fate, OldFunction};
 
 /// The functions of the old object as they run, in its order: each code section that has a body among the values, with
-/// what the update does with it. `Err` comes for want of memory alone. The time is n log n in the sections.
+/// what the update does with it. `Err` comes only if memory runs out. The time is n log n in the sections.
 pub(crate) fn olds_of(
     alloc: Global,
     pre: &Normal<'_>,

@@ -11,8 +11,8 @@ use std::alloc::{AllocError, Global};
 use std::collections::BTreeMap;
 use update_pieces::Part;
 
-/// The sections of the new object that are placed, in its order: those that have a role. `Err` comes for want of memory
-/// alone. The time is n log n in the sections.
+/// The sections of the new object that are placed, in its order: those that have a role. `Err` comes only if memory
+/// runs out. The time is n log n in the sections.
 #[tactic(auto, unfolding(crate::specs::Placing::parts_of))]
 pub(crate) fn parts_of<'p, 'a>(
     alloc: Global,
@@ -55,7 +55,7 @@ fn add_part<'p, 'a>(
     }
 }
 
-/// The names of sections, in their order. `Err` comes for want of memory alone.
+/// The names of sections, in their order. `Err` comes only if memory runs out.
 pub(crate) fn names_of(alloc: Global, parts: &[Part<'_, '_>]) -> Result<Names, AllocError>
     ensures { IfOk result (λ names. names ≡ names_of parts.now) }
 {

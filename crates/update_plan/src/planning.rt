@@ -43,7 +43,7 @@ use update_retired::{OldFunction, code_refusal, guarded_ranges};
 /// [`read_sections`]; what can't be changed between them, as of [`extract`]; why `pre` has no one reading in the
 /// program, as of [`solve`]; a name or data that the new sections refer to and that has no one address, as of
 /// [`resolve_post`]; a home without room for the jump, or code that overlaps, as of [`code_refusal`]; a new section
-/// that fits in no gap, as of [`place`]. [`Refusal::Memory`] comes for want of memory alone.
+/// that fits in no gap, as of [`place`]. [`Refusal::Memory`] comes only if memory runs out.
 pub fn plan<'a, S: Space>(
     alloc: Global,
     space: &S,
@@ -220,8 +220,8 @@ fn free_olds<S: Space>(
     ensures bodies { IfOk result (λ olds. AreBodies olds.items) }
 {
     let olds = olds_of(alloc, pre, found, extract)?;
-    // What a Normal tells of its sections: no two have one name. By the laws each has its body below the limit, and
-    // what is matched is in use.
+    // What a Normal says of its sections: no two have one name. By the laws each has its body below the limit, and what
+    // is matched is in use.
     let _sections = pre.as_slice();
     answers_tell_each_body();
     matched_bodies_are_in_use();

@@ -31,7 +31,7 @@ pub how_many-append : {X : Type 0} (p : X → Bool) (xs ys : List X) →
     how_many p (xs ++ ys) ≡ how_many p xs + how_many p ys
 how_many-append p xs ys = ap length (filter-append p xs ys) ∙ length-append (filter p xs) (filter p ys)
 
--- a count doesn't ask for the order
+-- a count doesn't depend on the order
 pub counted : (xs ys : List ℕ) → IsPermutation xs ys → AreCounted xs ys
 counted xs ys moved test =
     length-filter test ys ∙ sum_by-IsPermutation (λ n. cond (test n) 1 0) xs ys moved ∙ sym (length-filter test xs)

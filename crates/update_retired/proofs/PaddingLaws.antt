@@ -27,14 +27,14 @@ nothing_spelled some within (Some d) is =
 pub nothing_decoded : AreSome → AreWithin → decoded_from [] ≡ None
 nothing_decoded some within = nothing_spelled some within (decoded_from []) refl
 
--- padding is told by the code that is met
+-- what padding there is follows from the code that is met
 pub padding_met : AreSome → AreWithin → (v : View) → padding_length v ≡ padding_by (decoded_from (code_met v))
 padding_met some within Unmapped = sym (ap padding_by (nothing_decoded some within))
 padding_met some within AtHome = sym (ap padding_by (nothing_decoded some within))
 padding_met some within Stray = sym (ap padding_by (nothing_decoded some within))
 padding_met some within (Bytes code) = refl
 
--- where no code is met there is no padding, and where code is met it tells it
+-- where no code is met there is no padding, and where code is met it follows from that
 pub none_padded : (v : View) → bytes_met v ≡ None → padding_length v ≡ None
 none_padded Unmapped none = refl
 none_padded AtHome none = refl

@@ -1,4 +1,4 @@
--- The room for a jump is told by the code that is met at the home, by the padding and by the next symbol.
+-- The room for a jump follows from the code that is met at the home, from the padding and from the next symbol.
 use Rattle.std.proofs.Common.{◌≡◌, ℕ, zero, suc, ◌+◌, ◌-◌, ◌<◌, ◌≤◌, min, Bool, true, false, cond, ◌&&◌, ◌||◌, ◌==◌}
 use Rattle.std.proofs.Common.{nat_lt, ◌⊎◌, inl, inr, List, [], ◌∷◌, map, length, take, get_or, Option}
 use Rattle.std.proofs.Common.{Some, None, unwrap_or, refl, sym, subst, ap, ◌∙◌, arith}

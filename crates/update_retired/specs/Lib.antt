@@ -1,5 +1,5 @@
 -- Public clauses cite the room for a jump (Room), the ranges that are retired or guarded (Retired), and
--- why an update is refused for them (Overlaps). What stands in inside is the code's own.
+-- why an update is refused for them (Overlaps). What `inside` holds is the code's own.
 pub mod Room
 pub mod Retired
 pub mod Overlaps

@@ -1,4 +1,4 @@
-//! Ranges with what is told quickly of how many of them a range meets.
+//! Ranges with what makes it quick to say how many of them a range meets.
 ghost use Rattle.std.specs.Prelude.{◌≡◌, ◌≤◌, nat_lt, IfOk};
 ghost use Rattle.std.specs.List.Sorted.{IsNonDecreasing, IsPermutation, IsSorted};
 ghost use Rattle.std.specs.Ordering.{nat_cmp};
@@ -32,7 +32,7 @@ impl<'a> Model for Bounds<'a> {
 }
 
 impl<'a> Bounds<'a> {
-    /// These ranges. `Err` comes for want of memory alone.
+    /// These ranges. `Err` comes only if memory runs out.
     pub(crate) fn new(alloc: Global, ranges: &'a [Range]) -> Result<Self, AllocError>
         ensures { IfOk result (λ bounds. bounds ≡ ranges.now) }
     {

@@ -85,7 +85,7 @@ fn overlap_with(
     }
 }
 
-/// How many of the bodies meet what is retired of a function for its own sake: its own, where it isn't empty.
+/// How many of the bodies meet what is retired of a function because they are its own: its own, where it isn't empty.
 fn own_count(old: &OldFunction) -> usize
     ensures { result ≡ own_count old.now }
 {
@@ -139,8 +139,8 @@ fn all_ranges(alloc: Global, olds: &[OldFunction], retired: &[Range]) -> Result<
 }
 
 /// Whether nothing that is retired of the functions overlaps other code; or the first overlap. For each function the
-/// time is the logarithm of the number of the functions and of the retired ranges; only for one whose overlap is
-/// answered, or that has the section of another one, they are walked through.
+/// time is the logarithm of the number of the functions and of the retired ranges; they are walked through only for one
+/// whose overlap is answered, or that has another one's section.
 pub(crate) fn check_overlaps(
     alloc: Global,
     retired: &[Range],

@@ -61,7 +61,7 @@ fn check_rooms<S: Space>(
 /// home has less than five bytes of room for the jump, and with that room. [`Refusal::Overlap`] comes exactly where
 /// there is no such function and what is to be retired of one meets another function's body or else a range that is
 /// retired: with the lows of the first such range, in the functions' order, and of the first that it meets, the bodies
-/// in the functions' order before the retired ranges. [`Refusal::Memory`] comes for want of memory alone.
+/// in the functions' order before the retired ranges. [`Refusal::Memory`] comes only if memory runs out.
 #[tactic(auto, unfolding(crate::specs::Overlaps::code_refusal))]
 pub fn code_refusal<S: Space>(
     alloc: Global,

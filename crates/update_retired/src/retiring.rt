@@ -87,7 +87,7 @@ impl OldFunction {
     }
 }
 
-/// What an update retires of the functions of its old object, in their order. `Err` comes for want of memory alone.
+/// What an update retires of the functions of its old object, in their order. `Err` comes only if memory runs out.
 #[tactic(auto, unfolding(crate::specs::Retired::retired_by))]
 pub fn retired_ranges(alloc: Global, olds: &[OldFunction]) -> Result<Ranges, AllocError>
     requires { AreBodies olds.now }
@@ -103,7 +103,7 @@ pub fn retired_ranges(alloc: Global, olds: &[OldFunction]) -> Result<Ranges, All
 }
 
 /// In which ranges no thread may stand when an update is made: those that it retires and then, for each dropped
-/// function whose home has a jump, the jump. `Err` comes for want of memory alone.
+/// function whose home has a jump, the jump. `Err` comes only if memory runs out.
 #[tactic(auto, unfolding(crate::specs::Retired::guarded))]
 pub fn guarded_ranges<S: Space>(
     alloc: Global,

@@ -8,7 +8,7 @@ pub enum Fate {
     Kept,
     /// A new version takes its place.
     Replaced,
-    /// The new object has it no longer. It still runs where something calls it.
+    /// The new object has it no longer. It is retired: a thread that comes to it stops.
     Dropped,
 }
 

@@ -37,7 +37,7 @@ pub fn updates_keep_windows()
     updates_can_be_made();
 }
 
-/// Where a step fetches more than the five bytes of a jump, there is a window at each of them.
+/// Where a step fetches more bytes than the five of a jump, there is a window at each of them.
 pub fn fetched_bytes_have_windows()
     ensures { FetchedHaveWindows }
 {}

@@ -50,7 +50,7 @@ homes_distinct updates =
     subst (IsDistinct nat_eq) (sym (homes_are table))
     (distinct_of (map (λ (row : Row). row.home) table) (homes_once table (table_is updates).homes))
 
--- a base put in place of its home's, or behind the others
+-- a base put in place of its home's, or after the others
 other_way : (a b : ℕ) → (a == b) ≡ (b == a)
 other_way a b = grind (arith, nat_tests)
 

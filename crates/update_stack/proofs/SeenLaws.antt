@@ -111,7 +111,7 @@ pub none_refused : (k : AbstractMachine) (kept : List Kept) (gaps : List Range) 
 unfolding undo_refusal
 none_refused k kept gaps are last = sym (ap (refusal_of k) (kept_none k kept gaps are last))
 
--- a law of another crate: the order of ranges has no say
+-- a law of another crate: the order of ranges doesn't matter
 abbrev pub OrderHasNoSay : Type 0
 OrderHasNoSay = (pieces : List Piece) (ranges others : List Range) (threads : List Thread) → IsPermutation ranges others
     → thread_refusal pieces ranges threads ≡ thread_refusal pieces others threads

@@ -1,4 +1,4 @@
--- A step that tells what it wrote and how many bytes it fetched.
+-- A step that reports what it wrote and how many bytes it fetched.
 use Rattle.std.proofs.Common.{◌≡◌, ℕ, ◌==◌, if◌then◌else◌, List, [], length, Option, Some, None, IsSomeAnd, unwrap_or}
 use Rattle.std.proofs.Common.{Result, Ok, Err, MatchResult, OnErr, IfOk, refl, sym, ap, ◌∙◌}
 use Rattle.std.proofs.lemmas.List.{length-take-le}
@@ -100,7 +100,7 @@ counts_beside views homes k thread can =
     (λ met. five_fetched jumps thread.pc (home_spliced k jumps thread.pc can.spliced spliced met)
     ∙ sym (five_fetched memory thread.pc (home_spliced k memory thread.pc can.spliced can.spliced met)))
 
--- what is told of the running thread, by values that are the same
+-- what is reported of the running thread, by values that are the same
 retold : (X : Type 0) (told : X) (f g : Thread → X) → ((thread : Thread) → f thread ≡ g thread) → (o : Option Thread)
     → IsSomeAnd o (λ running. told ≡ f running) → IsSomeAnd o (λ running. told ≡ g running)
 retold X told f g same None is = is
@@ -124,7 +124,7 @@ module _ (laws : Laws) (steps : AllSteps) (arena : Range) (gaps : List Range) (u
   step_keeps old new n (Err refusal) holds is same =
       step_holds arena gaps updates kept laws steps old new n (Err refusal) holds is same
 
-  -- and what was told of it, so of the system
+  -- and what was reported of it, so of the system
   pub step_comes : LeavesViews → LeavesHomes → (old new : Program) (n : ℕ) (result : Result Traced Refusal)
       → Holds old arena gaps updates kept → HasMoved old new n result
       → IfOk result (λ traced. new.contents ≡ after_store old.contents traced.store)

@@ -1,4 +1,4 @@
--- What the code's own clauses are said by; no public clause cites a file of this folder.
+-- What the code's own clauses cite; no public clause cites a file of this folder.
 pub mod Carrying
 pub mod Stepping
 pub mod TakingBack

@@ -265,7 +265,7 @@ fn shown_as(alloc: Global, name: &Name, report: &Report) -> Result<Update, Alloc
     })
 }
 
-/// Puts an update, and what is kept of it, behind the others. For want of memory both lists are as before.
+/// Puts an update, and what is kept of it, after the others. If memory runs out both lists are as before.
 pub(crate) fn push_both(
     updates: &mut Updates,
     kept: &mut KeptList,

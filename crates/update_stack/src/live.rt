@@ -40,7 +40,7 @@ fn newest_bases(alloc: Global, updates: &[Update]) -> Result<Bases, AllocError>
     Ok(bases)
 }
 
-/// Puts the base of each replaced function in place of its home's, or behind the others.
+/// Puts the base of each replaced function in place of its home's, or after the others.
 fn put_replaced(bases: &mut Bases, replaced: &[Replaced]) -> Result<(), AllocError>
     ensures { OnOk result (bases.new.entries ≡ insert_all nat_eq bases.old.entries (jump_rows replaced.now)) }
 {

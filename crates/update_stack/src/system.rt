@@ -71,7 +71,7 @@ impl<S: Space> Model for System<S> {
 }
 
 impl<S: Space> System<S> {
-    /// The system of a program in which nothing was replaced. `Err` comes for want of memory alone.
+    /// The system of a program in which nothing was replaced. `Err` comes only if memory runs out.
     pub fn new(alloc: Global, machine: Machine<S>, arena: Range) -> Result<Self, AllocError>
     where
         S: Drop,
@@ -109,9 +109,9 @@ impl<S: Space> System<S> {
         &self.updates
     }
 
-    /// Starts a thread at the function of a name, and answers its number. [`Refusal::NoSymbol`], [`Refusal::TwoNames`],
-    /// [`Refusal::TooManyThreads`] and [`Refusal::NoStack`] come exactly where the first of these holds,
-    /// [`Refusal::Memory`] for want of memory alone; all is then as before.
+    /// Starts a thread at the function of a name, and answers its number. It is refused with the first of
+    /// [`Refusal::NoSymbol`], [`Refusal::TwoNames`], [`Refusal::TooManyThreads`] and [`Refusal::NoStack`] that holds,
+    /// and with [`Refusal::Memory`] only if memory runs out; all is then as before.
     pub fn spawn(&mut self, name: &Name, argument: u32) -> Result<u32, Refusal>
         ensures answered { MatchResult result
             (λ number. answered self.old (Spawn name.now argument) ≡ Ok (happened self.new (Spawned number)))
@@ -168,7 +168,8 @@ impl<S: Space> System<S> {
     fn step_program(&mut self, thread: u32) -> Result<Traced, Refusal>
         ensures { ComesOfStep self.old self.new thread result }
     {
-        // The laws say that the machine makes the same step, and that what is told of it is so of the machine's memory.
+        // The laws say that the machine makes the same step, and that what is reported of it is so of the machine's
+        // memory.
         steps_stand();
         jumps_leave_views();
         data_are_written_past_jumps();
@@ -196,7 +197,7 @@ impl<S: Space> System<S> {
     /// - a running thread stands in what would be retired, or its ESP is outside its stack ([`Refusal::Busy`],
     ///   [`Refusal::StackOut`]).
     ///
-    /// [`Refusal::Memory`] may come in place of any answer, for want of memory alone; all is then as before.
+    /// [`Refusal::Memory`] may come in place of any answer, but only if memory runs out; all is then as before.
     pub fn apply(&mut self, name: &Name, pre: &[u8], post: &[u8]) -> Result<Report, Refusal>
         ensures answered { MatchResult result
             (λ report. answered self.old (Apply name.now pre.now post.now) ≡ Ok (happened self.new (Applied report)))
@@ -267,13 +268,13 @@ impl<S: Space> System<S> {
         self.plan_beside(pre, post)
     }
 
-    /// The same where the update's name has no say.
+    /// The same where the update's name doesn't matter.
     fn plan_beside(&self, pre: &[u8], post: &[u8]) -> Result<Plan, Refusal>
         ensures planned { Gives (λ plan. plan) result
             (planned (running_of self.now) (retired_of self.now) (gaps_of self.now) pre.now post.now) }
         ensures sound { IfOk result (λ plan. CanBeMade (contents_of self.now) plan) }
     {
-        // The laws say that what is planned can be carried out, and that jumps have no say in a plan.
+        // The laws say that what is planned can be carried out, and that jumps don't matter for a plan.
         plans_can_be_made();
         alike_programs_have_one_plan();
         jumps_leave_views();
@@ -303,13 +304,13 @@ impl<S: Space> System<S> {
     fn check_ranges(&self, ranges: &[Range]) -> Result<(), Refusal>
         ensures { result_err result ≡ thread_refusal self.now.pieces ranges.now self.now.threads }
     {
-        // The law says that jumps have no say in where a thread stands.
+        // The law says that jumps don't matter for where a thread stands.
         jumps_change_their_bytes_alone();
         let threads = self.machine.threads().as_slice();
         check_threads(threads, self.machine.space(), ranges)
     }
 
-    /// Carries a plan out, and answers its report. `Err` comes for want of memory alone, and all is then as before.
+    /// Carries a plan out, and answers its report. `Err` comes only if memory runs out, and all is then as before.
     fn carry_out(&mut self, name: &Name, plan: Plan) -> Result<Report, AllocError>
         requires { CanBeMade (contents_of self.old) plan }
         ensures report { IfOk result (λ report. report ≡ plan.report) }

@@ -19,7 +19,7 @@ done line = record { line = line; refused = false }
 abbrev pub not_done : List ℕ → Answer
 not_done line = record { line = line; refused = true }
 
--- the answer to a try of a number, by what came of it; want of memory has none
+-- the answer to a try of a number, by what came of it; there is none where memory ran out
 abbrev pub IsTryAnswer : List ℕ → ℕ → Result Report Refusal → Answer → Type 0
 IsTryAnswer name try (Ok report) answer = answer ≡ done (applied_lines name try report)
 IsTryAnswer name try (Err refusal) answer = (answer ≡ not_done (refusal_line refusal)) × (refusal ≢ Memory)

@@ -128,14 +128,14 @@ byte_inside (w ∷ ws) (suc i) d a b apart l low high =
     byte_inside ws i d a (new_byte w.0 w.1 a b) (λ j k e m n. apart (suc j) (suc k) e (omega arith) (omega arith))
     (omega arith) low high
 
--- one list of writes behind another
+-- one list of writes after another
 pub byte_after-append : (ws vs : List (ℕ × List ℕ)) (a b : ℕ)
     → byte_after (ws ++ vs) a b ≡ byte_after vs a (byte_after ws a b)
 unfolding byte_after
 byte_after-append [] vs a b = refl
 byte_after-append (w ∷ ws) vs a b = byte_after-append ws vs a (new_byte w.0 w.1 a b)
 
--- an address is one of some, or lies before or behind them
+-- an address is one of some, or lies before or after them
 pub in_or_out : (low high a : ℕ) → ((low ≤ a) × (a < high)) ⊎ ((a < low) ⊎ (high ≤ a))
 in_or_out low high a = grind arith
 
@@ -252,7 +252,7 @@ all_outside ws pc (x ∷ xs) h =
     rw f at (h (suc k) (omega arith))) in
     rw (first, rest) refl
 
--- one list of writes over pieces behind another
+-- one list of writes over pieces after another
 pub unjumped-append : (ws vs : List (ℕ × List ℕ)) (ps : List Piece)
     → unjumped (ws ++ vs) ps ≡ unjumped vs (unjumped ws ps)
 unfolding unjumped

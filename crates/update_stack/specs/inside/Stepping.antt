@@ -1,4 +1,4 @@
--- What a step of a system comes to, and what is told of it, part by part.
+-- What a step of a system comes to, and what is reported of it, part by part.
 use Rattle.std.specs.Prelude.{◌≡◌, ℕ, None, Result, Ok, Err, MatchResult, IfOk, OnErr, IsSomeAnd, is_some}
 use Rattle.std.specs.Result.{is_ok}
 use Rattle.ks_base.specs.declared.refusals.Refusal.{Refusal}
@@ -9,9 +9,9 @@ use Rattle.update_stack.specs.AbstractMachine.{AbstractMachine, contents_of}
 use Rattle.update_stack.specs.StandsFor.{patched}
 use Rattle.update_stack.specs.Events.{Step, Stepped, happened, answered, after_event}
 
--- The machine makes the step. What is told is what the thread's step writes and how many bytes it fetches in the memory
--- with the jumps. What it wrote can be written in the machine's own memory, and is all that changes there; as many
--- bytes are fetched there, too.
+-- The machine makes the step. What is reported is what the thread's step writes and how many bytes it fetches in the
+-- memory with the jumps. What it wrote can be written in the machine's own memory, and is all that changes there; as
+-- many bytes are fetched there, too.
 pub record ComesOfStep (old new : AbstractMachine) (thread : ℕ) (result : Result Traced Refusal) : Type 0 where
   pub event : MatchResult result (λ traced. answered old (Step thread) ≡ Ok (happened new (Stepped traced.outcome)))
       (λ refusal. answered old (Step thread) ≡ Err refusal)

@@ -1,4 +1,4 @@
--- The places before the one that halving finds have other names, and those behind it too.
+-- The places before the one that halving finds have other names, and so have those after it.
 use Rattle.std.proofs.Common.{◌≡◌, true, false, sym, arith}
 use Rattle.i386_reloc.specs.Normal.{same_bytes}
 use Rattle.link_post.proofs.Halving.{base_at_end, base_there, base_nowhere}

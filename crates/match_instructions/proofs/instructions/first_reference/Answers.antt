@@ -1,4 +1,4 @@
--- The instruction's references are a front of those from the first on.
+-- The instruction's references are a prefix of those from the first on.
 use Rattle.std.proofs.Common.{◌≡◌, ◌+◌, ◌<◌, ◌≤◌, ◌^◌, length, arith, List, take, drop, subst}
 use Rattle.std.specs.List.{filter}
 use Rattle.std.proofs.lemmas.List.{take_rest}

@@ -1,4 +1,4 @@
--- The first range that ends above the word tells.
+-- The first range that ends above the word decides.
 use Rattle.std.proofs.Common.{arith, sym}
 use Rattle.stack_scan.proofs.TargetLaws.{past_all, by_first}
 use Rattle.stack_scan.proofs.targets.is_in_ordered.Goals as goal

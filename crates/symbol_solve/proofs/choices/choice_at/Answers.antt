@@ -1,4 +1,4 @@
--- What is told of a match, by its outcome.
+-- What is said of a match, by its outcome.
 use Rattle.std.proofs.Common.{◌≡◌, ℕ, ◌+◌, List, [], Result, Ok, sym}
 use Rattle.std.specs.List.{slice_get}
 use Rattle.std.specs.Option.{unwrap_or}

@@ -3,7 +3,7 @@ use Rattle.update_memory.specs.declared.types.Jump.{Jump}
 use Rattle.update_memory.proofs.JumpLaws.{noted}
 use Rattle.update_memory.proofs.changes.note_old_code.Given as goal
 
--- those behind are noted, and those to come are as they were
+-- those passed are noted, and those to come are as they were
 abbrev pub invariant-loop-jump : goal.invariant-loop-jump
 invariant-loop-jump g l = record {
   behind : (k : ℕ) (d : Jump) → k < l.jump-index

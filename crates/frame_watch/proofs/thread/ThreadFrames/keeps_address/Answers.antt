@@ -1,4 +1,4 @@
--- The frame behind those with higher slots is the only one that can have the slot.
+-- The frame after those with higher slots is the only one that can have the slot.
 use Rattle.std.proofs.Common.{◌≡◌, ◌≢◌, ◌<◌, ◌≤◌, ℕ, arith, Bool, not, ◌==◌, List}
 use Rattle.std.proofs.Common.{length, ap, ◌∙◌, sym, subst, Some, None, true, get_or}
 use Rattle.std.specs.List.{slice_get}
