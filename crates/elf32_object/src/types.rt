@@ -4,7 +4,7 @@ use crate::elf::{R_386_32, R_386_PC32, R_386_PLT32};
 use std::alloc::AllocError;
 
 /// Which limit of this reader an object passes.
-#[derive(Clone, Copy, Debug, PartialEq, Eq)]
+#[derive(Clone, Copy, PartialEq, Eq)]
 pub enum Large {
     /// The file has more than 8,388,608 bytes.
     Bytes,
@@ -21,7 +21,7 @@ pub enum Large {
 }
 
 /// Why bytes are not read as an object: the first rule that they break.
-#[derive(Clone, Copy, Debug, PartialEq, Eq)]
+#[derive(Clone, Copy, PartialEq, Eq)]
 pub enum ObjectFault {
     /// The file doesn't begin with the ELF magic number.
     NotElf,
@@ -54,7 +54,7 @@ impl From<AllocError> for ObjectFault {
 
 /// The entry of the section header table that a section has (System V gABI, chapter 4, "Sections"). The
 /// field `sh_addr` is not looked at.
-#[derive(Clone, Copy, Debug, PartialEq, Eq)]
+#[derive(Clone, Copy, PartialEq, Eq)]
 pub struct SectionHeader {
     /// `sh_name`: where the name begins in the section name table.
     pub name: u32,
@@ -77,7 +77,7 @@ pub struct SectionHeader {
 }
 
 /// An entry of the symbol table (System V gABI, chapter 4, "Symbol Table").
-#[derive(Clone, Copy, Debug, PartialEq, Eq)]
+#[derive(Clone, Copy, PartialEq, Eq)]
 pub struct SymbolEntry {
     /// `st_name`: where the name begins in the symbol table's string table.
     pub name: u32,
@@ -92,7 +92,7 @@ pub struct SymbolEntry {
 }
 
 /// An entry of a relocation section without addends (System V gABI, chapter 4, "Relocation").
-#[derive(Clone, Copy, Debug, PartialEq, Eq)]
+#[derive(Clone, Copy, PartialEq, Eq)]
 pub struct Reloc {
     /// `r_offset`: where the field begins in the section that is changed.
     pub offset: u32,
@@ -119,7 +119,7 @@ impl Reloc {
 }
 
 /// A section of an object. It borrows from the file.
-#[derive(Clone, Copy, Debug)]
+#[derive(Clone, Copy)]
 pub struct Section<'a> {
     /// The section's name, without the zero that ends it.
     pub name: &'a [u8],
@@ -140,7 +140,7 @@ pub struct Section<'a> {
 }
 
 /// A symbol of an object. It borrows from the file.
-#[derive(Clone, Copy, Debug)]
+#[derive(Clone, Copy)]
 pub struct Symbol<'a> {
     /// The symbol's name, without the zero that ends it.
     pub name: &'a [u8],

@@ -1,7 +1,7 @@
 //! What becomes of a section of a new object.
 
 /// What an update does with a section of its new object. It places the section in each case.
-#[derive(Clone, Copy, PartialEq, Eq, Debug)]
+#[derive(Clone, Copy, PartialEq, Eq)]
 pub enum Role {
     /// A function that takes the place of one that runs.
     Changed,

@@ -3,7 +3,7 @@ use i386_reloc::Class;
 use ks_base::Names;
 
 /// The sections of two objects that an update is about, by name.
-#[derive(Debug, Drop)]
+#[derive(Drop)]
 pub struct Extract {
     /// Functions of both objects that the update replaces, in the order of the second.
     pub changed: Names,

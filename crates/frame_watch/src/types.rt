@@ -1,7 +1,7 @@
 //! What is said of a run.
 
 /// A rule that each event of a run has to keep.
-#[derive(Clone, Copy, PartialEq, Eq, Debug)]
+#[derive(Clone, Copy, PartialEq, Eq)]
 pub enum Rule {
     /// The pc of a started thread has a window.
     Start,
@@ -15,7 +15,7 @@ pub enum Rule {
 }
 
 /// Whether a run has kept all rules.
-#[derive(Clone, Copy, PartialEq, Eq, Debug)]
+#[derive(Clone, Copy, PartialEq, Eq)]
 pub enum Verdict {
     /// Each event so far has kept them.
     Disciplined,

@@ -10,7 +10,7 @@ use elf32_object::elf::STT_FUNC;
 use std::alloc::{AllocError, Global};
 
 /// The function symbols of a section, as far as symbols were looked at.
-#[derive(Clone, Copy, Debug)]
+#[derive(Clone, Copy)]
 pub struct Functions {
     /// The index of the first symbol at the section's start.
     pub first: Option<u32>,

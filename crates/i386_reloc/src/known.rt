@@ -22,7 +22,7 @@ pub(crate) fn symbol_binding(info: u8) -> u8
 }
 
 /// A loaded section to which references may lead.
-#[derive(Debug, Drop)]
+#[derive(Drop)]
 pub struct Known<'a> {
     /// The section's name.
     pub name: Span<'a>,
@@ -35,7 +35,7 @@ pub struct Known<'a> {
 }
 
 /// A symbol that references may name.
-#[derive(Debug, Drop)]
+#[derive(Drop)]
 pub struct Named<'a> {
     /// The symbol's name.
     pub name: Span<'a>,

@@ -6,7 +6,7 @@ ghost use Rattle.std.specs.Cmp.Lexicographic.{pointwise, nat_list_eq_equiv};
 use std::marker::Model;
 
 /// Bytes of an object's file, as a name or a text. They are borrowed, and contracts see the list of them.
-#[derive(Debug, Drop)]
+#[derive(Drop)]
 pub struct Span<'a> {
     bytes: &'a [u8],
 }

@@ -10,7 +10,7 @@ use std::alloc::{AllocError, Global};
 use std::marker::Model;
 
 /// The bytes of a section of texts, and where zeros stand among them.
-#[derive(Debug, Drop)]
+#[derive(Drop)]
 pub struct Texts<'a> {
     bytes: &'a [u8],
     zeros: Vec<u32>,

@@ -7,7 +7,7 @@ use crate::span::Span;
 use ks_base::{Bytes, ListOf};
 
 /// What a loaded section holds.
-#[derive(Clone, Copy, Debug, PartialEq, Eq)]
+#[derive(Clone, Copy, PartialEq, Eq)]
 pub enum Class {
     /// Zeros that the file doesn't hold (`SHT_NOBITS`).
     Zero,
@@ -41,7 +41,7 @@ impl Class {
 pub const FIELD_LENGTH: u32 = 4;
 
 /// How the value of a reference is counted.
-#[derive(Clone, Copy, Debug, PartialEq, Eq)]
+#[derive(Clone, Copy, PartialEq, Eq)]
 pub enum Form {
     /// `S + A`: the target's address and the addend.
     Absolute,
@@ -50,7 +50,7 @@ pub enum Form {
 }
 
 /// What a reference refers to.
-#[derive(Debug, Drop)]
+#[derive(Drop)]
 pub enum Target<'a> {
     /// A loaded section of the same object that holds no texts, by its name.
     Section(Span<'a>),
@@ -69,7 +69,7 @@ pub enum Target<'a> {
 }
 
 /// A reference: a field of four bytes that a relocation changes.
-#[derive(Debug, Drop)]
+#[derive(Drop)]
 pub struct Ref<'a> {
     /// Where the field begins in its section, in bytes.
     pub offset: u32,
@@ -86,7 +86,7 @@ pub struct Ref<'a> {
 pub type Refs<'a> = ListOf<Ref<'a>>;
 
 /// A symbol of a variable (`STT_OBJECT`).
-#[derive(Debug, Drop)]
+#[derive(Drop)]
 pub struct ObjectSymbol<'a> {
     /// The symbol's name.
     pub name: Span<'a>,
@@ -100,7 +100,7 @@ pub struct ObjectSymbol<'a> {
 pub type Objects<'a> = ListOf<ObjectSymbol<'a>>;
 
 /// A loaded section. Its names and texts borrow from the file.
-#[derive(Debug, Drop)]
+#[derive(Drop)]
 pub struct NormalSection<'a> {
     /// The section's name. No two loaded sections of an object have one name.
     pub name: Span<'a>,

@@ -1,7 +1,7 @@
 //! The operations, the widths of their operands and the flags.
 
 /// How wide the operands and the result are.
-#[derive(Clone, Copy, PartialEq, Eq, Debug)]
+#[derive(Clone, Copy, PartialEq, Eq)]
 pub enum Width {
     /// 8 bits.
     W8,
@@ -12,7 +12,7 @@ pub enum Width {
 }
 
 /// An operation on two operands.
-#[derive(Clone, Copy, PartialEq, Eq, Debug)]
+#[derive(Clone, Copy, PartialEq, Eq)]
 pub enum Binary {
     /// The sum.
     Add,
@@ -35,7 +35,7 @@ pub enum Binary {
 }
 
 /// An operation on one operand.
-#[derive(Clone, Copy, PartialEq, Eq, Debug)]
+#[derive(Clone, Copy, PartialEq, Eq)]
 pub enum Unary {
     /// One more; the carry flag stays.
     Inc,
@@ -48,7 +48,7 @@ pub enum Unary {
 }
 
 /// A shift or a rotation.
-#[derive(Clone, Copy, PartialEq, Eq, Debug)]
+#[derive(Clone, Copy, PartialEq, Eq)]
 pub enum Shift {
     /// Rotates to the left.
     Rol,

@@ -2,7 +2,7 @@
 
 /// A general register, by its number from 0 to 7. At 8 bits the same numbers name AL, CL, DL, BL, AH, CH, DH
 /// and BH, and at 16 bits the lower halves.
-#[derive(Clone, Copy, PartialEq, Eq, Debug)]
+#[derive(Clone, Copy, PartialEq, Eq)]
 pub enum Register {
     /// EAX, AX or AL.
     Eax,
@@ -23,7 +23,7 @@ pub enum Register {
 }
 
 /// How wide an operand is.
-#[derive(Clone, Copy, PartialEq, Eq, Debug)]
+#[derive(Clone, Copy, PartialEq, Eq)]
 pub enum Width {
     /// 8 bits.
     Byte,
@@ -35,7 +35,7 @@ pub enum Width {
 
 /// The condition of a conditional instruction, by its number from 0 to 15. Each odd one is the negation of the
 /// one before.
-#[derive(Clone, Copy, PartialEq, Eq, Debug)]
+#[derive(Clone, Copy, PartialEq, Eq)]
 pub enum Condition {
     /// OF.
     Overflow,
@@ -511,7 +511,7 @@ pub struct Field {
 }
 
 /// Where the parts of an instruction are.
-#[derive(Clone, Copy, PartialEq, Eq, Debug)]
+#[derive(Clone, Copy, PartialEq, Eq)]
 pub struct Fields {
     /// The offset after the last opcode byte, in bytes from the instruction's start.
     pub opcode_end: u32,
@@ -535,7 +535,7 @@ pub struct Decoded {
 }
 
 /// The kinds of direct branch.
-#[derive(Clone, Copy, PartialEq, Eq, Debug)]
+#[derive(Clone, Copy, PartialEq, Eq)]
 pub enum BranchKind {
     /// A call.
     Call,

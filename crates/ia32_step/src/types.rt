@@ -21,7 +21,7 @@ pub const RETURN_ADDRESS: u32 = 0xFFFF_0000;
 pub const ESP: usize = 4;
 
 /// A thread: its registers and where its stack is.
-#[derive(Clone, Copy, PartialEq, Eq, Debug)]
+#[derive(Clone, Copy, PartialEq, Eq)]
 pub struct Thread {
     /// Its number, counted from 0 in the order in which threads were made.
     pub number: u32,

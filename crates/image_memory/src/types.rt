@@ -2,7 +2,7 @@
 use ks_base::{Bytes, ListOf, Range};
 
 /// What a piece of memory may be used for.
-#[derive(Clone, Copy, PartialEq, Eq, Debug)]
+#[derive(Clone, Copy, PartialEq, Eq)]
 pub enum Kind {
     /// Fetched alone: no data access reaches it.
     Code,
@@ -13,7 +13,7 @@ pub enum Kind {
 }
 
 /// What data are used for.
-#[derive(Clone, Copy, PartialEq, Eq, Debug)]
+#[derive(Clone, Copy, PartialEq, Eq)]
 pub enum Access {
     /// They are read.
     Read,
@@ -22,7 +22,7 @@ pub enum Access {
 }
 
 /// Bytes that stand at consecutive addresses.
-#[derive(Clone, PartialEq, Eq, Debug, Drop)]
+#[derive(Clone, PartialEq, Eq, Drop)]
 pub struct Piece {
     /// What the piece may be used for.
     pub kind: Kind,
@@ -36,7 +36,7 @@ pub struct Piece {
 pub type Pieces = ListOf<Piece>;
 
 /// A retired range of code.
-#[derive(Clone, Copy, PartialEq, Eq, Debug)]
+#[derive(Clone, Copy, PartialEq, Eq)]
 pub struct Fence {
     /// The addresses that are retired.
     pub range: Range,
@@ -54,7 +54,7 @@ pub const JUMP_LENGTH: usize = 5;
 pub(crate) const WINDOW_LENGTH: usize = 15;
 
 /// What is fetched at an address.
-#[derive(Clone, Copy, PartialEq, Eq, Debug)]
+#[derive(Clone, Copy, PartialEq, Eq)]
 pub struct Window {
     /// The bytes from the address on, zeros after `length`.
     pub bytes: [u8; WINDOW_LENGTH],

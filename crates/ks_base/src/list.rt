@@ -53,7 +53,7 @@ impl<T> ListOf<T> {
         self.items
     }
 
-    /// Puts `item` at the end. For want of memory the list is as before.
+    /// Puts `item` at the end. If memory runs out the list is as before.
     pub fn push(&mut self, item: T) -> Result<(), AllocError>
     where
         T: Drop,

@@ -23,7 +23,7 @@ pub struct Range {
 pub type Ranges = ListOf<Range>;
 
 /// A place in a section.
-#[derive(Clone, PartialEq, Eq, Debug, Drop)]
+#[derive(Clone, PartialEq, Eq, Drop)]
 pub struct Spot {
     /// The section's name.
     pub section: Name,

@@ -27,7 +27,7 @@ pub enum Fault {
 }
 
 /// Which limit of an object is passed.
-#[derive(Clone, Copy, PartialEq, Eq, Debug)]
+#[derive(Clone, Copy, PartialEq, Eq)]
 pub enum Large {
     /// The file has more bytes than an object may have.
     Bytes,
@@ -44,7 +44,7 @@ pub enum Large {
 }
 
 /// Which limit of a linked image is passed.
-#[derive(Clone, Copy, PartialEq, Eq, Debug)]
+#[derive(Clone, Copy, PartialEq, Eq)]
 pub enum LinkLimit {
     /// The lengths of its regions sum to too much.
     Bytes,
@@ -53,7 +53,7 @@ pub enum LinkLimit {
 }
 
 /// In what the pre code and the running code differ first.
-#[derive(Clone, Copy, PartialEq, Eq, Debug)]
+#[derive(Clone, Copy, PartialEq, Eq)]
 pub enum DifferenceKind {
     /// The running code ends: no window, or a spliced home.
     End,
@@ -72,7 +72,7 @@ pub enum DifferenceKind {
 }
 
 /// The first difference between a pre section and the running code.
-#[derive(Clone, Copy, PartialEq, Eq, Debug)]
+#[derive(Clone, Copy, PartialEq, Eq)]
 pub struct Difference {
     /// The number of the instruction, counted from 0 without padding.
     pub index: u32,
@@ -85,7 +85,7 @@ pub struct Difference {
 }
 
 /// Where a thread has an address of a range.
-#[derive(Clone, Copy, PartialEq, Eq, Debug)]
+#[derive(Clone, Copy, PartialEq, Eq)]
 pub enum Place {
     /// The program counter.
     Pc,
@@ -96,7 +96,7 @@ pub enum Place {
 }
 
 /// That a thread stands in a range.
-#[derive(Clone, Copy, PartialEq, Eq, Debug)]
+#[derive(Clone, Copy, PartialEq, Eq)]
 pub struct Standing {
     /// The thread's number.
     pub thread: u32,
@@ -107,7 +107,7 @@ pub struct Standing {
 }
 
 /// Which rule an image breaks.
-#[derive(Clone, Copy, PartialEq, Eq, Debug)]
+#[derive(Clone, Copy, PartialEq, Eq)]
 pub enum ImageFault {
     /// The file ends inside a field or its bytes.
     Short,

@@ -42,7 +42,7 @@ impl Line {
         self.bytes.as_slice()
     }
 
-    /// Appends an address or a word: `0x` and eight lower-case hexadecimal digits. For want of memory
+    /// Appends an address or a word: `0x` and eight lower-case hexadecimal digits. If memory runs out
     /// the line is as before.
     pub fn put_hex(&mut self, n: u32) -> Result<(), AllocError>
         ensures ok { OnOk result (self.new ≡ self.old ++ hex_text n) }
@@ -51,7 +51,7 @@ impl Line {
         self.bytes.extend_from_slice(&hex_characters(n))
     }
 
-    /// Appends a byte as two lower-case hexadecimal digits. For want of memory the line is as before.
+    /// Appends a byte as two lower-case hexadecimal digits. If memory runs out the line is as before.
     pub fn put_byte(&mut self, byte: u8) -> Result<(), AllocError>
         ensures ok { OnOk result (self.new ≡ self.old ++ byte_text byte) }
         ensures err { OnErr result (self.new ≡ self.old) }
@@ -60,7 +60,7 @@ impl Line {
     }
 
     /// Appends an offset: `0x` and as many lower-case hexadecimal digits as are needed, `0x0` for zero.
-    /// For want of memory the line is as before.
+    /// If memory runs out the line is as before.
     pub fn put_offset(&mut self, n: u32) -> Result<(), AllocError>
         ensures ok { OnOk result (self.new ≡ self.old ++ offset_text n) }
         ensures err { OnErr result (self.new ≡ self.old) }
@@ -69,7 +69,7 @@ impl Line {
         self.bytes.extend_from_slice(characters.as_slice())
     }
 
-    /// Appends a number in decimal. For want of memory the line is as before.
+    /// Appends a number in decimal. If memory runs out the line is as before.
     pub fn put_number(&mut self, n: u64) -> Result<(), AllocError>
         ensures ok { OnOk result (self.new ≡ self.old ++ number_text n) }
         ensures err { OnErr result (self.new ≡ self.old) }
@@ -79,7 +79,7 @@ impl Line {
     }
 
     /// Appends a name: each byte outside 0x21 to 0x7E and each backslash as `\x` and two lower-case
-    /// hexadecimal digits, every other byte as it is. For want of memory the line is as before.
+    /// hexadecimal digits, every other byte as it is. If memory runs out the line is as before.
     pub fn put_name(&mut self, name: &Name) -> Result<(), AllocError>
         ensures ok { OnOk result (self.new ≡ self.old ++ shown_name name.now) }
         ensures err { OnErr result (self.new ≡ self.old) }
@@ -88,7 +88,7 @@ impl Line {
         self.bytes.extend_from_slice(characters.as_slice())
     }
 
-    /// Appends a text as it is. For want of memory the line is as before.
+    /// Appends a text as it is. If memory runs out the line is as before.
     pub fn put_text(&mut self, text: &str) -> Result<(), AllocError>
         ensures ok { OnOk result (self.new ≡ self.old ++ text.now) }
         ensures err { OnErr result (self.new ≡ self.old) }
@@ -96,8 +96,8 @@ impl Line {
         self.bytes.extend_from_slice(text.as_bytes())
     }
 
-    /// Appends the whole line of a refusal with its line feed, and nothing for [`Refusal::Memory`]. For
-    /// want of memory the line is as before.
+    /// Appends the whole line of a refusal with its line feed, and nothing for [`Refusal::Memory`]. If
+    /// memory runs out the line is as before.
     pub fn put_refusal(&mut self, refusal: &Refusal) -> Result<(), AllocError>
         ensures ok { OnOk result (self.new ≡ self.old ++ refusal_line refusal.now) }
         ensures err { OnErr result (self.new ≡ self.old) }

@@ -3,7 +3,7 @@ use crate::list::ListOf;
 use crate::places::{Name, Names};
 
 /// A function whose running version an update replaced.
-#[derive(Clone, PartialEq, Eq, Debug, Drop)]
+#[derive(Clone, PartialEq, Eq, Drop)]
 pub struct Replaced {
     /// The function's name, as the object built before the change has it.
     pub function: Name,
@@ -19,7 +19,7 @@ pub struct Replaced {
 pub type ReplacedList = ListOf<Replaced>;
 
 /// A function that an update added.
-#[derive(Clone, PartialEq, Eq, Debug, Drop)]
+#[derive(Clone, PartialEq, Eq, Drop)]
 pub struct Added {
     /// The function's name.
     pub function: Name,
@@ -31,7 +31,7 @@ pub struct Added {
 pub type AddedList = ListOf<Added>;
 
 /// What an update did.
-#[derive(Clone, PartialEq, Eq, Debug, Drop)]
+#[derive(Clone, PartialEq, Eq, Drop)]
 pub struct Report {
     /// The functions that have a new version.
     pub replaced: ReplacedList,

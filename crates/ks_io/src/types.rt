@@ -33,7 +33,7 @@ impl From<AllocError> for FileFault {
 }
 
 /// A file that is wanted.
-#[derive(Clone, Copy, Debug)]
+#[derive(Clone, Copy)]
 pub struct Wanted<'a> {
     /// The file's name.
     pub name: &'a str,

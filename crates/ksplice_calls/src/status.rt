@@ -1,7 +1,7 @@
 //! How a call ends.
 
 /// How a call ends, by the status that the program ends with.
-#[derive(Clone, Copy, Debug, PartialEq, Eq)]
+#[derive(Clone, Copy, PartialEq, Eq)]
 pub struct Status {
     pub code: u8,
 }

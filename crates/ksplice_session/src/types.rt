@@ -14,7 +14,7 @@ pub struct Answer {
 }
 
 /// How a session ends.
-#[derive(Clone, Copy, PartialEq, Eq, Debug)]
+#[derive(Clone, Copy, PartialEq, Eq)]
 pub enum SessionEnd {
     /// All lines were run, and none was refused.
     Done,

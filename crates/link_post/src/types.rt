@@ -2,7 +2,7 @@
 use ks_base::{ListOf, Name};
 
 /// A section that is to be placed.
-#[derive(Clone, PartialEq, Eq, Debug, Drop)]
+#[derive(Clone, PartialEq, Eq, Drop)]
 pub struct SectionSize {
     /// The section's name.
     pub name: Name,
@@ -13,7 +13,7 @@ pub struct SectionSize {
 }
 
 /// The place of a section.
-#[derive(Clone, PartialEq, Eq, Debug, Drop)]
+#[derive(Clone, PartialEq, Eq, Drop)]
 pub struct Placed {
     /// The section's name.
     pub section: Name,

@@ -53,7 +53,7 @@ fn is_byte_or_field(refs: &[Ref<'_>], own: u8, place: usize, byte: u8) -> bool
 }
 
 /// How a section lies at an address.
-#[derive(Clone, Copy, PartialEq, Eq, Debug)]
+#[derive(Clone, Copy, PartialEq, Eq)]
 pub struct Lies {
     /// All of it lies in read-only memory.
     pub whole: bool,

@@ -13,7 +13,7 @@ use std::cmp::Ordering;
 use std::collections::{BTreeMap, BTreeSet};
 
 /// Where a text ends: in which section of the object, and after how many bytes of it.
-#[derive(Clone, Copy, PartialEq, Eq, PartialOrd, Ord, Debug)]
+#[derive(Clone, Copy, PartialEq, Eq, PartialOrd, Ord)]
 pub(crate) struct End {
     pub(crate) place: usize,
     pub(crate) end: usize,
@@ -193,7 +193,7 @@ fn all_levels(alloc: Global, normal: &Normal<'_>, ends: &[End]) -> Result<Vec<Le
 }
 
 /// How far a walk along the ends has come, and how many bytes before all that it touched are equal.
-#[derive(Clone, Copy, PartialEq, Eq, Debug)]
+#[derive(Clone, Copy, PartialEq, Eq)]
 struct Walk {
     at: usize,
     count: usize,

@@ -19,7 +19,7 @@ use std::alloc::Global;
 use std::collections::BTreeMap;
 
 /// How many bytes before an end of a text of the object are known to stand before an address.
-#[derive(Clone, Copy, PartialEq, Eq, Debug)]
+#[derive(Clone, Copy, PartialEq, Eq)]
 pub(crate) struct Known {
     pub(crate) end: End,
     pub(crate) count: usize,
@@ -44,7 +44,7 @@ impl KnownTexts {
 }
 
 /// Where a text stands in an object: in which section, from which of its bytes on, and how many bytes it has.
-#[derive(Clone, Copy, PartialEq, Eq, Debug)]
+#[derive(Clone, Copy, PartialEq, Eq)]
 pub struct TextPlace {
     /// The place of the section among the object's sections.
     pub place: usize,

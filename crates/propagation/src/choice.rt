@@ -2,7 +2,7 @@
 use ks_base::ListOf;
 
 /// That an unknown has a value. Unknowns are numbered.
-#[derive(Clone, Copy, PartialEq, Eq, Debug)]
+#[derive(Clone, Copy, PartialEq, Eq)]
 pub struct Claim {
     /// The number of the unknown.
     pub unknown: u32,
@@ -11,7 +11,7 @@ pub struct Claim {
 }
 
 /// Something that is asked of whatever is chosen for another section. Demands are numbered.
-#[derive(Clone, Copy, PartialEq, Eq, Debug)]
+#[derive(Clone, Copy, PartialEq, Eq)]
 pub struct Demand {
     /// The number of the section of which it is asked.
     pub section: u32,

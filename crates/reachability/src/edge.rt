@@ -1,7 +1,7 @@
 //! An edge of a directed graph.
 
 /// An edge of a directed graph, whose nodes are numbered from 0.
-#[derive(Clone, Copy, Debug, PartialEq, Eq)]
+#[derive(Clone, Copy, PartialEq, Eq)]
 pub struct Edge {
     /// The node that the edge leaves.
     pub from: u32,

@@ -9,7 +9,7 @@ use std::marker::Model;
 use symbol_table::Unknown;
 
 /// What sort of thing an unknown is.
-#[derive(Clone, Copy, PartialEq, Eq, Debug)]
+#[derive(Clone, Copy, PartialEq, Eq)]
 pub enum UnknownKind {
     /// A code section of the object.
     CodeSection,
@@ -20,7 +20,7 @@ pub enum UnknownKind {
 }
 
 /// An unknown whose name is borrowed from the object's file. Contracts see the [`Unknown`] that it is.
-#[derive(Debug, Drop)]
+#[derive(Drop)]
 pub struct BorrowedUnknown<'a> {
     kind: UnknownKind,
     name: Span<'a>,
@@ -60,7 +60,7 @@ impl<'a> BorrowedUnknown<'a> {
 }
 
 /// A place in a section whose name is borrowed from the object's file. Contracts see the [`Spot`] that it is.
-#[derive(Debug, Drop)]
+#[derive(Drop)]
 pub struct BorrowedSpot<'a> {
     section: Span<'a>,
     offset: u32,

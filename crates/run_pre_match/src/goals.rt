@@ -2,7 +2,7 @@
 use i386_reloc::Span;
 
 /// What a reference goes to. A section is named by its place among the object's sections.
-#[derive(Debug, Drop)]
+#[derive(Drop)]
 pub enum Goal<'a> {
     /// The entry of the function that is the code section at this place.
     Entry(usize),
@@ -31,7 +31,7 @@ pub enum Goal<'a> {
 }
 
 /// What a field that holds `S + A` says: that its goal has the value `S`.
-#[derive(Debug, Drop)]
+#[derive(Drop)]
 pub struct Given<'a> {
     /// What the field's reference goes to.
     pub goal: Goal<'a>,
@@ -40,7 +40,7 @@ pub struct Given<'a> {
 }
 
 /// What is said of a value that is found.
-#[derive(Clone, Copy, PartialEq, Eq, Debug)]
+#[derive(Clone, Copy, PartialEq, Eq)]
 pub enum Verdict {
     /// It holds.
     Holds,

@@ -25,7 +25,7 @@ use std::alloc::{AllocError, Global};
 use std::collections::BTreeMap;
 
 /// What is said of a value, and whether it is the first for a read-only section whose fields are to be followed.
-#[derive(Clone, Copy, PartialEq, Eq, Debug)]
+#[derive(Clone, Copy, PartialEq, Eq)]
 pub(crate) struct Judged {
     pub(crate) verdict: Verdict,
     pub(crate) opens: bool,

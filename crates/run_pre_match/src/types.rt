@@ -5,7 +5,7 @@ use ks_base::{Difference, ListOf};
 use std::alloc::AllocError;
 
 /// That something has a value, and the place of the field that says so.
-#[derive(Debug, Drop)]
+#[derive(Drop)]
 pub struct Claim<'a> {
     /// What has the value.
     pub unknown: BorrowedUnknown<'a>,
@@ -19,7 +19,7 @@ pub struct Claim<'a> {
 pub type Claims<'a> = ListOf<Claim<'a>>;
 
 /// That an address is that of an offset in another code section, and the place of the field that says so.
-#[derive(Debug, Drop)]
+#[derive(Drop)]
 pub struct Interior<'a> {
     /// The name of the other section.
     pub section: Span<'a>,
@@ -35,7 +35,7 @@ pub struct Interior<'a> {
 pub type Interiors<'a> = ListOf<Interior<'a>>;
 
 /// What is known where the code of a section is what runs at a base.
-#[derive(Debug, Drop)]
+#[derive(Drop)]
 pub struct Matched<'a> {
     /// How many bytes the running body has, from its base to the end of its last instruction that isn't padding.
     pub length: u32,
@@ -46,7 +46,7 @@ pub struct Matched<'a> {
 }
 
 /// Why the code of a section doesn't match.
-#[derive(PartialEq, Eq, Debug, Drop)]
+#[derive(PartialEq, Eq, Drop)]
 pub enum MatchFault {
     /// It differs from what runs; the first difference.
     Differs(Difference),

@@ -12,7 +12,7 @@ use std::alloc::Global;
 use std::collections::BTreeMap;
 
 /// The first value that was found for something, and whether it holds.
-#[derive(Clone, Copy, PartialEq, Eq, Debug)]
+#[derive(Clone, Copy, PartialEq, Eq)]
 pub(crate) struct First {
     pub(crate) value: u32,
     pub(crate) holds: bool,
@@ -57,7 +57,7 @@ pub(crate) fn verdict(first: First, value: u32, failing: Verdict) -> Verdict
 }
 
 /// What is wrong with the values that an instruction's fields give.
-#[derive(Clone, Copy, PartialEq, Eq, Debug)]
+#[derive(Clone, Copy, PartialEq, Eq)]
 pub(crate) struct Marks {
     /// One of the instruction's own fields, for the own section, gives a value that is refused.
     pub(crate) target: bool,

@@ -2,7 +2,7 @@
 use ks_base::{ListOf, Name};
 
 /// What one line of a script asks for.
-#[derive(Clone, PartialEq, Eq, Debug, Drop)]
+#[derive(Clone, PartialEq, Eq, Drop)]
 pub enum Command {
     /// Make a thread that calls a function.
     Spawn {

@@ -9,7 +9,7 @@ use i386_reloc::{Normal, NormalSection};
 use std::alloc::{AllocError, Global};
 
 /// For each section of two objects, in order: whether both have a section of its name, and the two are the same.
-#[derive(Debug, Drop)]
+#[derive(Drop)]
 pub struct SameSections {
     /// For the first object's sections.
     pub pre: Vec<bool>,

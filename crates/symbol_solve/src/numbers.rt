@@ -20,7 +20,7 @@ use std::marker::Model;
 use symbol_table::Unknown;
 
 /// That an address is that of an offset in the section at a place.
-#[derive(Clone, Copy, PartialEq, Eq, Hash, Debug)]
+#[derive(Clone, Copy, PartialEq, Eq, Hash)]
 pub(crate) struct Point {
     pub(crate) place: u32,
     pub(crate) offset: u32,

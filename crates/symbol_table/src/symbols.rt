@@ -2,7 +2,7 @@
 use ks_base::Name;
 
 /// A symbol: a name for an address of the running program.
-#[derive(Clone, PartialEq, Eq, Debug, Drop)]
+#[derive(Clone, PartialEq, Eq, Drop)]
 pub struct Symbol {
     /// The address that the symbol stands for.
     pub address: u32,
@@ -15,7 +15,7 @@ pub struct Symbol {
 }
 
 /// Which refusal says that a name has no address.
-#[derive(Clone, Copy, PartialEq, Eq, Debug)]
+#[derive(Clone, Copy, PartialEq, Eq)]
 pub enum Missing {
     /// `Refusal::NoSymbol`: a user asked for the name.
     NoSymbol,

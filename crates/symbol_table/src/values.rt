@@ -4,7 +4,7 @@ use ks_base::Name;
 
 /// What a reference leaves open: a section of the object by its name, or a name that the object doesn't
 /// define.
-#[derive(Clone, PartialEq, Eq, Hash, Debug, Drop)]
+#[derive(Clone, PartialEq, Eq, Hash, Drop)]
 pub enum Unknown {
     /// Where the code section of a name begins.
     Code(Name),
@@ -15,7 +15,7 @@ pub enum Unknown {
 }
 
 /// What an unknown comes to.
-#[derive(Clone, Copy, PartialEq, Eq, Debug)]
+#[derive(Clone, Copy, PartialEq, Eq)]
 pub enum Solved {
     /// Of a code section: the function's home, the base of the body that was matched, and its length in bytes.
     Body { home: u32, base: u32, length: u32 },

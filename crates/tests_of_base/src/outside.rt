@@ -76,7 +76,7 @@ fn files_are_loaded_in_order_up_to_the_first_that_is_not(rt: HostRuntime) -> Res
 }
 
 #[test]
-fn sink_takes_a_front_where_it_fails(rt: HostRuntime) -> Result<(), Fail> {
+fn sink_takes_a_prefix_where_it_fails(rt: HostRuntime) -> Result<(), Fail> {
     let alloc = rt.alloc();
     // the number of the write that fails, the most bytes that one takes, the answer, and what was taken
     let table: [(u64, usize, Result<(), SinkFault>, &[u8]); 6] = [

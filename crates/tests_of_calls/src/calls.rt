@@ -74,7 +74,7 @@ type Call = (
 );
 
 /// How a call ends.
-#[derive(Clone, Copy, PartialEq, Eq, Debug)]
+#[derive(Clone, Copy, PartialEq, Eq)]
 enum End {
     /// With its output and its status.
     AsTold,

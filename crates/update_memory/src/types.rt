@@ -3,7 +3,7 @@ use image_memory::JUMP_LENGTH;
 use ks_base::ListOf;
 
 /// A jump that an update writes: where, to where, and the five bytes of code that stood there before.
-#[derive(Clone, Copy, PartialEq, Eq, Debug)]
+#[derive(Clone, Copy, PartialEq, Eq)]
 pub struct Jump {
     /// Where the jump stands: the first address of the function that is replaced.
     pub home: u32,

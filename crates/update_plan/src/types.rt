@@ -7,7 +7,7 @@ use update_pieces::NewSymbols;
 pub type Fences = ListOf<Fence>;
 
 /// What an update would do to a running program.
-#[derive(Debug, Drop)]
+#[derive(Drop)]
 pub struct Plan {
     /// What it reports. Its replaced functions tell where jumps are written, and where they lead.
     pub report: Report,

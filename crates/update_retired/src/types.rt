@@ -2,7 +2,7 @@
 use ks_base::Name;
 
 /// What an update does with a function of its old object.
-#[derive(Clone, Copy, PartialEq, Eq, Debug)]
+#[derive(Clone, Copy, PartialEq, Eq)]
 pub enum Fate {
     /// It stays as it is.
     Kept,
@@ -13,7 +13,7 @@ pub enum Fate {
 }
 
 /// A function of the old object of an update, as it runs.
-#[derive(Clone, PartialEq, Eq, Debug, Drop)]
+#[derive(Clone, PartialEq, Eq, Drop)]
 pub struct OldFunction {
     /// The name of its section.
     pub section: Name,

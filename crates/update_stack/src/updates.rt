@@ -5,7 +5,7 @@ use update_memory::Jumps;
 use update_pieces::NewSymbols;
 
 /// An update that is live.
-#[derive(Clone, PartialEq, Eq, Debug, Drop)]
+#[derive(Clone, PartialEq, Eq, Drop)]
 pub struct Update {
     /// The name that it was given.
     pub name: Name,
@@ -17,7 +17,7 @@ pub struct Update {
 pub type Updates = ListOf<Update>;
 
 /// What a system keeps of a live update beside its name and report.
-#[derive(Debug, Drop)]
+#[derive(Drop)]
 pub(crate) struct Kept {
     /// Where the pieces begin that it added.
     pub(crate) pieces: Addresses,
