@@ -198,24 +198,12 @@ pub(crate) fn put_fields(line: &mut Line, fields: Fields<'_>) -> Result<(), Allo
         Fields::NameAndNumber(name, n) => put_parts(line, &[Named(name), Words(" "), Number(n)]),
         Fields::NameAndNumbers(name, a, b) => put_parts(
             line,
-            &[
-                Named(name),
-                Words(" "),
-                Number(a),
-                Words(" "),
-                Number(b),
-            ],
+            &[Named(name), Words(" "), Number(a), Words(" "), Number(b)],
         ),
         Fields::NameAndOffset(name, o) => put_parts(line, &[Named(name), Words(" "), Offset(o)]),
         Fields::NameAndAddresses(name, a, b) => put_parts(
             line,
-            &[
-                Named(name),
-                Words(" "),
-                Address(a),
-                Words(" "),
-                Address(b),
-            ],
+            &[Named(name), Words(" "), Address(a), Words(" "), Address(b)],
         ),
         Fields::NameAndRoom(name, n) => {
             put_parts(line, &[Named(name), Words(" room "), Number(n)])

@@ -72,13 +72,7 @@ impl Fault {
 }
 
 /// What is written of a refusal: its number, the words that its text begins with, and its fields.
-#[tactic(
-    auto,
-    unfolding(
-        crate::specs::Refusals::refusal_number,
-        crate::specs::Refusals::refusal_text
-    )
-)]
+#[tactic(auto, unfolding(crate::specs::Refusals::refusal_number, crate::specs::Refusals::refusal_text))]
 fn row_of(refusal: &Refusal) -> (u8, &'static str, Fields<'_>)
     ensures number { result.0 ≡ refusal_number refusal.now }
     ensures text { result.1.now ++ fields_text result.2 ≡ refusal_text refusal.now }
