@@ -13,3 +13,14 @@ pub mod Texts
 pub mod Value
 pub mod inside
 pub mod laws
+
+-- Definitions of crates below that other rooms cite, and that come through this one.
+pub use Rattle.elf32_object.specs.Below
+pub use Rattle.elf32_object.specs.Fields
+pub use Rattle.elf32_object.specs.Numbers
+pub use Rattle.elf32_object.specs.Rule
+pub use Rattle.elf32_object.specs.Rules
+pub use Rattle.elf32_object.specs.declared.types.ObjectFault
+pub use Rattle.elf32_object.specs.declared.types.Reloc
+pub use Rattle.elf32_object.specs.declared.types.SectionHeader
+pub use Rattle.elf32_object.specs.laws.BelowLaws

@@ -21,9 +21,9 @@ use Rattle.ia32_step.specs.Step.{Left, context_of, exits, done, store_fault, unl
 use Rattle.ia32_step.specs.Threads.{runs}
 use Rattle.image_threads.specs.Program.{if_running, running_at}
 use Rattle.image_threads.specs.Spawning.{started, started_at, started_on, free_stack, first_bytes, first_thread}
-use Rattle.stack_scan.specs.Standing.{thread_refusal}
-use Rattle.update_plan.specs.declared.types.Plan.{Plan}
-use Rattle.update_plan.specs.Plan.{unless}
+use Rattle.update_stack.specs.Standing.{thread_refusal}
+use Rattle.update_stack.specs.PlanType.{Plan}
+use Rattle.update_stack.specs.Plan.{unless}
 use Rattle.update_stack.specs.AbstractMachine.{AbstractMachine, Update, contents_of, view_in, base_of}
 use Rattle.update_stack.specs.Steps.{step_at, step_in, after_step, moved_by, moved, after_start, spawned}
 use Rattle.update_stack.specs.Apply.{planned_in, committed, applied}

@@ -11,7 +11,7 @@ use Rattle.ia32_step.specs.declared.types.Thread.{Thread}
 use Rattle.ia32_step.specs.Frames.{keeps_slot}
 use Rattle.ia32_step.specs.Threads.{esp_of, runs}
 use Rattle.image_threads.specs.Program.{if_running, running_at}
-use Rattle.stack_scan.specs.Standing.{in_one}
+use Rattle.update_stack.specs.Standing.{in_one}
 use Rattle.update_stack.specs.AbstractMachine.{AbstractMachine, view_in}
 use Rattle.update_stack.specs.Events.{Event, Step}
 use Rattle.update_safety.specs.Windows.{SameWindows, KeepsWindows}

@@ -16,7 +16,7 @@ use Rattle.image_file.specs.Keeps.{Keeps, keeps_arena, keeps_region, keeps_stack
 use Rattle.image_file.specs.Reading.{Contents as Image}
 use Rattle.image_memory.specs.Ranges.{are_same}
 use Rattle.image_threads.specs.Spawning.{is_stack, AreStacks, is_writable}
-use Rattle.update_plan.specs.Sound.{AreGaps}
+use Rattle.update_stack.specs.Sound.{AreGaps}
 use Rattle.update_stack.specs.AbstractMachine.{stack_piece, all_pieces}
 use Rattle.update_stack.specs.Systems.{gaps_in}
 use Rattle.ksplice_session.specs.inside.Stacks.{FitsAmong, FitAmong}

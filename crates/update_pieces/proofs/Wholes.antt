@@ -4,14 +4,14 @@ use Rattle.std.proofs.Common.{◌∷◌, ◌++◌, length, take, drop, None, ref
 use Rattle.std.proofs.Common.{if◌then◌else◌, inl, inr, arith, length-take, length-drop}
 use Rattle.std.proofs.lemmas.Bool.{cases_Bool}
 use Rattle.std.proofs.lemmas.Bool.Decides.{nat_tests}
-use Rattle.elf32_object.specs.Numbers.{SHT_NOBITS}
-use Rattle.elf32_object.specs.declared.types.SectionHeader.{SectionHeader}
-use Rattle.elf32_object.specs.declared.types.Reloc.{Reloc}
-use Rattle.elf32_object.specs.Below.{first_below}
-use Rattle.elf32_object.specs.Fields.{section_count, section_header, section_bytes, has_no_bytes, lies_in_file}
-use Rattle.elf32_object.specs.Fields.{holds_program, is_section, is_loaded}
-use Rattle.elf32_object.specs.Rules.{object_fault, place_fault, section_fault}
-use Rattle.elf32_object.specs.laws.BelowLaws.{none_first, none_second, none_below}
+use Rattle.i386_reloc.specs.Numbers.{SHT_NOBITS}
+use Rattle.i386_reloc.specs.SectionHeader.{SectionHeader}
+use Rattle.i386_reloc.specs.Reloc.{Reloc}
+use Rattle.i386_reloc.specs.Below.{first_below}
+use Rattle.i386_reloc.specs.Fields.{section_count, section_header, section_bytes, has_no_bytes, lies_in_file}
+use Rattle.i386_reloc.specs.Fields.{holds_program, is_section, is_loaded}
+use Rattle.i386_reloc.specs.Rules.{object_fault, place_fault, section_fault}
+use Rattle.i386_reloc.specs.BelowLaws.{none_first, none_second, none_below}
 use Rattle.i386_reloc.specs.declared.types.Class.TheVariants.{Zero}
 use Rattle.i386_reloc.specs.declared.types.NormalSection.{NormalSection}
 use Rattle.i386_reloc.specs.Classes.{class_of}

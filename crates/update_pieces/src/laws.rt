@@ -1,7 +1,7 @@
 //! What holds of all new pieces.
 ghost use Rattle.std.specs.Prelude.{◌≡◌, ℕ, List, map, None, Ok};
 ghost use Rattle.ks_base.specs.declared.places.Range.{Range};
-ghost use Rattle.elf32_object.specs.Rules.{object_fault};
+ghost use Rattle.i386_reloc.specs.Rules.{object_fault};
 ghost use Rattle.i386_reloc.specs.declared.types.NormalSection.{NormalSection};
 ghost use Rattle.i386_reloc.specs.Normal.{loaded_sections};
 ghost use Rattle.image_memory.specs.Ranges.{Ascends};

@@ -12,8 +12,8 @@ use Rattle.i386_reloc.specs.declared.types.NormalSection.{NormalSection}
 use Rattle.i386_reloc.specs.Classes.{is_code_class}
 use Rattle.image_memory.specs.Contents.{IsValid}
 use Rattle.symbol_table.specs.Bodies.{newest}
-use Rattle.run_pre_match.specs.Matched.{PreSection}
-use Rattle.match_candidates.specs.Candidates.{Running, code_from, code_sections}
+use Rattle.symbol_solve.specs.Matched.{PreSection}
+use Rattle.symbol_solve.specs.Candidates.{Running, code_from, code_sections}
 use Rattle.extract_post.specs.declared.types.Extract.{Extract}
 use Rattle.symbol_solve.specs.Solve.{Value}
 use Rattle.symbol_solve.specs.Answered.{IsAnswered, is_about}

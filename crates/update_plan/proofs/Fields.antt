@@ -5,15 +5,15 @@ use Rattle.std.specs.Prelude.{Ok}
 use Rattle.std.specs.List.{filter}
 use Rattle.std.proofs.lemmas.Bool.{eqb-true}
 use Rattle.std.proofs.lemmas.Bool.Decides.{nat_tests}
-use Rattle.elf32_object.specs.Numbers.{SHT_NOBITS}
-use Rattle.elf32_object.specs.declared.types.SectionHeader.{SectionHeader}
-use Rattle.elf32_object.specs.declared.types.Reloc.{Reloc}
-use Rattle.elf32_object.specs.Below.{all_below, each_below, first_below}
-use Rattle.elf32_object.specs.Fields.{changes, entry_count, is_loaded, patches_loaded, relocation, section_count}
-use Rattle.elf32_object.specs.Fields.{section_header}
-use Rattle.elf32_object.specs.Rules.{has_field, is_placed, object_fault, relocation_fault}
-use Rattle.elf32_object.specs.Rules.{relocations_fault}
-use Rattle.elf32_object.specs.laws.BelowLaws.{none_below, none_first, none_second}
+use Rattle.i386_reloc.specs.Numbers.{SHT_NOBITS}
+use Rattle.i386_reloc.specs.SectionHeader.{SectionHeader}
+use Rattle.i386_reloc.specs.Reloc.{Reloc}
+use Rattle.i386_reloc.specs.Below.{all_below, each_below, first_below}
+use Rattle.i386_reloc.specs.Fields.{changes, entry_count, is_loaded, patches_loaded, relocation, section_count}
+use Rattle.i386_reloc.specs.Fields.{section_header}
+use Rattle.i386_reloc.specs.Rules.{has_field, is_placed, object_fault, relocation_fault}
+use Rattle.i386_reloc.specs.Rules.{relocations_fault}
+use Rattle.i386_reloc.specs.BelowLaws.{none_below, none_first, none_second}
 use Rattle.i386_reloc.specs.declared.types.Class.TheVariants.{Zero, Code, Writable, Strings, ReadOnly}
 use Rattle.i386_reloc.specs.declared.types.NormalSection.{NormalSection}
 use Rattle.i386_reloc.specs.declared.types.Ref.{Ref}
@@ -23,7 +23,7 @@ use Rattle.i386_reloc.specs.Normal.{loaded_below, loaded_sections, normal_sectio
 use Rattle.i386_reloc.specs.References.{by_offset, changes_at, fields_of, is_outside, is_section_symbol, reference_of}
 use Rattle.i386_reloc.specs.References.{reference_to, references_of, relocations_of, symbol_of}
 use Rattle.i386_reloc.specs.Sections.{sections_of}
-use Rattle.run_pre_match.specs.Alike.{HasFieldsInside}
+use Rattle.symbol_solve.specs.MatchAlike.{HasFieldsInside}
 use Rattle.update_pieces.specs.Apart.{AreWhole, IsWhole}
 use Rattle.update_plan.proofs.SoundLists.{Has, all_of, each_has, filter_has, has_either, map_has}
 use Rattle.update_plan.proofs.SoundFile.{is_file}

@@ -16,14 +16,14 @@ use Rattle.image_memory.specs.Fetch.{View, Unmapped, AtHome, Stray, Bytes, code_
 use Rattle.image_memory.specs.Fetch.{view_at, window_of}
 use Rattle.ia32_decode.specs.declared.types.Decoded.{Decoded}
 use Rattle.ia32_decode.specs.Decode.{decoded_from}
-use Rattle.run_pre_match.specs.declared.types.Matched.{Matched}
+use Rattle.symbol_solve.specs.MatchedType.{Matched}
 use Rattle.match_instructions.specs.Instructions.{Instruction, after, end_of, kept_of, listed, listed_on, through_kept}
 use Rattle.match_instructions.specs.RunCode.{run_body, run_code, run_instruction, run_instruction_at}
 use Rattle.match_instructions.specs.RunCode.{run_instruction_in}
-use Rattle.run_pre_match.specs.Candidate.{Candidate, pairs, pre_list, run_list}
-use Rattle.run_pre_match.specs.Differences.{difference_from}
-use Rattle.run_pre_match.specs.Found.{all_found, own_home}
-use Rattle.run_pre_match.specs.Matched.{matched_by, matched_unless, outcome, statements}
+use Rattle.symbol_solve.specs.Candidate.{Candidate, pairs, pre_list, run_list}
+use Rattle.symbol_solve.specs.Differences.{difference_from}
+use Rattle.symbol_solve.specs.Found.{all_found, own_home}
+use Rattle.symbol_solve.specs.Matched.{matched_by, matched_unless, outcome, statements}
 use Rattle.image_memory.specs.laws.RangeLaws.{they_meet}
 use Rattle.update_plan.proofs.SoundLists.{Has, any_none}
 

@@ -12,12 +12,12 @@ use Rattle.symbol_table.specs.declared.values.Unknown.TheVariants.{Code}
 use Rattle.symbol_table.specs.declared.values.Solved.{Solved}
 use Rattle.symbol_table.specs.declared.values.Solved.TheVariants.{Body, Address}
 use Rattle.symbol_table.specs.Unknowns.{same_unknown}
-use Rattle.run_pre_match.specs.declared.types.Claim.{Claim}
-use Rattle.run_pre_match.specs.declared.types.Matched.{Matched}
-use Rattle.run_pre_match.specs.declared.types.MatchFault.{MatchFault}
-use Rattle.run_pre_match.specs.Candidate.{Candidate}
-use Rattle.run_pre_match.specs.Matched.{outcome}
-use Rattle.match_candidates.specs.Candidates.{Running, candidate_at, candidates_of, code_sections, homes_of}
+use Rattle.symbol_solve.specs.Claim.{Claim}
+use Rattle.symbol_solve.specs.MatchedType.{Matched}
+use Rattle.symbol_solve.specs.MatchFault.{MatchFault}
+use Rattle.symbol_solve.specs.Candidate.{Candidate}
+use Rattle.symbol_solve.specs.Matched.{outcome}
+use Rattle.symbol_solve.specs.Candidates.{Running, candidate_at, candidates_of, code_sections, homes_of}
 use Rattle.symbol_solve.specs.Solve.{Value, address_value, has_value, is_code_unknown, left_of, obstacle}
 use Rattle.symbol_solve.specs.Solve.{solved, values, values_of, values_unless, values_with, with_value}
 use Rattle.symbol_solve.specs.Solution.{IsChoice, IsSolution}

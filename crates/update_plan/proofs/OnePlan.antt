@@ -5,7 +5,7 @@ use Rattle.std.specs.Prelude.{Result, Ok, Err}
 use Rattle.ks_base.specs.declared.places.Range.{Range}
 use Rattle.ks_base.specs.declared.refusals.Refusal.{Refusal}
 use Rattle.ks_base.specs.declared.refusals.Refusal.TheVariants.{TooSmall}
-use Rattle.elf32_object.specs.Below.{first_of}
+use Rattle.i386_reloc.specs.Below.{first_of}
 use Rattle.image_file.specs.Fields.{◌>>=◌}
 use Rattle.image_memory.specs.Contents.{Contents, spliced_at}
 use Rattle.image_memory.specs.Fetch.{jump_length, view_at}
@@ -14,9 +14,9 @@ use Rattle.i386_reloc.specs.declared.types.NormalSection.{NormalSection}
 use Rattle.i386_reloc.specs.Refused.{first_among, refused_where}
 use Rattle.i386_reloc.specs.Sections.{sections_of}
 use Rattle.extract_post.specs.Extracted.{extracted}
-use Rattle.run_pre_match.specs.Alike.{HasFieldsInside}
-use Rattle.match_candidates.specs.Alike.{RunAlike}
-use Rattle.match_candidates.specs.Candidates.{Running}
+use Rattle.symbol_solve.specs.MatchAlike.{HasFieldsInside}
+use Rattle.symbol_solve.specs.Alike.{RunAlike}
+use Rattle.symbol_solve.specs.Candidates.{Running}
 use Rattle.symbol_solve.specs.Solve.{solved}
 use Rattle.link_post.specs.declared.types.Placed.{Placed}
 use Rattle.link_post.specs.Values.{ValueList, resolved}

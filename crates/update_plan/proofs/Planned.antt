@@ -8,7 +8,7 @@ use Rattle.i386_reloc.specs.declared.types.NormalSection.{NormalSection}
 use Rattle.i386_reloc.specs.Sections.{sections_of}
 use Rattle.extract_post.specs.declared.types.Extract.{Extract}
 use Rattle.extract_post.specs.Extracted.{extracted}
-use Rattle.match_candidates.specs.Candidates.{Running}
+use Rattle.symbol_solve.specs.Candidates.{Running}
 use Rattle.symbol_solve.specs.Solve.{solved}
 use Rattle.link_post.specs.Values.{ValueList, resolved}
 use Rattle.update_retired.specs.declared.types.OldFunction.{OldFunction}

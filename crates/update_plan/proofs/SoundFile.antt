@@ -5,8 +5,8 @@ use Rattle.std.specs.List.{IsDistinct}
 use Rattle.std.specs.Cmp.Lexicographic.{bytes_decides}
 use Rattle.std.proofs.lemmas.Map.Made.{AllPairs-from_IsDistinct}
 use Rattle.ks_base.specs.declared.refusals.Refusal.{Refusal}
-use Rattle.elf32_object.specs.declared.types.ObjectFault.{ObjectFault}
-use Rattle.elf32_object.specs.Rules.{object_fault}
+use Rattle.i386_reloc.specs.ObjectFault.{ObjectFault}
+use Rattle.i386_reloc.specs.Rules.{object_fault}
 use Rattle.i386_reloc.specs.declared.types.NormalSection.{NormalSection}
 use Rattle.i386_reloc.specs.Normal.{loaded_sections, name_of, same_bytes, section_named}
 use Rattle.i386_reloc.specs.Refused.{normal_fault}

@@ -12,7 +12,7 @@ use Rattle.ks_base.specs.declared.places.Range.{Range}
 use Rattle.ks_base.specs.declared.refusals.Refusal.{Refusal}
 use Rattle.ks_base.specs.declared.refusals.Refusal.TheVariants.{TooSmall}
 use Rattle.ks_base.specs.declared.reports.Replaced.{Replaced}
-use Rattle.elf32_object.specs.laws.BelowLaws.{none_first}
+use Rattle.i386_reloc.specs.BelowLaws.{none_first}
 use Rattle.symbol_table.specs.declared.symbols.Symbol.{Symbol}
 use Rattle.image_memory.specs.declared.types.Fence.{Fence}
 use Rattle.symbol_table.specs.Bodies.{newest}

@@ -6,7 +6,7 @@ use Rattle.std.specs.List.{flat_map, list_any}
 use Rattle.std.proofs.lemmas.Bool.{false_from_ne_true}
 use Rattle.std.proofs.lemmas.List.Elements.{All-nil, All-cons, All-head, All-tail}
 use Rattle.ks_base.specs.declared.refusals.Refusal.{Refusal}
-use Rattle.elf32_object.specs.laws.BelowLaws.{none_first, none_second}
+use Rattle.i386_reloc.specs.BelowLaws.{none_first, none_second}
 use Rattle.i386_reloc.specs.Refused.{first_among}
 
 abbrev pub Has : {X : Type 0} → List X → X → Type 0

@@ -16,8 +16,8 @@ use Rattle.symbol_table.specs.Unknowns.{same_unknown}
 use Rattle.i386_reloc.specs.declared.types.NormalSection.{NormalSection}
 use Rattle.i386_reloc.specs.Classes.{is_code_class}
 use Rattle.i386_reloc.specs.Normal.{same_bytes}
-use Rattle.run_pre_match.specs.Matched.{PreSection}
-use Rattle.match_candidates.specs.Candidates.{Running, code_from, code_sections}
+use Rattle.symbol_solve.specs.Matched.{PreSection}
+use Rattle.symbol_solve.specs.Candidates.{Running, code_from, code_sections}
 use Rattle.symbol_solve.specs.Solve.{Value}
 use Rattle.symbol_solve.specs.Answered.{IsAnswered, is_about}
 use Rattle.image_memory.specs.Contents.{Contents}

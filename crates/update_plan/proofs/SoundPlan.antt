@@ -6,7 +6,7 @@ use Rattle.std.specs.List.{All, IsDistinct, filter}
 use Rattle.std.specs.Cmp.Lexicographic.{bytes_decides}
 use Rattle.ks_base.specs.declared.places.Range.{Range}
 use Rattle.symbol_table.specs.declared.symbols.Symbol.{Symbol}
-use Rattle.elf32_object.specs.Rules.{object_fault}
+use Rattle.i386_reloc.specs.Rules.{object_fault}
 use Rattle.i386_reloc.specs.declared.types.NormalSection.{NormalSection}
 use Rattle.i386_reloc.specs.Normal.{loaded_sections, name_of, same_bytes}
 use Rattle.image_memory.specs.declared.types.Piece.{Piece}
@@ -19,7 +19,7 @@ use Rattle.extract_post.specs.declared.types.Extract.{Extract}
 use Rattle.extract_post.specs.Extracted.{is_changed, lists_of}
 use Rattle.extract_post.specs.declared.role.Role.TheVariants.{Changed}
 use Rattle.extract_post.specs.Roles.{is_among}
-use Rattle.match_candidates.specs.Candidates.{Running, code_sections}
+use Rattle.symbol_solve.specs.Candidates.{Running, code_sections}
 use Rattle.symbol_solve.specs.Solve.{Value, solved}
 use Rattle.symbol_solve.specs.Answered.{IsAnswered}
 use Rattle.link_post.specs.declared.types.Placed.{Placed}

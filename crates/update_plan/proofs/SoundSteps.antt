@@ -13,7 +13,7 @@ use Rattle.extract_post.specs.declared.types.Extract.{Extract}
 use Rattle.extract_post.specs.Extract.{places}
 use Rattle.extract_post.specs.Extracted.{data_differs, extracted, extracted_by, extracted_with, is_broken}
 use Rattle.extract_post.specs.Extracted.{is_first_member, lists_of, names_of as all_names}
-use Rattle.match_candidates.specs.Candidates.{Running}
+use Rattle.symbol_solve.specs.Candidates.{Running}
 use Rattle.symbol_solve.specs.Solve.{solved}
 use Rattle.link_post.specs.declared.types.Placed.{Placed}
 use Rattle.link_post.specs.Values.{ValueList, resolved}

@@ -11,7 +11,7 @@ use Rattle.symbol_table.specs.declared.symbols.Symbol.{Symbol}
 use Rattle.i386_reloc.specs.declared.types.NormalSection.{NormalSection}
 use Rattle.i386_reloc.specs.Sections.{sections_of}
 use Rattle.extract_post.specs.Extracted.{extracted}
-use Rattle.match_candidates.specs.Candidates.{Running}
+use Rattle.symbol_solve.specs.Candidates.{Running}
 use Rattle.symbol_solve.specs.Solve.{solved}
 use Rattle.link_post.specs.declared.types.Placed.{Placed}
 use Rattle.link_post.specs.Values.{ValueList, resolved}

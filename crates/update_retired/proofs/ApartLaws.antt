@@ -11,7 +11,7 @@ use Rattle.std.proofs.lemmas.List.Elements.{All-head, All-tail, All-cons}
 use Rattle.std.proofs.lemmas.Map.Made.{AllPairs-from_IsDistinct}
 use Rattle.ks_base.specs.declared.places.Range.{Range}
 use Rattle.ks_base.specs.declared.refusals.Refusal.TheVariants.{Overlap}
-use Rattle.elf32_object.specs.laws.BelowLaws.{none_second}
+use Rattle.i386_reloc.specs.BelowLaws.{none_second}
 use Rattle.i386_reloc.specs.Normal.{same_bytes}
 use Rattle.i386_reloc.specs.Refused.{first_among}
 use Rattle.image_memory.specs.Ranges.{meets, MeetsNone, from_to}

@@ -3,7 +3,7 @@ use Rattle.std.proofs.Common.{◌≡◌, ℕ, zero, suc, ◌<◌, Bool, true, fa
 use Rattle.std.proofs.Common.{length, get_or, Option, Some, None, refl, arith}
 use Rattle.std.specs.List.{find}
 use Rattle.ks_base.specs.declared.refusals.Refusal.{Refusal}
-use Rattle.elf32_object.specs.laws.BelowLaws.{none_first, none_second}
+use Rattle.i386_reloc.specs.BelowLaws.{none_first, none_second}
 use Rattle.i386_reloc.specs.Refused.{first_among}
 
 -- no item is refused where none among them is

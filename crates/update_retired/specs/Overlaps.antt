@@ -5,7 +5,7 @@ use Rattle.std.specs.List.{find, filter, All, AllPairs}
 use Rattle.ks_base.specs.declared.places.Range.{Range}
 use Rattle.ks_base.specs.declared.refusals.Refusal.{Refusal}
 use Rattle.ks_base.specs.declared.refusals.Refusal.TheVariants.{TooSmall, Overlap}
-use Rattle.elf32_object.specs.Below.{first_of}
+use Rattle.i386_reloc.specs.Below.{first_of}
 use Rattle.i386_reloc.specs.Normal.{same_bytes}
 use Rattle.i386_reloc.specs.Refused.{first_among, refused_where}
 use Rattle.image_memory.specs.Ranges.{meets, MeetsNone}

@@ -1,7 +1,7 @@
 //! Code that overlaps what an update retires.
 ghost use Rattle.std.specs.Prelude.{◌≡◌, ◌++◌, ◌&&◌, map, IfOk};
 ghost use Rattle.std.specs.List.{find, Contains};
-ghost use Rattle.elf32_object.specs.Rule.{Finds};
+ghost use Rattle.i386_reloc.specs.Rule.{Finds};
 ghost use Rattle.i386_reloc.specs.Refused.{first_among};
 ghost use Rattle.image_memory.specs.Ranges.{meets};
 ghost use Rattle.update_retired.specs.Retired.{AreBodies, IsBody, body_range};

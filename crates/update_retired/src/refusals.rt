@@ -1,5 +1,5 @@
 //! Why code stands in the way of an update.
-ghost use Rattle.elf32_object.specs.Rule.{Finds};
+ghost use Rattle.i386_reloc.specs.Rule.{Finds};
 ghost use Rattle.i386_reloc.specs.Refused.{first_among};
 ghost use Rattle.update_retired.specs.Retired.{AreBodies, AreInUse, IsBody, body_range};
 ghost use Rattle.update_retired.specs.Overlaps.{code_refusal, room_refusal};

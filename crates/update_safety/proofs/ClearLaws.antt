@@ -31,7 +31,7 @@ use Rattle.image_threads.specs.Program.{if_running, running_at}
 use Rattle.stack_scan.specs.Standing.{looked_at, in_register, on_stack, addresses, stack_addresses, places, in_one}
 use Rattle.stack_scan.specs.Standing.{first_place, standing_at, stack_out, is_stack_out, stands_by, stands}
 use Rattle.stack_scan.specs.Standing.{standing_refused, thread_refusal}
-use Rattle.match_candidates.specs.Candidates.{Running as Program}
+use Rattle.symbol_solve.specs.Candidates.{Running as Program}
 use Rattle.update_plan.specs.declared.types.Plan.{Plan}
 use Rattle.update_plan.specs.Plan.{planned, unless}
 use Rattle.update_stack.specs.AbstractMachine.{AbstractMachine, Update}

@@ -8,7 +8,7 @@ use Rattle.std.proofs.lemmas.Bool.Decides.{nat_tests}
 use Rattle.ks_base.specs.declared.refusals.Refusal.{Refusal}
 use Rattle.ks_base.specs.declared.refusals.Refusal.TheVariants.{TooMany, NameTaken, Memory}
 use Rattle.ks_base.specs.Gives.{Gives}
-use Rattle.elf32_object.specs.Rule.{Finds}
+use Rattle.i386_reloc.specs.Rule.{Finds}
 use Rattle.stack_scan.specs.Standing.{thread_refusal}
 use Rattle.update_plan.specs.declared.types.Plan.{Plan}
 use Rattle.update_plan.specs.Plan.{planned}

@@ -23,10 +23,10 @@ use Rattle.image_memory.specs.Contents.{shape_of}
 use Rattle.image_memory.specs.Access.{kind_of}
 use Rattle.image_memory.specs.Fetch.{view_at, code_in, code_from}
 use Rattle.link_post.specs.Places.{unless_empty, without}
-use Rattle.match_candidates.specs.Candidates.{Running}
-use Rattle.match_candidates.specs.Alike.{RunAlike}
-use Rattle.run_pre_match.specs.Alike.{AreAlike}
-use Rattle.match_constants.specs.Constants.{constant_byte, constant_at}
+use Rattle.symbol_solve.specs.Candidates.{Running}
+use Rattle.symbol_solve.specs.Alike.{RunAlike}
+use Rattle.symbol_solve.specs.MatchAlike.{AreAlike}
+use Rattle.symbol_solve.specs.Constants.{constant_byte, constant_at}
 use Rattle.update_retired.specs.Room.{HaveOneShape}
 use Rattle.splice_jump.specs.Jumps.{jumped, jumped_memory, IsSpliced, AreSpliced}
 use Rattle.symbol_table.specs.declared.symbols.Symbol.{Symbol}

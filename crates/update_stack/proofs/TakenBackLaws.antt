@@ -25,7 +25,7 @@ use Rattle.image_memory.specs.laws.RangeLaws.{within, found_here}
 use Rattle.splice_jump.specs.Jump.{jump_bytes}
 use Rattle.splice_jump.specs.Jumps.{with_row, jumped, AreSpliced}
 use Rattle.update_memory.specs.Withdrawn.{is_based_at}
-use Rattle.match_candidates.specs.Candidates.{Running}
+use Rattle.symbol_solve.specs.Candidates.{Running}
 use Rattle.ia32_step.specs.declared.types.Thread.{Thread}
 use Rattle.image_threads.specs.Program.{IsStackRange, running_at}
 use Rattle.image_threads.specs.Spawning.{started, started_at, started_on, free_stack, first_bytes, first_thread}

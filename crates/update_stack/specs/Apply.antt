@@ -6,7 +6,7 @@ use Rattle.ks_base.specs.declared.places.Range.{Range}
 use Rattle.ks_base.specs.declared.refusals.Refusal.{Refusal}
 use Rattle.ks_base.specs.declared.refusals.Refusal.TheVariants.{TooMany, NameTaken}
 use Rattle.ks_base.specs.declared.reports.Report.{Report}
-use Rattle.elf32_object.specs.Below.{first_of}
+use Rattle.i386_reloc.specs.Below.{first_of}
 use Rattle.i386_reloc.specs.Normal.{same_bytes}
 use Rattle.i386_reloc.specs.Refused.{refused_where}
 use Rattle.image_file.specs.Fields.{◌>>=◌}
@@ -14,7 +14,7 @@ use Rattle.image_memory.specs.declared.types.Piece.{Piece}
 use Rattle.image_memory.specs.Contents.{piece_range, fence_range}
 use Rattle.image_memory.specs.Changes.{with_piece}
 use Rattle.update_memory.specs.Retired.{with_ranges}
-use Rattle.match_candidates.specs.Candidates.{Running}
+use Rattle.symbol_solve.specs.Candidates.{Running}
 use Rattle.link_post.specs.Places.{unless_empty, without}
 use Rattle.stack_scan.specs.Standing.{thread_refusal}
 use Rattle.update_plan.specs.declared.types.Plan.{Plan}

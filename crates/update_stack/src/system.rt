@@ -9,7 +9,7 @@ ghost use Rattle.image_threads.specs.Spawning.{AreStacks};
 ghost use Rattle.update_stack.specs.AbstractMachine.{contents_of, shown_update};
 ghost use Rattle.update_stack.specs.Systems.{gaps_in, machine_of};
 ghost use Rattle.ks_base.specs.Gives.{Gives};
-ghost use Rattle.elf32_object.specs.Rule.{Finds};
+ghost use Rattle.i386_reloc.specs.Rule.{Finds};
 ghost use Rattle.stack_scan.specs.Standing.{thread_refusal};
 ghost use Rattle.update_plan.specs.Plan.{planned};
 ghost use Rattle.update_plan.specs.Sound.{AreGaps, CanBeMade};

@@ -7,7 +7,7 @@ use Rattle.image_file.specs.Fields.{◌>>=◌}
 use Rattle.i386_reloc.specs.declared.types.NormalSection.{NormalSection}
 use Rattle.extract_post.specs.declared.types.Extract.{Extract}
 use Rattle.extract_post.specs.Extracted.{extracted}
-use Rattle.match_candidates.specs.Candidates.{Running}
+use Rattle.symbol_solve.specs.Candidates.{Running}
 use Rattle.symbol_solve.specs.Solve.{solved}
 use Rattle.link_post.specs.Values.{ValueList, resolved}
 use Rattle.link_post.specs.Places.{placed}

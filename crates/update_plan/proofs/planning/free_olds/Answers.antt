@@ -1,5 +1,5 @@
 use Rattle.std.proofs.Common.{◌∙◌, sym, subst}
-use Rattle.match_candidates.specs.Candidates.{Running}
+use Rattle.symbol_solve.specs.Candidates.{Running}
 use Rattle.update_retired.specs.Retired.{AreBodies, AreInUse}
 use Rattle.update_plan.proofs.Answered.{are_bodies}
 use Rattle.update_plan.proofs.planning.free_olds.Goals as goal

@@ -1,6 +1,6 @@
 use Rattle.std.proofs.Common.{Ok, sym, ap, ◌∙◌}
 use Rattle.std.proofs.lemmas.Result.{err_from_is_err_and}
-use Rattle.match_candidates.specs.Candidates.{Running}
+use Rattle.symbol_solve.specs.Candidates.{Running}
 use Rattle.update_plan.specs.declared.types.Plan.{Plan}
 use Rattle.update_plan.specs.Plan.{plan_of}
 use Rattle.update_plan.specs.inside.Rests.{planned_at}

@@ -1,7 +1,7 @@
 use Rattle.std.proofs.Common.{sym, subst}
 use Rattle.std.proofs.lemmas.Result.{err_from_is_err_and}
 use Rattle.ks_base.specs.Gives.{Gives}
-use Rattle.match_candidates.specs.Candidates.{Running}
+use Rattle.symbol_solve.specs.Candidates.{Running}
 use Rattle.update_plan.specs.declared.types.Plan.{Plan}
 use Rattle.update_plan.proofs.Planned.{extract_ends, solution_ends, solution_goes_on}
 use Rattle.update_plan.proofs.planning.plan_between.Goals as goal

@@ -4,7 +4,7 @@ use Rattle.image_memory.specs.declared.types.Piece.{Piece}
 use Rattle.image_file.specs.Seen.{contents_of}
 use Rattle.image_threads.specs.Program.{Program}
 use Rattle.image_threads.specs.Spawning.{AreStacks}
-use Rattle.update_plan.specs.Sound.{AreGaps}
+use Rattle.update_stack.specs.Sound.{AreGaps}
 use Rattle.update_stack.specs.Systems.{gaps_in}
 use Rattle.ksplice_session.proofs.MemoryLaws.{image_fits, placed_with_stacks, image_stacks, arena_gaps}
 use Rattle.ksplice_session.proofs.session.Session.new.Goals as goal
