@@ -1,6 +1,7 @@
 pub mod ListLaws
 pub mod BuildLaws
 pub mod NarrowLaws
+pub mod LeastLaws
 pub mod MarkLaws
 pub mod EngineLaws
 pub mod ClaimLaws

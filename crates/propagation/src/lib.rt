@@ -6,6 +6,7 @@ mod building;
 mod choice;
 mod conflicts;
 mod engine;
+mod laws;
 mod marking;
 mod propagating;
 mod striking;
@@ -13,4 +14,5 @@ mod tables;
 
 pub use choice::{Choice, Claim, Demand};
 pub use conflicts::first_conflict;
+pub use laws::sets_are_least;
 pub use propagating::propagate;
