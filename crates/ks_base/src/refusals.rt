@@ -144,7 +144,7 @@ pub enum Refusal {
     NotElf,
     /// 2: the object isn't a relocatable one for i386.
     NotRel386,
-    /// 3: the header field at this offset is wrong.
+    /// 3: the header field at this offset is wrong; or the file ends in the header, and this is its length.
     BadHeader(u32),
     /// 4: the section of this index is wrong.
     BadSection(u32),
@@ -157,7 +157,7 @@ pub enum Refusal {
         /// The index of the entry in it.
         entry: u32,
     },
-    /// 7: a relocation has a type that isn't accepted in its section.
+    /// 7: a relocation has a type that isn't accepted in its section, or not with its symbol.
     UnknownReloc {
         /// The section that the relocation changes.
         section: Name,
@@ -172,13 +172,14 @@ pub enum Refusal {
     DoubleName(Name),
     /// 10: a limit of the object is passed.
     TooLarge(Large),
-    /// 11: a section of both objects has other data in the second, or another class.
+    /// 11: a section of both objects has another class in the second; or it is data that the program may change, and
+    /// differs, or reaches read-only data that differ.
     DataChanged(Name),
     /// 12: no function of the two objects differs, and none is added.
     NoChange,
     /// 13: the reference at this offset of a section goes to the interior of a function and can't be kept.
     Interior(Name, u32),
-    /// 14: no running function has the name.
+    /// 14: no function of the name is in use in the running program.
     NoCandidate(Name),
     /// 15: no candidate of a section matches; the first difference of the lowest.
     Mismatch(Name, Difference),
@@ -191,17 +192,18 @@ pub enum Refusal {
         /// The home of the next.
         second: u32,
     },
-    /// 17: two candidates give one thing two values.
+    /// 17: two candidates, each the last one of its section, don't fit together: they give a section or an outside name
+    /// two values, or a reference of one goes to no instruction that the other's code has for its offset.
     Conflict {
-        /// The thing.
+        /// The section or the outside name; or the section with the offset.
         unknown: ConflictName,
-        /// The value that the first candidate gives it.
+        /// The first candidate's value; or the address to which the reference goes.
         value: u32,
-        /// The value that the second candidate gives it.
+        /// The second candidate's value; or the address of the instruction at that offset.
         other_value: u32,
-        /// Where the first candidate has its value.
+        /// The field that has the first value.
         place: Spot,
-        /// Where the second candidate has its value.
+        /// The field that has the second value; or the offset.
         other_place: Spot,
     },
     /// 18: no address is known for the name.
@@ -232,7 +234,7 @@ pub enum Refusal {
     TooMany,
     /// 25: a thread stands in a range.
     Busy(Standing),
-    /// 26: a thread's ESP is outside its stack.
+    /// 26: a thread's ESP is below its stack, or above its end.
     StackOut {
         /// The thread's number.
         thread: u32,
@@ -241,7 +243,7 @@ pub enum Refusal {
     },
     /// 27: no update is live.
     NothingApplied,
-    /// 28: the image breaks a rule at the field at this offset.
+    /// 28: the image breaks a rule at the field at this offset; or it ends too early, and this is its length.
     BadImage(u32, ImageFault),
     /// 29: the script's line of this number, counted from 1, isn't in the grammar.
     BadLine(u32),
@@ -272,17 +274,17 @@ pub enum Refusal {
     NameTaken(Name),
     /// 39: no live update has the name.
     NoUpdate(Name),
-    /// 40: two of the objects that are to be linked define the global name.
+    /// 40: the objects that are to be linked define the global name twice.
     DoubleGlobal(Name),
-    /// 41: none of the objects that are to be linked defines the name.
+    /// 41: the objects that are to be linked have no global symbol of the name.
     Undefined(Name),
     /// 42: a limit of the linked image is passed.
     LinkTooLarge(LinkLimit),
-    /// 43: the jump of the update of this name is written in part.
+    /// 43: the jump of the update of this name isn't written whole yet.
     PokeOpen(Name),
     /// 44: no jump is at the stage from which the call goes on.
     NoPoke,
-    /// 45: other than one changed function, and none added or dropped.
+    /// 45: not exactly one function is changed, or some function is added or dropped.
     NotOneChanged,
     /// 46: a function that an update runs has stopped.
     HookFault {

@@ -4,7 +4,7 @@ use Rattle.std.proofs.Common.{ap, inl, inr, refl, subst}
 use Rattle.std.proofs.lemmas.Bool.{cases_Bool, false≢true}
 use Rattle.propagation.specs.Rounds.{Rules, is_forced, forced_among, clashes_with_one}
 use Rattle.propagation.specs.Rounds.{left_in, remaining, forced}
-use Rattle.propagation.specs.Least.{AreClosed, RoundsAreClosed, AreLeast}
+use Rattle.propagation.specs.Least.{AreClosed, RoundsAreClosed, HaveAtLeast}
 use Rattle.propagation.specs.laws.RoundLaws.{remaining_is_kept}
 use Rattle.propagation.proofs.ListLaws.{Contains-filter, Contains_of_filter, list_any_from, list_any_has, list_all_has}
 use Rattle.propagation.proofs.ListLaws.{list_all_from}
@@ -74,7 +74,7 @@ module _ {X : Type 0} (rules : Rules X) (all : List X) where
         (left_in rules round all) x (free (left_in rules round all) (stays_in round) x has isn't)
         (stays_in round x has isn't)
 
-    pub are_least : AreLeast rules all excluded forced_there
+    pub are_least : HaveAtLeast rules all excluded forced_there
     unfolding remaining forced
     are_least = record {
       remains = stays_in (length all);

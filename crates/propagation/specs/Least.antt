@@ -23,7 +23,8 @@ pub record RoundsAreClosed {X : Type 0} (rules : Rules X) (all : List X) : Type 
       → Contains (remaining rules all) y → ⊥)
       → Contains (forced rules all) x
 
--- Whatever sets the rules lead to nothing outside of, what they don't exclude remains, and what is forced they force.
-pub record AreLeast {X : Type 0} (rules : Rules X) (all : List X) (excluded forced_there : X → Bool) : Type 0 where
+-- Sets that exclude and force at least what the rounds do: what they don't exclude remains, and what is forced they
+-- force.
+pub record HaveAtLeast {X : Type 0} (rules : Rules X) (all : List X) (excluded forced_there : X → Bool) : Type 0 where
   pub remains : (x : X) → Contains all x → excluded x ≡ false → Contains (remaining rules all) x
   pub forced : (x : X) → Contains (forced rules all) x → forced_there x ≡ true
