@@ -13,7 +13,6 @@ pub mod Texts
 pub mod Value
 pub mod inside
 pub mod laws
-
 -- Definitions of crates below that other rooms cite, and that come through this one.
 pub use Rattle.elf32_object.specs.Below
 pub use Rattle.elf32_object.specs.Fields

@@ -7,7 +7,6 @@ pub mod Solve
 pub mod Solution
 pub mod Answered
 pub mod inside
-
 -- Definitions of crates below that other rooms cite, and that come through this one.
 pub use Rattle.match_candidates.specs.Alike
 pub use Rattle.match_candidates.specs.Candidates

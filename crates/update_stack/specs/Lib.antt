@@ -14,7 +14,6 @@ pub mod Stacked
 pub mod Systems
 pub mod inside
 pub mod laws
-
 -- Definitions of crates below that other rooms cite, and that come through this one.
 pub use Rattle.stack_scan.specs.Standing
 pub use Rattle.update_plan.specs.Plan
