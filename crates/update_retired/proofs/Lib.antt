@@ -3,5 +3,6 @@ pub mod CountLaws
 pub mod OverlapLaws
 pub mod PaddingLaws
 pub mod RoomLaws
+pub mod RoomyLaws
 pub mod SameRoom
 pub mod ApartLaws

@@ -135,7 +135,8 @@ past_on : (address : ℕ) (f : ℕ → ℕ) (o : Option ℕ) (n : ℕ) → o ≡
 past_on address f None n is = absurd cc
 past_on address f (Some k) n is = let same : k ≡ n = cc in ap (λ j. f (address + j)) same
 
-one_on : (contents : Contents) (n address k : ℕ) → padding_length (view_at contents address) ≡ Some k →
+-- over one padding instruction
+pub one_on : (contents : Contents) (n address k : ℕ) → padding_length (view_at contents address) ≡ Some k →
     padding_end contents (suc n) address ≡ padding_end contents n (address + k)
 unfolding padding_end
 one_on contents n address k padding =

@@ -13,7 +13,7 @@ use Rattle.update_retired.specs.Room.{HaveOneShape, end_of_code, padded_end, pad
 use Rattle.update_retired.proofs.PaddingLaws.{padded_same}
 
 -- how many bytes of code there are
-abbrev code_length : List Piece → ℕ → ℕ
+abbrev pub code_length : List Piece → ℕ → ℕ
 code_length pieces pc = length (unwrap_or (code_from pieces pc) [])
 
 -- how many a piece has from an address on, by its kind and range
