@@ -45,11 +45,11 @@ each_below_has f (suc n) x has =
       | inr last ↦ elim last [ inl is ↦ (n, omega arith, is) | inr none ↦ absurd none ]
     ]
 
-and_left : (a b : Bool) → a && b ≡ true → a ≡ true
+pub and_left : (a b : Bool) → a && b ≡ true → a ≡ true
 and_left true b both = refl
 and_left false b both = both
 
-and_right : (a b : Bool) → a && b ≡ true → b ≡ true
+pub and_right : (a b : Bool) → a && b ≡ true → b ≡ true
 and_right true b both = both
 and_right false b both = absurd cc
 
@@ -77,7 +77,7 @@ is_entry bytes i r has =
     has in
     entry_by bytes i j r (changes bytes i j) refl low inner
 
-field_has : (bytes : List ℕ) (i : ℕ) (r : Reloc) → Has (fields_of bytes i) r
+pub field_has : (bytes : List ℕ) (i : ℕ) (r : Reloc) → Has (fields_of bytes i) r
     → Has (relocations_of bytes i) r × (has_field r ≡ true)
 unfolding fields_of by_offset
 field_has bytes i r has =

@@ -8,7 +8,9 @@ pub mod OnePlan
 mod Orders
 mod Planned
 mod Steps
+pub mod SoundAddresses
 pub mod SoundFences
+pub mod SoundFields
 pub mod SoundFile
 pub mod SoundJumps
 pub mod SoundLists
@@ -17,3 +19,4 @@ pub mod SoundParts
 pub mod SoundPieces
 pub mod SoundPlan
 pub mod SoundSteps
+pub mod Targets

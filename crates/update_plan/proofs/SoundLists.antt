@@ -13,7 +13,7 @@ abbrev pub Has : {X : Type 0} → List X → X → Type 0
 Has [] x = ⊥
 Has (a ∷ xs) x = (a ≡ x) ⊎ Has xs x
 
-contained : {X : Type 0} (xs : List X) (x : X) → Has xs x → Contains xs x
+pub contained : {X : Type 0} (xs : List X) (x : X) → Has xs x → Contains xs x
 contained [] x has = absurd has
 contained (a ∷ xs) x (inl is) = (zero, omega arith, is)
 contained (a ∷ xs) x (inr rest) =

@@ -60,7 +60,7 @@ first_or_spliced contents bodies home base spliced is =
     ]
 
 -- ---- the value of a code section
-told_in : (values : ValueList) (which : Unknown) (value : Value) → filter (is_about which) values ≡ value ∷ [] →
+pub told_in : (values : ValueList) (which : Unknown) (value : Value) → filter (is_about which) values ≡ value ∷ [] →
     solved_as values which ≡ Some value.1
 told_in [] which value is = absurd cc
 told_in (pair ∷ values) which value is = by (same_unknown which pair.0) (told_in values which value) is
@@ -71,10 +71,10 @@ told_in (pair ∷ values) which value is = by (same_unknown which pair.0) (told_
     by true later here = let same : pair ≡ value = cc in ap (λ (v : Value). Some v.1) same
     by false later rest = later rest
 
-abbrev as_pre : List NormalSection → ℕ → NormalSection → PreSection
+abbrev pub as_pre : List NormalSection → ℕ → NormalSection → PreSection
 as_pre object place section = record { object = object; place = place; section = section }
 
-code_has : (object sections : List NormalSection) (place : ℕ) (section : NormalSection) → Has sections section →
+pub code_has : (object sections : List NormalSection) (place : ℕ) (section : NormalSection) → Has sections section →
     is_code_class section.class ≡ true → (p : ℕ) × Has (code_from object place sections) (as_pre object p section)
 unfolding code_from
 code_has object [] place section has code = absurd has

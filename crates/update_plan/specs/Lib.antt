@@ -1,8 +1,10 @@
 -- Public clauses cite these: the functions of the old object as they run (Olds), the sections of the new object that
--- are placed (Placing), the plan or why there is none (Plan), and that a plan can be carried out (Sound). What `inside`
+-- are placed (Placing), the plan or why there is none (Plan), that a plan can be carried out (Sound), and that each
+-- field of its sections has an address (Addresses). What `inside`
 -- holds is the code's own.
 pub mod Olds
 pub mod Placing
 pub mod Plan
 pub mod Sound
+pub mod Addresses
 pub mod inside

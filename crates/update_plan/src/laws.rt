@@ -4,7 +4,7 @@ ghost use Rattle.std.specs.List.{All, list_any};
 ghost use Rattle.ks_base.specs.declared.places.Range.{Range};
 ghost use Rattle.i386_reloc.specs.declared.types.NormalSection.{NormalSection};
 ghost use Rattle.i386_reloc.specs.Sections.{sections_of};
-ghost use Rattle.image_memory.specs.Ranges.{lies_in};
+ghost use Rattle.image_memory.specs.Ranges.{Ascends, lies_in};
 ghost use Rattle.image_memory.specs.Contents.{IsValid, fence_range, spliced_at};
 ghost use Rattle.symbol_solve.specs.MatchAlike.{HasFieldsInside};
 ghost use Rattle.symbol_solve.specs.Alike.{RunAlike};
@@ -18,10 +18,13 @@ ghost use Rattle.update_retired.specs.Room.{HaveOneShape};
 ghost use Rattle.update_plan.specs.declared.types.Plan.{Plan};
 ghost use Rattle.update_plan.specs.Olds.{olds_of};
 ghost use Rattle.update_plan.specs.Plan.{planned};
+ghost use Rattle.update_plan.specs.Addresses.{AreSteps, HasAddresses};
+ghost use Rattle.update_plan.specs.Placing.{parts_of};
 ghost use Rattle.update_plan.specs.Sound.{AreGaps, AreListed, CanBeMade};
 
+use extract_post::placed_sections_bring_what_they_name;
 use ia32_decode::instructions_have_bytes;
-use link_post::places_lie_apart;
+use link_post::{places_lie_apart, values_are_found};
 use symbol_solve::{
     alike_programs_have_one_answer, answer_is_only_solution, answers_tell_each_body,
 };
@@ -93,4 +96,19 @@ pub fn alike_programs_have_one_plan()
     alike_programs_have_one_answer();
     room_is_met();
     fields_stand_inside();
+}
+
+/// Each field of the new sections of an update has an address, where no step of its plan is refused: each section that
+/// is placed has its place, and what each of its references goes to has a place, a home or a value.
+pub fn new_fields_have_addresses()
+    ensures { (running : Running) (gaps : List Range) (pre_file post_file : List ℕ)
+        (steps : AreSteps running gaps pre_file post_file)
+        → IsValid running.contents → Ascends (λ range. range) 0 gaps
+        → All (HasAddresses steps.post steps.placement steps.values) (parts_of steps.extract steps.post) }
+{
+    // Nothing is done here: the laws say what holds of each step of a plan.
+    answers_tell_each_body();
+    places_lie_apart();
+    values_are_found();
+    placed_sections_bring_what_they_name();
 }

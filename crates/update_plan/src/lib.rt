@@ -10,7 +10,7 @@ mod types;
 
 pub use crate::laws::{
     alike_programs_have_one_plan, fields_stand_inside, matched_bodies_are_in_use,
-    plans_can_be_made, retired_code_is_guarded,
+    new_fields_have_addresses, plans_can_be_made, retired_code_is_guarded,
 };
 pub use planning::plan;
 pub use types::{Fences, Plan};
