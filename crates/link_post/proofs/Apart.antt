@@ -181,7 +181,7 @@ record Step (s : SectionSize) (sizes : List SectionSize) (free : List Range) (ps
   others : placed sizes (after_first s free) ≡ Ok rest
   is : ps ≡ placed_at s base ∷ rest
 
-after_ok : (p : Placed) (r : Result (List Placed) Refusal) (ps : List Placed) → after_placed p r ≡ Ok ps
+pub after_ok : (p : Placed) (r : Result (List Placed) Refusal) (ps : List Placed) → after_placed p r ≡ Ok ps
     → (rest : List Placed) × (r ≡ Ok rest) × (ps ≡ p ∷ rest)
 after_ok p (Err refusal) ps is = absurd cc
 after_ok p (Ok rest) ps is = (rest, refl, let e : p ∷ rest ≡ ps = cc in sym e)

@@ -48,13 +48,13 @@ all_ascend free [] up = up
 all_ascend free (t ∷ ts) up = all_ascend (without free t) ts (without_ascends free t up)
 
 -- ---- what holds of a range and of each part of it
-each_part : (P : Range → Type 0) (low high : ℕ) → P (from_to low high) → All P (part low high)
+pub each_part : (P : Range → Type 0) (low high : ℕ) → P (from_to low high) → All P (part low high)
 each_part P low high here = elim (cases_Bool (nat_lt low high)) [
   | inl some ↦ rw some (All-cons P (from_to low high) [] here (All-nil P))
   | inr none ↦ rw none (All-nil P)
 ]
 
-each_cut : (P Q : Range → Type 0) (t : Range)
+pub each_cut : (P Q : Range → Type 0) (t : Range)
     → ((g : Range) → P g → Q (from_to g.low (min g.high t.low)))
     → ((g : Range) → P g → Q (from_to (max g.low t.high) g.high))
     → (free : List Range) → All P free → All Q (flat_map (cut t) free)

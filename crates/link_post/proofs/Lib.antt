@@ -15,3 +15,5 @@ pub mod CutLaws
 pub mod GapLaws
 pub mod PieceLaws
 pub mod SweepLaws
+pub mod LowestLaws
+pub mod ExactGaps

@@ -1,13 +1,13 @@
 -- Where new sections are placed: each at the lowest free address, so that they take none of another's.
-use Rattle.std.specs.Prelude.{◌≡◌, ◌⊎◌, ℕ, ◌+◌, ◌-◌, ◌*◌, ◌/◌, ◌%◌, ◌≤◌, nat_lt, nat_le, min}
-use Rattle.std.specs.Prelude.{max, if◌then◌else◌, List, [], ◌∷◌, ◌++◌, Option, Some, None}
-use Rattle.std.specs.Prelude.{option_map, Result, Ok, Err}
-use Rattle.std.specs.List.{flat_map, find, reduce, AllZip}
+use Rattle.std.specs.Prelude.{◌≡◌, ◌⊎◌, ℕ, ◌+◌, ◌-◌, ◌*◌, ◌/◌, ◌%◌, ◌≤◌, ◌<◌, nat_lt, nat_le, min}
+use Rattle.std.specs.Prelude.{max, if◌then◌else◌, Bool, List, [], ◌∷◌, ◌++◌, Option, Some, None}
+use Rattle.std.specs.Prelude.{option_map, fold, Result, Ok, Err}
+use Rattle.std.specs.List.{flat_map, find, reduce, list_any, All, AllZip}
 use Rattle.ks_base.specs.declared.places.Range.{Range}
 use Rattle.ks_base.specs.declared.refusals.Refusal.{Refusal}
 use Rattle.ks_base.specs.declared.refusals.Refusal.TheVariants.{NoRoom}
 use Rattle.i386_reloc.specs.Normal.{same_bytes}
-use Rattle.image_memory.specs.Ranges.{MeetsNone, from_to}
+use Rattle.image_memory.specs.Ranges.{MeetsNone, from_to, lies_in}
 use Rattle.link_post.specs.declared.types.SectionSize.{SectionSize}
 use Rattle.link_post.specs.declared.types.Placed.{Placed}
 
@@ -102,3 +102,47 @@ AreApart (range ∷ ranges) = MeetsNone (λ other. other) range ranges × AreApa
 pub record ArePlaces (free : List Range) (sections : List SectionSize) (places : List Placed) : Type 0 where
   pub each : AllZip (IsPlace free) sections places
   pub apart : AreApart (extents sections places)
+
+-- a section may begin at an address: a multiple of its boundary, with all its bytes in one of the free ranges
+pub record FitsAt (free : List Range) (section : SectionSize) (address : ℕ) : Type 0 where
+  pub multiple : address % boundary section ≡ 0
+  pub within : LiesInOne free (extent section address)
+
+-- it may begin there, and at no lower address
+pub record IsLowest (free : List Range) (section : SectionSize) (base : ℕ) : Type 0 where
+  pub fits : FitsAt free section base
+  pub least : (address : ℕ) → FitsAt free section address → base ≤ address
+
+-- there is no address at which it may begin
+abbrev pub FitsNowhere : List Range → SectionSize → Type 0
+FitsNowhere free section = (address : ℕ) → FitsAt free section address → ⊥
+
+-- Places of sections, one for each in their order: each has its section's name, and is the lowest in what those
+-- before it leave of the free ranges.
+abbrev pub ArePlacedLow : List Range → List SectionSize → List Placed → Type 0
+ArePlacedLow free [] [] = Unit {0}
+ArePlacedLow free [] (place ∷ places) = ⊥
+ArePlacedLow free (section ∷ sections) [] = ⊥
+ArePlacedLow free (section ∷ sections) (place ∷ places) =
+    (place.section ≡ section.name) × IsLowest free section place.base
+    × ArePlacedLow (without free (extent section place.base)) sections places
+
+-- A section fits nowhere in what those before it leave, each of which has its lowest place; the refusal has its size.
+pub record FindsNoRoom (free : List Range) (sections : List SectionSize) (refusal : Refusal) : Type 0 where
+  pub before : List SectionSize
+  pub section : SectionSize
+  pub after : List SectionSize
+  pub places : List Placed
+  pub parts : sections ≡ before ++ section ∷ after
+  pub low : ArePlacedLow free before places
+  pub nowhere : FitsNowhere (fold without free (extents before places)) section
+  pub told : refusal ≡ NoRoom section.size
+
+-- whether an address is one of some ranges'
+abbrev pub is_one_of : ℕ → List Range → Bool
+is_one_of address ranges = list_any (lies_in address) ranges
+
+-- each of some ranges ends below where those after it begin, so that no two touch
+abbrev pub NeverTouch : List Range → Type 0
+NeverTouch [] = Unit {0}
+NeverTouch (range ∷ ranges) = All (λ later. range.high < later.low) ranges × NeverTouch ranges

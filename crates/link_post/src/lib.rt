@@ -15,9 +15,12 @@ mod rooms;
 mod types;
 
 pub use crate::arena::without_all;
-pub use crate::arena_laws::{gaps_are_free, gaps_of_pieces, order_has_no_say};
+pub use crate::arena_laws::{
+    gaps_are_all_that_is_free, gaps_are_free, gaps_of_pieces, order_has_no_say,
+};
 pub use crate::laws::{
-    needed_targets_have_addresses, places_keep_the_order, places_lie_apart, values_are_found,
+    needed_targets_have_addresses, places_are_lowest, places_keep_the_order, places_lie_apart,
+    values_are_found,
 };
 pub use crate::linking::linked;
 pub use crate::lookups::{in_order, solved_as};
