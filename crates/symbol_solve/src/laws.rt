@@ -1,7 +1,8 @@
 //! What the answers say of solutions.
-ghost use Rattle.std.specs.Prelude.{◌≡◌, ◌↔◌, ℕ, List, All, map, Some, None, Ok};
+ghost use Rattle.std.specs.Prelude.{◌≡◌, ◌↔◌, ℕ, List, All, map, Some, None, Ok, Err};
 ghost use Rattle.std.specs.List.{AllZip, IsDistinct};
 ghost use Rattle.ks_base.specs.declared.refusals.ConflictName.{ConflictName};
+ghost use Rattle.ks_base.specs.declared.refusals.Refusal.{Refusal};
 ghost use Rattle.ks_base.specs.declared.refusals.Refusal.TheVariants.{Mismatch, Conflict};
 ghost use Rattle.ks_base.specs.declared.places.Spot.{Spot};
 ghost use Rattle.ks_base.specs.declared.refusals.Difference.{Difference};
@@ -13,7 +14,7 @@ ghost use Rattle.run_pre_match.specs.Candidate.{Candidate};
 ghost use Rattle.match_candidates.specs.Alike.{RunAlike};
 ghost use Rattle.match_candidates.specs.Candidates.{Running, code_sections};
 ghost use Rattle.match_candidates.specs.OwnFaults.{first_undecoded, first_missing};
-ghost use Rattle.symbol_solve.specs.Solve.{Value, left_of, obstacle, solved};
+ghost use Rattle.symbol_solve.specs.Solve.{Value, left_of, obstacle, solved, values};
 ghost use Rattle.symbol_solve.specs.Solution.{IsChoice, IsSolution};
 ghost use Rattle.symbol_solve.specs.Answered.{IsAnswered};
 
@@ -70,3 +71,14 @@ pub fn answers_tell_each_body()
     // Nothing is done here: the law says that the body of a match lies in code.
     bodies_lie_in_code();
 }
+
+/// An answer comes exactly where nothing stands in its way, and has the values of the candidates that are left; a refusal
+/// is the first that does. So each law on what stands in the way is one on what [`solve`](crate::solve) answers.
+pub fn answers_tell_the_obstacle()
+    ensures ok { (running : Running) (object : List NormalSection) (answer : List Value)
+        → (solved object running.bodies running.contents running.symbols ≡ Ok answer)
+        ↔ ((obstacle running object ≡ None) × (answer ≡ values (left_of running object))) }
+    ensures err { (running : Running) (object : List NormalSection) (refusal : Refusal)
+        → (solved object running.bodies running.contents running.symbols ≡ Err refusal)
+        ↔ (obstacle running object ≡ Some refusal) }
+{}

@@ -17,6 +17,6 @@ mod values;
 
 pub use laws::{
     alike_programs_have_one_answer, answer_is_only_solution, answers_tell_each_body,
-    refused_without_solution,
+    answers_tell_the_obstacle, refused_without_solution,
 };
 pub use solving::solve;
