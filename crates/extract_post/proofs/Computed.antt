@@ -93,7 +93,7 @@ some_of {P} test names decides among = (
 )
 
 -- a name that a list of sections has
-in_names : (wanted : Class → Bool) (sections : List NormalSection) (name : List ℕ) →
+pub in_names : (wanted : Class → Bool) (sections : List NormalSection) (name : List ℕ) →
     is_in wanted sections name ≡ true → IsAmong (names_of sections) name
 in_names wanted [] name is = absurd cc
 in_names wanted (s ∷ rest) name is =
@@ -421,7 +421,7 @@ member_back pre post name (Joined n other member tied) =
       )
     ]
 
-member_is : (pre post : List NormalSection) (name : List ℕ) → Decides (is_member pre post name) (Member pre post name)
+pub member_is : (pre post : List NormalSection) (name : List ℕ) → Decides (is_member pre post name) (Member pre post name)
 member_is pre post name =
     through (is_member pre post name) (member_there pre post name) (member_back pre post name)
     (either (is_first_member pre post name) (list_any test (names_of post)) (first_member_is pre post name)

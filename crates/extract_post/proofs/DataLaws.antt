@@ -52,7 +52,8 @@ has_apart : (o : Option NormalSection) → has_class is_constant_class o ≡ tru
 has_apart None is = absurd cc
 has_apart (Some s) is = class_apart s.class is
 
-abbrev Brought : List NormalSection → List NormalSection → List ℕ → Type 0
+-- what brings read-only data and texts with it
+abbrev pub Brought : List NormalSection → List NormalSection → List ℕ → Type 0
 Brought pre post name = (Member pre post name × (is_in is_code_class post name ≡ true))
     ⊎ (is_new_data pre post name ≡ true)
 

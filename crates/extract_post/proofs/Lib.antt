@@ -17,3 +17,5 @@ pub mod SameMarks
 pub mod Targets
 pub mod OneAnswer
 pub mod Computed
+pub mod Contained
+pub mod Placed

@@ -45,7 +45,7 @@ seed_in_post pre post name (inl (DiffersThrough n both reaches)) =
     (and_parts (is_in is_code_class pre n) (is_in is_code_class post n) both).1
 seed_in_post pre post name (inr alone) = (and_parts (is_in is_code_class post name) (not (is_there pre name)) alone).0
 
-none_at : (P : NormalSection → Type 0) (xs : List NormalSection) → NoneIs P xs → (i : ℕ) (s : NormalSection) →
+pub none_at : (P : NormalSection → Type 0) (xs : List NormalSection) → NoneIs P xs → (i : ℕ) (s : NormalSection) →
     slice_get xs i ≡ Some s → P s → ⊥
 none_at P [] none i s at = absurd cc
 none_at P (x ∷ xs) none zero s at = let same : x ≡ s = same_Some x s at in

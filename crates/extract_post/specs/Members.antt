@@ -1,6 +1,7 @@
 -- Which functions an update replaces, adds and drops, and which data it brings with it.
-use Rattle.std.specs.Prelude.{IsTrue, ◌⊎◌, ℕ, Bool, not, ◌&&◌, List, is_some}
+use Rattle.std.specs.Prelude.{◌≡◌, IsTrue, ◌⊎◌, ℕ, Bool, not, ◌&&◌, List, [], All, is_some}
 use Rattle.i386_reloc.specs.declared.types.Class.{Class}
+use Rattle.i386_reloc.specs.declared.types.Class.TheVariants.{Strings}
 use Rattle.i386_reloc.specs.declared.types.NormalSection.{NormalSection}
 use Rattle.i386_reloc.specs.Classes.{is_code_class}
 use Rattle.i386_reloc.specs.Normal.{section_named}
@@ -81,3 +82,7 @@ pub record IsCarried (pre post : List NormalSection) (name : List ℕ) : Type 0 
   pub from : List ℕ
   pub brought : (Member pre post from × IsTrue (is_in is_code_class post from)) ⊎ IsTrue (is_new_data pre post from)
   pub reaches : Reaches post from name
+
+-- no section of texts has a reference
+abbrev pub TextsReferToNothing : List NormalSection → Type 0
+TextsReferToNothing sections = All (λ section. section.class ≡ Strings → section.refs ≡ []) sections
