@@ -5,3 +5,5 @@ pub mod Extract
 pub mod Extracted
 pub mod Roles
 pub mod inside
+-- Definitions of crates below that other rooms cite, and that come through this one.
+pub use Rattle.section_equal.specs.Same

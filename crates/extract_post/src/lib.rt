@@ -20,7 +20,9 @@ mod roles;
 mod types;
 
 pub use crate::extracting::extract;
-pub use crate::laws::{extract_is_computed, objects_have_one_extract};
+pub use crate::laws::{
+    extract_is_computed, objects_have_one_extract, placed_sections_bring_what_they_name,
+};
 pub use crate::role::Role;
 pub use crate::roles::roles_of;
 pub use crate::types::Extract;
