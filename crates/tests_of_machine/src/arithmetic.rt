@@ -180,12 +180,12 @@ fn operations(rt: HostRuntime) {
     for row in &BINARY {
         let (operation, width, a, b, before, value, after) = *row;
         let given = binary(operation, width, a, b, flags(before));
-        assert_eq!(rt; given, (value, flags(after)), "{row:?}");
+        assert_eq!(rt; given, (value, flags(after)), "{a} {b} {before}");
     }
     for row in &UNARY {
         let (operation, width, a, before, value, after) = *row;
         let given = unary(operation, width, a, flags(before));
-        assert_eq!(rt; given, (value, flags(after)), "{row:?}");
+        assert_eq!(rt; given, (value, flags(after)), "{a} {before}");
     }
 }
 
@@ -197,21 +197,21 @@ fn shifts(rt: HostRuntime) {
             Shl | Shr | Sar => shift(operation, width, a, count, flags(before)),
             Rol | Ror => shift(operation, W32, a, count, flags(before)),
         };
-        assert_eq!(rt; given, value, "{row:?}");
+        assert_eq!(rt; given, value, "{a} {count} {before}");
         assert_eq!(rt;
             defined_of(changed, flags(defined)),
             flags(after),
-            "{row:?}"
+            "{a} {count} {before}"
         );
     }
     for row in &ROTATIONS {
         let (operation, a, count, before, value, after, defined) = *row;
         let (given, changed) = shift(operation, W32, a, count, flags(before));
-        assert_eq!(rt; given, value, "{row:?}");
+        assert_eq!(rt; given, value, "{a} {count} {before}");
         assert_eq!(rt;
             defined_of(changed, flags(defined)),
             flags(after),
-            "{row:?}"
+            "{a} {count} {before}"
         );
     }
 }
@@ -221,7 +221,7 @@ fn products(rt: HostRuntime) {
     for row in &PRODUCTS {
         let (signed, width, a, b, product, after) = *row;
         let given = multiply(signed, width, a, b);
-        assert_eq!(rt; given, (product, flags(after)), "{row:?}");
+        assert_eq!(rt; given, (product, flags(after)), "{a} {b}");
     }
 }
 
@@ -229,7 +229,11 @@ fn products(rt: HostRuntime) {
 fn quotients(rt: HostRuntime) {
     for row in &QUOTIENTS {
         let (signed, width, dividend, divisor, both) = *row;
-        assert_eq!(rt; divide(signed, width, dividend, divisor), both, "{row:?}");
+        assert_eq!(rt;
+            divide(signed, width, dividend, divisor),
+            both,
+            "{dividend} {divisor}"
+        );
     }
 }
 

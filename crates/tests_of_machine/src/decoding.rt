@@ -82,12 +82,6 @@ fn fields(rt: HostRuntime) {
 fn operands(rt: HostRuntime) {
     assert_eq!(rt; moved_from(decode(&[0x8B, 0x45, 0xFC])), 0xFFFF_FFFC);
     assert_eq!(rt; moved_from(decode(&[0x8B, 0x85, 4, 3, 2, 1])), 0x0102_0304);
-    assert_eq!(rt;
-        pushed(decode(&[0x55])),
-        Some((Width::Dword, Register::Ebp))
-    );
-    assert_eq!(rt;
-        pushed(decode(&[0x66, 0x57])),
-        Some((Width::Word, Register::Edi))
-    );
+    assert!(rt; pushed(decode(&[0x55])) == Some((Width::Dword, Register::Ebp)));
+    assert!(rt; pushed(decode(&[0x66, 0x57])) == Some((Width::Word, Register::Edi)));
 }
