@@ -4,7 +4,7 @@ ghost use Rattle.std.specs.Option.{option_copied};
 ghost use Rattle.ks_base.specs.Gives.{Gives};
 ghost use Rattle.i386_reloc.specs.Normal.{section_named};
 ghost use Rattle.symbol_table.specs.Symbols.{data_addresses, only_address};
-ghost use Rattle.link_post.specs.Values.{solved_as, needed_by, less, first_object, listed_as, with_value};
+ghost use Rattle.link_post.specs.Values.{with_address, solved_as, needed_by, less, first_object, listed_as, with_value};
 ghost use Rattle.link_post.specs.Values.{with_needed, is_kept_data, resolved_by, references_of, resolved};
 
 use crate::linking::is_data;
@@ -152,6 +152,21 @@ fn resolve(
     if solved_as(values, &which).is_some() {
         return Ok(());
     }
+    add_listed(alloc, post, table, values, which)
+}
+
+/// Adds the address that the running program lists for an unknown that has no value yet.
+fn add_listed(
+    alloc: Global,
+    post: &Normal<'_>,
+    table: &SymbolTable,
+    values: &mut Values,
+    which: Unknown,
+) -> Result<(), Refusal>
+    requires { solved_as values.old.entries which ≡ None }
+    ensures { Gives (λ _. values.new.entries) result
+        (with_address values.old.entries which (listed_as post.now table.now.symbols which)) }
+{
     let address = listed_as(alloc, post, table, &which)?;
     add_address(values, which, address)?;
     Ok(())
