@@ -81,7 +81,7 @@ def text_bytes(part):
 
 
 def one_text(part):
-    """One text of megabytes, and many references to its front."""
+    """One text of megabytes, and many references to its beginning."""
     texts = b"a" * (text_bytes(part) - 1) + b"\0"
     places = [0] * int(RELOCATIONS * part)
     return over_texts(texts, places, texts, places)

@@ -34,7 +34,7 @@ def unit(pre, others=()):
 
 
 def fits(name, pre, runs, *told, others=(), parts=(), **more):
-    """f, beside code that it matches, and what is told besides of f's address."""
+    """f, beside code that it matches, and what is reported besides f's address."""
     return match(name, image(at(0x00100000, "f", runs), *parts, **more), unit(pre, others), "code f 0x00100000", *told)
 
 
@@ -52,7 +52,7 @@ def undecoded(name, pre, offset, *others):
 
 
 FIRST = 0, 0, 0x00100000
-# the second pair, behind an instruction of five bytes in both, or of one
+# the second pair, after an instruction of five bytes in both, or of one
 SECOND, NEXT = (1, 5, 0x00100005), (1, 1, 0x00100001)
 THIRD_TEXT = 2, 10, 0x0010000A
 

@@ -3,7 +3,7 @@ from .encode import at, image
 from .files import APPLIED, COLD, COLD_FILES, DROPPED_COLD, FIRST_TO_SECOND, program, sp_program
 from .rows import run
 
-# pushes the address behind its return, and returns: to a jump to itself
+# pushes the address after its return, and returns: to a jump to itself
 RETURNER = image(at(0x00100000, "j", "68 06 00 10 00 C3 EB FE"))
 RETURNED = [("spawn j 0", "spawned 0 0x00100000 j+0x0"), ("step 0 3", "stepped 0 3 running 0x00100006 j+0x6")]
 

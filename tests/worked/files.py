@@ -39,7 +39,7 @@ def program(*parts, **more):
 
 
 PROGRAM = program()
-# the same without padding behind main, and with more room
+# the same without padding after main, and with more room
 BARE_F = at(0x00100000, "f", "B8 01 00 00 00 C3")
 BARE_PROGRAM = image(BARE_F, at(0x00100010, "main", "E8 EB FF FF FF C3"),
                      stacks=four_stacks(0x05000000, 0x10000), arena=(0x04000000, 0x04100000))

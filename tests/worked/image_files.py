@@ -5,7 +5,7 @@ from .rows import call, code, run
 
 # where the stack stands in the image of f and main, and where the image ends
 STACK, END = len(PROGRAM) - 8, len(PROGRAM)
-# a field's offset and another value for it, and the offset and kind that are told
+# a field's offset and another value for it, and the offset and kind that are reported
 FIELDS = {
     "too-many-regions": (4, 1025, 4, "limit"),
     "too-many-symbols": (8, 65537, 8, "limit"),
@@ -30,9 +30,9 @@ WHOLE = image(at(0x00100000, None, "90 C3"), regions=[read_only(0x00100002, "07 
                        variable(0x00200000, "w")],
               stacks=[(0x02000000, 0x02000100), (0x02000100, 0x02000120)], arena=(0x00800000, 0x00900000))
 MARK, REGIONS, SYMBOLS, STACKS, LOW, HIGH = 0, 4, 8, 12, 16, 20
-CODE, CONSTANTS, VARIABLES = 24, 38, 53  # a region's kind; its base and its length stand 4 and 8 behind it
-MAIN, TWO, W = 66, 86, 105  # a symbol's address; its kind, its binding, its name's length and its name stand behind it
-FIRST, SECOND = 122, 130  # a stack's low; its high stands 4 behind it
+CODE, CONSTANTS, VARIABLES = 24, 38, 53  # a region's kind; its base and its length stand 4 and 8 after it
+MAIN, TWO, W = 66, 86, 105  # a symbol's address; its kind, its binding, its name's length and its name stand after it
+FIRST, SECOND = 122, 130  # a stack's low; its high stands 4 after it
 BASE, LENGTH, KIND, BINDING, NAME_LENGTH, NAME, TOP = 4, 8, 4, 8, 12, 16, 4
 # other fields with which it is still an image
 ACCEPTED = {
@@ -53,7 +53,7 @@ ACCEPTED = {
     "the-highest-stack": {SECOND: 0xFFFEFFE0, SECOND + TOP: 0xFFFF0000},
     "as-large-stacks-as-may-be": {FIRST + TOP: 0x02FFFFE0, SECOND: 0x02FFFFE0, SECOND + TOP: 0x03000000},
 }
-# other fields with which it is none, and the offset and kind that are told
+# other fields with which it is none, and the offset and kind that are reported
 REFUSED = {
     "as-many-regions-as-may-be": ({REGIONS: 1024}, MAIN, "kind"),
     "as-many-symbols-as-may-be": ({SYMBOLS: 65536}, FIRST + 4, "kind"),

@@ -45,7 +45,7 @@ def of_relocation(field, value):
 
 
 def whole(section, field, value, more=b""):
-    """The object with another field in the header of a section, and with bytes behind it."""
+    """The object with another field in the header of a section, and with bytes after it."""
     return edit(WHOLE, header_at(WHOLE, section) + field, value) + more
 
 

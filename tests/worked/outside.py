@@ -3,7 +3,7 @@ from .encode import obj, sec
 from .files import F_FIRST_TO_SECOND, OLD_RUNS, PROGRAM, f_alone, f_and_main
 from .rows import FOLDER, call, diff, match, run
 
-# words behind a command that has two
+# words after a command that has two
 OTHER_WORDS = {"alone": "", "with-one-word": "a", "with-three-words": "a b c", "with-a-dash": "a -b"}
 # f, by another name
 BELL = obj(sec(".text.f", "B8 01 00 00 00 C3", functions={"\x07": 0}))

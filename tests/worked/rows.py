@@ -43,6 +43,6 @@ def match(name, image, pre, *output, **more):
 
 
 def run(name, image, lines, files=None, **more):
-    """A session of these lines of a script, each a tuple with the lines of its reply behind it."""
+    """A session of these lines of a script, each a tuple with the lines of its reply after it."""
     files = {"image.kim": image, "script.txt": script(*(line for line, *_ in lines)), **(files or {})}
     return call(name, "run image.kim script.txt", files, *(said for _, *reply in lines for said in reply), **more)

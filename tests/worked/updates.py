@@ -6,7 +6,7 @@ from .files import (APPLIED, APPLY, BARE_F, COLD, COLD_FILES, COLD_UNIT, F_FIRST
                     f_and_main, f_calling, f_reading, f_section, loop_unit, program, table_unit)
 from .rows import run
 
-# z has three bytes, in the program with padding behind it
+# z has three bytes, in the program with padding after it
 Z_PART = at(0x00100000, "z", "31 C0 C3 90*13")
 Z_SECTION, NEW_Z_SECTION = sec(".text.z", "31 C0 C3"), sec(".text.z", "B8 01 00 00 00 C3")
 Z_FILES = {"pre.o": obj(Z_SECTION), "post.o": obj(NEW_Z_SECTION)}
