@@ -24,4 +24,5 @@ pub mod StackLaws
 pub mod MoveLaws
 pub mod StartLaws
 pub mod UpdateLaws
+pub mod PremiseLaws
 pub mod RanLaws

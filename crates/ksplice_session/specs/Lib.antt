@@ -1,5 +1,6 @@
 -- Public clauses cite Session (a whole session and its ends), by Watching, Replies, Answers, Running, Lines and Places,
--- and Safety (what the discipline of a run is good for). What `inside` holds is the code's own.
+-- Safety (what the discipline of a run is good for) and Premise (that `watch` prints whether a run keeps it). What
+-- `inside` holds is the code's own.
 pub mod Places
 pub mod Lines
 pub mod Running
@@ -8,4 +9,5 @@ pub mod Replies
 pub mod Answers
 pub mod Session
 pub mod Safety
+pub mod Premise
 pub mod inside

@@ -1,5 +1,9 @@
-//! What a disciplined run is spared.
+//! What a disciplined run is spared, and how a user learns that a run is one.
+ghost use Rattle.std.specs.Prelude.{ℕ, List};
+ghost use Rattle.ksplice_session.specs.Watching.{Watched};
+ghost use Rattle.ksplice_session.specs.Session.{Ran};
 ghost use Rattle.ksplice_session.specs.Safety.{OpenFramesKeepWindows, NoReturnIsLost};
+ghost use Rattle.ksplice_session.specs.Premise.{TellsDiscipline};
 
 use ia32_step::instructions_are_never_stray;
 use update_safety::{
@@ -24,3 +28,10 @@ pub fn disciplined_runs_are_safe()
     machines_are_built();
     instructions_are_never_stray();
 }
+
+/// The lines of a script leave the machine and the watch that their events leave, one after another; and where the line
+/// `watch` comes after them, it replies `watch disciplined` exactly where these events keep the discipline. So what it
+/// prints is the premise of [`disciplined_runs_are_safe`], for the run up to that line.
+pub fn watch_prints_the_premise()
+    ensures { (k : Watched) (before : List Ran) (held : List (List ℕ)) → TellsDiscipline k before held }
+{}

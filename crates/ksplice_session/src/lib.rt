@@ -12,7 +12,7 @@ mod session;
 mod stepping;
 mod types;
 
-pub use crate::laws::disciplined_runs_are_safe;
+pub use crate::laws::{disciplined_runs_are_safe, watch_prints_the_premise};
 pub use answers::answer;
 pub use files::{OBJECT_LIMIT, write_file_line};
 pub use lines::{
