@@ -6,6 +6,7 @@ pub mod Pages
 pub mod OneLoading
 pub mod OneAnswer
 pub mod Promised
+pub mod Complete
 pub mod Readers
 pub mod Sessions
 pub mod Solutions

@@ -231,3 +231,22 @@ same_loads files asked held held' lost lost' before now before' now' one other l
     (ended files _ lost before now loads.ends (whole_call asked held lost one is ample))
     (ended files _ lost' before' now' loads'.ends (whole_call asked held' lost' other is' ample'))
     (fails_as held held' lost lost' failed) (fails_as held' held lost' lost (sym failed))
+
+-- loads that were all made have ended
+all_made : (files : List ℕ → Option (List ℕ)) (first : Option Needed) → first ≡ None → Ended files first None
+unfolding Ended
+all_made files None is = refl
+all_made files (Some file) is = absurd (cc)
+
+-- the loads for an answer of which the outside failed none hold all files, where all are given
+pub all_are_loaded : (files : List ℕ → Option (List ℕ)) (asked : Option Asked) (held all : List (List ℕ))
+    (lost : Option FileFault) (before now : Counts) (answer : Answer)
+    → CameTo (Some files) (needed asked held) held lost before now
+    → AreHeld (Some files) (needed asked all) all → first_lacking (needed asked all) all ≡ None
+    → (lost ≡ Some Failed → ⊥) → IsAnswer asked held lost answer → (answer.status ≡ 6 → ⊥)
+    → (held ≡ all) × (lost ≡ None)
+unfolding FailsAs
+all_are_loaded files asked held all lost before now answer loads given whole sound one ample =
+    same_call files asked held all lost None loads.are_held given
+    (ended files _ lost before now loads.ends (whole_call asked held lost answer one ample))
+    (all_made files _ whole) (λ e. absurd (sound e)) (λ e. absurd (cc))

@@ -1,5 +1,5 @@
 -- What the status of a call tells, whatever the files are.
-use Rattle.std.specs.Prelude.{◌≡◌, ℕ, ◌<◌, List, [], ◌∷◌, ◌++◌, Option, Some, None, Result, Ok, Err}
+use Rattle.std.specs.Prelude.{◌≡◌, ◌⊎◌, ℕ, ◌<◌, List, [], ◌∷◌, ◌++◌, Option, Some, None, Result, Ok, Err}
 use Rattle.ks_base.specs.declared.refusals.Refusal.{Refusal}
 use Rattle.ks_io.specs.Loads.{Needed, Told, AreHeld, IsLost, first_lacking}
 use Rattle.ks_io.specs.Outside.{Counts, IsLonger, grown}
@@ -23,6 +23,20 @@ pub record RepliesSome (asked : Option Asked) (told : Told) (old new : Option (L
   pub answer : Answer
   pub reply : IsReplyTo command held lost answer
   pub comes_out : ComesOut answer old new status
+
+-- Each file that a call needs is given, and is no longer than its limit: these are the bytes of all of them, in order.
+pub record AllAreGiven (asked : Option Asked) (files : List ℕ → Option (List ℕ)) (all : List (List ℕ)) : Type 0 where
+  pub are_given : AreHeld (Some files) (needed asked all) all
+  pub none_lacks : first_lacking (needed asked all) all ≡ None
+
+-- The whole reply came out that these files have, with its status.
+pub record RepliesWhole
+    (command : Asked) (all : List (List ℕ)) (old new : Option (List ℕ)) (status : ℕ) : Type 0 where
+  pub answer : Answer
+  pub reply : IsReplyTo command all None answer
+  pub whole : new ≡ grown old answer.output
+  pub ends : status ≡ answer.status
+  pub replied : (status ≡ 0) ⊎ (status ≡ 3) ⊎ (status ≡ 7)
 
 -- the replies to the lines of a session before the first that lacks a file, by the bytes of the files that were held
 abbrev pub session_replies : Result (Watched × List Command) Refusal → List (List ℕ) → List ℕ

@@ -1,11 +1,11 @@
 //! What holds of the answers to every call.
 ghost use Rattle.std.specs.Prelude.{◌≡◌, ◌≢◌, ◌⊎◌, ℕ, List, Option, Some, None};
 ghost use Rattle.ks_io.specs.Loads.{Told, CameTo, LosesOne};
-ghost use Rattle.ks_io.specs.Outside.{Counts};
+ghost use Rattle.ks_io.specs.Outside.{Counts, Rose};
 ghost use Rattle.ks_io.specs.declared.types.FileFault.{FileFault};
 ghost use Rattle.ksplice_calls.specs.Answer.{Answer, ComesOut, usage_answer};
 ghost use Rattle.ksplice_calls.specs.Calls.{Answers, IsAnswer, failed_load, needed};
-ghost use Rattle.ksplice_calls.specs.Promises.{RepliesSome, EndsWithFile, CountsTellOf};
+ghost use Rattle.ksplice_calls.specs.Promises.{RepliesSome, AllAreGiven, RepliesWhole, EndsWithFile, CountsTellOf};
 ghost use Rattle.ksplice_calls.specs.Words.{Asked};
 
 use extract_post::objects_have_one_extract;
@@ -37,6 +37,14 @@ pub fn answers_tell()
         (told : Told) (before now : Counts) (old new : Option (List ℕ)) (status : ℕ)
         → Answers asked told before now old new status
         → (status ≡ 0) ⊎ (status ≡ 3) ⊎ (status ≡ 7) → RepliesSome asked told old new status }
+
+    // Where the words have a reading, each file that the call needs is given, within its limit, and neither the files
+    // nor the sink have a fault, the whole reply comes out with 0, 3 or 7, or memory runs out.
+    ensures complete { (command : Asked) (files : List ℕ → Option (List ℕ)) (all : List (List ℕ))
+        (before now : Counts) (old new : Option (List ℕ)) (status : ℕ)
+        → Answers (Some command) (Some files) before now old new status → AllAreGiven (Some command) files all
+        → (Rose before.faults now.faults → ⊥) → status ≢ 5
+        → (status ≡ 6) ⊎ RepliesWhole command all old new status }
 
     // 4 comes only with the line of the first file that the call lacks, after the replies to the lines before it, and
     // the file's fault shows in its count.
