@@ -4,7 +4,7 @@ program=ksplice_cli
 proved=$top/crates/$program/out/$program # the gate puts the program there that it proves, too
 unproved=$top/out/unproved/$program
 
-# the program's crate behind those that it stands on, lowest first, as crates.txt has them
+# the crates that the program stands on, lowest first, and then its own, as crates.txt has them
 crates=$(awk -F '[: ]+' -v program="$program" '
     !/^#/ && NF { name[++count] = $1; uses[$1] = $0 }
     END {
