@@ -359,7 +359,7 @@ claimed c m at is =
     (all_claimed c (all_found c) (all_found_stand c none) (statements c (all_found c)) (all_had c none)))
 
 -- where names are distinct, a section stands at the place of its name
-name_apart : (name : List ℕ) (sections : List NormalSection) →
+pub name_apart : (name : List ℕ) (sections : List NormalSection) →
     AllByRecursion (λ other. same_bytes name other ≡ false) (map name_of sections) → (i : ℕ) (s : NormalSection) →
     slice_get sections i ≡ Some s → same_bytes name s.name ≡ false
 name_apart name [] others i s at = absurd cc

@@ -8,6 +8,7 @@ use Rattle.std.proofs.lemmas.Bool.{cases_Bool, eqb-true, eq-eqb}
 use Rattle.std.proofs.lemmas.List.Elements.{All-nil, All-weaker, All-append, All-map}
 use Rattle.std.proofs.lemmas.List.Elements.{All-contains, All-contains_itself, Contains-append_left}
 use Rattle.std.proofs.lemmas.List.Elements.{Contains-append_right}
+use Rattle.ks_base.specs.declared.places.Spot.{Spot}
 use Rattle.i386_reloc.specs.declared.types.Ref.{Ref}
 use Rattle.i386_reloc.specs.declared.types.NormalSection.{NormalSection}
 use Rattle.symbol_table.specs.declared.values.Unknown.{Unknown}
@@ -18,12 +19,13 @@ use Rattle.run_pre_match.specs.declared.types.Interior.{Interior}
 use Rattle.run_pre_match.specs.declared.types.Matched.{Matched}
 use Rattle.run_pre_match.specs.Candidate.{Candidate, Pair, pairs}
 use Rattle.run_pre_match.specs.Goals.{interior_address}
-use Rattle.run_pre_match.specs.Found.{Found, first_value, given_in_pair, given_in_constant, all_found}
-use Rattle.run_pre_match.specs.Matched.{Statement, stated_in_pair, stated_by_pair, stated_in_constant, stated_at}
-use Rattle.run_pre_match.specs.Matched.{stated_from, statements, name_at, unknown_of, claim_about, claim_of, home_claim}
-use Rattle.run_pre_match.specs.Matched.{interior_at, interior_of, matched_by, outcome}
+use Rattle.run_pre_match.specs.Found.{Found, first_value, all_found}
+use Rattle.run_pre_match.specs.Matched.{Statement, spot_at, stated_in_pair, stated_by_pair, stated_in_constant}
+use Rattle.run_pre_match.specs.Matched.{stated_at, stated_from, statements, name_at, unknown_of, claim_about, claim_of}
+use Rattle.run_pre_match.specs.Matched.{home_claim, interior_at, interior_of, matched_by, outcome}
 use Rattle.run_pre_match.specs.Match.{Valuation, is_valued, IsField, InCode, InConstant, IsMeant, Match, IsSaid}
 use Rattle.run_pre_match.specs.Match.{IsClaimed, IsNamed, Says}
+use Rattle.run_pre_match.specs.Places.{IsFieldAt, AtCode, AtConstant}
 use Rattle.run_pre_match.proofs.Claims.{no_difference, all_stated, Claimed, claimed}
 use Rattle.run_pre_match.proofs.Valuations.{matches, one_valuation}
 use Rattle.run_pre_match.proofs.ListParts.{front, behind, each_of, unmapped, all_flat, SaysAll, all_said, contains_said}
@@ -47,14 +49,26 @@ each_stated P c found place (s ∷ sections) all (suc k) section at =
     (behind P (stated_at c s (first_value found (Constant place))) (stated_from c found (suc place) sections) all) k
     section at)
 
--- all that is said is what fields give that count
-abbrev Firsts : Candidate → Valuation
+-- a field that counts, at its place and by itself
+field_of : (c : Candidate) (v : Valuation) (spot : Spot) (field : Given) → IsFieldAt c v spot field → IsField c v field
+field_of c v spot field (AtCode pair r in_pairs in_pair) = InCode pair r in_pairs in_pair
+field_of c v spot field (AtConstant by place base section r counts goes value at in_section) =
+    InConstant by place base section r counts goes value at in_section
+
+spot_of : (c : Candidate) (v : Valuation) (field : Given) → IsField c v field → (spot : Spot) × IsFieldAt c v spot field
+spot_of c v field (InCode pair r in_pairs in_pair) =
+    (spot_at c.section.name r.offset, AtCode pair r in_pairs in_pair)
+spot_of c v field (InConstant by place base section r counts goes value at in_section) =
+    (spot_at section.name r.offset, AtConstant by place base section r counts goes value at in_section)
+
+-- all that is said is what fields give that count, each at its place
+abbrev pub Firsts : Candidate → Valuation
 Firsts c = first_value (all_found c)
 
-abbrev SaysField : Candidate → Statement → Type 0
-SaysField c s = IsField c (Firsts c) s.given
+abbrev pub SaysField : Candidate → Statement → Type 0
+SaysField c s = IsFieldAt c (Firsts c) s.spot s.given
 
-constant_meant : (c : Candidate) → Match c (Firsts c) → (place base : ℕ) → Firsts c (Constant place) ≡ Some base →
+pub constant_meant : (c : Candidate) → Match c (Firsts c) → (place base : ℕ) → Firsts c (Constant place) ≡ Some base →
     IsMeant c (Firsts c) (Constant place)
 constant_meant c m place base is = elim (m.no_more (Constant place) base is).1 [
   | inl own ↦ absurd cc
@@ -69,18 +83,18 @@ stated_field c m place section None at is = All-nil (SaysField c)
 stated_field c m place section (Some base) at is =
     let by = constant_meant c m place base is in
     All-map (SaysField c) (stated_in_constant c section base) section.refs
-    (All-weaker (Contains section.refs) (λ (r : Ref). IsField c (Firsts c) (given_in_constant c base r))
-    (λ r here. InConstant by.field place base section r by.counts by.goes_there is at here) section.refs
+    (All-weaker (Contains section.refs) (λ (r : Ref). SaysField c (stated_in_constant c section base r))
+    (λ r here. AtConstant by.field place base section r by.counts by.goes_there is at here) section.refs
     (All-contains_itself section.refs))
 
 pair_fields : (c : Candidate) (pair : Pair) → Contains (pairs c) pair → All (SaysField c) (stated_by_pair c pair)
 pair_fields c pair has =
     All-map (SaysField c) (stated_in_pair c pair) pair.pre.references
-    (All-weaker (Contains pair.pre.references) (λ (r : Ref). IsField c (Firsts c) (given_in_pair c pair r))
-    (λ r here. InCode pair r has here) pair.pre.references
+    (All-weaker (Contains pair.pre.references) (λ (r : Ref). SaysField c (stated_in_pair c pair r))
+    (λ r here. AtCode pair r has here) pair.pre.references
     (All-contains_itself pair.pre.references))
 
-all_fields : (c : Candidate) → Match c (Firsts c) → All (SaysField c) (statements c (all_found c))
+pub all_fields : (c : Candidate) → Match c (Firsts c) → All (SaysField c) (statements c (all_found c))
 all_fields c m =
     All-append (SaysField c) (flat_map (stated_by_pair c) (pairs c)) (stated_from c (all_found c) 0 c.object)
     (all_flat (SaysField c) (stated_by_pair c) (pairs c)
@@ -92,25 +106,20 @@ all_fields c m =
     (subst (λ (n : ℕ). slice_get c.object n ≡ Some section) same at) refl))
 
 -- and each such field says what it gives
-record IsStated (c : Candidate) (field : Given) : Type 0 where
-  statement : Statement
-  made : Contains (statements c (all_found c)) statement
-  is : statement.given ≡ field
+abbrev pub statement_at : Spot → Given → Statement
+statement_at spot field = record { spot = spot; given = field }
 
-field_stated : (c : Candidate) (field : Given) → IsField c (Firsts c) field → IsStated c field
-field_stated c field (InCode pair r in_pairs in_pair) =
+pub field_stated : (c : Candidate) (spot : Spot) (field : Given) → IsFieldAt c (Firsts c) spot field →
+    Contains (statements c (all_found c)) (statement_at spot field)
+field_stated c spot field (AtCode pair r in_pairs in_pair) =
     let P : Statement → Type 0 = Contains (statements c (all_found c)) in
     let of_pairs = each_of P (stated_by_pair c) (pairs c)
     (front P (flat_map (stated_by_pair c) (pairs c)) (stated_from c (all_found c) 0 c.object)
     (All-contains_itself (statements c (all_found c)))) in
     let of_pair = unmapped P (stated_in_pair c pair) pair.pre.references
     (All-contains (λ (pair : Pair). All P (stated_by_pair c pair)) (pairs c) pair of_pairs in_pairs) in
-    record {
-      statement = stated_in_pair c pair r;
-      made = All-contains (λ (r : Ref). P (stated_in_pair c pair r)) pair.pre.references r of_pair in_pair;
-      is = refl;
-    }
-field_stated c field (InConstant by place base section r counts goes value at in_section) =
+    All-contains (λ (r : Ref). P (stated_in_pair c pair r)) pair.pre.references r of_pair in_pair
+field_stated c spot field (AtConstant by place base section r counts goes value at in_section) =
     let P : Statement → Type 0 = Contains (statements c (all_found c)) in
     let same : place + 0 ≡ place = omega arith in
     let there = each_stated P c (all_found c) 0 c.object
@@ -118,15 +127,11 @@ field_stated c field (InConstant by place base section r counts goes value at in
     (All-contains_itself (statements c (all_found c)))) place section at in
     let here : All P (stated_at c section (Some base)) =
     subst (λ (o : Option ℕ). All P (stated_at c section o)) (ap (λ n. Firsts c (Constant n)) same ∙ value) there in
-    record {
-      statement = stated_in_constant c section base r;
-      made = All-contains (λ (r : Ref). P (stated_in_constant c section base r)) section.refs r
-          (unmapped P (stated_in_constant c section base) section.refs here) in_section;
-      is = refl;
-    }
+    All-contains (λ (r : Ref). P (stated_in_constant c section base r)) section.refs r
+    (unmapped P (stated_in_constant c section base) section.refs here) in_section
 
 -- interiors that are said
-abbrev interior_by : Candidate → Statement → ℕ → ℕ → Interior
+abbrev pub interior_by : Candidate → Statement → ℕ → ℕ → Interior
 interior_by c s place offset = record {
   section = name_at c place;
   offset = offset;
@@ -135,7 +140,7 @@ interior_by c s place offset = record {
   place = s.spot;
 }
 
-named_in : (c : Candidate) (s : Statement) (interior : Interior) (goal : Goal) → s.given.goal ≡ goal →
+pub named_in : (c : Candidate) (s : Statement) (interior : Interior) (goal : Goal) → s.given.goal ≡ goal →
     interior_at c s goal ≡ Some interior → IsNamed c interior s.given
 named_in c s interior (Inside place offset) goes is = elim (cases_Bool (place == c.place)) [
   | inl own ↦ absurd (let none : interior_at c s (Inside place offset) ≡ None = rw own refl in cc)
@@ -156,15 +161,15 @@ named_in c s interior (Constant place) goes is = absurd cc
 named_in c s interior (Outside name) goes is = absurd cc
 named_in c s interior (Text place offset text) goes is = absurd cc
 
-said_other : (c : Candidate) (s : Statement) (place offset : ℕ) → s.given.goal ≡ Inside place offset → place ≢ c.place →
-    interior_of c s ≡ Some (interior_by c s place offset)
+pub said_other : (c : Candidate) (s : Statement) (place offset : ℕ) → s.given.goal ≡ Inside place offset →
+    place ≢ c.place → interior_of c s ≡ Some (interior_by c s place offset)
 said_other c s place offset goes other = ap (interior_at c s) goes ∙ elim (cases_Bool (place == c.place)) [
   | inl own ↦ absurd (other (eqb-true place c.place own))
   | inr apart ↦ rw apart refl
 ]
 
 -- what a match says
-abbrev Made : Candidate → Matched
+abbrev pub Made : Candidate → Matched
 Made c = matched_by c (statements c (all_found c))
 
 all_claimed : (c : Candidate) → slice_get c.object c.place ≡ Some c.section → Match c (Firsts c) →
@@ -184,20 +189,19 @@ all_claimed c at m goal about value speaks is =
             says = cc;
           }
       | inr by ↦
-          let s = field_stated c by.field by.counts in
-          let goes : s.statement.given.goal ≡ goal = ap (λ (g : Given). g.goal) s.is ∙ by.goes_there in
-          let says : claim_of c s.statement ≡ Some (claim_about s.statement about) =
-          ap (option_map (claim_about s.statement)) (ap (unknown_of c) goes ∙ speaks) in
+          let (spot, stands) = spot_of c (Firsts c) by.field by.counts in
+          let s : Statement = statement_at spot by.field in
+          let says : claim_of c s ≡ Some (claim_about s about) =
+          ap (option_map (claim_about s)) (ap (unknown_of c) by.goes_there ∙ speaks) in
           let gives : Firsts c goal ≡ Some by.field.value =
           ap (Firsts c) (sym by.goes_there)
           ∙ m.one_value by.field by.counts (ap is_valued by.goes_there ∙ valued) in
-          let same : s.statement.given.value ≡ by.field.value = ap (λ (g : Given). g.value) s.is in
           record {
-            claim = claim_about s.statement about;
+            claim = claim_about s about;
             made = Contains-append_right (home_claim c ∷ []) (filter_map (claim_of c) (statements c (all_found c)))
-                (claim_about s.statement about)
-                (contains_said (claim_of c) (statements c (all_found c)) s.statement
-                (claim_about s.statement about) s.made says);
+                (claim_about s about)
+                (contains_said (claim_of c) (statements c (all_found c)) s (claim_about s about)
+                (field_stated c spot by.field stands) says);
             speaks = refl;
             says = cc;
           }
@@ -215,22 +219,16 @@ says c at is m = record {
       (interior_of c) (statements c (all_found c))
       (All-weaker (SaysField c) (SaysAll (λ (interior : Interior). (field : Given) × IsField c (Firsts c) field
       × IsNamed c interior field) (interior_of c))
-      (λ s counts interior e. (s.given, counts, named_in c s interior s.given.goal refl e)) (statements c (all_found c))
-      (all_fields c m));
+      (λ s stands interior e.
+      (s.given, field_of c (Firsts c) s.spot s.given stands, named_in c s interior s.given.goal refl e))
+      (statements c (all_found c)) (all_fields c m));
   all_interiors = λ field place offset counts goes other.
-      let s = field_stated c field counts in
-      let there : s.statement.given.goal ≡ Inside place offset = ap (λ (g : Given). g.goal) s.is ∙ goes in (
-        interior_by c s.statement place offset,
-        contains_said (interior_of c) (statements c (all_found c)) s.statement
-            (interior_by c s.statement place offset) s.made (said_other c s.statement place offset there other),
-        record {
-          place = place;
-          goes = goes;
-          other = other;
-          section = refl;
-          address =
-              ap (λ (g : Given). interior_address g.value offset) s.is;
-        },
+      let (spot, stands) = spot_of c (Firsts c) field counts in
+      let s : Statement = statement_at spot field in (
+        interior_by c s place offset,
+        contains_said (interior_of c) (statements c (all_found c)) s (interior_by c s place offset)
+            (field_stated c spot field stands) (said_other c s place offset goes other),
+        record { place = place; goes = goes; other = other; section = refl; address = refl },
       );
 }
 

@@ -26,11 +26,14 @@ goal_in_section r place class =
     if is_code_class class then goal_in_code r place else if is_read_only_class class then Constant place
     else Variable place
 
--- a name that no section of the object has could only be an outside one
+-- In an object that was read the section that a reference names is there, so that its place has a section. The case
+-- without one, where the name would be an outside one, never comes.
 abbrev pub goal_at_place : Ref → List ℕ → ℕ → Option NormalSection → Goal
 goal_at_place r name place None = Outside name
 goal_at_place r name place (Some section) = goal_in_section r place section.class
 
+-- There each section that is named has a place, too: that a section without one would be an outside name, and a text
+-- without one would be at place 0, never comes, either.
 abbrev pub goal_to : List NormalSection → Ref → Option ℕ → Target → Goal
 goal_to object r place (target.Outside name) = Outside name
 goal_to object r place (target.Text name offset text) = Text (unwrap_or place 0) offset text

@@ -124,8 +124,8 @@ pub record IsNamed (c : Candidate) (interior : Interior) (field : Given) : Type 
   pub address : interior.address ≡ interior_address field.value interior.offset
 
 -- What is said of a match: the values that its valuation gives but for those of read-only sections, none left out and
--- no other, and the interiors of other code sections to which its fields go. Matched says how often, in which order and
--- at which places they are reported.
+-- no other, and the interiors of other code sections to which its fields go. Places says where claims and interiors
+-- stand, and Matched in which order they are reported.
 pub record Says (c : Candidate) (v : Valuation) (m : Matched) : Type 0 where
   pub claims : All (IsSaid c v) m.claims
   pub all_claims : (goal : Goal) (about : Unknown) (value : ℕ) → unknown_of c goal ≡ Some about →

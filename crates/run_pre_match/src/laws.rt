@@ -1,19 +1,23 @@
 //! What holds of every match.
-ghost use Rattle.std.specs.Prelude.{◌≡◌, ◌<◌, ◌≤◌, ℕ, ◌+◌, List, All, None, Some, Ok, length, map};
-ghost use Rattle.std.specs.List.{Contains, IsDistinct, slice_get};
+ghost use Rattle.std.specs.Prelude.{◌≡◌, ◌≢◌, ◌↔◌, ◌<◌, ◌≤◌, ℕ, ◌+◌, List, ◌∷◌, All, None, Some, Ok, IsTrue};
+ghost use Rattle.std.specs.Prelude.{length, map};
+ghost use Rattle.std.specs.List.{AllPairs, Contains, IsDistinct, slice_get};
+ghost use Rattle.i386_reloc.specs.Classes.{is_code_class};
 ghost use Rattle.i386_reloc.specs.Normal.{same_bytes, name_of};
 ghost use Rattle.i386_reloc.specs.declared.types.NormalSection.{NormalSection};
 ghost use Rattle.image_memory.specs.Contents.{Contents, IsValid};
 ghost use Rattle.run_pre_match.specs.Alike.{AreAlike, HasFieldsInside, in_memory};
 ghost use Rattle.run_pre_match.specs.Bodies.{body_at};
-ghost use Rattle.run_pre_match.specs.Candidate.{Candidate, body_of};
+ghost use Rattle.run_pre_match.specs.Candidate.{Candidate, body_of, same_number};
 ghost use Rattle.match_instructions.specs.Instructions.{kept_of};
 ghost use Rattle.match_instructions.specs.Landing.{undecoded_offset};
-ghost use Rattle.run_pre_match.specs.Match.{Valuation, Match, Says};
+ghost use Rattle.run_pre_match.specs.Match.{Valuation, StandForOne, Match, Says};
 ghost use Rattle.run_pre_match.specs.Matched.{PreSection, home_claim, outcome};
+ghost use Rattle.run_pre_match.specs.Places.{StandAtFields, IsInteriorAt, HasFieldsApart};
 ghost use Rattle.match_instructions.specs.PreCode.{pre_code};
 ghost use Rattle.run_pre_match.specs.declared.goals.Goal.{Goal};
 ghost use Rattle.run_pre_match.specs.declared.types.Claim.{Claim};
+ghost use Rattle.run_pre_match.specs.declared.types.Interior.{Interior};
 ghost use Rattle.run_pre_match.specs.declared.types.Matched.{Matched};
 
 use match_instructions::run_code_goes_on;
@@ -27,6 +31,29 @@ pub fn claims_agree()
     ensures home { (c : Candidate) (m : Matched) → outcome c ≡ Ok m → slice_get m.claims 0 ≡ Some (home_claim c) }
 {}
 
+/// The claims of a match are the own home, at the start of the own section, and then what the fields that count give,
+/// each at the place of its field. If the section is code, and the sections of the object have distinct names, and each
+/// its fields at distinct offsets, no two of the others stand at one place.
+pub fn claims_stand_at_their_fields()
+    ensures places { (c : Candidate) (v : Valuation) (m : Matched) → Match c v → outcome c ≡ Ok m →
+        StandAtFields c v m.claims }
+    ensures once { (c : Candidate) (m : Matched) → slice_get c.object c.place ≡ Some c.section →
+        IsTrue (is_code_class c.section.class) → IsDistinct same_bytes (map name_of c.object) →
+        All HasFieldsApart c.object → outcome c ≡ Ok m → (others : List Claim) → m.claims ≡ home_claim c ∷ others →
+        AllPairs (λ one other. one.place ≢ other.place) others }
+{}
+
+/// The interiors of a match are those of other code sections to which fields that count go, each at the place of its
+/// field; under the same conditions no two of them stand at one place.
+pub fn interiors_stand_at_their_fields()
+    ensures places { (c : Candidate) (v : Valuation) (m : Matched) → Match c v → outcome c ≡ Ok m →
+        (interior : Interior) → (Contains m.interiors interior ↔ IsInteriorAt c v interior) }
+    ensures once { (c : Candidate) (m : Matched) → slice_get c.object c.place ≡ Some c.section →
+        IsTrue (is_code_class c.section.class) → IsDistinct same_bytes (map name_of c.object) →
+        All HasFieldsApart c.object → outcome c ≡ Ok m →
+        AllPairs (λ one other. one.place ≢ other.place) m.interiors }
+{}
+
 /// Where a section's code can be matched, a candidate comes out as a match exactly where some valuation makes it one.
 /// There is no second valuation, and the values and interiors that are reported are what it gives.
 pub fn matches_have_one_valuation()
@@ -35,6 +62,13 @@ pub fn matches_have_one_valuation()
     ensures one { (c : Candidate) (v w : Valuation) → Match c v → Match c w → (goal : Goal) → v goal ≡ w goal }
     ensures says { (c : Candidate) (v : Valuation) (m : Matched) → slice_get c.object c.place ≡ Some c.section →
         Match c v → outcome c ≡ Ok m → Says c v m }
+{}
+
+/// In a match, an address in the running body is found to stand for the number of an offset of the section exactly
+/// where both stand for one number.
+pub fn numbers_stand_for_one()
+    ensures { (c : Candidate) (v : Valuation) (offset address : ℕ) → Match c v →
+        (IsTrue (same_number c offset address) ↔ StandForOne c offset address) }
 {}
 
 /// In memories where the same is met at each address and the same stands in read-only memory, a candidate comes to the

@@ -1,0 +1,9 @@
+use Rattle.run_pre_match.proofs.InteriorPlaces.{interiors_under, each_once}
+use Rattle.run_pre_match.proofs.laws.interiors_stand_at_their_fields.Goals as goal
+
+pub returns-clause-places : goal.returns-clause-places
+returns-clause-places c = interiors_under
+
+pub returns-clause-once : goal.returns-clause-once
+returns-clause-once c = λ candidate m at code distinct fields is.
+    each_once candidate m (record { at = at; code = code; names = distinct }) fields is
