@@ -56,7 +56,7 @@ AreLow = (c : Candidate) (m : Matched) → IsValid c.contents → 0 < length (ke
 
 -- ---- the values of one unknown among some that are put together
 -- one of some, the first where there is none yet
-abbrev first_or : List Value → List Value → List Value
+abbrev pub first_or : List Value → List Value → List Value
 first_or [] [] = []
 first_or [] (v ∷ vs) = v ∷ []
 first_or (a ∷ had) vs = a ∷ had
@@ -144,7 +144,7 @@ one_alone [] v has one = absurd has
 one_alone (x ∷ xs) v has one = ap (λ (w : Value). w ∷ []) (one x (inl refl))
 
 -- ---- the values of a candidate
-matched_as : (o : Result Matched MatchFault) → is_match o ≡ true → (m : Matched) × (o ≡ Ok m)
+pub matched_as : (o : Result Matched MatchFault) → is_match o ≡ true → (m : Matched) × (o ≡ Ok m)
 matched_as (Ok m) is = (m, refl)
 matched_as (Err fault) is = absurd cc
 
@@ -169,7 +169,7 @@ own_value d (Ok m) name w is (inr there) same =
     let (claim, has_claim, inner) = flat_has address_value m.claims w there in
     absurd (no_code claim name (is_code_unknown claim.unknown) w refl same inner)
 
-not_clear : (o : Option Refusal) (cs : List Candidate) (vs : List Value) → values_unless o cs ≡ Ok vs →
+pub not_clear : (o : Option Refusal) (cs : List Candidate) (vs : List Value) → values_unless o cs ≡ Ok vs →
     (o ≡ None) × (values cs ≡ vs)
 not_clear None cs vs is = (refl, cc)
 not_clear (Some refusal) cs vs is = absurd cc

@@ -21,3 +21,8 @@ mod OnlyLaws
 mod SolvedLaws
 mod AlikeLaws
 mod AnsweredLaws
+mod GoalLaws
+mod AssignmentLaws
+mod ListedLaws
+mod OpenLaws
+mod OnlyAssignment

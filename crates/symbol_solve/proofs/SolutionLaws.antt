@@ -70,7 +70,7 @@ module _ (running : Running) (object : List NormalSection) where
         has_flat (candidates_of running)
         (code_sections object) pre c has_pre (has_of (candidates_of running pre) c choice.among)
 
-    chosen_match : (c : Candidate) → Has chosen c → matches c ≡ true
+    pub chosen_match : (c : Candidate) → Has chosen c → matches c ≡ true
     chosen_match c has =
         let (pre, has_pre, choice) = beside_right (IsChoice running) (code_sections object) chosen c it.choice has in
         choice.matching
@@ -83,7 +83,7 @@ module _ (running : Running) (object : List NormalSection) where
         let (e, has_e, choice) = beside_left (IsChoice running) (code_sections object) chosen pre it.choice has_pre in
         (e, has_e, place_of pre e (has_of (candidates_of running pre) e choice.among) ∙ sym (place_of pre d own))
 
-    peace : (c d : Candidate) → Has chosen c → Has chosen d → clashes c d ≡ false
+    pub peace : (c d : Candidate) → Has chosen c → Has chosen d → clashes c d ≡ false
     peace c d has_c has_d =
         all_has (λ y. clashes c y ≡ false) chosen d
         (all_has (λ x. All (λ y. clashes x y ≡ false) chosen) chosen c it.peaceful has_c) has_d

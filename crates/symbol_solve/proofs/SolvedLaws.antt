@@ -44,7 +44,7 @@ not_before object place (section ∷ sections) =
       | false ↦ rest
     ]
 
-codes_rise : (object : List NormalSection) (place : ℕ) (sections : List NormalSection)
+pub codes_rise : (object : List NormalSection) (place : ℕ) (sections : List NormalSection)
     → Ordered IsBefore (code_from object place sections)
 unfolding code_from
 codes_rise object place [] = tt
@@ -60,7 +60,7 @@ codes_rise object place (section ∷ sections) =
     ]
 
 -- ---- and so do candidates, one of each
-firsts : (R : PreSection → Candidate → Type 0)
+pub firsts : (R : PreSection → Candidate → Type 0)
     → ((p : PreSection) (c : Candidate) → R p c → c.place ≡ p.place) → (codes : List PreSection) (cs : List Candidate)
     → AllZip R codes cs → Ordered IsBefore codes → Ordered ComesFirst cs
 firsts R at [] [] all order = tt
@@ -101,7 +101,7 @@ one_of (x ∷ xs) c d order (inr in_c) (inl is_d) place =
     absurd (omega (arith, less, same, place))
 one_of (x ∷ xs) c d order (inr in_c) (inr in_d) place = one_of xs c d order.1 in_c in_d place
 
-none_of : {X : Type 0} (o : Option X) → ((x : X) → o ≡ Some x → ⊥) → o ≡ None
+pub none_of : {X : Type 0} (o : Option X) → ((x : X) → o ≡ Some x → ⊥) → o ≡ None
 none_of None not_some = refl
 none_of (Some x) not_some = absurd (not_some x refl)
 

@@ -1,11 +1,12 @@
 -- Public clauses cite Solve (what is answered), by Clashes (which candidates can't be chosen together) and Conflicts
--- (what is reported of two that must be chosen and clash), Solution (what a solution is) and Answered (what an answer
--- tells of a code section). What `inside` holds is the code's own.
+-- (what is reported of two that must be chosen and clash), Solution (what a solution is), Assignment (the same by the
+-- addresses that it gives) and Answered (what an answer tells of a code section). What `inside` holds is the code's own.
 pub mod Clashes
 pub mod Conflicts
 pub mod Solve
 pub mod Solution
 pub mod Answered
+pub mod Assignment
 pub mod inside
 -- Definitions of crates below that other rooms cite, and that come through this one.
 pub use Rattle.match_candidates.specs.Alike

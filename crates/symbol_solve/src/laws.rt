@@ -1,6 +1,6 @@
 //! What the answers say of solutions.
-ghost use Rattle.std.specs.Prelude.{◌≡◌, ◌↔◌, ℕ, List, All, map, Some, None, Ok, Err};
-ghost use Rattle.std.specs.List.{AllZip, IsDistinct};
+ghost use Rattle.std.specs.Prelude.{◌≡◌, ◌↔◌, ℕ, List, [], All, map, Some, None, Ok, Err};
+ghost use Rattle.std.specs.List.{AllZip, IsDistinct, cons_option};
 ghost use Rattle.ks_base.specs.declared.refusals.ConflictName.{ConflictName};
 ghost use Rattle.ks_base.specs.declared.refusals.Refusal.{Refusal};
 ghost use Rattle.ks_base.specs.declared.refusals.Refusal.TheVariants.{Mismatch, Conflict};
@@ -16,10 +16,15 @@ ghost use Rattle.match_candidates.specs.Candidates.{Running, code_sections};
 ghost use Rattle.match_candidates.specs.OwnFaults.{first_undecoded, first_missing};
 ghost use Rattle.symbol_solve.specs.Solve.{Value, left_of, obstacle, solved, values};
 ghost use Rattle.symbol_solve.specs.Solution.{IsChoice, IsSolution};
+ghost use Rattle.symbol_table.specs.declared.values.Unknown.{Unknown};
 ghost use Rattle.symbol_solve.specs.Answered.{IsAnswered};
+ghost use Rattle.symbol_solve.specs.Assignment.{Assignment, Solves, IsOpen, addresses_of};
 
 use match_candidates::alike_programs_have_alike_candidates;
-use run_pre_match::{alike_memories_match_alike, bodies_lie_in_code};
+use run_pre_match::{
+    alike_memories_match_alike, bodies_lie_in_code, claims_agree, matches_have_one_valuation,
+    numbers_stand_for_one,
+};
 
 /// What differs and what clashes is refused only where there is no solution.
 pub fn refused_without_solution()
@@ -82,3 +87,53 @@ pub fn answers_tell_the_obstacle()
         → (solved object running.bodies running.contents running.symbols ≡ Err refusal)
         ↔ (obstacle running object ≡ Some refusal) }
 {}
+
+/// In an object whose names are distinct a choice of candidates is a solution exactly where an assignment of addresses
+/// solves the object by it. The values of the choice list what the assignment gives an address, each once and at that
+/// address, and nothing else.
+pub fn solutions_assign_addresses()
+    ensures solution { (running : Running) (object : List NormalSection) (chosen : List Candidate)
+        → IsDistinct same_bytes (map name_of object)
+        → IsSolution running object chosen ↔ ((assigned : Assignment) × Solves running object assigned chosen) }
+    ensures listed { (running : Running) (object : List NormalSection) (assigned : Assignment) (chosen : List Candidate)
+        → IsDistinct same_bytes (map name_of object) → Solves running object assigned chosen
+        → (about : Unknown) → addresses_of (values chosen) about ≡ cons_option (assigned about) [] }
+{
+    // Nothing is done here: the laws say that a match has one valuation, and that what it gives is what it claims.
+    matches_have_one_valuation();
+    claims_agree();
+    numbers_stand_for_one();
+}
+
+/// An answer for an object whose names are distinct is the one assignment of addresses that solves it: there is one, by
+/// the candidates that are left, and no second, and the answer lists what it gives. Where an assignment solves an object
+/// there is an answer, unless the object's own code can't be matched, or of a section more than one candidate is left;
+/// the last may be though no second assignment solves it. So there is an answer exactly where the object's code can be
+/// matched and an assignment solves it by the candidates that are left.
+pub fn answer_is_only_assignment()
+    ensures some { (running : Running) (object : List NormalSection) (answer : List Value)
+        → IsDistinct same_bytes (map name_of object)
+        → solved object running.bodies running.contents running.symbols ≡ Ok answer
+        → (assigned : Assignment) × Solves running object assigned (left_of running object) }
+    ensures only { (running : Running) (object : List NormalSection) (answer : List Value) (assigned : Assignment)
+        (chosen : List Candidate) → IsDistinct same_bytes (map name_of object)
+        → solved object running.bodies running.contents running.symbols ≡ Ok answer
+        → Solves running object assigned chosen
+        → (about : Unknown) → addresses_of answer about ≡ cons_option (assigned about) [] }
+    ensures no_second { (running : Running) (object : List NormalSection) (answer : List Value)
+        (one other : Assignment) (chosen others : List Candidate) → IsDistinct same_bytes (map name_of object)
+        → solved object running.bodies running.contents running.symbols ≡ Ok answer
+        → Solves running object one chosen → Solves running object other others
+        → (chosen ≡ others) × ((about : Unknown) → one about ≡ other about) }
+    ensures otherwise { (running : Running) (object : List NormalSection) (refusal : Refusal) (assigned : Assignment)
+        (chosen : List Candidate) → IsDistinct same_bytes (map name_of object)
+        → solved object running.bodies running.contents running.symbols ≡ Err refusal
+        → Solves running object assigned chosen → IsOpen running object refusal }
+    ensures exactly { (running : Running) (object : List NormalSection) → IsDistinct same_bytes (map name_of object)
+        → ((answer : List Value) × (solved object running.bodies running.contents running.symbols ≡ Ok answer))
+        ↔ ((first_undecoded object ≡ None)
+        × ((assigned : Assignment) × Solves running object assigned (left_of running object))) }
+{
+    // Nothing is done here: the law says that solutions are what assignments solve an object by.
+    solutions_assign_addresses();
+}

@@ -16,7 +16,8 @@ mod twins;
 mod values;
 
 pub use laws::{
-    alike_programs_have_one_answer, answer_is_only_solution, answers_tell_each_body,
-    answers_tell_the_obstacle, refused_without_solution,
+    alike_programs_have_one_answer, answer_is_only_assignment, answer_is_only_solution,
+    answers_tell_each_body, answers_tell_the_obstacle, refused_without_solution,
+    solutions_assign_addresses,
 };
 pub use solving::solve;
