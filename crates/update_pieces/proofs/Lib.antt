@@ -4,3 +4,4 @@ pub mod OldNames
 pub mod Wholes
 pub mod NewRanges
 pub mod OwnPlaces
+pub mod NewTexts

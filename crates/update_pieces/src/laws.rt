@@ -1,5 +1,6 @@
-//! What holds of all new pieces.
+//! What holds of all new pieces, and of all reports.
 ghost use Rattle.std.specs.Prelude.{◌≡◌, ℕ, List, map, None, Ok};
+ghost use Rattle.std.specs.List.{All};
 ghost use Rattle.ks_base.specs.declared.places.Range.{Range};
 ghost use Rattle.i386_reloc.specs.Rules.{object_fault};
 ghost use Rattle.i386_reloc.specs.declared.types.NormalSection.{NormalSection};
@@ -9,9 +10,12 @@ ghost use Rattle.link_post.specs.declared.types.Placed.{Placed};
 ghost use Rattle.link_post.specs.Linked.{AreInOrder};
 ghost use Rattle.link_post.specs.Places.{placed};
 ghost use Rattle.link_post.specs.Values.{ValueList};
+ghost use Rattle.update_retired.specs.declared.types.OldFunction.{OldFunction};
 ghost use Rattle.update_pieces.specs.Parts.{NewPart, at_places, size_of};
 ghost use Rattle.update_pieces.specs.Pieces.{new_pieces};
+ghost use Rattle.update_pieces.specs.Reports.{report_of};
 ghost use Rattle.update_pieces.specs.Apart.{AreWhole, ArePartsOf, AreNewPieces, AreFound};
+ghost use Rattle.update_pieces.specs.NewText.{HasNewText};
 
 use link_post::places_lie_apart;
 
@@ -44,3 +48,11 @@ pub fn places_are_found()
     // Nothing is done here: the law says that each section has its place.
     places_lie_apart();
 }
+
+/// Each function that a report says is replaced is an old one, and goes on where a changed section of its name is
+/// placed: a piece of the update begins there, with the section's linked bytes.
+pub fn replaced_functions_have_new_text()
+    ensures { (post : List NormalSection) (parts : List NewPart) (placement : List Placed) (values : ValueList)
+        (olds : List OldFunction) → All (HasNewText post parts placement values olds)
+        (report_of parts placement olds).replaced }
+{}

@@ -132,7 +132,7 @@ spelled_by : (address : ℕ) (code : List ℕ) (o : Option Decoded) (i : Instruc
 spelled_by address code None i from is = absurd cc
 spelled_by address code (Some d) i from is = (d, from, cc)
 
-met_by : AreWithin → (address : ℕ) (v : View) (i : Instruction) → run_instruction_in address v ≡ Some i
+pub met_by : AreWithin → (address : ℕ) (v : View) (i : Instruction) → run_instruction_in address v ≡ Some i
     → (code : List ℕ) × (v ≡ Bytes code) × (after i ≤ address + length code) × (address ≤ after i)
 met_by within address Unmapped i is = absurd cc
 met_by within address AtHome i is = absurd cc
@@ -258,7 +258,7 @@ module _ (within : AreWithin) (contents : Contents) (valid : IsValid contents) w
   unfolding run_instruction_at
   on_from place i is = (met_by within place (view_at contents place) i is).3
 
-  run_rises : (k base : ℕ) → base ≤ end_of base (run_body contents base k)
+  pub run_rises : (k base : ℕ) → base ≤ end_of base (run_body contents base k)
   unfolding run_code
   run_rises k base = ends_above there on_from (2 ^ 32 - base) k base
 
@@ -267,7 +267,7 @@ length_by : (c : Candidate) (o : Option Difference) (made m : Matched) → match
 length_by c (Some difference) made m is = absurd cc
 length_by c None made m is = cc
 
-matched_length : (c : Candidate) (m : Matched) → outcome c ≡ Ok m → m.length ≡ end_of c.base (run_list c) - c.base
+pub matched_length : (c : Candidate) (m : Matched) → outcome c ≡ Ok m → m.length ≡ end_of c.base (run_list c) - c.base
 unfolding outcome
 matched_length c m is =
     ap (λ (x : Matched). x.length) (sym (length_by c (difference_from c (own_home c ∷ []) (pairs c))

@@ -2,7 +2,7 @@
 use Rattle.std.proofs.Common.{◌≡◌, ◌⊎◌, inl, inr, ℕ, ◌+◌, Bool, true, false, cond, List, [], ◌∷◌, ◌++◌}
 use Rattle.std.proofs.Common.{Option, Some, None, refl, sym, ap, subst}
 use Rattle.std.specs.Prelude.{Result, Ok, Err}
-use Rattle.std.specs.List.{AllZip, filter, flat_map, fold}
+use Rattle.std.specs.List.{All, AllZip, filter, flat_map, fold}
 use Rattle.ks_base.specs.declared.refusals.Refusal.{Refusal}
 use Rattle.i386_reloc.specs.declared.types.NormalSection.{NormalSection}
 use Rattle.image_memory.specs.Ranges.{MeetsNone, from_to}
@@ -24,7 +24,7 @@ use Rattle.symbol_solve.specs.Solution.{IsChoice, IsSolution}
 use Rattle.extract_post.specs.declared.types.Extract.{Extract}
 use Rattle.link_post.specs.Values.{ValueList, solved_as}
 use Rattle.update_retired.specs.declared.types.OldFunction.{OldFunction}
-use Rattle.update_retired.specs.Retired.{AreInUse, body_range}
+use Rattle.update_retired.specs.Retired.{AreInUse}
 use Rattle.update_plan.specs.Olds.{is_function, old_as, old_in, olds_of}
 use Rattle.update_plan.proofs.SoundLists.{Has, all_of, flat_has, has_either, has_of, map_has}
 use Rattle.update_plan.proofs.InUse.{AreWithin, matched_in_use}
@@ -143,43 +143,50 @@ left_here running object c solution has =
     (has_of (candidates_of running pre) c choice.among) in
     ap (λ (x : Candidate). x.contents) is
 
-module _ (within : AreWithin) (law : IsSolved) (running : Running) (object : List NormalSection)
-    (valid : IsValid running.contents) (clear : obstacle running object ≡ None) where
-  left_in_use : (c : Candidate) (m : Matched) → Has (left_of running object) c → outcome c ≡ Ok m
-      → MeetsNone fence_range (from_to c.base (c.base + m.length)) running.contents.fences
-  left_in_use c m has is =
-      let same = left_here running object c (law running object clear) has in
-      subst (λ (contents : Contents). MeetsNone fence_range (from_to c.base (c.base + m.length)) contents.fences)
-      (sym same) (matched_in_use within c m (subst IsValid same valid) is)
-
-  value_in_use : (about : Unknown) (home base length : ℕ)
-      → Has (values (left_of running object)) (about, Body home base length)
-      → MeetsNone fence_range (from_to base (base + length)) running.contents.fences
-  value_in_use about home base length has =
+-- What holds of each match beside the program's memory holds of each function that runs.
+module _ (law : IsSolved) (running : Running) (object : List NormalSection) (clear : obstacle running object ≡ None)
+    (Q : ℕ → ℕ → Type 0)
+    (each : (c : Candidate) (m : Matched) → running.contents ≡ c.contents → outcome c ≡ Ok m → Q c.base m.length) where
+  value_has : (about : Unknown) (home base length : ℕ)
+      → Has (values (left_of running object)) (about, Body home base length) → Q base length
+  value_has about home base length has =
       let (c, has_c, inner) = values_has (left_of running object) (about, Body home base length) has in
       let it = body_of c (outcome c) about home base length refl inner in
-      subst (λ n. MeetsNone fence_range (from_to base (base + n)) running.contents.fences) it.length_is
-      (subst (λ b. MeetsNone fence_range (from_to b (b + it.matched.length)) running.contents.fences) it.base_is
-      (left_in_use c it.matched has_c it.matches))
+      let here : running.contents ≡ c.contents = left_here running object c (law running object clear) has_c in
+      subst (λ n. Q base n) it.length_is
+      (subst (λ b. Q b it.matched.length) it.base_is (each c it.matched here it.matches))
 
-  all_in_use : (extract : Extract)
-      → AreInUse running.contents (olds_of extract (values (left_of running object)) object)
+  all_have : (extract : Extract)
+      → All (λ (old : OldFunction). Q old.base old.length) (olds_of extract (values (left_of running object)) object)
   unfolding olds_of
-  all_in_use extract =
+  all_have extract =
       let found = values (left_of running object) in
-      all_of (λ (old : OldFunction). MeetsNone fence_range (body_range old) running.contents.fences)
+      all_of (λ (old : OldFunction). Q old.base old.length)
       (flat_map (old_in extract found) (filter is_function object)) (λ old has.
       let (section, has_section, has_old) = flat_has (old_in extract found) (filter is_function object) old has in
       let told = old_told extract section (solved_as found (Code section.name)) old has_old in
       let (about, there) = told_has (Code section.name) (Body old.home old.base old.length) found told in
-      value_in_use about old.home old.base old.length there)
+      value_has about old.home old.base old.length there)
 
+pub olds_have : IsSolved → (running : Running) (object : List NormalSection) (found : ValueList) (extract : Extract)
+    (Q : ℕ → ℕ → Type 0)
+    → ((c : Candidate) (m : Matched) → running.contents ≡ c.contents → outcome c ≡ Ok m → Q c.base m.length)
+    → solved object running.bodies running.contents running.symbols ≡ Ok found
+    → All (λ (old : OldFunction). Q old.base old.length) (olds_of extract found object)
+unfolding solved
+olds_have law running object found extract Q each is =
+    let (clear, same) = unless_ok (obstacle running object) (left_of running object) found is in
+    subst (λ (vs : ValueList). All (λ (old : OldFunction). Q old.base old.length) (olds_of extract vs object)) same
+    (all_have law running object clear Q each extract)
+
+-- so they are in use
 pub olds_in_use : AreWithin → IsSolved → (running : Running) (object : List NormalSection) (found : ValueList)
     (extract : Extract) → IsValid running.contents
     → solved object running.bodies running.contents running.symbols ≡ Ok found
     → AreInUse running.contents (olds_of extract found object)
-unfolding solved
 olds_in_use within law running object found extract valid is =
-    let (clear, same) = unless_ok (obstacle running object) (left_of running object) found is in
-    subst (λ (vs : ValueList). AreInUse running.contents (olds_of extract vs object)) same
-    (all_in_use within law running object valid clear extract)
+    olds_have law running object found extract
+    (λ base length. MeetsNone fence_range (from_to base (base + length)) running.contents.fences)
+    (λ c m here at.
+    subst (λ (contents : Contents). MeetsNone fence_range (from_to c.base (c.base + m.length)) contents.fences)
+    (sym here) (matched_in_use within c m (subst IsValid here valid) at)) is

@@ -4,11 +4,13 @@ pub mod Fields
 mod GuardLaws
 pub mod InUse
 pub mod InUseOlds
+pub mod NewCodes
 pub mod OnePlan
 mod Orders
 mod Planned
 mod Steps
 pub mod SoundAddresses
+pub mod SoundCode
 pub mod SoundFences
 pub mod SoundFields
 pub mod SoundFile

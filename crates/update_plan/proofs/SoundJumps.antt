@@ -143,6 +143,16 @@ room_clear contents symbols retired olds clear =
     none_first (first_among (room_refusal contents symbols) olds)
     (first_among (overlap_refusal retired olds) olds) clear
 
+-- so where a jump is to be written, five bytes of code stand
+pub jump_code : (contents : Contents) (symbols : List Symbol) (retired : List Range) (olds : List OldFunction) →
+    code_refusal contents symbols retired olds ≡ None →
+    ((home length n : ℕ) → n ≤ room contents symbols home length → HasCode contents.pieces home n) →
+    (old : OldFunction) → Has olds old → takes_jump old ≡ true → HasCode contents.pieces old.home 5
+jump_code contents symbols retired olds clear coded old among jump =
+    coded old.home old.length 5
+    (jump_fits contents symbols old jump
+    (none_has (room_refusal contents symbols) olds old (room_clear contents symbols retired olds clear) among))
+
 -- ---- all of them
 module _ (contents : Contents) (bodies : List (ℕ × ℕ)) (retired : List Range) (spliced : AreSpliced contents bodies)
     (extract : Extract) (olds : List OldFunction) (places : List AtPlace)
@@ -165,11 +175,8 @@ module _ (contents : Contents) (bodies : List (ℕ × ℕ)) (retired : List Rang
       is_replaced old.fate ≡ true → old.base ≡ old.home →
       HasCode contents.pieces old.home 5 × Any (IsFenced old.home) (fences_of olds ++ contents.fences)
   fit_first symbols old clear coded among gone first =
-      let jump = takes old gone first in
-      let clear_here = none_has (room_refusal contents symbols) olds old
-      (room_clear contents symbols retired olds clear) among in
-      let fits = jump_fits contents symbols old jump clear_here in (
-        coded old.home old.length 5 fits,
+      let jump = takes old gone first in (
+        jump_code contents symbols retired olds clear coded old among jump,
         some_of (IsFenced old.home) (fences_of olds ++ contents.fences) (fence_of old)
             (has_left (fences_of olds) contents.fences (fence_of old)
             (has_map fence_of (filter (λ old. is_retired old.fate) olds) old

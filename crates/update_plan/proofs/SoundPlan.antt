@@ -28,7 +28,7 @@ use Rattle.link_post.specs.Values.{ValueList}
 use Rattle.link_post.specs.Places.{ArePlaces, placed}
 use Rattle.update_retired.specs.declared.types.OldFunction.{OldFunction}
 use Rattle.update_retired.specs.Room.{room}
-use Rattle.update_retired.specs.Retired.{AreInUse, retired_by, section_of}
+use Rattle.update_retired.specs.Retired.{AreInUse, body_range, retired_by, section_of}
 use Rattle.update_retired.specs.Overlaps.{LieApart, code_refusal}
 use Rattle.update_pieces.specs.Parts.{AtPlace, NewPart, at_places, new_part, placed_part, size_of}
 use Rattle.update_pieces.specs.Pieces.{new_piece, new_pieces}
@@ -37,7 +37,7 @@ use Rattle.update_plan.specs.declared.types.Plan.{Plan}
 use Rattle.update_plan.specs.Olds.{olds_of}
 use Rattle.update_plan.specs.Placing.{parts_of}
 use Rattle.update_plan.specs.Plan.{plan_of, planned}
-use Rattle.update_plan.specs.Sound.{AreGaps, AreListed, CanBeMade}
+use Rattle.update_plan.specs.Sound.{AreGaps, AreListed, CanBeMade, IsCode}
 use Rattle.update_plan.proofs.SoundLists.{Has, Pairs, all_has, all_of, filter_has, has_any, has_map, map_has}
 use Rattle.update_plan.proofs.SoundFile.{distinct_in, is_file, named_itself, names_differ}
 use Rattle.update_plan.proofs.SoundOlds.{IsOldOf, is_old, olds_distinct, sections_differ}
@@ -45,7 +45,8 @@ use Rattle.update_plan.proofs.SoundParts.{has_part, has_place, is_changed_role, 
 use Rattle.update_plan.proofs.SoundParts.{place_role, places_differ}
 use Rattle.update_plan.proofs.SoundPieces.{alone, apart, placeable}
 use Rattle.update_plan.proofs.SoundFences.{fences_apart, from_fences, full}
-use Rattle.update_plan.proofs.SoundJumps.{all_fit, all_marked, each_once}
+use Rattle.update_plan.proofs.SoundCode.{fences_are_code}
+use Rattle.update_plan.proofs.SoundJumps.{all_fit, all_marked, each_once, jump_code}
 use Rattle.update_plan.proofs.SoundSteps.{IsPlanned, is_planned, lists_are}
 
 -- what the crates below say of all objects, memories and places
@@ -59,6 +60,11 @@ abbrev pub BodiesAreInUse : Type 0
 BodiesAreInUse = (running : Running) (object : List NormalSection) (values : ValueList) (extract : Extract) →
     IsValid running.contents → solved object running.bodies running.contents running.symbols ≡ Ok values →
     AreInUse running.contents (olds_of extract values object)
+
+abbrev pub BodiesAreCode : Type 0
+BodiesAreCode = (running : Running) (object : List NormalSection) (values : ValueList) (extract : Extract) →
+    IsValid running.contents → solved object running.bodies running.contents running.symbols ≡ Ok values →
+    All (λ (old : OldFunction). IsCode running.contents.pieces (body_range old)) (olds_of extract values object)
 
 abbrev pub PlacesLieApart : Type 0
 PlacesLieApart = (sizes : List SectionSize) (gaps : List Range) (places : List Placed) →
@@ -83,18 +89,17 @@ RoomIsCode = (contents : Contents) (symbols : List Symbol) (home length n : ℕ)
     HasCode contents.pieces home n
 
 -- a section that is changed is one of the new object
-changed_has : (pre post : List NormalSection) (extract : Extract) (name : List ℕ) → lists_of pre post ≡ extract →
-    is_among extract.changed name ≡ true → (section : NormalSection) × Has post section × (section.name ≡ name)
+pub changed_has : (pre post : List NormalSection) (extract : Extract) (name : List ℕ) → lists_of pre post ≡ extract →
+    is_among extract.changed name ≡ true →
+    (section : NormalSection) × Has post section × (section.name ≡ name) × (is_changed pre post section.name ≡ true)
 changed_has pre post extract name is among =
     let (other, in_changed, same) = has_any (λ (n : List ℕ). same_bytes n name) extract.changed among in
     let in_picked : Has (map name_of (filter (λ (s : NormalSection). is_changed pre post s.name) post)) other =
     subst (λ (names : List (List ℕ)). Has names other) (sym (ap (λ (e : Extract). e.changed) is)) in_changed in
     let (section, in_filter, named) = map_has name_of
-    (filter (λ (s : NormalSection). is_changed pre post s.name) post) other in_picked in (
-      section,
-      (filter_has (λ (s : NormalSection). is_changed pre post s.name) post section in_filter).0,
-      named ∙ (bytes_decides other name).0 same,
-    )
+    (filter (λ (s : NormalSection). is_changed pre post s.name) post) other in_picked in
+    let kept = filter_has (λ (s : NormalSection). is_changed pre post s.name) post section in_filter in
+    (section, kept.0, named ∙ (bytes_decides other name).0 same, kept.1)
 
 module _ (running : Running) (retired gaps : List Range) (pre_file post_file : List ℕ) (plan : Plan)
     (valid : IsValid running.contents) (spliced : AreSpliced running.contents running.bodies)
@@ -149,7 +154,7 @@ module _ (running : Running) (retired gaps : List Range) (pre_file post_file : L
   changed_place : PlacesLieApart → (name : List ℕ) → is_among it.extract.changed name ≡ true →
       (x : AtPlace) × Has at_all x × (x.role ≡ Changed) × (x.section.name ≡ name)
   changed_place places name among =
-      let (section, in_post, named) = changed_has it.pre it.post it.extract name
+      let (section, in_post, named, passes) = changed_has it.pre it.post it.extract name
       (lists_are it.pre it.post it.extract it.extract_is) among in
       let role = is_changed_role it.extract section.name
       (ap (is_among it.extract.changed) named ∙ among) in
@@ -158,9 +163,9 @@ module _ (running : Running) (retired gaps : List Range) (pre_file post_file : L
       (places (map size_of parts) gaps it.placement are_gaps.ascend it.placement_is).each part in
       (placed_part section Changed base, has, refl, named)
 
-  pub made : BodiesAreTold → BodiesAreInUse → PlacesLieApart → SectionsAreWhole → PiecesLieApart → RetiredLieApart →
-      RoomIsCode → CanBeMade running.contents plan
-  made told used places whole lie law coded =
+  pub made : BodiesAreTold → BodiesAreInUse → BodiesAreCode → PlacesLieApart → SectionsAreWhole → PiecesLieApart →
+      RetiredLieApart → RoomIsCode → CanBeMade running.contents plan
+  made told used coded places whole lie law room_coded =
       let are = are_pieces whole lie in
       let apart_olds = lies told law in
       let old_is = each_old told in
@@ -170,10 +175,14 @@ module _ (running : Running) (retired gaps : List Range) (pre_file post_file : L
         apart = apart running.contents gaps parts it.placement pieces are_gaps are;
         alone = alone running.contents gaps parts it.placement pieces are_gaps are;
         full = full olds retired apart_olds;
+        code = fences_are_code running.contents valid olds
+            (coded running it.pre it.found it.extract valid it.found_is)
+            (jump_code running.contents running.symbols retired olds it.clear
+            (room_coded running.contents running.symbols));
         retired_apart = fences_apart olds retired apart_olds;
         in_use = from_fences olds retired apart_olds running.contents all_listed;
         jumps = all_fit running.contents running.bodies retired spliced it.extract olds at_all apart_olds old_is listed
-            running.symbols it.clear (coded running.contents running.symbols) (low_places whole lie);
+            running.symbols it.clear (room_coded running.contents running.symbols) (low_places whole lie);
         once = each_once running.contents running.bodies retired spliced it.extract olds at_all apart_olds old_is listed
             (places_differ parts it.placement (parts_differ it.extract it.post post_differ));
         marked = all_marked running.contents running.bodies retired spliced it.extract olds at_all apart_olds old_is
@@ -182,12 +191,12 @@ module _ (running : Running) (retired gaps : List Range) (pre_file post_file : L
       } in
       subst (CanBeMade running.contents) it.plan_is here
 
-pub all_made : BodiesAreTold → BodiesAreInUse → PlacesLieApart → SectionsAreWhole → PiecesLieApart → RetiredLieApart →
-    RoomIsCode → (running : Running) (retired gaps : List Range) (pre_file post_file : List ℕ) (plan : Plan) →
+pub all_made : BodiesAreTold → BodiesAreInUse → BodiesAreCode → PlacesLieApart → SectionsAreWhole → PiecesLieApart →
+    RetiredLieApart → RoomIsCode → (running : Running) (retired gaps : List Range) (pre_file post_file : List ℕ) (plan : Plan) →
     IsValid running.contents → AreSpliced running.contents running.bodies → AreListed running.contents retired →
     AreGaps running.contents gaps → planned running retired gaps pre_file post_file ≡ Ok plan →
     CanBeMade running.contents plan
-all_made told used places whole lie law coded running retired gaps pre_file post_file plan valid spliced listed are_gaps
-    is =
+all_made told used coded places whole lie law room_coded running retired gaps pre_file post_file plan valid spliced
+    listed are_gaps is =
     made running retired gaps pre_file post_file plan valid spliced listed are_gaps
-    (is_planned running retired gaps pre_file post_file plan is) told used places whole lie law coded
+    (is_planned running retired gaps pre_file post_file plan is) told used coded places whole lie law room_coded

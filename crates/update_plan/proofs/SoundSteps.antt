@@ -71,6 +71,7 @@ pub record IsPlanned (running : Running) (retired gaps : List Range) (pre_file p
   pub post_is : sections_of post_file ≡ Ok post
   pub extract_is : extracted pre post ≡ Ok extract
   pub found_is : solved pre running.bodies running.contents running.symbols ≡ Ok found
+  pub values_is : resolved pre post running.symbols (names_of (parts_of extract post)) found ≡ Ok values
   pub clear : code_refusal running.contents running.symbols retired (olds_of extract found pre) ≡ None
   pub placement_is : placed (map size_of (parts_of extract post)) gaps ≡ Ok placement
   pub plan_is : plan_of running post values (olds_of extract found pre) (parts_of extract post) placement ≡ plan
@@ -117,6 +118,7 @@ is_planned running retired gaps pre_file post_file plan is =
       post_is = post_is;
       extract_is = extract_is;
       found_is = found_is;
+      values_is = values_is;
       clear = clear.0;
       placement_is = placement_is;
       plan_is = plan_from running post extract values (olds_of extract found pre) olds placement plan clear.1 last;

@@ -1,11 +1,12 @@
--- A plan can be carried out: its pieces fit beside those that are there, what it retires lies apart, and each jump has
--- its five bytes of code.
-use Rattle.std.specs.Prelude.{◌≡◌, ◌≢◌, ◌≤◌, ◌<◌, ℕ, ◌^◌, ◌==◌, Bool, false, List, ◌++◌}
+-- A plan can be carried out: its pieces fit beside those that are there, what it retires is code and lies apart, and
+-- each jump has its five bytes of code.
+use Rattle.std.specs.Prelude.{◌≡◌, ◌≢◌, ◌≤◌, ◌<◌, ℕ, ◌^◌, ◌==◌, Bool, true, false, List, ◌++◌}
 use Rattle.std.specs.List.{All, Any, AllPairs, Contains, list_any}
 use Rattle.ks_base.specs.declared.places.Range.{Range}
 use Rattle.ks_base.specs.declared.reports.Replaced.{Replaced}
 use Rattle.image_memory.specs.declared.types.Fence.{Fence}
-use Rattle.image_memory.specs.Ranges.{Ascends, meets, MeetsNone}
+use Rattle.image_memory.specs.declared.types.Piece.{Piece}
+use Rattle.image_memory.specs.Ranges.{Ascends, lies_in, meets, MeetsNone}
 use Rattle.image_memory.specs.Contents.{Contents, piece_range, fence_range}
 use Rattle.image_memory.specs.Changes.{ArePlaceable}
 use Rattle.image_memory.specs.Fetch.{HasCode}
@@ -21,6 +22,10 @@ pub record AreGaps (contents : Contents) (gaps : List Range) : Type 0 where
 -- each range that is retired is listed
 abbrev pub AreListed : Contents → List Range → Type 0
 AreListed contents retired = All (λ (fence : Fence). Contains retired fence.range) contents.fences
+
+-- each address of a range is one of code
+abbrev pub IsCode : List Piece → Range → Type 0
+IsCode pieces range = (address : ℕ) → lies_in address range ≡ true → HasCode pieces address 1
 
 -- A function that is replaced: a jump fits at its home, which a range that is retired begins with, one of these or one
 -- that is retired already.
@@ -38,8 +43,9 @@ pub record CanBeMade (contents : Contents) (plan : Plan) : Type 0 where
   pub placeable : ArePlaceable plan.pieces
   pub apart : AllPairs (λ a b. meets (piece_range a) (piece_range b) ≡ false) plan.pieces
   pub alone : All (λ piece. MeetsNone piece_range (piece_range piece) contents.pieces) plan.pieces
-  -- the ranges that are retired aren't empty; no two meet, and none meets one that is retired already
+  -- the ranges that are retired aren't empty, and are code; no two meet, and none meets one that is retired already
   pub full : All (λ (fence : Fence). fence.range.low < fence.range.high) plan.fences
+  pub code : All (λ (fence : Fence). IsCode contents.pieces fence.range) plan.fences
   pub retired_apart : AllPairs (λ (a b : Fence). meets a.range b.range ≡ false) plan.fences
   pub in_use : All (λ (fence : Fence). MeetsNone fence_range fence.range contents.fences) plan.fences
   -- each jump fits, no two have one home, and those retired ranges are marked that begin at one

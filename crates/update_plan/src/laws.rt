@@ -13,22 +13,25 @@ ghost use Rattle.symbol_solve.specs.Solve.{solved};
 ghost use Rattle.link_post.specs.Values.{ValueList};
 ghost use Rattle.extract_post.specs.declared.types.Extract.{Extract as Lists};
 ghost use Rattle.splice_jump.specs.Jumps.{AreSpliced};
-ghost use Rattle.update_retired.specs.Retired.{AreInUse};
+ghost use Rattle.update_retired.specs.Retired.{AreInUse, body_range};
 ghost use Rattle.update_retired.specs.Room.{HaveOneShape};
 ghost use Rattle.update_plan.specs.declared.types.Plan.{Plan};
 ghost use Rattle.update_plan.specs.Olds.{olds_of};
 ghost use Rattle.update_plan.specs.Plan.{planned};
 ghost use Rattle.update_plan.specs.Addresses.{AreSteps, HasAddresses};
 ghost use Rattle.update_plan.specs.Placing.{parts_of};
-ghost use Rattle.update_plan.specs.Sound.{AreGaps, AreListed, CanBeMade};
+ghost use Rattle.update_plan.specs.Sound.{AreGaps, AreListed, CanBeMade, IsCode};
+ghost use Rattle.update_plan.specs.NewCode.{BringsNewCode};
 
 use extract_post::placed_sections_bring_what_they_name;
 use ia32_decode::instructions_have_bytes;
-use link_post::{places_lie_apart, values_are_found};
+use link_post::{places_keep_the_order, places_lie_apart, values_are_found};
 use symbol_solve::{
     alike_programs_have_one_answer, answer_is_only_solution, answers_tell_each_body,
 };
-use update_pieces::{new_pieces_lie_apart, sections_are_whole};
+use update_pieces::{
+    new_pieces_lie_apart, places_are_found, replaced_functions_have_new_text, sections_are_whole,
+};
 use update_retired::{retired_code_lies_apart, room_is_code, room_is_met};
 
 /// The functions of an old object as they run are in use: no address of a body that was matched is retired, since each
@@ -45,10 +48,24 @@ pub fn matched_bodies_are_in_use()
     answer_is_only_solution();
 }
 
+/// The functions of an old object as they run are code: each address of a body that was matched is one of code, since
+/// each instruction of it was met.
+pub fn matched_bodies_are_code()
+    ensures { (running : Running) (object : List NormalSection) (values : ValueList) (extract : Lists)
+        → IsValid running.contents
+        → solved object running.bodies running.contents running.symbols ≡ Ok values
+        → All (λ old. IsCode running.contents.pieces (body_range old)) (olds_of extract values object) }
+{
+    // Nothing is done here: the laws say that an instruction has no more bytes than are met, and that each value is one
+    // of a match.
+    instructions_have_bytes();
+    answer_is_only_solution();
+}
+
 /// A plan can be carried out, for a program whose homes with newer versions are spliced and whose retired ranges are
-/// all listed: its pieces fit beside those that are there, and what it retires lies apart. Each replaced function has a
-/// home of its own, at which a jump fits and where a range begins that is retired, by the plan or already; and no other
-/// of the plan's ranges is marked as having a jump.
+/// all listed: its pieces fit beside those that are there, and what it retires is code and lies apart. Each replaced
+/// function has a home of its own, at which a jump fits and where a range begins that is retired, by the plan or
+/// already; and no other of the plan's ranges is marked as having a jump.
 pub fn plans_can_be_made()
     ensures { (running : Running) (retired gaps : List Range) (pre_file post_file : List ℕ) (plan : Plan)
         → IsValid running.contents → AreSpliced running.contents running.bodies
@@ -58,6 +75,7 @@ pub fn plans_can_be_made()
     // Nothing is done here: the laws say what holds of each step of a plan.
     answers_tell_each_body();
     matched_bodies_are_in_use();
+    matched_bodies_are_code();
     places_lie_apart();
     sections_are_whole();
     new_pieces_lie_apart();
@@ -111,4 +129,19 @@ pub fn new_fields_have_addresses()
     places_lie_apart();
     values_are_found();
     placed_sections_bring_what_they_name();
+}
+
+/// Each function that a plan replaces has its new code among the plan's pieces. It is the function of the old object's
+/// section that was found to run with the report's home; and at the report's base, which is the place of the changed
+/// section of the same name, a piece of code begins with that section's linked bytes.
+pub fn replaced_functions_have_new_code()
+    ensures { (running : Running) (retired gaps : List Range) (pre_file post_file : List ℕ) (plan : Plan)
+        → Ascends (λ range. range) 0 gaps → planned running retired gaps pre_file post_file ≡ Ok plan
+        → BringsNewCode running gaps pre_file post_file plan }
+{
+    // Nothing is done here: the laws say that each replaced function of a report has its new text, and that the name of
+    // each section leads to its own place.
+    replaced_functions_have_new_text();
+    places_keep_the_order();
+    places_are_found();
 }

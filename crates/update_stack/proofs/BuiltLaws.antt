@@ -22,14 +22,14 @@ use Rattle.image_memory.specs.Changes.{ArePlaceable, HasPiece, with_piece, with_
 use Rattle.image_memory.specs.Fetch.{HasCode}
 use Rattle.image_memory.specs.laws.AccessLaws.{length-overlaid, Ascends-written}
 use Rattle.splice_jump.specs.Jumps.{IsFenced, IsSpliced, AreSpliced}
-use Rattle.splice_jump.specs.laws.CodeLaws.{spliced_written}
+use Rattle.splice_jump.specs.laws.CodeLaws.{code_written, spliced_written}
 use Rattle.update_memory.specs.Added.{AreAddable, with_pieces}
 use Rattle.update_memory.specs.Retired.{AreRetirable, with_fences, with_ranges}
 use Rattle.update_memory.specs.Withdrawn.{is_based_at, without_pieces, is_one_of, ranges_but}
 use Rattle.ia32_step.specs.declared.types.Thread.{Thread}
 use Rattle.image_threads.specs.Spawning.{is_writable, is_stack}
 use Rattle.update_plan.specs.declared.types.Plan.{Plan}
-use Rattle.update_plan.specs.Sound.{IsJumpTo, is_replaced_at, CanBeMade}
+use Rattle.update_plan.specs.Sound.{IsCode, IsJumpTo, is_replaced_at, CanBeMade}
 use Rattle.update_stack.specs.AbstractMachine.{AbstractMachine, Row, Update, is_home, bodies_in, fence_in}
 use Rattle.update_stack.specs.AbstractMachine.{with_replaced}
 use Rattle.update_stack.specs.AbstractMachine.{contents_of}
@@ -140,7 +140,7 @@ or_none : (a : Bool) → (a || false) ≡ a
 or_none true = refl
 or_none false = refl
 
-contains_mapped : {X Y : Type 0} (f : X → Y) (xs : List X) (x : X) → Contains xs x → Contains (map f xs) (f x)
+pub contains_mapped : {X Y : Type 0} (f : X → Y) (xs : List X) (x : X) → Contains xs x → Contains (map f xs) (f x)
 contains_mapped f xs x (k, less, at) =
     (k, rw (length-map xs f) less, get_or-map f xs k x (f x) less ∙ ap f at)
 
@@ -477,6 +477,31 @@ module _ (laws : MemoryLaws) (k : AbstractMachine) (name : List ℕ) (plan : Pla
   low_after : All (λ (row : ℕ × ℕ). row.1 < 2 ^ 32) (bodies_in table_after)
   low_after = bases_after (λ base. base < 2 ^ 32) k.table replaced sound.jumps.low (λ i d l. (can.jumps i d l).base)
 
+  code_more : (range : Range) → IsCode k.pieces range → IsCode text_after.pieces range
+  code_more range code a lies =
+      subst (λ (pieces : List Piece). HasCode pieces a 1) (sym (laws.ranges_pieces added plan.fences))
+      (laws.pieces_code contents plan.pieces a 1 sound.jumps.valid can.placeable (pieces_fit contents plan can)
+      (code a lies))
+
+  code_before : All (λ (fence : Fence). IsCode k.pieces fence.range) contents.fences
+  code_before = All-map (λ (fence : Fence). IsCode k.pieces fence.range) (fence_in k.table) k.retired sound.retired
+
+  fences_code : All (λ (fence : Fence). IsCode text_after.pieces fence.range) text_after.fences
+  fences_code =
+      let Is : Fence → Type 0 = λ fence. IsCode text_after.pieces fence.range in
+      all_fenced Is added plan.fences
+      (subst (All Is) (sym (laws.pieces_fences contents plan.pieces))
+      (λ i d l. code_more (get_or contents.fences i d).range (code_before i d l)))
+      (λ i d l. code_more (get_or plan.fences i d).range (can.code i d l))
+
+  -- what is retired is code, by the update and before it
+  retired_code : All (IsCode (committed k name plan).pieces) (committed k name plan).retired
+  retired_code =
+      subst (All (IsCode (committed k name plan).pieces)) ranges_after
+      (All-map (IsCode (committed k name plan).pieces) fence_range text_after.fences
+      (subst (λ (pieces : List Piece). All (λ (fence : Fence). IsCode pieces fence.range) text_after.fences)
+      pieces_after fences_code))
+
   sound_after : IsSound (committed k name plan)
   unfolding committed
   sound_after = record {
@@ -487,6 +512,7 @@ module _ (laws : MemoryLaws) (k : AbstractMachine) (name : List ℕ) (plan : Pla
     };
     stacks = λ i d l. stacks_stay k.pieces plan.pieces (get_or k.stacks i d) (sound.stacks i d l);
     arena = sound.arena;
+    retired = retired_code;
   }
 
   full_piece : (piece : Piece) → Contains plan.pieces piece → (piece_range piece).low < (piece_range piece).high
@@ -608,6 +634,7 @@ sound_written k start bytes threads sound = record {
       subst (λ (b : Bool). IsTrue b) (sym (stack_written start bytes k.pieces (get_or k.stacks i d)))
       (sound.stacks i d l);
   arena = sound.arena;
+  retired = λ i d l a lies. code_written k.pieces start bytes a 1 (sound.retired i d l a lies);
 }
 
 piece_written : (start : ℕ) (bytes : List ℕ) (pieces : List Piece) (base : ℕ) → Any (λ piece. piece.base ≡ base) pieces
@@ -683,10 +710,10 @@ same_ends a b same = ends (a.low == b.low) (a.high == b.high) refl refl same
     ends true false low high both = absurd (cc)
     ends false d low high both = absurd (cc)
 
-contains_first : {X : Type 0} (x : X) (xs : List X) → Contains (x ∷ xs) x
+pub contains_first : {X : Type 0} (x : X) (xs : List X) → Contains (x ∷ xs) x
 contains_first x xs = (0, omega arith, refl)
 
-contains_later : {X : Type 0} (y : X) (xs : List X) (x : X) → Contains xs x → Contains (y ∷ xs) x
+pub contains_later : {X : Type 0} (y : X) (xs : List X) (x : X) → Contains xs x → Contains (y ∷ xs) x
 contains_later y xs x (j, less, at) = (suc j, omega arith, at)
 
 -- taken, or kept

@@ -28,7 +28,7 @@ use Rattle.update_memory.specs.Rows.{row_of, rows_of, old_of, olds_of}
 use Rattle.update_memory.specs.Withdrawn.{without_pieces}
 use Rattle.image_threads.specs.Program.{Program}
 use Rattle.update_plan.specs.declared.types.Plan.{Plan}
-use Rattle.update_plan.specs.Sound.{IsJumpTo, CanBeMade}
+use Rattle.update_plan.specs.Sound.{IsCode, IsJumpTo, CanBeMade}
 use Rattle.update_stack.specs.declared.updates.Update.{Update as Shown}
 use Rattle.update_stack.specs.declared.updates.Kept.{Kept}
 use Rattle.update_stack.specs.AbstractMachine.{AbstractMachine, Row, Update, bodies_in, with_replaced, contents_of}
@@ -217,6 +217,10 @@ module _ (laws : Laws) (before : Program) (arena : Range) (gaps : List Range) (u
         meets_by_ranges (piece_range piece) (jumped rows k.pieces) k.pieces (laws.places rows k.pieces) none)
         plan.pieces can.alone;
     full = can.full;
+    code =
+        All-weaker (λ (fence : Fence). IsCode k.pieces fence.range)
+        (λ (fence : Fence). IsCode (jumped rows k.pieces) fence.range)
+        (λ fence is a lies. code_jumped laws.stays rows k.pieces a 1 (is a lies)) plan.fences can.code;
     retired_apart = can.retired_apart;
     in_use = can.in_use;
     jumps =

@@ -427,6 +427,7 @@ starts_well law file image is =
             };
             stacks = stacks_there image.pieces image.stacks read.stacks.fit.each;
             arena = read.arena;
+            retired = λ i d l. absurd (omega arith);
           }) refl refl refl;
       are_earlier = NoneEarlier [] (first_machine image) refl refl;
       stacks = read.stacks.bounds;

@@ -13,7 +13,7 @@ use Rattle.ia32_step.specs.declared.types.Thread.{Thread}
 use Rattle.image_threads.specs.Program.{Program}
 use Rattle.image_threads.specs.Spawning.{AreStacks}
 use Rattle.splice_jump.specs.Jumps.{jumped, jumped_memory, AreSpliced}
-use Rattle.update_plan.specs.Sound.{AreGaps}
+use Rattle.update_plan.specs.Sound.{AreGaps, IsCode}
 use Rattle.update_stack.specs.declared.updates.Update.{Update as Shown}
 use Rattle.update_stack.specs.declared.updates.Kept.{Kept}
 use Rattle.update_stack.specs.AbstractMachine.{AbstractMachine, fence_in, bodies_in, shown_update}
@@ -268,6 +268,9 @@ holds_at_first program arena valid none stacks gaps =
             };
             stacks = stacks;
             arena = full_arena arena 0xFFFF_0000 gaps.low;
+            retired =
+                subst (All (IsCode program.contents.pieces)) (sym (ap (map fence_range) none))
+                (λ i d below. absurd (omega arith));
           }) refl refl (ap (map fence_range) none);
       are_kept = NoneKept k [] (gaps_in arena) refl refl (sym (arena_free program.contents arena gaps));
       code = λ i d below. absurd (omega arith);

@@ -10,9 +10,12 @@ pub mod KeptLaws
 pub mod LastLaws
 pub mod LiveLaws
 pub mod LockStep
+pub mod MovingLaws
 pub mod PlanLaws
+pub mod ReachedLaws
 pub mod SeenLaws
 pub mod SpawnLaws
+pub mod StaysLaws
 pub mod StepLaws
 pub mod TraceLaws
 pub mod TableLaws

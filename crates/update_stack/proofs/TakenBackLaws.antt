@@ -1,16 +1,14 @@
 -- What events leave of the machines that were before the live updates.
-use Rattle.std.proofs.Common.{◌≡◌, ℕ, ◌+◌, ◌-◌, ◌≤◌, ◌<◌, Bool, true, false, not, cond, if◌then◌else◌, nat_le, nat_lt}
-use Rattle.std.proofs.Common.{List, [], ◌∷◌, ◌++◌, map, length, get_or, set, Option, Some, None, Result, Ok, Err}
-use Rattle.std.proofs.Common.{Contains, IfSome}
+use Rattle.std.proofs.Common.{◌≡◌, ℕ, ◌+◌, ◌-◌, ◌≤◌, ◌<◌, Bool, true, false, not, cond, if◌then◌else◌, nat_lt}
+use Rattle.std.proofs.Common.{List, [], ◌∷◌, ◌++◌, map, length, get_or, Option, Some, None, Result, Ok, Err}
+use Rattle.std.proofs.Common.{Contains}
 use Rattle.std.proofs.Common.{refl, sym, ◌∙◌, ap, arith, subst, ◌⊎◌, inl, inr}
 use Rattle.std.specs.Option.{option_map}
 use Rattle.std.specs.List.{All, filter, fold, last_or}
-use Rattle.std.proofs.lemmas.List.Folds.{map_fixed}
 use Rattle.std.proofs.lemmas.List.Elements.{All-head, All-tail, All-cons, All-filter}
 use Rattle.std.proofs.lemmas.Bool.Decides.{nat_tests}
 use Rattle.ks_base.specs.declared.places.Range.{Range}
 use Rattle.ks_base.specs.declared.refusals.Refusal.{Refusal}
-use Rattle.ks_base.specs.declared.refusals.Refusal.TheVariants.{TooManyThreads}
 use Rattle.ks_base.specs.declared.reports.Report.{Report}
 use Rattle.image_file.specs.Fields.{◌>>=◌}
 use Rattle.image_file.specs.Reading.{Contents as Image, image_of}
@@ -20,17 +18,14 @@ use Rattle.image_memory.specs.declared.types.Piece.{Piece}
 use Rattle.image_memory.specs.Ranges.{Ascends}
 use Rattle.image_memory.specs.Contents.{Contents, IsValid, piece_range, holding}
 use Rattle.image_memory.specs.Access.{kind_of, unwritable, first_fault, write_fault, overlaid_piece, written}
-use Rattle.image_memory.specs.laws.AccessLaws.{good_at, overlaid_outside, piece_apart}
+use Rattle.image_memory.specs.laws.AccessLaws.{good_at, overlaid_outside}
 use Rattle.image_memory.specs.laws.RangeLaws.{within, found_here}
 use Rattle.splice_jump.specs.Jump.{jump_bytes}
 use Rattle.splice_jump.specs.Jumps.{with_row, jumped, AreSpliced}
 use Rattle.update_memory.specs.Withdrawn.{is_based_at}
 use Rattle.symbol_solve.specs.Candidates.{Running}
 use Rattle.ia32_step.specs.declared.types.Thread.{Thread}
-use Rattle.image_threads.specs.Program.{IsStackRange, running_at}
-use Rattle.image_threads.specs.Spawning.{started, started_at, started_on, free_stack, first_bytes, first_thread}
-use Rattle.image_threads.specs.laws.StackLaws.{stack_listed}
-use Rattle.symbol_table.specs.Symbols.{function_named}
+use Rattle.image_threads.specs.Program.{IsStackRange}
 use Rattle.link_post.specs.Places.{unless_empty, without}
 use Rattle.stack_scan.specs.Standing.{thread_refusal}
 use Rattle.splice_jump.specs.laws.CodeLaws.{only_code}
@@ -39,7 +34,7 @@ use Rattle.update_plan.specs.Plan.{planned, unless}
 use Rattle.update_plan.specs.Sound.{AreGaps, CanBeMade}
 use Rattle.update_stack.specs.AbstractMachine.{AbstractMachine, Update, bodies_in, contents_of, first_machine}
 use Rattle.update_stack.specs.StandsFor.{patched}
-use Rattle.update_stack.specs.Steps.{step_in, moved_by, moved, after_start, spawned}
+use Rattle.update_stack.specs.Steps.{moved, spawned}
 use Rattle.update_stack.specs.Apply.{name_refusal, running_of, retired_of, gaps_of, planned_in, applied, committed}
 use Rattle.update_stack.specs.Apply.{update_as}
 use Rattle.update_stack.specs.Undo.{without_last, withdrawn, ranges_in, newest_update, undone_by, undone}
@@ -49,11 +44,10 @@ use Rattle.update_stack.specs.TakenBack.{Lasting, is_text, lasting, earlier_by, 
 use Rattle.update_stack.specs.TakenBack.{TakenBackIsRestored, MachinesAreBuilt}
 use Rattle.update_stack.specs.Stacked.{IsSound, IsBuilt, Untouched, Updated}
 use Rattle.update_stack.specs.laws.StackedLaws.{last_more, built_sound}
-use Rattle.update_stack.specs.laws.StepLaws.{by_step}
 use Rattle.update_stack.proofs.TableLaws.{last_back}
 use Rattle.update_stack.proofs.BuiltLaws.{MemoryLaws, built_write, built_commit, committed_back, wrote}
 use Rattle.update_stack.proofs.BuiltLaws.{withdrawn_wrote, fences_listed}
-use Rattle.update_stack.proofs.WriteLaws.{stack_clear}
+use Rattle.update_stack.proofs.MovingLaws.{moved_leaves, spawned_leaves}
 
 -- the laws of plans and of an arena's gaps that are used here
 abbrev pub PlansCanBeMade : Type 0
@@ -83,14 +77,14 @@ pub record IsMoment (earlier : List AbstractMachine) (k : AbstractMachine) : Typ
   pub stacks : All IsStackRange k.stacks
 
 -- bytes that are written past code
-abbrev KeepsText : (start : ℕ) → List ℕ → List Piece → Type 0
+abbrev pub KeepsText : (start : ℕ) → List ℕ → List Piece → Type 0
 KeepsText start bytes pieces = All (λ piece. is_text piece ≡ true → overlaid_piece start bytes piece ≡ piece) pieces
 
 inside_or_out : (start count a : ℕ) → ((start ≤ a) × (a < start + count)) ⊎ ((a < start) ⊎ (start + count ≤ a))
 inside_or_out start count a = grind arith
 
 -- what can be written lies in no code
-clear_keeps : (contents : Contents) (start : ℕ) (bytes : List ℕ) → IsValid contents
+pub clear_keeps : (contents : Contents) (start : ℕ) (bytes : List ℕ) → IsValid contents
     → first_fault (write_fault contents.pieces) start (length bytes) ≡ None → KeepsText start bytes contents.pieces
 clear_keeps contents start bytes valid clear i d l is =
     let piece = get_or contents.pieces i d in
@@ -247,63 +241,19 @@ module _ (earlier : List AbstractMachine) (k : AbstractMachine) (moment : IsMome
     stacks = moment.stacks;
   }
 
-  no_fault : first_fault (write_fault k.pieces) 0 0 ≡ None
-  unfolding first_fault
-  no_fault = refl
-
-  goes_on : (threads : List Thread) → IsMoment earlier (record k { threads = threads })
-  goes_on threads =
-      let same : written 0 [] k.pieces ≡ k.pieces =
-      map_fixed (overlaid_piece 0 []) k.pieces
-      (λ i d l. piece_apart 0 [] (get_or k.pieces i d) (inr (omega arith))) in
-      subst (λ (ps : List Piece). let m : AbstractMachine = record k { pieces = ps; threads = threads }
-      in IsMoment earlier m)
-      same (wrote_clear 0 [] threads no_fault)
-
-  -- the machine with memory that a step leaves
-  abbrev With : Contents → Type 0
-  With contents = (threads : List Thread) → IsMoment earlier (record k { pieces = contents.pieces; threads = threads })
-
-  step_moment : (thread : Thread) → With (step_in k thread).contents
-  step_moment = by_step With k goes_on (λ start bytes clear threads. wrote_clear start bytes threads clear)
-
   -- what an event leaves
-  abbrev Leaves : Result Happened Refusal → Type 0
+  abbrev pub Leaves : Result Happened Refusal → Type 0
   Leaves result = IsMoment (earlier_by earlier k result) (machine_after k result)
 
   step_leaves : (n : ℕ) → Leaves (step_answered (moved k n))
-  unfolding moved
-  step_leaves n = by_thread (running_at k.threads n)
-    where
-      by_thread : (o : Option Thread) → Leaves (step_answered (moved_by k n o))
-      by_thread None = moment
-      by_thread (Some thread) = step_moment thread (set k.threads n (step_in k thread).thread)
+  step_leaves =
+      moved_leaves k (built_sound k moment.built) moment.stacks (IsMoment earlier) wrote_clear Leaves (λ refusal. moment)
+      (λ number m is. is) (λ outcome m is. is)
 
   spawn_leaves : (name : List ℕ) (argument n : ℕ) → Leaves (spawn_answered n (spawned k name argument))
-  unfolding spawned started
-  spawn_leaves name argument n = by_place (function_named k.symbols name)
-    where
-      on_stack : (pc : ℕ) (o : Option Range) → IfSome o (Contains k.stacks)
-          → Leaves (spawn_answered n (after_start k (started_on k.pieces k.threads pc argument o)))
-      on_stack pc None listed = moment
-      on_stack pc (Some stack) listed =
-          wrote_clear stack.low (first_bytes stack argument)
-          (k.threads ++ first_thread (length k.threads) stack pc ∷ [])
-          (stack_clear (contents_of k) k.stacks stack argument (built_sound k moment.built).jumps.valid moment.stacks
-          (built_sound k moment.built).stacks listed)
-
-      by_count : (pc : ℕ) (full : Bool)
-          → Leaves (spawn_answered n (after_start k (if full then Err TooManyThreads
-          else started_on k.pieces k.threads pc argument (free_stack k.stacks k.threads))))
-      by_count pc true = moment
-      by_count pc false =
-          on_stack pc (free_stack k.stacks k.threads)
-          (stack_listed k.stacks k.threads (free_stack k.stacks k.threads) refl)
-
-      by_place : (pc : Result ℕ Refusal)
-          → Leaves (spawn_answered n (after_start k (started_at k.pieces k.stacks k.threads argument pc)))
-      by_place (Err refusal) = moment
-      by_place (Ok pc) = by_count pc (nat_le 4096 (length k.threads))
+  spawn_leaves =
+      spawned_leaves k (built_sound k moment.built) moment.stacks (IsMoment earlier) wrote_clear Leaves
+      (λ refusal. moment) (λ number m is. is) (λ outcome m is. is)
 
   -- what is free of the arena can be placed in
   gaps_free : GapsAreFree → AreGaps (contents_of k) (gaps_of k)
@@ -329,7 +279,7 @@ module _ (earlier : List AbstractMachine) (k : AbstractMachine) (moment : IsMome
           (λ i d l. absurd (omega arith))
       lows false test = λ i d l. absurd (omega arith)
 
-  can_be_made : PlansCanBeMade → GapsAreFree → (name pre post : List ℕ) (plan : Plan)
+  pub can_be_made : PlansCanBeMade → GapsAreFree → (name pre post : List ℕ) (plan : Plan)
       → planned_in k name pre post ≡ Ok plan → CanBeMade (contents_of k) plan
   unfolding planned_in
   can_be_made plans free name pre post plan is = by_name (name_refusal k name) is
@@ -343,7 +293,7 @@ module _ (earlier : List AbstractMachine) (k : AbstractMachine) (moment : IsMome
           plans (running_of k) (retired_of k) (gaps_of k) pre post plan (built_sound k moment.built).jumps.valid
           (built_sound k moment.built).jumps.spliced (fences_listed k moment.built) (gaps_free free) is
 
-  committed_moment : MemoryLaws → (name : List ℕ) (plan : Plan) → CanBeMade (contents_of k) plan
+  pub committed_moment : MemoryLaws → (name : List ℕ) (plan : Plan) → CanBeMade (contents_of k) plan
       → IsMoment (earlier ++ k ∷ []) (committed k name plan)
   unfolding committed
   committed_moment laws name plan can =
@@ -434,7 +384,7 @@ module _ (earlier : List AbstractMachine) (k : AbstractMachine) (moment : IsMome
       by_update (Some update) newest =
           by_threads update (thread_refusal k.pieces (ranges_in k update) k.threads) newest
 
-  event_leaves : MemoryLaws → PlansCanBeMade → GapsAreFree → (event : Event) → Leaves (answered k event)
+  pub event_leaves : MemoryLaws → PlansCanBeMade → GapsAreFree → (event : Event) → Leaves (answered k event)
   unfolding answered
   event_leaves laws plans free (Spawn name argument) = spawn_leaves name argument (length k.threads)
   event_leaves laws plans free (Step n) = step_leaves n

@@ -1,12 +1,14 @@
--- Public clauses cite the abstract machine (AbstractMachine and its Events, by Steps, Apply and Undo), that undoing
--- restores what was (TakenBack), what stands for the machine (StandsFor), its steps beside those of a memory with its
--- jumps (Jumps), and a system seen as it (Systems), with what holds of it and of what it keeps (Stacked). What `inside`
--- holds is the code's own.
+-- Public clauses cite the abstract machine (AbstractMachine and its Events, by Steps, Apply and Undo), that new code is
+-- reached (Reached) and stays so (Stays), that undoing restores what was (TakenBack), what stands for the machine
+-- (StandsFor), its steps beside those of a memory with its jumps (Jumps), and a system seen as it (Systems), with what
+-- holds of it and of what it keeps (Stacked). What `inside` holds is the code's own.
 pub mod AbstractMachine
 pub mod Steps
 pub mod Apply
 pub mod Undo
 pub mod Events
+pub mod Reached
+pub mod Stays
 pub mod TakenBack
 pub mod StandsFor
 pub mod Jumps

@@ -10,6 +10,7 @@ use Rattle.image_memory.specs.Changes.{HasPiece}
 use Rattle.splice_jump.specs.Jumps.{jumped, olds_at}
 use Rattle.update_memory.specs.Rows.{rows_of, olds_of}
 use Rattle.image_threads.specs.Spawning.{AreStacks}
+use Rattle.update_plan.specs.Sound.{IsCode}
 use Rattle.update_stack.specs.declared.updates.Kept.{Kept}
 use Rattle.update_stack.specs.AbstractMachine.{AbstractMachine, Update, is_home, bodies_in, contents_of, jump_rows}
 use Rattle.update_stack.specs.AbstractMachine.{with_replaced}
@@ -17,11 +18,13 @@ use Rattle.update_stack.specs.Apply.{gaps_of}
 use Rattle.update_stack.specs.Jumps.{CanJump}
 use Rattle.update_stack.specs.Undo.{withdrawn, ranges_in, newest_update}
 
--- The jumps of a machine can stand in its memory, each stack is a piece of that, and its arena ends where code may.
+-- The jumps of a machine can stand in its memory, each stack is a piece of that, its arena ends where code may, and what
+-- is retired is code.
 pub record IsSound (k : AbstractMachine) : Type 0 where
   pub jumps : CanJump k
   pub stacks : AreStacks k.pieces k.stacks
   pub arena : k.arena.low < k.arena.high → k.arena.high ≤ 0xFFFF_0000
+  pub retired : All (IsCode k.pieces) k.retired
 
 -- An update on what is there without it: its rows end with its bases, no other retired range is one of its homes',
 -- and what it added and retired is there, each once.

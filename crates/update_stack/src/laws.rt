@@ -1,23 +1,31 @@
 //! What holds of the abstract machine, and of the memory that stands for it.
 ghost use Rattle.std.specs.Prelude.{◌≡◌, ℕ, List, Ok};
+ghost use Rattle.std.specs.List.{All};
+ghost use Rattle.ks_base.specs.declared.reports.Report.{Report};
 ghost use Rattle.image_memory.specs.Fetch.{HasCode};
+ghost use Rattle.image_memory.specs.declared.types.Piece.{Piece};
+ghost use Rattle.image_threads.specs.Program.{IsStackRange};
 ghost use Rattle.ia32_step.specs.declared.types.Thread.{Thread};
 ghost use Rattle.update_plan.specs.declared.types.Plan.{Plan};
 ghost use Rattle.update_plan.specs.Sound.{CanBeMade};
 ghost use Rattle.update_stack.specs.AbstractMachine.{AbstractMachine, contents_of};
-ghost use Rattle.update_stack.specs.Apply.{planned_in, committed};
+ghost use Rattle.update_stack.specs.Apply.{planned_in, committed, applied};
+ghost use Rattle.update_stack.specs.Events.{Event, Happened, answered};
 ghost use Rattle.update_stack.specs.Jumps.{CanJump, StepsStand};
+ghost use Rattle.update_stack.specs.Reached.{LeadsTo, AreReached};
 ghost use Rattle.update_stack.specs.Stacked.{IsBuilt};
+ghost use Rattle.update_stack.specs.Stays.{IsNewest, LeavesAloneBy, NewCodeStaysReached};
 
 use ia32_decode::jumps_decode;
 use ia32_step::code_bytes_have_no_say;
+use image_memory::pieces_stay_placed;
 use link_post::gaps_are_free;
 use splice_jump::{
     code_stays_code, data_are_written_past_jumps, homes_stay_spliced, jumps_leave_views,
     jumps_stand,
 };
-use update_memory::pieces_are_added;
-use update_plan::plans_can_be_made;
+use update_memory::{changes_are_withdrawn, pieces_are_added, ranges_are_retired};
+use update_plan::{plans_can_be_made, replaced_functions_have_new_code};
 
 /// Over the memory with the jumps a thread's step comes to what it comes to on the machine: at a home it goes on at the
 /// newest version, in a retired range it stops, and elsewhere it carries out the machine's text.
@@ -49,4 +57,42 @@ pub fn updates_can_be_made()
     plans_can_be_made();
     gaps_are_free();
     pieces_are_added();
+}
+
+/// Where an update is accepted, arrivals at each function that its report says is replaced go to its new code: a thread
+/// that comes to the function's home goes on, in one step, at the report's base, and meets there the first of the linked
+/// bytes of the new object's section of its name.
+pub fn accepted_code_is_reached()
+    ensures { (k now : AbstractMachine) (name pre_file post_file : List ℕ) (report : Report) → IsBuilt k →
+        applied k name pre_file post_file ≡ Ok (now, report) → AreReached k pre_file post_file now report }
+{
+    // Nothing is done here: the laws say what a plan brings and that it can be made, and what each change of the machine
+    // leaves.
+    pieces_are_added();
+    ranges_are_retired();
+    changes_are_withdrawn();
+    plans_can_be_made();
+    gaps_are_free();
+    replaced_functions_have_new_code();
+}
+
+/// A home that leads to new code goes on leading there: after each event that leaves both alone; and so, in every list
+/// of events from the start of an image, after those that come after an update was accepted, until a later update
+/// replaces the function again or retires its code, or the update that brought it is taken back.
+pub fn reached_code_stays()
+    ensures event { (k : AbstractMachine) (event : Event) (now : Happened) (home : ℕ) (piece : Piece) → IsBuilt k →
+        All IsStackRange k.stacks → IsNewest k home piece.base → LeadsTo k home piece → answered k event ≡ Ok now →
+        LeavesAloneBy k now now.answer home piece.base →
+        IsNewest now.machine home piece.base × LeadsTo now.machine home piece }
+    ensures events { NewCodeStaysReached }
+{
+    // Nothing is done here: the laws say what a plan brings and that it can be made, and what each change of the machine
+    // leaves.
+    pieces_stay_placed();
+    pieces_are_added();
+    ranges_are_retired();
+    changes_are_withdrawn();
+    plans_can_be_made();
+    gaps_are_free();
+    replaced_functions_have_new_code();
 }

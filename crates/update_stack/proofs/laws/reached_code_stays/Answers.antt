@@ -1,0 +1,51 @@
+use Rattle.update_stack.proofs.BuiltLaws.{MemoryLaws}
+use Rattle.update_stack.proofs.FirstLaws.{starts_well}
+use Rattle.update_stack.proofs.StaysLaws.{all_stay, one_event}
+use Rattle.update_stack.proofs.laws.reached_code_stays.Goals as goal
+
+pub returns-clause-event : goal.returns-clause-event
+returns-clause-event c =
+    let laws : MemoryLaws = record {
+      pieces_valid = c.pieces_are_added.ensures.valid;
+      pieces_fences = c.pieces_are_added.ensures.fences;
+      pieces_given = c.pieces_are_added.ensures.given;
+      pieces_code = c.pieces_are_added.ensures.code;
+      pieces_spliced = c.pieces_are_added.ensures.spliced;
+      pieces_back = c.changes_are_withdrawn.ensures.pieces;
+      ranges_valid = c.ranges_are_retired.ensures.valid;
+      ranges_pieces = c.ranges_are_retired.ensures.pieces;
+      ranges_made = c.ranges_are_retired.ensures.ranges;
+      ranges_kept = c.ranges_are_retired.ensures.kept;
+      ranges_given = c.ranges_are_retired.ensures.given;
+      ranges_back = c.changes_are_withdrawn.ensures.ranges;
+    } in
+    one_event laws c.plans_can_be_made.ensures
+    (λ contents free valid up low. record {
+      ascend = c.gaps_are_free.ensures.ascend free contents.pieces up;
+      low = c.gaps_are_free.ensures.below 0xFFFF_0000 free contents.pieces low;
+      free = c.gaps_are_free.ensures.apart free contents.pieces;
+    })
+
+pub returns-clause-events : goal.returns-clause-events
+returns-clause-events c =
+    let laws : MemoryLaws = record {
+      pieces_valid = c.pieces_are_added.ensures.valid;
+      pieces_fences = c.pieces_are_added.ensures.fences;
+      pieces_given = c.pieces_are_added.ensures.given;
+      pieces_code = c.pieces_are_added.ensures.code;
+      pieces_spliced = c.pieces_are_added.ensures.spliced;
+      pieces_back = c.changes_are_withdrawn.ensures.pieces;
+      ranges_valid = c.ranges_are_retired.ensures.valid;
+      ranges_pieces = c.ranges_are_retired.ensures.pieces;
+      ranges_made = c.ranges_are_retired.ensures.ranges;
+      ranges_kept = c.ranges_are_retired.ensures.kept;
+      ranges_given = c.ranges_are_retired.ensures.given;
+      ranges_back = c.changes_are_withdrawn.ensures.ranges;
+    } in
+    all_stay laws c.replaced_functions_have_new_code.ensures c.gaps_are_free.ensures.ascend c.plans_can_be_made.ensures
+    (λ contents free valid up low. record {
+      ascend = c.gaps_are_free.ensures.ascend free contents.pieces up;
+      low = c.gaps_are_free.ensures.below 0xFFFF_0000 free contents.pieces low;
+      free = c.gaps_are_free.ensures.apart free contents.pieces;
+    })
+    (starts_well c.pieces_stay_placed.ensures)
