@@ -1,5 +1,5 @@
-//! Tests of whole calls over files and a sink in memory, and of the real files: `ksplice_calls`.
-//! They stand apart so that it is proved once, and not once more for its tests.
+//! Tests of whole calls over files and a sink in memory, and of the real files: `ksplice_calls`; and of works:
+//! `work_gen`. They stand apart so that these are proved once, and not once more for their tests.
 #![tactic(auto)]
 
 #[cfg(test)]
@@ -10,3 +10,5 @@ mod images;
 mod objects;
 #[cfg(test)]
 mod real_files;
+#[cfg(test)]
+mod works;

@@ -1,0 +1,15 @@
+pub mod ScriptLaws
+pub mod SpellingLaws
+pub mod RuleLaws
+pub mod WrittenLaws
+pub mod SectionLaws
+pub mod ObjectLaws
+pub mod SymbolLaws
+pub mod RelocationLaws
+pub mod PlacedLaws
+pub mod AcceptedLaws
+pub mod HeaderLaws
+pub mod EntryLaws
+pub mod NameLaws
+pub mod ReadLaws
+pub mod NormalLaws

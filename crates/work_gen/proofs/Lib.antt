@@ -1,0 +1,3 @@
+pub mod AppendLaws
+pub mod SectionLaws
+pub mod SymbolLaws

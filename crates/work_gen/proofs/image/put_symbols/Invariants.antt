@@ -1,0 +1,7 @@
+use Rattle.std.proofs.Common.{◌≡◌, ◌++◌}
+use Rattle.std.specs.List.{flat_map, range_with_len}
+use Rattle.work_gen.specs.Image.{image_symbol}
+use Rattle.work_gen.proofs.image.put_symbols.Given as goal
+
+abbrev pub invariant-loop-i : goal.invariant-loop-i
+invariant-loop-i l = l.out.items ≡ l.fn.out.items ++ flat_map image_symbol (range_with_len 0 l.i)
