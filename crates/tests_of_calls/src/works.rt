@@ -1,4 +1,5 @@
-//! The works of two numbers, against lengths and bytes that were worked out by hand.
+//! The works of three numbers, against lengths and bytes that were worked out by hand.
+use std::alloc::{AllocError, Global};
 use std::test::Fail;
 use work_gen::{Work, make_work};
 
@@ -88,6 +89,35 @@ static OF_1: Known = (
     ],
 );
 
+/// Of the largest number, with 166 functions, whose constants are 65,535 less their places: the region, the code of `f0`,
+/// `f1` and `f165`, the stacks; of the objects the code of the first functions, of which `f1` and `f5` are raised.
+static OF_LARGEST: Known = (
+    [8590, 26920],
+    &[
+        (24, b"\x01\0\0\0\0\0\x10\0\xc0\x14\0\0"),
+        (36, b"\x05\xff\xff\0\0\xe8\x16\0\0\0\xc3\x90\x90"),
+        (68, b"\x05\xfe\xff\0\0\xe8\x16\0\0\0\xc3"),
+        (5316, b"\x05\x5a\xff\0\0\xc3\x90\x90"),
+        (
+            8558,
+            b"\0\0\x40\0\0\0\x41\0\0\0\x42\0\0\0\x43\0\0\0\x44\0\0\0\x45\0\0\0\x46\0\0\0\x47\0",
+        ),
+    ],
+    &[
+        (52, b"\x05\xff\xff\0\0\xe8"),
+        (64, b"\x05\xfe\xff\0\0\xe8"),
+        (76, b"\x05\xfd\xff\0\0\xe8"),
+    ],
+    &[
+        (52, b"\x05\xff\xff\0\0\xe8"),
+        (64, b"\x05\xff\xff\0\0\xe8"),
+        (76, b"\x05\xfd\xff\0\0\xe8"),
+        (88, b"\x05\xfc\xff\0\0\xe8"),
+        (100, b"\x05\xfb\xff\0\0\xe8"),
+        (112, b"\x05\xfb\xff\0\0\xe8"),
+    ],
+);
+
 /// Whether a file has all of these bytes.
 fn has_all(file: &[u8], known: &[At]) -> bool {
     for (offset, bytes) in known {
@@ -113,10 +143,17 @@ fn is_as_known(work: &Work, known: &Known) -> bool {
         && has_all(work.script.as_slice(), &SCRIPT)
 }
 
+/// Whether the work of a number is as it is known.
+fn is_made_as_known(alloc: Global, number: u32, known: &Known) -> Result<bool, AllocError> {
+    let work = make_work(alloc, number)?;
+    Ok(is_as_known(&work, known))
+}
+
 #[test]
-fn works_of_two_numbers(rt: HostRuntime) -> Result<(), Fail> {
-    let of_0 = make_work(rt.alloc(), 0)?;
-    let of_1 = make_work(rt.alloc(), 1)?;
-    assert!(rt; is_as_known(&of_0, &OF_0) && is_as_known(&of_1, &OF_1));
+fn works_of_three_numbers(rt: HostRuntime) -> Result<(), Fail> {
+    let of_0 = is_made_as_known(rt.alloc(), 0, &OF_0)?;
+    let of_1 = is_made_as_known(rt.alloc(), 1, &OF_1)?;
+    let of_largest = is_made_as_known(rt.alloc(), 4_294_967_295, &OF_LARGEST)?;
+    assert!(rt; of_0 && of_1 && of_largest);
     Ok(())
 }
