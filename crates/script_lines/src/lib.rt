@@ -8,6 +8,7 @@ mod reading;
 mod texts;
 mod types;
 
+pub use numbers::decimal;
 pub use reading::read_script;
 pub use texts::text_of;
 pub use types::{Command, Script};

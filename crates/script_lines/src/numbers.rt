@@ -12,8 +12,15 @@ pub(crate) fn number_of(word: &[u8]) -> Option<u32>
 {
     match word {
         [b'0', b'x', digits @ ..] => numeral(digits, 16, 8),
-        _ => numeral(word, 10, 10),
+        _ => decimal(word),
     }
+}
+
+/// The number that one to ten decimal digits write; `None` for any other word, and for a number above 4,294,967,295.
+pub fn decimal(word: &[u8]) -> Option<u32>
+    ensures { result ≡ numeral 10 10 word.now }
+{
+    numeral(word, 10, 10)
 }
 
 /// The number that a word writes, which is from `low` to `high`.

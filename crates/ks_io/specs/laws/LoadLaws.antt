@@ -1,11 +1,13 @@
 -- Laws of what loading came to of files that are needed one after another.
-use Rattle.std.specs.Prelude.{◌≡◌, ◌⊎◌, ℕ, suc, ◌<◌, List, [], ◌∷◌, ◌++◌, length, Option, Some, None, refl}
-use Rattle.std.proofs.Common.{inl, inr, sym, subst, le_of_eq, le_antisymm}
+use Rattle.std.specs.Prelude.{◌≡◌, ◌⊎◌, ℕ, suc, ◌≤◌, ◌<◌, List, [], ◌∷◌, ◌++◌, length, map, Option, Some, None, refl}
+use Rattle.std.specs.List.{All}
+use Rattle.std.proofs.Common.{inl, inr, sym, subst, arith, le_of_eq, le_antisymm}
 use Rattle.std.proofs.Common.{le_of_suc-le-suc, not-suc-le-zero, suc-ne-zero}
 use Rattle.std.proofs.Math.Nat.{not-suc-le_self}
-use Rattle.ks_io.specs.Outside.{Counts}
-use Rattle.ks_io.specs.Loads.{Needed, Told, AreHeld, first_lacking, EndsLoads, RoseFor, CameTo, LosesOne}
+use Rattle.ks_io.specs.Outside.{Counts, IsLonger}
+use Rattle.ks_io.specs.Loads.{Needed, Told, AreHeld, first_lacking, IsLost, EndsLoads, RoseFor, CameTo, LosesOne}
 use Rattle.ks_io.specs.declared.types.FileFault.{FileFault}
+use Rattle.ks_io.specs.declared.types.FileFault.TheVariants.{Missing, TooLong, Failed, Memory}
 
 same_pred : (a b : ℕ) → suc a ≡ suc b → a ≡ b
 same_pred a b e = le_antisymm (le_of_suc-le-suc (le_of_eq e)) (le_of_suc-le-suc (le_of_eq (sym e)))
@@ -115,3 +117,31 @@ stays_or_loses_one needed told held lost before now came = by (first_lacking (ne
           fault = fault;
           is_lost = ends;
         })
+
+-- Of files that are given, those that were all held are the given ones.
+pub held_are_given : (files : List ℕ → Option (List ℕ))
+    (own : Needed → List ℕ) (needed : List Needed) (held : List (List ℕ))
+    → All (λ file. files file.name ≡ Some (own file)) needed
+    → AreHeld (Some files) needed held → first_lacking needed held ≡ None → held ≡ map own needed
+held_are_given files own [] [] given held none = refl
+held_are_given files own [] (bytes ∷ rest) given held none = absurd held
+held_are_given files own (file ∷ needed) [] given held none = absurd cc
+held_are_given files own (file ∷ needed) (bytes ∷ rest) given held none =
+    let told = held.0.is_told files refl in
+    let one : files file.name ≡ Some (own file) = given 0 file (omega arith) in
+    let first : bytes ≡ own file = cc in
+    let others : rest ≡ map own needed =
+    held_are_given files own needed rest (λ k d less. given (suc k) d (omega (arith, less))) held.1 none in
+    cc
+
+-- A given file within its limit is lost for nothing but a fault of the outside.
+pub given_is_lost_by_failing : (files : List ℕ → Option (List ℕ)) (own : List ℕ)
+    (fault : FileFault) (before now : Counts) (file : Needed)
+    → files file.name ≡ Some own → length own ≤ file.limit → IsLost (Some files) fault before now file → fault ≡ Failed
+given_is_lost_by_failing files own Missing before now file given fits lost =
+    let absent : files file.name ≡ None = lost.is_told files refl in absurd cc
+given_is_lost_by_failing files own TooLong before now file given fits lost =
+    let longer = subst (λ (bytes : Option (List ℕ)). IsLonger file.limit bytes) given (lost.is_told files refl) in
+    absurd (omega (arith, longer, fits))
+given_is_lost_by_failing files own Failed before now file given fits lost = refl
+given_is_lost_by_failing files own Memory before now file given fits lost = absurd (lost.is_outside refl)
