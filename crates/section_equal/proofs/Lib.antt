@@ -1,3 +1,4 @@
 pub mod Blocks
 pub mod EndsOfTexts
 pub mod Samenesses
+pub mod LaneLaws

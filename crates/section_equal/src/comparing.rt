@@ -8,7 +8,8 @@ ghost use Rattle.i386_reloc.specs.Places.{bytes_at};
 ghost use Rattle.section_equal.specs.Same.{same_target, same_reference, is_same, are_same, same_in};
 ghost use Rattle.section_equal.specs.inside.Texts.{IsKnown, AreKnown, refs_at, EndsIn, HoldsTarget};
 
-use crate::parts::{equal_bytes, same_content, same_field};
+use crate::bytes::equal_bytes;
+use crate::parts::{same_content, same_field};
 use crate::texts::{Ends, agreement};
 use i386_reloc::{Normal, NormalSection, Ref, Target};
 use std::alloc::Global;

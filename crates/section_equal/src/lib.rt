@@ -2,9 +2,11 @@
 #![tactic(auto)]
 
 mod all_sections;
+mod bytes;
 mod comparing;
 mod parts;
 mod texts;
 
 pub use crate::all_sections::{SameSections, same_section, same_sections};
-pub use crate::parts::{equal_bytes, same_class};
+pub use crate::bytes::equal_bytes;
+pub use crate::parts::same_class;

@@ -1,17 +1,10 @@
 //! What two sections have in common beside the targets of their references.
 ghost use Rattle.std.specs.Prelude.{◌≡◌};
-ghost use Rattle.i386_reloc.specs.Normal.{same_bytes};
 ghost use Rattle.section_equal.specs.Same.{same_class, same_form};
 ghost use Rattle.section_equal.specs.inside.Texts.{same_field, same_content};
 
+use crate::bytes::equal_bytes;
 use i386_reloc::{Class, Form, NormalSection, Ref};
-
-/// Whether two lists of bytes are equal.
-pub fn equal_bytes(a: &[u8], b: &[u8]) -> bool
-    ensures { result ≡ same_bytes a.now b.now }
-{
-    a == b
-}
 
 /// Whether two classes are the same.
 pub fn same_class(old: Class, new: Class) -> bool
