@@ -1,5 +1,6 @@
 pub mod TargetLaws
 pub mod WordLaws
+pub mod LaneLaws
 pub mod StackLaws
 pub mod CheckLaws
 pub mod OrderLaws

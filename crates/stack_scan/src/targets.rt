@@ -1,12 +1,17 @@
 //! Ranges that many words are looked up in.
-ghost use Rattle.std.specs.Prelude.{◌≡◌, ◌≤◌, ◌<◌, ◌↔◌, IsTrue, true, length};
-ghost use Rattle.std.specs.List.{AllWithin};
+ghost use Rattle.std.specs.Prelude.{◌≡◌, ◌≤◌, ◌<◌, ◌+◌, ◌↔◌, IsTrue, true, false, ◌&&◌, nat_le, nat_lt, length};
+ghost use Rattle.std.specs.List.{AllWithin, list_any};
+ghost use Rattle.std.specs.Simd.Lanes.{chunk};
 ghost use Rattle.image_memory.specs.Ranges.{lies_in};
 ghost use Rattle.stack_scan.specs.Standing.{in_one};
-ghost use Rattle.stack_scan.specs.inside.Words.{AreInOrder};
+ghost use Rattle.stack_scan.specs.inside.Words.{AreInOrder, NoneBetween};
 
 use ks_base::Range;
 use std::marker::Model;
+use std::simd::prelude::*;
+
+/// How many words are tested at once.
+pub(crate) const LANES: usize = 8;
 
 /// Ranges with what makes a look-up quick. Contracts see the ranges.
 #[derive(Drop)]
@@ -55,6 +60,16 @@ impl<'a> Targets<'a> {
         }
     }
 
+    /// Whether some of the words that are tested at once, from a place on, may be an address of one of the ranges:
+    /// whether one lies between the bounds of all.
+    #[inline]
+    pub(crate) fn may_have_some(&self, words: &[u32], start: usize) -> bool
+        requires { start + LANES ≤ length words.now }
+        ensures { result ≡ false → NoneBetween self.now words.now start (start + LANES) }
+    {
+        is_one_within(words, start, self.low, self.high)
+    }
+
     /// Whether a word is an address of one of the ranges. It takes the logarithm of their number where they ascend
     /// without meeting, and constant time for most words that lie in none.
     pub(crate) fn has(&self, word: u32) -> bool
@@ -69,6 +84,17 @@ impl<'a> Targets<'a> {
             is_in_one(self.ranges, word)
         }
     }
+}
+
+/// Whether one of the words that are tested at once, from a place on, is at a bound or above it, and below another.
+#[inline]
+fn is_one_within(words: &[u32], start: usize, low: u32, high: u32) -> bool
+    requires { start + LANES ≤ length words.now }
+    ensures { result ≡ list_any (λ word. nat_le low word && nat_lt word high) (chunk start LANES words.now) }
+{
+    let above = u32x8::from_slice(&words[start..]) - u32x8::splat(low);
+    let span = high.saturating_sub(low);
+    above.simd_lt(u32x8::splat(span)).any()
 }
 
 /// Whether a range begins at an address or above, and doesn't end below its beginning.

@@ -1,10 +1,11 @@
 //! Words of memory, and the first of them that lies in a range.
-ghost use Rattle.std.specs.Prelude.{◌≡◌, ◌≤◌, ◌*◌, ◌^◌, length, map, None, EachIndex, slice_index, position};
+ghost use Rattle.std.specs.Prelude.{◌≡◌, ◌≤◌, ◌*◌, ◌^◌, ◌+◌, length, map, None, MatchOption, EachIndex};
+ghost use Rattle.std.specs.Prelude.{slice_index, position};
 ghost use Rattle.image_memory.specs.Access.{first_fault, read_fault, dword_at};
 ghost use Rattle.stack_scan.specs.Standing.{in_one, addresses};
-ghost use Rattle.stack_scan.specs.inside.Words.{spelled};
+ghost use Rattle.stack_scan.specs.inside.Words.{spelled, NoneBetween, IsFirstBetween};
 
-use crate::targets::Targets;
+use crate::targets::{LANES, Targets};
 use image_memory::Space;
 use ks_base::Range;
 
@@ -22,13 +23,34 @@ pub fn first_in(words: &[u32], ranges: &[Range]) -> Option<u32>
     first_among(words, &Targets::new(ranges))
 }
 
-/// The least index of a word that is an address of one of the targets.
+/// The least index of a word that is an address of one of the targets. Words are passed many at once.
 pub(crate) fn first_among(words: &[u32], targets: &Targets<'_>) -> Option<u32>
     requires { length words.now ≤ 2 ^ 32 }
     ensures { result ≡ position (in_one targets.now) words.now }
 {
-    for (index, word) in words.iter().enumerate() {
-        if targets.has(*word) {
+    let mut passed = 0;
+    while words.len() - passed >= LANES {
+        if targets.may_have_some(words, passed) {
+            let found = first_between(words, passed, passed + LANES, targets);
+            if found.is_some() {
+                return found;
+            }
+        }
+        passed += LANES;
+    }
+    first_between(words, passed, words.len(), targets)
+}
+
+/// The least index from one up to another of a word that is an address of one of the targets.
+fn first_between(words: &[u32], start: usize, end: usize, targets: &Targets<'_>) -> Option<u32>
+    requires ascend { start ≤ end }
+    requires inside { end ≤ length words.now }
+    requires count { length words.now ≤ 2 ^ 32 }
+    ensures { MatchOption result
+        (NoneBetween targets.now words.now start end) (λ index. IsFirstBetween targets.now words.now start end index) }
+{
+    for index in start..end {
+        if targets.has(words[index]) {
             return Some(index as u32);
         }
     }

@@ -1,13 +1,14 @@
-use Rattle.std.proofs.Common.{rules, arith}
-use Rattle.stack_scan.specs.Standing.{in_one}
-use Rattle.stack_scan.proofs.WordLaws.{position_some, position_none}
+-- Words that were passed are no addresses of a range, so what is found behind them is the first.
+use Rattle.std.proofs.Common.{◌∙◌, sym, arith}
+use Rattle.stack_scan.proofs.LaneLaws.{found_behind, found_at_last}
 use Rattle.stack_scan.proofs.words.first_among.Goals as goal
 
-pub returns-then-has : goal.returns-then-has
-returns-then-has c =
-    position_some (in_one c.args.targets.now) c.args.words.now c.loop-index.index
-    (omega arith) c.loop-index.invariant (search rules)
+pub returns-then-is_some : goal.returns-then-is_some
+returns-then-is_some c =
+    found_behind c.args.targets.now c.args.words.now c.loop-passed.passed _ c.first_between-found.result (omega arith)
+    c.loop-passed.invariant.1 (sym c.is_some.ensures ∙ c.if-is_some.true) c.first_between-found.ensures
 
 pub returns : goal.returns
 returns c =
-    position_none (in_one c.args.targets.now) c.args.words.now (λ k l. c.loop-index.invariant k (omega arith))
+    found_at_last c.args.targets.now c.args.words.now c.loop-passed.passed c.first_between.result
+    c.loop-passed.invariant.1 c.first_between.ensures

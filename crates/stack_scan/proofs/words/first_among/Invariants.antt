@@ -1,6 +1,9 @@
-use Rattle.std.proofs.Common.{◌≡◌, ◌<◌, ℕ, false, get_or}
-use Rattle.stack_scan.specs.Standing.{in_one}
+use Rattle.std.proofs.Common.{◌≤◌, ◌-◌, length}
+use Rattle.stack_scan.specs.inside.Words.{NoneBetween}
 use Rattle.stack_scan.proofs.words.first_among.Given as goal
 
-abbrev pub invariant-loop-index : goal.invariant-loop-index
-invariant-loop-index l = (k : ℕ) → k < l.index → in_one l.targets (get_or l.words k 0) ≡ false
+abbrev pub invariant-loop-passed : goal.invariant-loop-passed
+invariant-loop-passed l = (l.passed ≤ length l.words) × NoneBetween l.targets l.words 0 l.passed
+
+abbrev pub decreases-loop-passed : goal.decreases-loop-passed
+decreases-loop-passed l = length l.words - l.passed
