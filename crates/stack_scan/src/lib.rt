@@ -4,6 +4,7 @@
 mod checks;
 mod places;
 mod scan;
+mod slots;
 mod sorting;
 mod stacks;
 mod targets;

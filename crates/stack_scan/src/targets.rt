@@ -1,11 +1,14 @@
 //! Ranges that many words are looked up in.
 ghost use Rattle.std.specs.Prelude.{◌≡◌, ◌≤◌, ◌<◌, ◌+◌, ◌↔◌, IsTrue, true, false, ◌&&◌, nat_le, nat_lt, length};
-ghost use Rattle.std.specs.List.{AllWithin, list_any};
+ghost use Rattle.std.specs.List.{list_any};
 ghost use Rattle.std.specs.Simd.Lanes.{chunk};
 ghost use Rattle.image_memory.specs.Ranges.{lies_in};
 ghost use Rattle.stack_scan.specs.Standing.{in_one};
+ghost use Rattle.stack_scan.specs.declared.slots.Slots.{Slots as TheSlots};
 ghost use Rattle.stack_scan.specs.inside.Words.{AreInOrder, NoneBetween};
+ghost use Rattle.stack_scan.specs.inside.Cuts.{IsCut};
 
+use crate::slots::Slots;
 use ks_base::Range;
 use std::marker::Model;
 use std::simd::prelude::*;
@@ -20,21 +23,24 @@ pub(crate) struct Targets<'a> {
     /// No range begins below `low` or ends above `high`.
     low: u32,
     high: u32,
-    /// Whether they ascend and don't meet.
-    in_order: bool,
+    /// What a word is looked up by, where they ascend and don't meet.
+    slots: Option<Slots>,
 }
 
 impl<'a> Model for Targets<'a> {
-    ghost use Rattle.std.specs.Prelude.{◌≡◌, List, length, true};
+    ghost use Rattle.std.specs.Prelude.{◌≡◌, List, length, Some};
     ghost use Rattle.ks_base.specs.declared.places.Range.{Range};
+    ghost use Rattle.stack_scan.specs.declared.slots.Slots.{Slots};
     ghost use Rattle.stack_scan.specs.inside.Words.{AreInOrder, AreWithin};
+    ghost use Rattle.stack_scan.specs.inside.Cuts.{IsCut};
 
     ghost Value = { List Range };
 
     ghost view = { λ t. t.ranges.now };
 
     ghost invariant = { λ t. AreWithin t.low t.high (length t.ranges.now) t.ranges.now
-        × (t.in_order ≡ true → AreInOrder (length t.ranges.now) t.ranges.now) };
+        × ((slots : Slots) → t.slots ≡ Some slots
+        → AreInOrder (length t.ranges.now) t.ranges.now × IsCut slots t.low t.high t.ranges.now) };
 }
 
 impl<'a> Targets<'a> {
@@ -56,7 +62,7 @@ impl<'a> Targets<'a> {
             ranges,
             low,
             high,
-            in_order,
+            slots: slots_of(ranges, low, high, in_order),
         }
     }
 
@@ -70,19 +76,31 @@ impl<'a> Targets<'a> {
         is_one_within(words, start, self.low, self.high)
     }
 
-    /// Whether a word is an address of one of the ranges. It takes the logarithm of their number where they ascend
-    /// without meeting, and constant time for most words that lie in none.
+    /// Whether a word is an address of one of the ranges. It takes constant time for a word outside their bounds, and
+    /// the logarithm of the number of those in its slot where they ascend without meeting.
     pub(crate) fn has(&self, word: u32) -> bool
         ensures { result ≡ in_one self.now word }
     {
         if word < self.low || word >= self.high {
             return false;
         }
-        if self.in_order {
-            is_in_ordered(self.ranges, word)
-        } else {
-            is_in_one(self.ranges, word)
+        match &self.slots {
+            Some(slots) => slots.has(self.ranges, word, self.high),
+            None => is_in_one(self.ranges, word),
         }
+    }
+}
+
+/// The slots of ranges that ascend without meeting, where they are known to.
+fn slots_of(ranges: &[Range], low: u32, high: u32, in_order: bool) -> Option<Slots>
+    requires { in_order ≡ true → AreInOrder (length ranges.now) ranges.now }
+    ensures { (slots : TheSlots) → result ≡ Some slots
+        → AreInOrder (length ranges.now) ranges.now × IsCut slots low high ranges.now }
+{
+    if in_order {
+        Some(Slots::new(ranges, low, high))
+    } else {
+        None
     }
 }
 
@@ -102,29 +120,6 @@ fn follows(range: Range, floor: u32) -> bool
     ensures { IsTrue result ↔ ((floor ≤ range.low) × (range.low ≤ range.high)) }
 {
     floor <= range.low && range.low <= range.high
-}
-
-/// How many ranges end at or below a word.
-fn ended(ranges: &[Range], word: u32) -> usize
-    requires { AreInOrder (length ranges.now) ranges.now }
-    ensures bound { result ≤ length ranges.now }
-    ensures below { AllWithin (λ range. range.high ≤ word) ranges.now 0 result }
-    ensures above { AllWithin (λ range. word < range.high) ranges.now result (length ranges.now) }
-{
-    ranges.partition_point(|range| range.high <= word)
-}
-
-/// Whether a word is an address of one of some ranges that ascend without meeting: that of the first one that ends
-/// above it.
-fn is_in_ordered(ranges: &[Range], word: u32) -> bool
-    requires { AreInOrder (length ranges.now) ranges.now }
-    ensures { result ≡ in_one ranges.now word }
-{
-    let first = ended(ranges, word);
-    if first == ranges.len() {
-        return false;
-    }
-    ranges[first].low <= word
 }
 
 /// Whether a word is an address of one of some ranges.

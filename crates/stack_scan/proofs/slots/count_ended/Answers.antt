@@ -3,13 +3,13 @@ use Rattle.std.proofs.Common.{rules, arith, leb, leb-true, leb-false}
 use Rattle.std.proofs.lemmas.List.Sorted.{IsPartitionPoint-from_clause, IsPartitionedBy-leb}
 use Rattle.ks_base.specs.declared.places.Range.{Range}
 use Rattle.stack_scan.proofs.TargetLaws.{highs_rise}
-use Rattle.stack_scan.proofs.targets.ended.Goals as goal
+use Rattle.stack_scan.proofs.slots.count_ended.Goals as goal
 
 pub returns : goal.returns
 returns c =
     let ranges = c.args.ranges.now in
-    let rise = IsPartitionedBy-leb (λ (range : Range). range.high) ranges c.args.word (highs_rise ranges c.requires) in
-    let at = IsPartitionPoint-from_clause (λ range. leb range.high c.args.word) ranges
+    let rise = IsPartitionedBy-leb (λ (range : Range). range.high) ranges c.args.address (highs_rise ranges c.requires) in
+    let at = IsPartitionPoint-from_clause (λ range. leb range.high c.args.address) ranges
     c.partition_point.result c.partition_point.ensures.partitioned rise (λ a r f' k. search rules) in
     record {
       bound = search rules;

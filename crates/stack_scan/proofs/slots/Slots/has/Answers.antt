@@ -1,7 +1,7 @@
 -- The first range that ends above the word decides.
 use Rattle.std.proofs.Common.{arith, sym}
 use Rattle.stack_scan.proofs.TargetLaws.{past_all, by_first}
-use Rattle.stack_scan.proofs.targets.is_in_ordered.Goals as goal
+use Rattle.stack_scan.proofs.slots.Slots.has.Goals as goal
 
 pub returns-then-first-ranges : goal.returns-then-first-ranges
 returns-then-first-ranges c =
@@ -11,4 +11,4 @@ pub returns : goal.returns
 returns c =
     let e = c.ended-first.ensures in
     let within = e.bound in
-    sym (by_first c.args.word c.ended-first.result _ c.args.ranges.now c.requires (omega arith) e.below e.above)
+    sym (by_first c.args.word c.ended-first.result _ c.args.ranges.now c.requires.order (omega arith) e.below e.above)

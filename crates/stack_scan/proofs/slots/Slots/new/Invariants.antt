@@ -1,0 +1,7 @@
+use Rattle.std.proofs.Common.{◌≡◌, ℕ, ◌+◌, ◌*◌, ◌^◌, ◌<◌, length, get_or}
+use Rattle.stack_scan.specs.inside.Cuts.{Ends}
+use Rattle.stack_scan.proofs.slots.Slots.new.Given as goal
+
+abbrev pub invariant-loop-slot : goal.invariant-loop-slot
+invariant-loop-slot l = (length l.ended ≡ 1025)
+    × ((s : ℕ) → s < l.slot → Ends l.ranges (l.low + s * 2 ^ l.shift) (get_or l.ended s 0))

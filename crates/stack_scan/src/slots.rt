@@ -1,0 +1,112 @@
+//! Slots into which the addresses of ranges are cut, so that a word is looked up among few of many ranges.
+ghost use Rattle.std.specs.Prelude.{◌≡◌, ◌≤◌, ◌<◌, ◌+◌, ◌-◌, ◌*◌, ◌^◌, length};
+ghost use Rattle.std.specs.List.{AllWithin};
+ghost use Rattle.stack_scan.specs.Standing.{in_one};
+ghost use Rattle.stack_scan.specs.inside.Words.{AreInOrder};
+ghost use Rattle.stack_scan.specs.inside.Cuts.{Ends, IsCut};
+
+use ks_base::Range;
+
+/// How many slots there are.
+const SLOTS: u32 = 1024;
+
+/// How many bounds they have, that of the last one's end included.
+const BOUNDS: usize = 1025;
+
+/// Slots of one size, one behind another, and where in some ranges that ascend without meeting each begins.
+#[derive(Drop)]
+pub(crate) struct Slots {
+    /// Where the first one begins.
+    low: u32,
+    /// A slot has two to the power of this many addresses.
+    shift: u32,
+    /// How many ranges end at or below each bound.
+    ended: [usize; BOUNDS],
+}
+
+impl Slots {
+    /// The slots from a low address up to a high one, or past it.
+    pub(crate) fn new(ranges: &[Range], low: u32, high: u32) -> Slots
+        requires { AreInOrder (length ranges.now) ranges.now }
+        ensures { IsCut result low high ranges.now }
+    {
+        let shift = shift_for(high.saturating_sub(low));
+        let mut ended = [0; BOUNDS];
+        for slot in 0..BOUNDS {
+            ended[slot] = count_ended(ranges, bound(low, shift, slot));
+        }
+        Slots { low, shift, ended }
+    }
+
+    /// Whether a word from the low address on and below the high one is an address of one of the ranges: of the first
+    /// one that ends above it.
+    pub(crate) fn has(&self, ranges: &[Range], word: u32, high: u32) -> bool
+        requires order { AreInOrder (length ranges.now) ranges.now }
+        requires slots { IsCut self.now self.now.low high ranges.now }
+        requires above { self.now.low ≤ word }
+        requires below { word < high }
+        ensures { result ≡ in_one ranges.now word }
+    {
+        let first = self.ended(ranges, word, high);
+        if first == ranges.len() {
+            return false;
+        }
+        ranges[first].low <= word
+    }
+
+    /// How many ranges end at or below such a word: it is looked up among those that end in its slot.
+    fn ended(&self, ranges: &[Range], word: u32, high: u32) -> usize
+        requires order { AreInOrder (length ranges.now) ranges.now }
+        requires slots { IsCut self.now self.now.low high ranges.now }
+        requires above { self.now.low ≤ word }
+        requires below { word < high }
+        ensures { Ends ranges.now word result }
+    {
+        let slot = ((word - self.low) >> self.shift) as usize;
+        let start = self.ended[slot];
+        let end = self.ended[slot + 1];
+        ended_between(ranges, word, start, end)
+    }
+}
+
+/// The least power of two, at most 22, for a slot, by which the slots take in so many addresses.
+fn shift_for(span: u32) -> u32
+    ensures most { result ≤ 22 }
+    ensures reach { span < SLOTS * 2 ^ result }
+{
+    for shift in 0..22 {
+        if span >> shift < SLOTS {
+            return shift;
+        }
+    }
+    22
+}
+
+/// Where a slot begins.
+fn bound(low: u32, shift: u32, slot: usize) -> u64
+    requires shift { shift ≤ 22 }
+    requires slot { slot ≤ 1024 }
+    ensures { result ≡ low + slot * 2 ^ shift }
+{
+    u64::from(low) + ((slot as u64) << shift)
+}
+
+/// How many ranges end at or below a word, where the first ones are known to, and the last ones not to.
+fn ended_between(ranges: &[Range], word: u32, start: usize, end: usize) -> usize
+    requires order { AreInOrder (length ranges.now) ranges.now }
+    requires ascend { start ≤ end }
+    requires bound { end ≤ length ranges.now }
+    requires below { AllWithin (λ range. range.high ≤ word) ranges.now 0 start }
+    requires above { AllWithin (λ range. word < range.high) ranges.now end (length ranges.now) }
+    ensures { Ends ranges.now word result }
+{
+    start + count_ended(&ranges[start..end], u64::from(word))
+}
+
+/// How many ranges end at or below an address.
+fn count_ended(ranges: &[Range], address: u64) -> usize
+    requires { AreInOrder (length ranges.now) ranges.now }
+    ensures { Ends ranges.now address result }
+{
+    ranges.partition_point(|range| u64::from(range.high) <= address)
+}
