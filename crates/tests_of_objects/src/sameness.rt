@@ -1,4 +1,5 @@
-//! Sections that are the same, and sections that are not for one thing alone.
+//! Sections that are the same, and sections that are not for one thing alone; and bytes that are equal.
+ghost use Rattle.std.specs.Prelude.{◌≤◌};
 
 use crate::normals::normal_of;
 use section_equal::{equal_bytes, same_section, same_sections};
@@ -75,12 +76,40 @@ fn sections_differ_by_one_thing(rt: HostRuntime) -> Result<(), Fail> {
     Ok(())
 }
 
+/// Bytes, each of another value.
+const LETTERS: &[u8; 70] =
+    b"abcdefghijklmnopqrstuvwxyzABCDEFGHIJKLMNOPQRSTUVWXYZ0123456789+-*/<=>?";
+
+/// How many answers are wrong of the first letters: beside themselves, and beside those with one changed, each in turn.
+fn wrong_of(length: usize) -> u32
+    requires { length ≤ 70 }
+{
+    let mut other = *LETTERS;
+    let mut wrong = u32::from(!equal_bytes(&LETTERS[..length], &other[..length]));
+    for place in 0..length {
+        other[place] = b'!';
+        let equal = equal_bytes(&LETTERS[..length], &other[..length]);
+        wrong = wrong.saturating_add(u32::from(equal));
+        other[place] = LETTERS[place];
+    }
+    wrong
+}
+
 #[test]
 fn bytes_are_equal(rt: HostRuntime) {
-    let found = [
-        equal_bytes(b"abc", b"abc"),
-        equal_bytes(b"abc", b"abd"),
-        equal_bytes(b"abc", b"ab"),
-    ];
-    assert!(rt; found == [true, false, false]);
+    let mut wrong = 0u32;
+    for length in 0..71 {
+        wrong = wrong.saturating_add(wrong_of(length));
+    }
+    assert!(rt; wrong == 0);
+}
+
+#[test]
+fn bytes_of_two_lengths_differ(rt: HostRuntime) {
+    let mut equal = 0u32;
+    for length in 0..70 {
+        let shorter = equal_bytes(&LETTERS[..length], LETTERS);
+        equal = equal.saturating_add(u32::from(shorter));
+    }
+    assert!(rt; equal == 0);
 }
