@@ -1,5 +1,5 @@
 //! Where a thread stands in ranges of code, on a stack of 4,096 bytes and on one of 10,000.
-ghost use Rattle.std.specs.Prelude.{◌≡◌, IsTrue};
+ghost use Rattle.std.specs.Prelude.{◌≡◌, ◌≤◌, IsTrue};
 ghost use Rattle.stack_scan.specs.Standing.{IsStack};
 
 use ia32_alu::Flags;
@@ -247,4 +247,61 @@ fn words(rt: HostRuntime) -> Result<(), Fail> {
         assert!(rt; first_in(words, &[]) == None);
     }
     Ok(())
+}
+
+/// How many answers are wrong of so many words: of those with no address of a range, and of those with one at each
+/// place in turn, by itself and with another at the last place.
+fn wrong_of(length: usize, ranges: &[Range]) -> u32
+    requires { length ≤ 70 }
+{
+    let mut words = [AFTER; 70];
+    let mut wrong = u32::from(first_in(&words[..length], ranges).is_some());
+    for place in 0..length {
+        words[place] = INSIDE;
+        let alone = first_in(&words[..length], ranges) == Some(place as u32);
+        words[length - 1] = INSIDE;
+        let first = first_in(&words[..length], ranges) == Some(place as u32);
+        words[length - 1] = AFTER;
+        words[place] = AFTER;
+        wrong = wrong.saturating_add(u32::from(!(alone && first)));
+    }
+    wrong
+}
+
+#[test]
+fn words_of_every_length(rt: HostRuntime) {
+    let mut wrong = 0u32;
+    for length in 0..71 {
+        for ranges in [&[CODE][..], &SORTED[..], &MIXED[..]] {
+            wrong = wrong.saturating_add(wrong_of(length, ranges));
+        }
+    }
+    assert!(rt; wrong == 0);
+}
+
+/// Ranges of 16 addresses, one every 64.
+fn spread() -> [Range; 40] {
+    let mut ranges = [CODE; 40];
+    for (k, range) in ranges.iter_mut().enumerate() {
+        range.low = (k as u32).wrapping_mul(64);
+        range.high = range.low.wrapping_add(16);
+    }
+    ranges
+}
+
+/// How many answers are wrong of one of many ranges: its last address is told, and the next one isn't.
+fn wrong_at(range: Range, ranges: &[Range]) -> u32 {
+    let last = range.high.wrapping_sub(1);
+    let words = [range.high, range.high, last, range.low];
+    u32::from(first_in(&words, ranges) != Some(2))
+}
+
+#[test]
+fn ends_of_many_ranges(rt: HostRuntime) {
+    let ranges = spread();
+    let mut wrong = 0u32;
+    for range in &ranges {
+        wrong = wrong.saturating_add(wrong_at(*range, &ranges));
+    }
+    assert!(rt; wrong == 0);
 }
