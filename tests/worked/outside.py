@@ -5,13 +5,17 @@ from .rows import FOLDER, call, diff, match, run
 
 # words after a command that has two
 OTHER_WORDS = {"alone": "", "with-one-word": "a", "with-three-words": "a b c", "with-a-dash": "a -b"}
+# words after `gen` that are no number of its own
+NO_NUMBERS = {"nothing": "", "an-empty-word": "''", "two-numbers": "1 2", "too-large-a-number": "4294967296",
+              "eleven-digits": "00000000001", "a-number-below-zero": "-1", "a-number-with-a-sign": "+5",
+              "a-hexadecimal-number": "0x10", "a-word": "one", "a-number-and-a-blank": "'1 '"}
 # f, by another name
 BELL = obj(sec(".text.f", "B8 01 00 00 00 C3", functions={"\x07": 0}))
 
 
 def usage(name, words, files=None):
     return call(name, words, files or {},
-                "usage: ksplice diff PRE POST | code IMAGE NAME | match IMAGE PRE | run IMAGE SCRIPT")
+                "usage: ksplice diff PRE POST | code IMAGE NAME | match IMAGE PRE | run IMAGE SCRIPT | gen NUMBER")
 
 
 ROWS = [
@@ -24,7 +28,7 @@ ROWS = [
     usage("apply-is-no-command", "apply pre.o post.o", F_FIRST_TO_SECOND),
     *(usage(f"{command}-{told}", f"{command} {words}") for command in ("code", "match", "run")
       for told, words in OTHER_WORDS.items()),
-    usage("gen-is-no-command", "gen 0"),
+    *(usage(f"gen-of-{told}", f"gen {words}") for told, words in NO_NUMBERS.items()),
     usage("link-is-no-command", "link o1.o", {"o1.o": f_and_main(1)}),
 
     call("first-object-is-missing", "diff x.o post.o", {"post.o": f_alone(1)}, "file x.o missing"),

@@ -10,9 +10,10 @@ use Rattle.ks_io.specs.laws.LoadLaws.{CameTo-then, CameTo-within, CameTo-nothing
 use Rattle.ks_io.specs.declared.types.Lost.{Lost}
 use Rattle.ks_io.specs.declared.types.Wanted.{Wanted}
 use Rattle.ksplice_calls.specs.Answer.{Answer, ComesOut, OneComesOut, Answered, NoMemory, lost_answer, usage_answer}
-use Rattle.ksplice_calls.specs.Calls.{named_files, line_files, session_files, Answers, RunAnswers}
-use Rattle.ksplice_calls.specs.Reply.{IsReply, code_answer, match_answer, session_of}
-use Rattle.ksplice_calls.specs.Words.{Asked, Diff, Code, Match, Run}
+use Rattle.ksplice_calls.specs.Calls.{named_files, line_files, Answers, RunAnswers}
+use Rattle.ksplice_calls.specs.Reply.{IsReply, code_answer, match_answer, session_of, session_files}
+use Rattle.ksplice_calls.specs.Works.{gen_answer}
+use Rattle.call_words.specs.Words.{Asked, Diff, Code, Match, Run, Gen}
 
 -- what comes out is one of these answers, so it is one of those
 pub carried_over : {P Q : Answer → Type 0} {old new : Option (List ℕ)} {status : ℕ}
@@ -135,3 +136,16 @@ run_answers image script bytes lines held {told} {told'} {before} {between} {now
       (rw two at loads) (rw kept at ran.loads);
   answer = ran.answer;
 }
+
+-- No file was needed, and the summary of a work's session came out.
+pub gen_answers : (number : ℕ) {told : Told} {before : Counts} {old new : Option (List ℕ)} {status : ℕ}
+    → OneComesOut (λ answer. answer ≡ gen_answer number) old new status
+    → Answers (Some (Gen number)) told before before old new status
+gen_answers number {told} {before} out =
+    record { held = []; lost = None; loads = CameTo-nothing told _ before; answer = out }
+
+-- Memory ran out before anything was loaded, and nothing came out.
+pub memory_answers : (asked : Option Asked) {told : Told} {before : Counts} {old : Option (List ℕ)}
+    → Answers asked told before before old old 6
+memory_answers asked {told} {before} =
+    record { held = []; lost = None; loads = CameTo-nothing told _ before; answer = NoMemory refl refl }

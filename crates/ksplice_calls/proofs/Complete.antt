@@ -12,11 +12,13 @@ use Rattle.script_lines.specs.declared.types.Command.{Command}
 use Rattle.ksplice_session.specs.Watching.{Watched}
 use Rattle.ksplice_session.specs.Session.{session_played}
 use Rattle.ksplice_calls.specs.Answer.{Answer, OneComesOut, Answered, NoMemory, ComesOut, refused_status}
-use Rattle.ksplice_calls.specs.Calls.{named_files, session_files, needed, IsReplyTo, IsAnswer, IsAnswerBy, Answers}
+use Rattle.ksplice_calls.specs.Calls.{named_files, needed, IsReplyTo, IsAnswer, IsAnswerBy, Answers}
 use Rattle.ksplice_calls.specs.Promises.{AllAreGiven, RepliesWhole}
-use Rattle.ksplice_calls.specs.Reply.{code_reply, match_reply, reply_answer, session_of, session_status, session_answer}
-use Rattle.ksplice_calls.specs.Words.{Asked, Diff, Code, Match, Run}
+use Rattle.ksplice_calls.specs.Reply.{code_reply, match_reply, reply_answer, session_of, session_status, session_answer, session_files}
+use Rattle.call_words.specs.Words.{Asked, Diff, Code, Match, Run, Gen}
+use Rattle.ksplice_calls.specs.Works.{gen_answer}
 use Rattle.ksplice_calls.proofs.OneLoading.{all_are_loaded}
+use Rattle.ksplice_calls.proofs.WorkAnswers.{work_ends}
 
 -- statuses 0, 3 and 7
 abbrev IsReplied : ℕ → Type 0
@@ -44,6 +46,13 @@ session_ends (Ok session) held whole =
     IsReplied (session_status first None (session_played session.0 session.1 held).refused))
     (sym whole) (lines_end (session_played session.0 session.1 held).refused)
 
+work_replied : (number : ℕ) → IsReplied (gen_answer number).status
+work_replied number = by (work_ends number)
+  where
+    by : ((gen_answer number).status ≡ 0) ⊎ ((gen_answer number).status ≡ 3) → IsReplied (gen_answer number).status
+    by (inl e) = inl e
+    by (inr e) = inr (inl e)
+
 moved : (one other : Answer) → one ≡ other → IsReplied other.status → IsReplied one.status
 moved one other same = subst (λ (a : Answer). IsReplied a.status) (sym same)
 
@@ -58,6 +67,7 @@ reply_ends (Match image pre) (bytes ∷ object ∷ held) answer one whole =
 reply_ends (Run image script) (bytes ∷ lines ∷ held) answer one whole =
     moved answer (session_answer (session_of bytes lines) held None) one
     (session_ends (session_of bytes lines) held whole)
+reply_ends (Gen number) all answer one whole = moved answer (gen_answer number) one (work_replied number)
 reply_ends (Diff pre post) [] answer one whole = absurd one
 reply_ends (Diff pre post) (old ∷ []) answer one whole = absurd one
 reply_ends (Code image name) [] answer one whole = absurd one

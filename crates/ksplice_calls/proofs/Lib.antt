@@ -10,3 +10,7 @@ pub mod Complete
 pub mod Readers
 pub mod Sessions
 pub mod Solutions
+pub mod WorkAnswers
+pub mod InMemory
+pub mod ReplyLines
+pub mod WorkFiles

@@ -12,9 +12,9 @@ use Rattle.script_lines.specs.declared.types.Command.{Command}
 use Rattle.ksplice_session.specs.Watching.{Watched}
 use Rattle.ksplice_session.specs.Session.{lacking, session_played}
 use Rattle.ksplice_calls.specs.Answer.{Answer}
-use Rattle.ksplice_calls.specs.Calls.{failed_load, named_files, needed, session_files, IsAnswer, IsAnswerBy}
-use Rattle.ksplice_calls.specs.Reply.{session_of, session_status, session_answer}
-use Rattle.ksplice_calls.specs.Words.{Asked, Diff, Code, Match, Run}
+use Rattle.ksplice_calls.specs.Calls.{failed_load, named_files, needed, IsAnswer, IsAnswerBy}
+use Rattle.ksplice_calls.specs.Reply.{session_of, session_status, session_answer, session_files}
+use Rattle.call_words.specs.Words.{Asked, Diff, Code, Match, Run, Gen}
 
 -- loads that ended for a fault, or were all made
 Ended : (List ℕ → Option (List ℕ)) → Option Needed → Option FileFault → Type 0
@@ -169,6 +169,7 @@ same_call files (Some (Code image name)) held held' lost lost' =
 same_call files (Some (Match image pre)) held held' lost lost' =
     same_by files (named_files (Some (Match image pre))) held held' lost lost'
 same_call files (Some (Run image script)) held held' lost lost' = same_run files image script held held' lost lost'
+same_call files (Some (Gen number)) held held' lost lost' = same_by files [] held held' lost lost'
 
 -- loads that ended, but not because memory ran out
 ended : (files : List ℕ → Option (List ℕ)) (first : Option Needed) (lost : Option FileFault) (before now : Counts)
@@ -204,6 +205,7 @@ whole_by None (Code image name) (bytes ∷ held) lost answer one ample is = refl
 whole_by None (Match image pre) (bytes ∷ object ∷ held) lost answer one ample is = refl
 whole_by None (Run image script) (bytes ∷ lines ∷ held) lost answer one ample is =
     whole_session (session_of bytes lines) held lost (λ e. ample (ap (λ (a : Answer). a.status) one ∙ e)) is
+whole_by None (Gen number) held lost answer one ample is = refl
 whole_by None (Diff pre post) [] lost answer one ample is = absurd one
 whole_by None (Diff pre post) (old ∷ []) lost answer one ample is = absurd one
 whole_by None (Code image name) [] lost answer one ample is = absurd one

@@ -15,10 +15,11 @@ use Rattle.script_lines.specs.declared.types.Command.{Command}
 use Rattle.ksplice_session.specs.Watching.{Watched}
 use Rattle.ksplice_session.specs.Session.{lacking, lost_line, session_played}
 use Rattle.ksplice_calls.specs.Answer.{Answer, OneComesOut, Answered, NoMemory, ComesOut, usage_answer}
-use Rattle.ksplice_calls.specs.Calls.{named_files, line_files, session_files, needed, IsAnswer, IsAnswerBy, Answers}
+use Rattle.ksplice_calls.specs.Calls.{named_files, line_files, needed, IsAnswer, IsAnswerBy, Answers}
 use Rattle.ksplice_calls.specs.Promises.{RepliesSome, EndsWithFile, CountsTellOf, replies_before}
-use Rattle.ksplice_calls.specs.Reply.{code_reply, match_reply, reply_answer, session_of, session_status, session_answer}
-use Rattle.ksplice_calls.specs.Words.{Asked, Diff, Code, Match, Run}
+use Rattle.ksplice_calls.specs.Reply.{code_reply, match_reply, reply_answer, session_of, session_status, session_answer, session_files}
+use Rattle.ksplice_calls.proofs.WorkAnswers.{work_ends_not_with_four}
+use Rattle.call_words.specs.Words.{Asked, Diff, Code, Match, Run, Gen}
 
 -- no reading
 pub usage_line : (told : Told) (before now : Counts) (old new : Option (List ℕ)) (status : ℕ)
@@ -152,6 +153,7 @@ no_replies : (command : Asked) (held : List (List ℕ)) → length held < length
 no_replies (Diff pre post) held less = refl
 no_replies (Code image name) held less = refl
 no_replies (Match image pre) held less = refl
+no_replies (Gen number) held less = refl
 no_replies (Run image script) [] less = refl
 no_replies (Run image script) (bytes ∷ []) less = refl
 no_replies (Run image script) (bytes ∷ lines ∷ held) less =
@@ -193,6 +195,8 @@ file_at None (Run image script) told (bytes ∷ lines ∷ held) lost before now 
     (Answered answer one out) =
     session_at image script bytes lines (session_of bytes lines) held told lost before now old new refl are ends
     (out.0 ∙ ap (λ (a : Answer). a.status) one) (out.1 ∙ ap (λ (a : Answer). grown old a.output) one)
+file_at None (Gen number) told held lost before now old new is are ends (Answered answer one out) =
+    absurd (work_ends_not_with_four number (out.0 ∙ ap (λ (a : Answer). a.status) one))
 file_at None (Diff pre post) told [] lost before now old new is are ends (Answered answer one out) = absurd one
 file_at None (Diff pre post) told (bytes ∷ []) lost before now old new is are ends
     (Answered answer one out) = absurd one
@@ -266,6 +270,7 @@ four_by None (Code image name) told (bytes ∷ held) fault before now answer end
 four_by None (Match image pre) told (bytes ∷ object ∷ held) fault before now answer ends one = absurd ends
 four_by None (Run image script) told (bytes ∷ lines ∷ held) fault before now answer ends one =
     ap (λ (a : Answer). a.status) one ∙ four_by_session (session_of bytes lines) held told fault before now ends
+four_by None (Gen number) told held fault before now answer ends one = absurd ends
 four_by None (Diff pre post) told [] fault before now answer ends one = absurd one
 four_by None (Diff pre post) told (bytes ∷ []) fault before now answer ends one = absurd one
 four_by None (Code image name) told [] fault before now answer ends one = absurd one

@@ -13,8 +13,8 @@ use Rattle.ksplice_session.specs.Session.{Ends, AllDone, AllRun, FileStopped, Si
 use Rattle.ksplice_session.specs.Session.{MemoryInLine, MemoryAfterLine, MemoryAtFile, SessionEnds, whole_output}
 use Rattle.ksplice_session.specs.declared.types.SessionEnd.{SessionEnd}
 use Rattle.ksplice_calls.specs.Answer.{ComesOut, Answered, refused_answer}
-use Rattle.ksplice_calls.specs.Calls.{RunAnswers, end_status, session_files}
-use Rattle.ksplice_calls.specs.Reply.{session_of, session_answer, lines_answer, run_answer}
+use Rattle.ksplice_calls.specs.Calls.{RunAnswers, end_status}
+use Rattle.ksplice_calls.specs.Reply.{session_of, session_answer, lines_answer, run_answer, session_files}
 use Rattle.ksplice_calls.proofs.Replies.{refusal_is_one}
 
 -- the answer to the lines comes out

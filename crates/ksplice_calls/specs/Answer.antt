@@ -18,7 +18,7 @@ answer_of output status = record { output = output; status = status }
 -- the line for words without a reading, with status 2
 abbrev pub usage_answer : Answer
 usage_answer = record {
-  output = codes "usage: ksplice diff PRE POST | code IMAGE NAME | match IMAGE PRE | run IMAGE SCRIPT\n";
+  output = codes "usage: ksplice diff PRE POST | code IMAGE NAME | match IMAGE PRE | run IMAGE SCRIPT | gen NUMBER\n";
   status = 2;
 }
 

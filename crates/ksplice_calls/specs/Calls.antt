@@ -1,20 +1,17 @@
 -- What a call of the program does: which files it loads, and which answers are those to its words and its files.
-use Rattle.std.specs.Prelude.{◌≡◌, ℕ, Bool, nat_eq, List, [], ◌∷◌, ◌++◌, length, Option, Some, None, Result, Ok, Err}
+use Rattle.std.specs.Prelude.{◌≡◌, ℕ, Bool, nat_eq, List, [], ◌∷◌, ◌++◌, length, Option, Some, None}
 use Rattle.std.specs.List.{list_any}
-use Rattle.ks_base.specs.declared.refusals.Refusal.{Refusal}
 use Rattle.ks_io.specs.Loads.{Needed, Told, CameTo, first_lacking}
 use Rattle.ks_io.specs.Outside.{Counts}
 use Rattle.ks_io.specs.declared.types.FileFault.{FileFault}
 use Rattle.ks_io.specs.declared.types.FileFault.TheVariants.{Missing, TooLong, Failed, Memory}
-use Rattle.script_lines.specs.declared.types.Command.{Command}
-use Rattle.ksplice_session.specs.Watching.{Watched}
 use Rattle.ksplice_session.specs.Replies.{object_limit}
-use Rattle.ksplice_session.specs.Session.{files_along}
 use Rattle.ksplice_session.specs.declared.types.SessionEnd.{SessionEnd}
 use Rattle.ksplice_session.specs.declared.types.SessionEnd.TheVariants.{Done, SomeRefused, FileEnd, SinkEnd, MemoryEnd}
 use Rattle.ksplice_calls.specs.Answer.{Answer, OneComesOut, usage_answer, lost_answer}
-use Rattle.ksplice_calls.specs.Reply.{IsReply, code_answer, match_answer, run_answer, session_of}
-use Rattle.ksplice_calls.specs.Words.{Asked, Diff, Code, Match, Run}
+use Rattle.ksplice_calls.specs.Reply.{IsReply, code_answer, match_answer, run_answer, session_of, session_files}
+use Rattle.call_words.specs.Words.{Asked, Diff, Code, Match, Run, Gen}
+use Rattle.ksplice_calls.specs.Works.{gen_answer}
 
 -- the most bytes that an image file may have, and a script
 abbrev pub image_limit : ℕ
@@ -33,14 +30,10 @@ named_files (Some (Diff pre post)) = needed_file pre object_limit ∷ needed_fil
 named_files (Some (Code image name)) = needed_file image image_limit ∷ []
 named_files (Some (Match image pre)) = needed_file image image_limit ∷ needed_file pre object_limit ∷ []
 named_files (Some (Run image script)) = needed_file image image_limit ∷ needed_file script script_limit ∷ []
-
--- the files of a session that was read
-abbrev pub session_files : Result (Watched × List Command) Refusal → List Needed
-session_files (Err refusal) = []
-session_files (Ok session) = files_along session.1
+named_files (Some (Gen number)) = []
 
 -- The files that lines name, once the files that the words name are held with these bytes: those of the script, where
--- image and script are in their forms.
+-- image and script are in their forms. (The lines of a work's script have their files in memory.)
 abbrev pub line_files : Option Asked → List (List ℕ) → List Needed
 line_files (Some (Run image script)) (bytes ∷ lines ∷ held) = session_files (session_of bytes lines)
 line_files asked held = []
@@ -55,6 +48,7 @@ IsReplyTo (Diff pre post) (old ∷ new ∷ held) lost answer = IsReply old new a
 IsReplyTo (Code image name) (bytes ∷ held) lost answer = answer ≡ code_answer bytes name
 IsReplyTo (Match image pre) (bytes ∷ object ∷ held) lost answer = answer ≡ match_answer bytes object
 IsReplyTo (Run image script) (bytes ∷ lines ∷ held) lost answer = answer ≡ run_answer bytes lines held lost
+IsReplyTo (Gen number) held lost answer = answer ≡ gen_answer number
 IsReplyTo asked held lost answer = ⊥
 
 -- the answers to a command: the line of the first file that the words name and that is lacking, or the reply

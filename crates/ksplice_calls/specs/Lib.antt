@@ -1,10 +1,10 @@
--- Public clauses cite Calls (what a call comes to), by Words, Reply, Difference, Solution and Answer, and Promises in
+-- Public clauses cite Calls (what a call comes to), by Reply, Works, Difference, Solution and Answer, and Promises in
 -- laws. What `inside` holds is the code's own.
-pub mod Words
 pub mod Difference
 pub mod Solution
 pub mod Answer
 pub mod Reply
+pub mod Works
 pub mod Calls
 pub mod Promises
 pub mod inside

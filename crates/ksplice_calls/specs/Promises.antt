@@ -10,7 +10,7 @@ use Rattle.ksplice_session.specs.Watching.{Watched}
 use Rattle.ksplice_calls.specs.Answer.{Answer, ComesOut}
 use Rattle.ksplice_calls.specs.Calls.{IsReplyTo, needed}
 use Rattle.ksplice_calls.specs.Reply.{session_of}
-use Rattle.ksplice_calls.specs.Words.{Asked, Run}
+use Rattle.call_words.specs.Words.{Asked, Run}
 
 -- The reply to what the words ask for came out, for some files within their limits; where the files are given, these
 -- are they.

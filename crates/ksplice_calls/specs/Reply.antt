@@ -1,5 +1,6 @@
--- The replies: to `diff` the difference of two object files, to `code` the instructions of one function of an image, to
--- `match` which functions of an image an object's code is, to `run` those of a session; or why there are none.
+-- The replies to all commands but `gen`: to `diff` the difference of two object files, to `code` the instructions of one
+-- function of an image, to `match` which functions of an image an object's code is, to `run` those of a session; or why
+-- there are none.
 use Rattle.std.specs.Prelude.{◌≡◌, ℕ, Bool, if◌then◌else◌, List, [], Option, Some, None, Result, Ok, Err}
 use Rattle.ks_base.specs.declared.refusals.Refusal.{Refusal}
 use Rattle.i386_reloc.specs.declared.types.NormalSection.{NormalSection}
@@ -14,7 +15,7 @@ use Rattle.script_lines.specs.Script.{script_of}
 use Rattle.ksplice_session.specs.Watching.{Watched, first_watched}
 use Rattle.ks_io.specs.Loads.{Needed}
 use Rattle.ks_io.specs.declared.types.FileFault.{FileFault}
-use Rattle.ksplice_session.specs.Session.{whole_output, lacking, session_played}
+use Rattle.ksplice_session.specs.Session.{whole_output, lacking, files_along, session_played}
 use Rattle.ksplice_calls.specs.Answer.{Answer, refused_answer, answer_of, lost_status}
 use Rattle.ksplice_calls.specs.Difference.{listing}
 use Rattle.ksplice_calls.specs.Solution.{value_lines}
@@ -109,6 +110,11 @@ session_of_read (Ok image) script = with_lines (first_watched image) script
 -- script
 unfoldable pub session_of : List ℕ → List ℕ → Result (Watched × List Command) Refusal
 session_of image script = session_of_read (image_of image) (script_of script)
+
+-- the files that the lines of a session name
+abbrev pub session_files : Result (Watched × List Command) Refusal → List Needed
+session_files (Err refusal) = []
+session_files (Ok session) = files_along session.1
 
 -- the status of a session: whether a file is lacking, else whether a reply is a refusal
 abbrev pub session_status : Option Needed → Option FileFault → Bool → ℕ

@@ -1,2 +1,2 @@
 -- What the code works with, which only contracts inside this crate cite.
-pub mod Asks
+pub mod InMemory

@@ -2,23 +2,23 @@
 ghost use Rattle.std.specs.Prelude.{◌≡◌, ◌≢◌, ◌⊎◌, Some, None, map, string_bytes, true};
 ghost use Rattle.ks_io.specs.Kept.{FilesKept, SinkKept};
 ghost use Rattle.ks_io.specs.Outside.{Rose};
-ghost use Rattle.ksplice_calls.specs.inside.Asks.{asked_by};
+ghost use Rattle.call_words.specs.Asks.{asked_by};
 ghost use Rattle.ksplice_calls.specs.Calls.{Answers, is_carried_out, is_status};
-ghost use Rattle.ksplice_calls.specs.Words.{reading};
+ghost use Rattle.call_words.specs.Words.{reading};
 
-use crate::command::Command;
 use crate::diffing::diff;
 use crate::image_code::code;
 use crate::matching::match_object;
 use crate::saying::say;
 use crate::session_run::run;
 use crate::status::Status;
-use crate::words::read_words;
+use crate::work_run::run_work;
+use call_words::{Command, read_words};
 use ks_io::{Files, Sink};
 use std::alloc::Global;
 
 const USAGE: &str =
-    "usage: ksplice diff PRE POST | code IMAGE NAME | match IMAGE PRE | run IMAGE SCRIPT\n";
+    "usage: ksplice diff PRE POST | code IMAGE NAME | match IMAGE PRE | run IMAGE SCRIPT | gen NUMBER\n";
 
 /// Carries out a call: the words after the program's name, the files that it may load, and the sink that its
 /// output goes to. The status says how it ended.
@@ -55,7 +55,10 @@ pub fn ksplice<F: Files, O: Sink>(
     ensures steady { result.code ≢ 5 → O.faults out.new ≡ O.faults out.old }
     ensures quiet { O.quiet out.old → result.code ≢ 5 }
 {
-    match read_words(words) {
+    let Ok(asked) = read_words(alloc, words) else {
+        return Status::NO_MEMORY;
+    };
+    match asked {
         Some(command) => carry_out(alloc, command, files, out),
         None => say(out, USAGE.as_bytes(), Status::USAGE),
     }
@@ -83,5 +86,6 @@ fn carry_out<F: Files, O: Sink>(
         Command::Code { image, name } => code(alloc, image, name, files, out),
         Command::Match { image, pre } => match_object(alloc, image, pre, files, out),
         Command::Run { image, script } => run(alloc, image, script, files, out),
+        Command::Gen { number } => run_work(alloc, number, out),
     }
 }

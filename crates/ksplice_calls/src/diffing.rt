@@ -5,7 +5,7 @@ ghost use Rattle.ks_io.specs.Outside.{Rose};
 ghost use Rattle.ksplice_calls.specs.Answer.{OneComesOut};
 ghost use Rattle.ksplice_calls.specs.Calls.{Answers, is_carried_out};
 ghost use Rattle.ksplice_calls.specs.Reply.{IsReply};
-ghost use Rattle.ksplice_calls.specs.Words.{Diff};
+ghost use Rattle.call_words.specs.Words.{Diff};
 
 use crate::comparing::compare;
 use crate::saying::{end_with_file, refuse, say};

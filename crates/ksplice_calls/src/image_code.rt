@@ -6,7 +6,7 @@ ghost use Rattle.ks_io.specs.Outside.{Rose};
 ghost use Rattle.ksplice_calls.specs.Answer.{ComesOut, OneComesOut, answer_of};
 ghost use Rattle.ksplice_calls.specs.Calls.{Answers, is_carried_out};
 ghost use Rattle.ksplice_calls.specs.Reply.{code_reply, code_answer};
-ghost use Rattle.ksplice_calls.specs.Words.{Code};
+ghost use Rattle.call_words.specs.Words.{Code};
 
 use crate::limits::IMAGE_LIMIT;
 use crate::saying::{end_with_file, refuse};

@@ -6,7 +6,7 @@ ghost use Rattle.ks_io.specs.declared.types.FileFault.{FileFault};
 ghost use Rattle.ksplice_calls.specs.Answer.{Answer, ComesOut, usage_answer};
 ghost use Rattle.ksplice_calls.specs.Calls.{Answers, IsAnswer, failed_load, needed};
 ghost use Rattle.ksplice_calls.specs.Promises.{RepliesSome, AllAreGiven, RepliesWhole, EndsWithFile, CountsTellOf};
-ghost use Rattle.ksplice_calls.specs.Words.{Asked};
+ghost use Rattle.call_words.specs.Words.{Asked};
 
 use extract_post::objects_have_one_extract;
 

@@ -3,7 +3,6 @@
 #![tactic(auto)]
 
 mod answering;
-mod command;
 mod comparing;
 mod diffing;
 mod held;
@@ -13,11 +12,13 @@ mod limits;
 mod listing;
 mod matching;
 mod real;
+mod reply_lines;
 mod saying;
 mod session_run;
 mod solution;
 mod status;
-mod words;
+mod summary;
+mod work_run;
 
 pub use crate::answering::ksplice;
 pub use crate::laws::{answers_tell, calls_have_one_answer};

@@ -5,7 +5,7 @@ ghost use Rattle.ks_io.specs.Outside.{Rose};
 ghost use Rattle.ksplice_calls.specs.Answer.{OneComesOut};
 ghost use Rattle.ksplice_calls.specs.Calls.{Answers, is_carried_out};
 ghost use Rattle.ksplice_calls.specs.Reply.{match_answer};
-ghost use Rattle.ksplice_calls.specs.Words.{Match};
+ghost use Rattle.call_words.specs.Words.{Match};
 
 use crate::held::two_files;
 use crate::limits::IMAGE_LIMIT;

@@ -7,7 +7,7 @@ ghost use Rattle.ks_io.specs.Outside.{Rose};
 ghost use Rattle.script_lines.specs.Allowed.{IsAllowed};
 ghost use Rattle.ksplice_calls.specs.Calls.{Answers, RunAnswers, end_status, is_carried_out};
 ghost use Rattle.ksplice_calls.specs.Reply.{session_of};
-ghost use Rattle.ksplice_calls.specs.Words.{Run};
+ghost use Rattle.call_words.specs.Words.{Run};
 
 use crate::held::two_files;
 use crate::limits::{IMAGE_LIMIT, SCRIPT_LIMIT};
@@ -89,7 +89,7 @@ fn print_session<F: Files, O: Sink>(
 
 /// The session of an image file, and the lines of a script file. The image is read first. Their bytes are gone then.
 #[tactic(auto, unfolding(crate::specs::Reply::session_of))]
-fn read_session(
+pub(crate) fn read_session(
     alloc: Global,
     image: Vec<u8>,
     script: Vec<u8>,

@@ -4,7 +4,7 @@
 ghost use Rattle.std.specs.Prelude.{◌≡◌, ◌≢◌, None, map, string_bytes, true, IfOk, IfErr};
 ghost use Rattle.std.specs.IoError.{error_kind};
 ghost use Rattle.ksplice_calls.specs.Calls.{is_status};
-ghost use Rattle.ksplice_calls.specs.Words.{reading};
+ghost use Rattle.call_words.specs.Words.{reading};
 
 use ksplice_calls::{RealFiles, RealSink, Status, ksplice};
 use std::env;

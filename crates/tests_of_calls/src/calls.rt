@@ -8,7 +8,7 @@ use std::alloc::{AllocError, Global};
 use std::test::Fail;
 
 const USAGE: &str =
-    "usage: ksplice diff PRE POST | code IMAGE NAME | match IMAGE PRE | run IMAGE SCRIPT\n";
+    "usage: ksplice diff PRE POST | code IMAGE NAME | match IMAGE PRE | run IMAGE SCRIPT | gen NUMBER\n";
 
 // A script with one reply of each kind, and its replies.
 const SCRIPT: &str = "# a thread\nspawn main 7\nstep 0 2\nthreads\n\nrr 1 9\npeek 0x00100000 2\n";
@@ -27,6 +27,15 @@ const START_VALUES: &str = "\
 code start 0x00100040
 outside ext 0x00100050
 code tw 0x00100030
+";
+
+// What `gen 0` prints.
+const SUMMARY: &str = "\
+gen 0 functions 16
+lines 134 applied 8 undone 3 refused 0
+thread 35 exited 0x00000004
+threads 36
+watch disciplined
 ";
 
 const CONFLICT: &str =
@@ -102,7 +111,7 @@ fn end_of(alloc: Global, call: &Call) -> Result<End, AllocError> {
     })
 }
 
-static FAULTS: [Call; 20] = [
+static FAULTS: [Call; 22] = [
     (&["diff", "one"], &[], &[], 7, USAGE, 2),
     (
         &["diff", "one", "two"],
@@ -179,6 +188,8 @@ static FAULTS: [Call; 20] = [
         5,
     ),
     (&["run", "program", "script"], &[], &[3], 5, "spawned 0 ", 5),
+    (&["gen", "0"], &[1], &[], 1, SUMMARY, 0),
+    (&["gen", "0"], &[], &[2], 5, "gen 0", 5),
 ];
 
 #[test]
@@ -189,12 +200,13 @@ fn faults_of_the_outside(rt: HostRuntime) -> Result<(), Fail> {
     Ok(())
 }
 
-static CALLS: [Call; 8] = [
+static CALLS: [Call; 9] = [
     (&["match", "pair", "start"], &[], &[], 7, START_VALUES, 0),
     (&["match", "pair", "p and q"], &[], &[], 7, CONFLICT, 3),
     (&["run", "program", "script"], &[], &[], 7, REPLIES, 0),
     (&["code", "program", "f"], &[], &[], 7, LISTING, 0),
     (&["diff", "one", "two"], &[], &[], 7, "changed f\n", 0),
+    (&["gen", "0"], &[], &[], 7, SUMMARY, 0),
     (
         &["diff", "text a", "text b"],
         &[],

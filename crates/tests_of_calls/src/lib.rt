@@ -1,5 +1,6 @@
-//! Tests of whole calls over files and a sink in memory, and of the real files: `ksplice_calls`; and of works:
-//! `work_gen`. They stand apart so that these are proved once, and not once more for their tests.
+//! Tests of whole calls over files and a sink in memory, and of the real files: `ksplice_calls`; of the words of a call:
+//! `call_words`; and of works: `work_gen`. They stand apart so that these are proved once, and not once more for their
+//! tests.
 #![tactic(auto)]
 
 #[cfg(test)]
@@ -10,5 +11,7 @@ mod images;
 mod objects;
 #[cfg(test)]
 mod real_files;
+#[cfg(test)]
+mod words;
 #[cfg(test)]
 mod works;

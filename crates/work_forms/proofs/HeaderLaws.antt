@@ -12,9 +12,10 @@ use Rattle.work_gen.specs.declared.types.Section.{Section}
 use Rattle.work_gen.specs.Encoding.{padded, zeros}
 use Rattle.work_gen.specs.ElfFile.{padded_content, contents, string_table, section_name_table, file_header, file_of}
 use Rattle.work_gen.specs.ElfFile.{elf_file}
-use Rattle.work_gen.specs.Functions.{function_count, functions}
+use Rattle.work_gen.specs.Functions.{function_count, functions, old_constant, new_constant}
 use Rattle.work_gen.specs.Objects.{code_section, relocation_section, symbols, symbol_names, sections}
-use Rattle.work_gen.specs.Objects.{symbol_table as symbol_section}
+use Rattle.work_gen.specs.Objects.{symbol_table as symbol_section, object_file, old_object, new_object}
+use Rattle.work_gen.specs.Work.{work_of}
 use Rattle.work_forms.proofs.RuleLaws.{few_functions}
 use Rattle.work_forms.proofs.SectionLaws.{with_names, names_of, file_length, names_split, names_in_table}
 use Rattle.work_forms.proofs.SectionLaws.{are_short, rest_of, file_parts, table_there, names_there}
@@ -204,3 +205,12 @@ header_kept number constants =
     let below : nat_lt (2 * count + 2) (section_count file) ≡ true =
     below_is (2 * count + 2) (section_count file) (omega (arith, total)) in
     rw (version, size, entry, some, limit, table, index, below, texts_there number constants) refl
+
+-- so are the two objects of a work
+pub pre_short : (number : ℕ) → length (work_of number).pre ≤ 8388608
+unfolding work_of old_object object_file
+pre_short number = file_short number (old_constant number)
+
+pub post_short : (number : ℕ) → length (work_of number).post ≤ 8388608
+unfolding work_of new_object object_file
+post_short number = file_short number (new_constant number)

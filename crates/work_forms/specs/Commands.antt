@@ -13,11 +13,11 @@ spawn_first = Spawn (codes "f0") 0
 abbrev pub spawn_four : List Command
 spawn_four = spawn_first ∷ spawn_first ∷ spawn_first ∷ spawn_first ∷ []
 
--- threads run in turn, 64 instructions each, until 16,777,216 instructions are made
+-- threads run in turn, 64 steps each, until none runs any more, and for at most 16,777,216 steps
 abbrev pub run_all : Command
 run_all = RoundRobin 64 16777216
 
--- update k is tried 16 times, 4,096 instructions apart; updates of odd numbers lead back
+-- update k is tried at most 16 times, 4,096 steps apart; updates of odd numbers lead back
 abbrev pub update_between : (k : ℕ) → (pre post : List ℕ) → Command
 update_between k pre post = Apply (codes "u" ++ number_text k) pre post 16 4096
 
@@ -26,7 +26,7 @@ update k =
     if k % 2 == 0 then update_between k (codes "pre.o") (codes "post.o")
     else update_between k (codes "post.o") (codes "pre.o")
 
--- what is done for update k: 100 instructions are made before it, one of each thread in turn
+-- what is done for update k: 100 steps are made before it, one of each thread in turn
 abbrev pub commands_of_update : ℕ → List Command
 commands_of_update k = spawn_four ++ RoundRobin 1 100 ∷ update k ∷ run_all ∷ []
 

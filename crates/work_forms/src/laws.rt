@@ -1,5 +1,5 @@
 //! What is read in the files of every work, and in every object file that is written of sections.
-ghost use Rattle.std.specs.Prelude.{◌≡◌, ℕ, ◌+◌, ◌*◌, List, length, Some, None, Ok};
+ghost use Rattle.std.specs.Prelude.{◌≡◌, ℕ, ◌≤◌, ◌+◌, ◌*◌, List, length, Some, None, Ok};
 ghost use Rattle.std.specs.List.{slice_get};
 ghost use Rattle.image_file.specs.Reading.{image_of};
 ghost use Rattle.image_file.specs.Spelling.{spelling};
@@ -67,6 +67,12 @@ pub fn object_symbols_are_read()
 pub fn object_relocations_are_read()
     ensures pre { (number : ℕ) → HasRelocations (work_of number).pre (function_count number) }
     ensures post { (number : ℕ) → HasRelocations (work_of number).post (function_count number) }
+{}
+
+/// No object of a work is longer than an object file may be.
+pub fn objects_are_short()
+    ensures pre { (number : ℕ) → length (work_of number).pre ≤ 8388608 }
+    ensures post { (number : ℕ) → length (work_of number).post ≤ 8388608 }
 {}
 
 /// Both objects of a work keep all rules of object files.

@@ -20,9 +20,10 @@ calls_next count i = nat_lt (i + 1) count
 unfoldable pub function_name : ℕ → List ℕ
 function_name i = codes "f" ++ number_text i
 
--- The constant that function i adds, and the one that it adds after the update, which changes every fourth function.
+-- The constant that function i adds, and the one that it adds after the update, which changes every fourth function; it
+-- may be 65,536.
 unfoldable pub old_constant : (number i : ℕ) → ℕ
-old_constant number i = number * (i + 1) % 65536
+old_constant number i = (number * (i + 1)) % 65536
 
 unfoldable pub new_constant : (number i : ℕ) → ℕ
 new_constant number i = if i % 4 == 1 then old_constant number i + 1 else old_constant number i

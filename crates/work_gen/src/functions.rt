@@ -28,7 +28,7 @@ const TO_THE_NEXT: usize = 22;
 pub(crate) const ADDEND: usize = 0xFFFF_FFFC;
 
 /// How many functions the work of a number has, from 16 to 512.
-pub(crate) fn function_count(number: u32) -> u32
+pub fn function_count(number: u32) -> u32
     ensures { result ≡ function_count number }
 {
     16 + number % 497

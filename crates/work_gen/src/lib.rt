@@ -11,5 +11,6 @@ mod objects;
 mod script;
 mod types;
 
+pub use functions::function_count;
 pub use making::make_work;
 pub use types::{Section, Work};

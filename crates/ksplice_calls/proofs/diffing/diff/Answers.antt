@@ -1,7 +1,7 @@
 use Rattle.std.proofs.Common.{[], ◌∷◌, refl}
 use Rattle.ks_io.specs.Loads.{bytes_of}
 use Rattle.ksplice_session.specs.Replies.{object_limit}
-use Rattle.ksplice_calls.specs.Words.{Diff}
+use Rattle.call_words.specs.Words.{Diff}
 use Rattle.ksplice_calls.proofs.CallAnswers.{lost_answers, two_held, diff_answers}
 use Rattle.ksplice_calls.proofs.diffing.diff.Goals as goal
 

@@ -1,7 +1,7 @@
 use Rattle.std.proofs.Common.{[], ◌∷◌, refl}
 use Rattle.ks_io.specs.Loads.{bytes_of}
 use Rattle.ksplice_calls.specs.Calls.{image_limit}
-use Rattle.ksplice_calls.specs.Words.{Code}
+use Rattle.call_words.specs.Words.{Code}
 use Rattle.ksplice_calls.proofs.CallAnswers.{lost_answers, one_held, code_answers}
 use Rattle.ksplice_calls.proofs.image_code.code.Goals as goal
 

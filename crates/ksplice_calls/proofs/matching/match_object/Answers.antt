@@ -2,7 +2,7 @@ use Rattle.std.proofs.Common.{[], ◌∷◌, ◌∙◌, ap, refl, sym}
 use Rattle.ks_io.specs.Loads.{bytes_of}
 use Rattle.ksplice_session.specs.Replies.{object_limit}
 use Rattle.ksplice_calls.specs.Calls.{image_limit}
-use Rattle.ksplice_calls.specs.Words.{Match}
+use Rattle.call_words.specs.Words.{Match}
 use Rattle.ksplice_calls.proofs.CallAnswers.{lost_answers, match_answers}
 use Rattle.ksplice_calls.proofs.matching.match_object.Goals as goal
 

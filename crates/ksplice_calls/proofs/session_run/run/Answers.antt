@@ -1,7 +1,7 @@
 use Rattle.std.proofs.Common.{[], ◌∷◌, refl}
 use Rattle.ks_io.specs.Loads.{bytes_of}
 use Rattle.ksplice_calls.specs.Calls.{image_limit, script_limit}
-use Rattle.ksplice_calls.specs.Words.{Run}
+use Rattle.call_words.specs.Words.{Run}
 use Rattle.ksplice_calls.proofs.CallAnswers.{lost_answers, run_answers}
 use Rattle.ksplice_calls.proofs.session_run.run.Goals as goal
 

@@ -11,4 +11,6 @@ pub enum Command<'a> {
     Match { image: &'a str, pre: &'a str },
     /// `run IMAGE SCRIPT`: a session, by the names of the image and of the script.
     Run { image: &'a str, script: &'a str },
+    /// `gen NUMBER`: the work that is made from a number.
+    Gen { number: u32 },
 }

@@ -1,0 +1,4 @@
+pub mod Building
+pub mod Walks
+pub mod Levels
+pub mod Readings

@@ -1,0 +1,18 @@
+use Rattle.std.proofs.Common.{codes}
+use Rattle.std.proofs.lemmas.Result.{IfOk-weaker}
+use Rattle.call_words.specs.inside.Forms.{form_of_one, form_of_two}
+use Rattle.call_words.proofs.Building.{has_more}
+use Rattle.call_words.proofs.forms.program.Goals as goal
+
+pub returns : goal.returns
+returns c =
+    let diff = has_more c.bare_program.result c.in_ok-program.program _ (form_of_two (codes "diff") (codes "pre") (codes "post"))
+    c.bare_program.ensures c.in_ok-program.ensures in
+    let code = has_more c.in_ok-program.program c.in_ok-program-2.program _ (form_of_two (codes "code") (codes "image") (codes "name"))
+    diff c.in_ok-program-2.ensures in
+    let match = has_more c.in_ok-program-2.program c.in_ok-program-3.program _ (form_of_two (codes "match") (codes "image") (codes "pre"))
+    code c.in_ok-program-3.ensures in
+    let run = has_more c.in_ok-program-3.program c.in_ok-program-4.program _ (form_of_two (codes "run") (codes "image") (codes "script"))
+    match c.in_ok-program-4.ensures in
+    IfOk-weaker c.with_word.result _ _
+    (λ new adds. has_more c.in_ok-program-4.program new _ (form_of_one (codes "gen") (codes "number")) run adds) c.with_word.ensures
