@@ -1,0 +1,9 @@
+pub mod ListLaws
+pub mod ExtentLaws
+pub mod PageLaws
+pub mod UseLaws
+pub mod PutLaws
+pub mod OpeningLaws
+pub mod AddLaws
+pub mod NewLaws
+pub mod CountLaws

@@ -1,0 +1,35 @@
+-- The byte of the address's page, and the kind of the extent that has it.
+use Rattle.std.proofs.Common.{◌≡◌, ◌∙◌, ◌/◌, ◌*◌, sym, ap, arith, refl, subst, Some, None, get_or}
+use Rattle.image_memory.specs.Contents.{look_at}
+use Rattle.image_memory.specs.laws.RangeLaws.{within}
+use Rattle.paged_memory.specs.Pages.{page_range, pieces_of, extent_at, stored, byte_of}
+use Rattle.paged_memory.specs.declared.types.Page.{Page}
+use Rattle.paged_memory.specs.declared.types.Extent.{Extent}
+use Rattle.paged_memory.proofs.ExtentLaws.{look_none, look_some}
+use Rattle.paged_memory.proofs.PageLaws.{page_here, stored_is}
+use Rattle.paged_memory.proofs.table.PageTable.look.Goals as goal
+
+pub returns-in_err-spot-clause-found : goal.returns-in_err-spot-clause-found
+returns-in_err-spot-clause-found g c =
+    let t = c.args.self.now in
+    c.from_residual.ensures ∙ sym (look_none t.extents.items t.pages.items c.args.address c.in_err-spot.ensures.found)
+
+pub byte-byte-requires : goal.byte-byte-requires
+byte-byte-requires g c =
+    let page = c.index.result.now in
+    let n = subst (λ (p : Page). p.number ≡ c.args.address / 4096) (sym c.index.ensures)
+    (c.in_ok-spot.ensures.found.page.is page) in
+    within c.args.address (page_range page) (omega arith) (omega arith)
+
+pub returns-clause-found : goal.returns-clause-found
+returns-clause-found g c =
+    let t = c.args.self.now in
+    let page = c.index.result.now in
+    let e = c.index-2.result.now in
+    let here : extent_at t.extents.items c.args.address ≡ Some e =
+    c.in_ok-spot.ensures.found.extent.is e ∙ ap (λ (x : Extent). Some x) (sym c.index-2.ensures) in
+    let at = page_here t.pages.items c.args.address (c.args.address / 4096) c.in_ok-spot.spot.page page t.sorted
+    c.in_ok-spot.ensures.found.page refl ∙ ap (λ (p : Page). Some p) (sym c.index.ensures) in
+    let byte : c.byte-byte.result ≡ stored t.pages.items c.args.address =
+    c.byte-byte.ensures ∙ sym (stored_is t.pages.items c.args.address page at) in
+    rw byte (sym (look_some t.extents.items t.pages.items c.args.address e here))
