@@ -7,3 +7,4 @@ pub mod OpeningLaws
 pub mod AddLaws
 pub mod NewLaws
 pub mod CountLaws
+pub mod WindowLaws

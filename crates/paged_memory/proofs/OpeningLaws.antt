@@ -14,7 +14,11 @@ use Rattle.paged_memory.specs.declared.types.Extent.{Extent}
 use Rattle.paged_memory.specs.declared.types.Page.{Page}
 use Rattle.paged_memory.specs.Pages.{extent_range, page_range, page_low, extent_at, page_at, ended, begun, ends_by, begins_below}
 use Rattle.paged_memory.specs.Pages.{IsHome, IsGap, IsCovered}
-use Rattle.paged_memory.specs.Opening.{IsPlaceOf, AreLaid, IsInserted, IsOpened, IsOpenTo}
+use Rattle.std.proofs.Common.{take}
+use Rattle.image_memory.specs.Ranges.{are_same}
+use Rattle.image_memory.specs.Changes.{without_first}
+use Rattle.image_memory.proofs.ChangeLaws.{are_same_self}
+use Rattle.paged_memory.specs.Opening.{IsPlaceOf, AreLaid, IsInserted, IsOpened, IsOpenTo, pages_in, pages_for}
 use Rattle.paged_memory.proofs.PageLaws.{numbers_rise, ranked, page_here, page_nowhere, is_none}
 use Rattle.paged_memory.proofs.ListLaws.{same_at}
 
@@ -339,3 +343,31 @@ open_none es old low laid some = record {
   there = λ a l m. absurd (omega arith);
   each = λ k d l. inr (some k d l);
 }
+
+-- the pages of one range more
+pub pages_more : (rs : List Range) (k : ℕ) (d : Range) → k < length rs
+    → pages_for (take (suc k) rs) ≡ pages_for (take k rs) + pages_in (get_or rs k d)
+pages_more [] k d l = absurd (omega arith)
+pages_more (r ∷ rs) zero d l = omega arith
+pages_more (r ∷ rs) (suc k) d l = let rest = pages_more rs k d (omega arith) in omega arith
+
+same_pages : (a b : Range) → are_same a b ≡ true → pages_in a ≡ pages_in b
+same_pages a b h =
+    let low : a.low ≡ b.low = grind (arith, nat_tests) in
+    let high : a.high ≡ b.high = grind (arith, nat_tests) in
+    ap (λ n. (n - 1) / 4096 + 1 - a.low / 4096) high ∙ ap (λ n. (b.high - 1) / 4096 + 1 - n / 4096) low
+
+-- the pages of ranges but one
+pub pages_without : (range : Range) (rs : List Range) (k : ℕ) → k < length rs → get_or rs k range ≡ range
+    → pages_for (without_first range rs) + pages_in range ≡ pages_for rs
+pages_without range [] k l at = absurd (omega arith)
+pages_without range (r ∷ rs) zero l at =
+    let hit : are_same r range ≡ true = rw at (are_same_self range) in
+    let same = same_pages r range hit in
+    rw hit (omega (arith, same))
+pages_without range (r ∷ rs) (suc k) l at = by_test (pages_without range rs k (omega arith) at) (are_same r range) refl
+  where
+    by_test : pages_for (without_first range rs) + pages_in range ≡ pages_for rs → (b : Bool) → are_same r range ≡ b
+        → pages_for (cond b rs (r ∷ without_first range rs)) + pages_in range ≡ pages_in r + pages_for rs
+    by_test rest true e = let same = same_pages r range e in omega (arith, same)
+    by_test rest false e = omega (arith, rest)

@@ -2,3 +2,5 @@
 pub mod Pages
 pub mod Opening
 pub mod Windows
+pub mod Placed
+pub mod Seen

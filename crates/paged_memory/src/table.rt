@@ -5,11 +5,11 @@ ghost use Rattle.std.specs.Option.{option_map, option_copied};
 ghost use Rattle.std.specs.List.{All, AllWithin};
 ghost use Rattle.image_memory.specs.Ranges.{Ascends, Ascends-prop, MeetsNone};
 ghost use Rattle.image_memory.specs.Contents.{ArePlaced, look_at, piece_range};
-ghost use Rattle.image_memory.specs.Changes.{with_piece};
+ghost use Rattle.image_memory.specs.Changes.{with_piece, IsPlaceable};
 ghost use Rattle.image_memory.specs.Access.{first_fault, read_fault, write_fault, bytes_at, written};
 ghost use Rattle.image_memory.specs.Fetch.{code_from, shown, HasCode};
 ghost use Rattle.paged_memory.specs.Pages.{extent_range, extent_at, page_range, page_low, pieces_of, ended, begun, IsCovered, IsHome, IsHolder, IsSpot, IsUsable, extent_fault};
-ghost use Rattle.paged_memory.specs.Opening.{pages_in};
+ghost use Rattle.paged_memory.specs.Opening.{pages_in, pages_for};
 
 use crate::blocks::Block;
 use crate::extents::{first_fault, holder};
@@ -108,6 +108,21 @@ impl PageTable {
         Ok(())
     }
 
+    /// Takes the memory that pieces of these ranges need.
+    pub(crate) fn make_room(&mut self, ranges: &[Range]) -> Result<(), AllocError>
+        requires { All IsPlaceable ranges.now }
+        ensures extents { self.new.extents.items ≡ self.old.extents.items }
+        ensures pages { self.new.pages.items ≡ self.old.pages.items }
+        ensures room { OnOk result (vec_len self.new.extents + length ranges.now ≤ vec_capacity self.new.extents) }
+        ensures blocks { OnOk result (pages_for ranges.now ≤ vec_len self.new.blocks) }
+    {
+        self.extents.reserve(ranges.len())?;
+        for range in ranges {
+            self.add_blocks(pages_in(*range))?;
+        }
+        Ok(())
+    }
+
     /// Where an address is found.
     fn spot<L: Ledger>(&self, address: u32, steps: &mut Steps<L>) -> Option<Spot>
         ensures found { MatchOption result (extent_at self.now.extents.items address ≡ None)
@@ -182,6 +197,23 @@ impl PageTable {
             Some(fault) => Err(fault),
             None => Ok(spot.page),
         }
+    }
+
+    /// The kind of the piece at an address, and the byte there, with no step counted.
+    pub(crate) fn look_at(&self, address: u32) -> Option<(Kind, u8)>
+        ensures { result ≡ look_at (pieces_of self.now.extents.items self.now.pages.items) address }
+    {
+        self.look_from::<Brand>(address, Blank::new(1))
+    }
+
+    /// The same, with steps counted from none.
+    fn look_from<L: Ledger>(&self, address: u32, blank: Blank) -> Option<(Kind, u8)>
+        requires name { blank.name ≡ L.name }
+        requires parts { blank.parts ≡ L.parts }
+        requires some { 0 < blank.parts }
+        ensures { result ≡ look_at (pieces_of self.now.extents.items self.now.pages.items) address }
+    {
+        self.look::<L>(address, &mut Steps::new(blank))
     }
 
     /// Reads the bytes from an address on as data.
