@@ -4,9 +4,10 @@ ghost use Rattle.code_listing.specs.Listing.{listing, remaining};
 
 use crate::laws::lines_follow_one_another;
 use crate::lines::{put_end, put_instruction, put_undecoded};
-use image_memory::{FlatSpace, Space};
+use image_memory::Space;
 use ks_base::Line;
 use match_instructions::instruction_at;
+use paged_memory::PagedSpace;
 use std::alloc::AllocError;
 use std::marker::Model;
 
@@ -16,7 +17,7 @@ const PAGE_LENGTH: usize = 65_536;
 /// A memory, and the address at which the listing of its code ends.
 #[derive(Drop)]
 pub(crate) struct Code {
-    memory: FlatSpace,
+    memory: PagedSpace,
     end: u32,
 }
 
@@ -25,13 +26,13 @@ impl Model for Code {
 
     ghost Value = { Extent };
 
-    ghost view = { λ c. record { contents = ⟦<FlatSpace as Space>⟧.contents c.memory; end = c.end } };
+    ghost view = { λ c. record { contents = ⟦<PagedSpace as Space>⟧.contents c.memory; end = c.end } };
 }
 
 impl Code {
     /// The code of a memory up to an end.
-    pub(crate) fn new(memory: FlatSpace, end: u32) -> Self
-        ensures { result ≡ record { contents = ⟦<FlatSpace as Space>⟧.contents memory; end = end } }
+    pub(crate) fn new(memory: PagedSpace, end: u32) -> Self
+        ensures { result ≡ record { contents = ⟦<PagedSpace as Space>⟧.contents memory; end = end } }
     {
         Code { memory, end }
     }

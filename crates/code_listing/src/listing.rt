@@ -8,8 +8,9 @@ ghost use Rattle.code_listing.specs.Listing.{code_of, end_above, end_within};
 
 use crate::code::Code;
 use image_file::Image;
-use image_memory::{FlatSpace, Piece, piece_at};
+use image_memory::{Piece, piece_at};
 use ks_base::{Line, Name, Refusal};
+use paged_memory::PagedSpace;
 use std::alloc::{AllocError, Global};
 use std::marker::Model;
 
@@ -57,7 +58,7 @@ pub fn list_code(alloc: Global, image: Image, name: &Name) -> Result<Listing, Re
 {
     let address = image.symbols.function_named(name)?;
     let end = end_above(&image, address);
-    let memory = FlatSpace::new(alloc, image.pieces)?;
+    let memory = PagedSpace::new(alloc, image.pieces)?;
     Ok(Listing {
         code: Code::new(memory, end),
         next: Some(address),

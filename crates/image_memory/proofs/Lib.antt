@@ -1,5 +1,2 @@
-pub mod AccessLaws
 pub mod FenceLaws
-pub mod ChangeLaws
-pub mod WindowLaws
 pub mod MetLaws

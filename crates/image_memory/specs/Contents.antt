@@ -16,6 +16,11 @@ pub record Contents : Type 0 where
   pub pieces : List Piece
   pub fences : List Fence
 
+-- retired ranges, and how many more there is room for
+pub record Retired : Type 0 where
+  pub fences : List Fence
+  pub spare : ℕ
+
 -- what is kept spare for pieces and fences that are to be added
 pub record Room : Type 0 where
   pub ranges : List Range

@@ -6,6 +6,7 @@ use Rattle.std.specs.List.{find, list_any}
 use Rattle.ks_base.specs.declared.places.Range.{Range}
 use Rattle.image_memory.specs.Ranges.{lies_in}
 use Rattle.image_memory.specs.Contents.{Contents, fence_range, holding, spliced_at}
+use Rattle.image_memory.specs.declared.types.Fence.{Fence}
 use Rattle.image_memory.specs.declared.types.Kind.{Kind}
 use Rattle.image_memory.specs.declared.types.Kind.TheVariants.{Code, ReadOnly, Writable}
 use Rattle.image_memory.specs.declared.types.Piece.{Piece}
@@ -82,6 +83,18 @@ view_at contents pc = view (spliced_at contents.fences) (map fence_range content
 -- how many bytes the jump at a spliced home has: E9, and a displacement of four (Intel SDM volume 2, JMP rel32)
 abbrev pub jump_length : ℕ
 jump_length = 5
+
+-- outside the retired ranges, so many bytes of whatever code is there are fetched
+abbrev pub CutsCode : List Fence → ℕ → ℕ → Type 0
+CutsCode fences pc count = (code : List ℕ) → window_of (map fence_range fences) pc code ≡ take count code
+
+-- How many bytes of the code at pc are fetched at most, as far as retired ranges go: those of the jump at a spliced
+-- home; none at another address of a retired range; elsewhere as many as the window has.
+abbrev pub IsLimit : List Fence → ℕ → Option ℕ → Type 0
+IsLimit fences pc None = (spliced_at fences pc ≡ false) × (list_any (lies_in pc) (map fence_range fences) ≡ true)
+IsLimit fences pc (Some count) = ((spliced_at fences pc ≡ true) × (count ≡ jump_length))
+    ⊎ ((spliced_at fences pc ≡ false) × (list_any (lies_in pc) (map fence_range fences) ≡ false)
+    × CutsCode fences pc count)
 
 -- the bytes of the jump at a spliced home, as far as its piece goes
 abbrev pub jump_at : List Piece → ℕ → List ℕ

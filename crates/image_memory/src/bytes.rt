@@ -25,8 +25,8 @@ pub(crate) fn copy_front(into: &mut [u8], from: &[u8]) -> usize
 
 /// Puts the bytes of `from`, whose first one has the address `start`, over those of `target`, whose first
 /// one has the address `at`.
-pub(crate) fn overlay(target: &mut [u8], at: u64, start: u64, from: &[u8])
-    requires target_low { at < 2 ^ 32 }
+pub fn overlay(target: &mut [u8], at: u64, start: u64, from: &[u8])
+    requires target_low { at < 2 ^ 48 }
     requires from_low { start < 2 ^ 32 }
     ensures { target.new ≡ overlaid start from.now at target.old }
 {

@@ -34,8 +34,8 @@ pub(crate) fn put_spare(pieces: &mut Vec<Piece>, piece: Piece)
     insert_spare(pieces, at, piece);
 }
 
-/// Puts an item at a place where there is room for it.
-pub(crate) fn insert_spare<T: Drop>(items: &mut Vec<T>, at: usize, item: T)
+/// Puts an item at a place, before those from it on. There is room for it, so no memory is taken.
+pub fn insert_spare<T: Drop>(items: &mut Vec<T>, at: usize, item: T)
     requires within { at ≤ vec_len items.old }
     requires room { vec_len items.old < vec_capacity items.old }
     ensures items { items.new.items ≡ insert items.old.items at item }

@@ -1,24 +1,24 @@
 //! A memory that keeps its pieces in one sorted list.
-ghost use Rattle.std.specs.Prelude.{◌≡◌, ◌≤◌, ◌<◌, ◌+◌, ◌^◌, ℕ, List, [], IfOk, IfSome, IsTrue};
-ghost use Rattle.std.specs.Prelude.{vec_len, vec_capacity, length, take, map, min, nat_lt, slice_get};
+ghost use Rattle.std.specs.Prelude.{◌≡◌, ◌≤◌, ◌<◌, ◌+◌, ◌^◌, [], IfOk, IfSome, IsTrue};
+ghost use Rattle.std.specs.Prelude.{vec_len, vec_capacity, length};
 ghost use Rattle.std.specs.Option.{option_copied, option_map};
-ghost use Rattle.std.specs.List.{AllWithin, All, Any, Contains, find, insert, remove};
+ghost use Rattle.std.specs.List.{AllWithin, All, Any, remove};
 ghost use Rattle.ks_base.specs.declared.places.Range.{Range};
 ghost use Rattle.image_memory.specs.Ranges.{Ascends, Ascends-prop, lies_in};
 ghost use Rattle.image_memory.specs.Contents.{Contents, Room, IsValid, ArePlaced};
 ghost use Rattle.image_memory.specs.Contents.{piece_range, fence_range, holding, look_at};
 ghost use Rattle.image_memory.specs.Access.{access_fault, kind_of, first_fault};
 ghost use Rattle.image_memory.specs.Access.{read_fault, bytes_at, written, after_write};
-ghost use Rattle.image_memory.specs.Fetch.{code_from, window_of};
-ghost use Rattle.image_memory.specs.declared.types.Fence.{Fence};
-ghost use Rattle.image_memory.specs.Changes.{IsPlaceable, with_fence, without_fence, without_piece};
+ghost use Rattle.image_memory.specs.Fetch.{code_from};
+ghost use Rattle.image_memory.specs.Changes.{IsPlaceable, without_piece};
 
 use crate::bytes::{copy_front, front};
-use crate::changes::{insert_spare, put_spare, ranges_of};
+use crate::changes::{put_spare, ranges_of};
 use crate::lookup::{begun, piece_at};
+use crate::retired::RetiredRanges;
 use crate::space::Space;
 use crate::spare::SpareRanges;
-use crate::types::{Access, Fence, Kind, Piece, Pieces, WINDOW_LENGTH, Window};
+use crate::types::{Access, Kind, Piece, Pieces, Window};
 use ks_base::{Fault, Range};
 use std::alloc::{AllocError, Global};
 
@@ -26,15 +26,13 @@ use std::alloc::{AllocError, Global};
 #[derive(Drop)]
 pub struct FlatSpace {
     pieces: Vec<Piece>,
-    fences: Vec<Fence>,
+    retired: RetiredRanges,
     spare_ranges: SpareRanges,
-    spare_fences: u32,
     ghost ascend: { Ascends piece_range 0 pieces.items } by { Ascends-prop piece_range 0 pieces.items },
     ghost end_below: { All (λ piece. (piece_range piece).high ≤ 0xFFFF_0000) pieces.items },
-    ghost fenced: { Ascends fence_range 0 fences.items } by { Ascends-prop fence_range 0 fences.items },
+    ghost fenced: { Ascends fence_range 0 retired.fences } by { Ascends-prop fence_range 0 retired.fences },
     ghost placeable: { All IsPlaceable spare_ranges },
     ghost piece_room: { vec_len pieces + length spare_ranges ≤ vec_capacity pieces },
-    ghost fence_room: { vec_len fences + spare_fences ≤ vec_capacity fences },
 }
 
 impl FlatSpace {
@@ -51,9 +49,8 @@ impl FlatSpace {
     {
         Ok(FlatSpace {
             pieces: pieces.into_vec(),
-            fences: Vec::new(alloc),
+            retired: RetiredRanges::new(alloc),
             spare_ranges: SpareRanges::new(alloc),
-            spare_fences: 0,
         })
     }
 
@@ -120,65 +117,6 @@ impl FlatSpace {
         }
     }
 
-    /// How many retired ranges begin at or below an address: the place of one that begins there.
-    fn fences_begun(&self, address: u32) -> usize
-        ensures bound { result ≤ vec_len self.now.fences }
-        ensures below { AllWithin (λ fence. fence.range.low ≤ address) self.now.fences.items 0 result }
-        ensures above { AllWithin (λ fence. address < fence.range.low) self.now.fences.items result
-            (vec_len self.now.fences) }
-        ensures put { (fence : Fence) → fence.range.low ≡ address
-            → insert self.now.fences.items result fence ≡ with_fence fence self.now.fences.items }
-    {
-        self.fences
-            .as_slice()
-            .partition_point(|fence| fence.range.low <= address)
-    }
-
-    /// The place of a retired range.
-    fn place_of_fence(&self, range: Range) -> usize
-        requires { Contains (map fence_range self.now.fences.items) range }
-        ensures within { result < vec_len self.now.fences }
-        ensures taken { remove self.now.fences.items result ≡ without_fence range self.now.fences.items }
-    {
-        self.fences_begun(range.low) - 1
-    }
-
-    /// The retired range that holds an address.
-    fn fence_at(&self, address: u32) -> Option<&Fence>
-        ensures { option_copied result
-            ≡ find (λ fence. lies_in address (fence_range fence)) self.now.fences.items }
-    {
-        let begun = self.fences_begun(address);
-        if begun == 0 {
-            return None;
-        }
-        let fence = &self.fences[begun - 1];
-        if address < fence.range.high {
-            Some(fence)
-        } else {
-            None
-        }
-    }
-
-    /// The first retired range that begins above an address.
-    fn fence_after(&self, address: u32) -> Option<&Fence>
-        ensures next { option_copied result ≡ find (λ fence. nat_lt address fence.range.low) self.now.fences.items }
-        ensures above { IfSome result (λ fence. address < fence.now.range.low) }
-    {
-        nth_fence(self.fences.as_slice(), self.fences_begun(address))
-    }
-
-    /// How many bytes are fetched at most at an address outside the retired ranges.
-    fn open_length(&self, pc: u32) -> usize
-        ensures within { result ≤ 15 }
-        ensures cut { (code : List ℕ) → window_of (map fence_range self.now.fences.items) pc code ≡ take result code }
-    {
-        match self.fence_after(pc) {
-            Some(fence) => at_most_15((fence.range.low - pc) as usize),
-            None => WINDOW_LENGTH,
-        }
-    }
-
     /// Puts bytes over those that pieces have from an address on.
     fn put_bytes(&mut self, address: u64, from: &[u8])
         requires { address < 2 ^ 32 }
@@ -200,18 +138,6 @@ impl FlatSpace {
     }
 }
 
-fn nth_fence(fences: &[Fence], i: usize) -> Option<&Fence>
-    ensures { option_copied result ≡ slice_get fences.now i }
-{
-    fences.get(i)
-}
-
-fn at_most_15(count: usize) -> usize
-    ensures { result ≡ min 15 count }
-{
-    count.min(WINDOW_LENGTH)
-}
-
 /// Puts bytes over those that pieces have from an address on. The pieces before `first` end at or below
 /// it.
 fn overlay_pieces(alloc: Global, pieces: &mut [Piece], first: usize, start: u64, from: &[u8])
@@ -230,9 +156,9 @@ fn overlay_pieces(alloc: Global, pieces: &mut [Piece], first: usize, start: u64,
 }
 
 impl Space for FlatSpace {
-    ghost contents = { λ space. record { pieces = space.pieces.items; fences = space.fences.items } };
+    ghost contents = { λ space. record { pieces = space.pieces.items; fences = space.retired.fences } };
 
-    ghost room = { λ space. record { ranges = space.spare_ranges; fences = space.spare_fences } };
+    ghost room = { λ space. record { ranges = space.spare_ranges; fences = space.retired.spare } };
 
     ghost valid = { λ space. record {
       placed = record { ascend = space.ascend; end_below = space.end_below };
@@ -269,25 +195,21 @@ impl Space for FlatSpace {
         let Some(bytes) = self.code_from(pc) else {
             return Err(Fault::Unmapped);
         };
-        match self.fence_at(pc) {
-            Some(fence) => fence.window(pc, bytes),
-            None => Ok(Window::of(front(bytes, self.open_length(pc)))),
+        match self.retired.limit(pc) {
+            Some(count) => Ok(Window::of(front(bytes, count))),
+            None => Err(Fault::Stray),
         }
     }
 
     fn spliced(&self, pc: u32) -> bool {
-        match self.fence_at(pc) {
-            Some(fence) => fence.is_home(pc),
-            None => false,
-        }
+        self.retired.is_home(pc)
     }
 
     fn reserve(&mut self, pieces: &Pieces, fences: u32) -> Result<(), AllocError> {
         let ranges = ranges_of(*self.pieces.allocator(), pieces.as_slice())?;
         self.pieces.reserve(ranges.len())?;
-        self.fences.reserve(fences as usize)?;
+        self.retired.reserve(fences)?;
         self.spare_ranges = SpareRanges::from_vec(ranges.into_vec());
-        self.spare_fences = fences;
         Ok(())
     }
 
@@ -307,13 +229,10 @@ impl Space for FlatSpace {
     }
 
     fn fence(&mut self, range: Range, jump: bool) {
-        let at = self.fences_begun(range.low);
-        insert_spare(&mut self.fences, at, Fence { range, jump });
-        self.spare_fences -= 1;
+        self.retired.add(range, jump);
     }
 
     fn unfence(&mut self, range: Range) {
-        let at = self.place_of_fence(range);
-        self.fences.remove(at);
+        self.retired.remove(range);
     }
 }

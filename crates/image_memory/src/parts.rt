@@ -1,21 +1,21 @@
 //! What pieces, retired ranges and windows answer by themselves.
 ghost use Rattle.std.specs.Prelude.{◌≡◌, ◌+◌, ◌-◌, ◌<◌, ◌≤◌, ◌^◌, ◌&&◌, ◌==◌};
-ghost use Rattle.std.specs.Prelude.{length, drop, take, IsTrue, if◌then◌else◌};
+ghost use Rattle.std.specs.Prelude.{length, drop, IsTrue};
 ghost use Rattle.std.specs.Option.{option_copied};
 ghost use Rattle.image_memory.specs.Ranges.{lies_in};
 ghost use Rattle.image_memory.specs.Contents.{piece_range};
 ghost use Rattle.image_memory.specs.Access.{access_fault, overlaid_piece, written};
-ghost use Rattle.image_memory.specs.Fetch.{code_in, jump_length, shown, window_for, AtHome, Stray};
+ghost use Rattle.image_memory.specs.Fetch.{code_in, shown};
 
-use crate::bytes::{front, overlay};
-use crate::types::{Access, Fence, JUMP_LENGTH, Kind, Piece, WINDOW_LENGTH, Window};
+use crate::bytes::overlay;
+use crate::types::{Access, Fence, Kind, Piece, WINDOW_LENGTH, Window};
 use ks_base::{Bytes, Fault, Range};
 use std::alloc::Global;
 use std::mem;
 
 impl Access {
     /// Why data of a piece of a kind, or of no piece, can't be used that way.
-    pub(crate) fn fault(self, kind: Option<Kind>) -> Option<Fault>
+    pub fn fault(self, kind: Option<Kind>) -> Option<Fault>
         ensures { result ≡ access_fault self kind }
     {
         match (self, kind) {
@@ -89,23 +89,11 @@ impl Fence {
     {
         self.jump && self.range.low == pc
     }
-
-    /// What is fetched at an address of the range, where these code bytes stand from it on.
-    pub(crate) fn window(&self, pc: u32, bytes: &[u8]) -> Result<Window, Fault>
-        ensures { result ≡ window_for (if self.now.jump && (self.now.range.low == pc) then AtHome else Stray)
-            (take jump_length bytes.now) }
-    {
-        if self.is_home(pc) {
-            Ok(Window::of(front(bytes, JUMP_LENGTH)))
-        } else {
-            Err(Fault::Stray)
-        }
-    }
 }
 
 impl Window {
     /// At most 15 bytes as a window.
-    pub(crate) fn of(bytes: &[u8]) -> Self
+    pub fn of(bytes: &[u8]) -> Self
         requires { length bytes.now ≤ 15 }
         ensures { result ≡ shown bytes.now }
     {

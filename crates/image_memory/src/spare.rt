@@ -11,7 +11,7 @@ use std::marker::Model;
 /// Ranges in order, of which the first ones were taken. A clause sees those that are left, so that taking them in order
 /// moves none of them.
 #[derive(Drop)]
-pub(crate) struct SpareRanges {
+pub struct SpareRanges {
     ranges: Vec<Range>,
     taken: usize,
 }
@@ -29,14 +29,14 @@ impl Model for SpareRanges {
 
 impl SpareRanges {
     /// No range.
-    pub(crate) fn new(alloc: Global) -> Self
+    pub fn new(alloc: Global) -> Self
         ensures { result ≡ [] }
     {
         SpareRanges::from_vec(Vec::new(alloc))
     }
 
     /// All of these ranges.
-    pub(crate) fn from_vec(ranges: Vec<Range>) -> Self
+    pub fn from_vec(ranges: Vec<Range>) -> Self
         ensures { result ≡ ranges.items }
     {
         SpareRanges { ranges, taken: 0 }
@@ -50,7 +50,7 @@ impl SpareRanges {
     }
 
     /// Leaves no range.
-    pub(crate) fn clear(&mut self)
+    pub fn clear(&mut self)
         ensures { self.new ≡ [] }
     {
         self.ranges.clear();
@@ -58,7 +58,7 @@ impl SpareRanges {
     }
 
     /// Takes the first range that is this one. It is found at once where ranges are taken in their order.
-    pub(crate) fn take_first(&mut self, range: Range)
+    pub fn take_first(&mut self, range: Range)
         requires { Contains self.old range }
         ensures left { self.new ≡ without_first range self.old }
         ensures len { length self.new + 1 ≡ length self.old }

@@ -51,7 +51,7 @@ pub const END_LIMIT: u32 = 0xFFFF_0000;
 pub const JUMP_LENGTH: usize = 5;
 
 /// A window has at most so many bytes.
-pub(crate) const WINDOW_LENGTH: usize = 15;
+pub const WINDOW_LENGTH: usize = 15;
 
 /// What is fetched at an address.
 #[derive(Clone, Copy, PartialEq, Eq)]

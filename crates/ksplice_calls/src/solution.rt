@@ -11,8 +11,8 @@ ghost use Rattle.ksplice_calls.specs.Solution.{unknown_text, value_line, value_l
 use crate::listing::function_of;
 use i386_reloc::{Normal, read_sections};
 use image_file::{Image, read_image};
-use image_memory::FlatSpace;
 use ks_base::{Line, Name, Refusal};
+use paged_memory::PagedSpace;
 use std::alloc::{AllocError, Global};
 use symbol_solve::solve;
 use symbol_table::{Bodies, Solved, Unknown, Values};
@@ -41,7 +41,7 @@ fn list_matched(alloc: Global, image: Image, object: &Normal<'_>) -> Result<Line
     ensures { Gives (λ lines. lines) result
         (matched_in (contents_of image) (Ok object.now)) }
 {
-    let memory = FlatSpace::new(alloc, image.pieces)?;
+    let memory = PagedSpace::new(alloc, image.pieces)?;
     let values = solve(alloc, object, &no_bodies(alloc), &memory, &image.symbols)?;
     Ok(list_values(alloc, object, &values)?)
 }

@@ -13,9 +13,10 @@ use crate::memory::all_pieces;
 use frame_watch::{Verdict, Watch};
 use ia32_step::{State, Thread};
 use image_file::{Image, image_keeps_rules};
-use image_memory::{FlatSpace, pieces_stay_placed};
+use image_memory::pieces_stay_placed;
 use image_threads::Machine;
 use ks_base::{Name, Refusal, Report};
+use paged_memory::PagedSpace;
 use splice_jump::{jumps_change_their_bytes_alone, jumps_leave_views};
 use std::alloc::{AllocError, Global};
 use std::marker::Model;
@@ -27,7 +28,7 @@ use update_stack::{System, Update};
 /// its events.
 #[derive(Drop)]
 pub struct Session {
-    pub(crate) system: System<FlatSpace>,
+    pub(crate) system: System<PagedSpace>,
     pub(crate) watch: Watch,
 }
 
@@ -53,7 +54,7 @@ impl Session {
         pieces_stay_placed();
         let arena = image.arena;
         let pieces = all_pieces(alloc, &image.pieces, &image.stacks)?;
-        let space = FlatSpace::new(alloc, pieces)?;
+        let space = PagedSpace::new(alloc, pieces)?;
         let machine = Machine::new(alloc, image, space)?;
         let system = System::new(alloc, machine, arena)?;
         let watch = Watch::new(alloc);
@@ -61,14 +62,14 @@ impl Session {
     }
 
     /// The system that runs. It stands for the machine that the session is seen as.
-    pub fn system(&self) -> &System<FlatSpace>
+    pub fn system(&self) -> &System<PagedSpace>
         ensures { result.now ≡ self.now.machine }
     {
         &self.system
     }
 
     /// The system and the watch.
-    pub fn into_parts(self) -> (System<FlatSpace>, Watch)
+    pub fn into_parts(self) -> (System<PagedSpace>, Watch)
         ensures system { result.0 ≡ self.machine }
         ensures watch { result.1 ≡ self.watch }
     {

@@ -1,8 +1,8 @@
 -- What extents and pages make up after a piece was added.
-use Rattle.std.proofs.Common.{◌≡◌, ℕ, zero, suc, ◌+◌, ◌-◌, ◌*◌, ◌/◌, ◌≤◌, ◌<◌, Bool, true, false, cond, List, [], ◌∷◌}
-use Rattle.std.proofs.Common.{length, get_or, refl, ap, sym, subst, ◌∙◌, arith, ◌⊎◌, inl, inr, Option, Some, None, map, nat_lt}
+use Rattle.std.proofs.Common.{◌≡◌, ℕ, zero, suc, ◌+◌, ◌-◌, ◌/◌, ◌≤◌, ◌<◌, Bool, true, false, cond, List, [], ◌∷◌}
+use Rattle.std.proofs.Common.{length, get_or, refl, ap, sym, ◌∙◌, arith, ◌⊎◌, inl, inr, Option, Some, None, map, nat_lt}
 use Rattle.std.specs.Option.{option_map, is_some}
-use Rattle.std.specs.List.{All, filter, find, list_any}
+use Rattle.std.specs.List.{All, list_any}
 use Rattle.std.proofs.lemmas.Bool.Decides.{nat_tests}
 use Rattle.std.proofs.lemmas.List.{ext_get_or, with_items_is}
 use Rattle.std.specs.Vec.{with_items}
@@ -16,16 +16,17 @@ use Rattle.image_memory.specs.Ranges.{lies_in, meets, MeetsNone, Ascends, put_in
 use Rattle.image_memory.specs.Contents.{piece_range}
 use Rattle.image_memory.specs.Changes.{with_piece}
 use Rattle.image_memory.specs.Access.{new_byte}
-use Rattle.image_memory.specs.laws.RangeLaws.{inside, within, each_above, found, found_here}
+use Rattle.image_memory.specs.laws.RangeLaws.{inside, within}
 use Rattle.image_memory.specs.laws.PutLaws.{is_above}
 use Rattle.image_memory.specs.laws.AccessLaws.{length-overlaid, new_inside, new_outside}
 use Rattle.paged_memory.specs.declared.types.Extent.{Extent}
 use Rattle.paged_memory.specs.declared.types.Page.{Page}
 use Rattle.paged_memory.specs.Pages.{extent_range, extent_of, page_range, page_low, extent_at, page_at, pieces_of, piece_of}
 use Rattle.paged_memory.specs.Pages.{stored, stored_from, ended, begun, ends_by, begins_below, IsCovered, counting, overlaid_page}
-use Rattle.paged_memory.specs.Pages.{byte_of}
-use Rattle.paged_memory.specs.Opening.{AreLaid, IsOpenTo}
-use Rattle.paged_memory.proofs.PageLaws.{length-stored_from, get_or-stored_from, stored_is, is_none}
+use Rattle.paged_memory.specs.inside.Missing.{missing}
+use Rattle.paged_memory.specs.inside.Opening.{IsOpenTo}
+use Rattle.paged_memory.proofs.MissingLaws.{missing-kept}
+use Rattle.paged_memory.proofs.PageLaws.{length-stored_from, get_or-stored_from, stored_is}
 use Rattle.paged_memory.proofs.PutLaws.{Ascends-kept, page_at-kept, some-kept, stored-put, paged_at}
 use Rattle.paged_memory.proofs.OpeningLaws.{find_put_miss, length-filter-put}
 
@@ -42,7 +43,7 @@ map-put ps e (x ∷ xs) =
       | false ↦ ap (λ (qs : List Piece). piece_of ps x ∷ qs) (map-put ps e xs)
     ]
 
-pieces_same : (es : List Extent) (ps qs : List Page)
+pub pieces_same : (es : List Extent) (ps qs : List Page)
     → ((k : ℕ) (d : Extent) → k < length es → piece_of qs (get_or es k d) ≡ piece_of ps (get_or es k d))
     → pieces_of es qs ≡ pieces_of es ps
 pieces_same [] ps qs each = refl
@@ -51,14 +52,14 @@ pieces_same (e ∷ es) ps qs each =
     ∙ ap (λ (xs : List Piece). piece_of ps e ∷ xs) (pieces_same es ps qs (λ k d l. each (suc k) d (omega arith)))
 
 -- the bytes of an extent by those that pages have at its addresses
-piece_bytes : (ps : List Page) (e : Extent) (bytes : List ℕ) → length bytes ≡ e.length
+pub piece_bytes : (ps : List Page) (e : Extent) (bytes : List ℕ) → length bytes ≡ e.length
     → ((k : ℕ) → k < e.length → stored ps (e.base + k) ≡ get_or bytes k 0) → stored_from ps e.base e.length ≡ bytes
 piece_bytes ps e bytes long each =
     ext_get_or 0 _ _ (length-stored_from ps e.base e.length ∙ sym long) (λ k l.
     let m : k < e.length = rw (length-stored_from ps e.base e.length) at l in
     get_or-stored_from ps e.base e.length k m ∙ each k m)
 
-some_page : (o : Option Page) → is_some o ≡ true → (p : Page) × (o ≡ Some p)
+pub some_page : (o : Option Page) → is_some o ≡ true → (p : Page) × (o ≡ Some p)
 some_page None h = absurd (cc)
 some_page (Some p) h = (p, refl)
 
@@ -93,10 +94,15 @@ ends_begins low e some h = grind (arith, nat_tests)
 abbrev pub added : Piece → List Page → List Page
 added piece pages = map (overlaid_page piece.base piece.bytes) (map (counting (extent_of piece)) pages)
 
-module _ (es : List Extent) (old opened : List Page) (piece : Piece) (low end : ℕ) (up : Ascends extent_range 0 es)
-    (covered : IsCovered es old) (o : IsOpenTo es old opened low end) (full : 0 < length piece.bytes)
-    (apart : MeetsNone extent_range (piece_range piece) es) (low_is : low ≡ piece.base / 4096)
-    (end_is : end ≡ (piece.base + (length piece.bytes - 1)) / 4096 + 1) where
+pub added-missing : (ranges : List Range) (piece : Piece) (ps : List Page) → missing ranges (added piece ps) ≡ missing ranges ps
+added-missing ranges piece ps =
+    missing-kept (overlaid_page piece.base piece.bytes) (λ q. refl) ranges (map (counting (extent_of piece)) ps)
+    ∙ missing-kept (counting (extent_of piece)) (λ q. refl) ranges ps
+
+module _ (es : List Extent) (old opened : List Page) (piece : Piece) (up : Ascends extent_range 0 es)
+    (covered : IsCovered es old)
+    (o : IsOpenTo es old opened (piece.base / 4096) ((piece.base + length piece.bytes - 1) / 4096 + 1))
+    (full : 0 < length piece.bytes) (apart : MeetsNone extent_range (piece_range piece) es) where
   pub added-sorted : Ascends page_range 0 (added piece opened)
   added-sorted =
       Ascends-kept (overlaid_page piece.base piece.bytes) (λ q. refl) 0 (map (counting (extent_of piece)) opened)
@@ -134,7 +140,9 @@ module _ (es : List Extent) (old opened : List Page) (piece : Piece) (low end : 
       ap (λ n. cond (begins_below (page_low (get_or opened k d) + 4096) (extent_of piece)) (n + 1) n) (o.laid.last k d l)
       ∙ sym (length-filter-put extent_range (begins_below (page_low (get_or opened k d) + 4096)) (extent_of piece) es)))
 
-  counted-some : (p : Page) → ((low ≤ p.number) × (p.number < end) × (p.first ≤ p.last)) ⊎ (p.first < p.last)
+  counted-some : (p : Page)
+      → ((piece.base / 4096 ≤ p.number) × (p.number < (piece.base + length piece.bytes - 1) / 4096 + 1) × (p.first ≤ p.last))
+      ⊎ (p.first < p.last)
       → (counting (extent_of piece) p).first < (counting (extent_of piece) p).last
   counted-some p (inr l) =
       strict (ends_by (page_low p) (extent_of piece)) (begins_below (page_low p + 4096) (extent_of piece)) p.first p.last

@@ -1,11 +1,11 @@
 -- Pages are as many as numbers of pages that pieces need.
-use Rattle.std.proofs.Common.{◌≡◌, ℕ, zero, suc, ◌+◌, ◌-◌, ◌*◌, ◌/◌, ◌≤◌, ◌<◌, Bool, true, false, cond, not, List, [], ◌∷◌, length}
-use Rattle.std.proofs.Common.{get_or, refl, ap, sym, subst, ◌∙◌, arith, Option, Some, None, max, nat_eq}
+use Rattle.std.proofs.Common.{◌≡◌, ℕ, zero, suc, ◌+◌, ◌/◌, ◌≤◌, ◌<◌, Bool, true, false, cond, not, List, [], ◌∷◌, length}
+use Rattle.std.proofs.Common.{get_or, ap, subst, ◌∙◌, arith, max, nat_eq}
 use Rattle.std.specs.Option.{is_some, option_map}
 use Rattle.std.specs.List.{filter, Contains, All}
 use Rattle.std.proofs.lemmas.Bool.Decides.{nat_tests}
 use Rattle.image_memory.specs.declared.types.Kind.TheVariants.{Code}
-use Rattle.image_memory.specs.Ranges.{lies_in, Ascends}
+use Rattle.image_memory.specs.Ranges.{Ascends}
 use Rattle.image_memory.specs.Contents.{holding}
 use Rattle.image_memory.specs.laws.RangeLaws.{within, found_here, each_above}
 use Rattle.paged_memory.specs.declared.types.Extent.{Extent}
@@ -15,7 +15,8 @@ use Rattle.paged_memory.specs.Windows.{HavePages}
 use Rattle.paged_memory.proofs.ListLaws.{length-filter-le}
 use Rattle.paged_memory.proofs.ExtentLaws.{ended_after, begun_before, holding_is}
 
-abbrev other : ℕ → ℕ → Bool
+-- the numbers of a list but one
+abbrev pub other : ℕ → ℕ → Bool
 other n y = not (nat_eq y n)
 
 drops : (n : ℕ) (ys : List ℕ) (k : ℕ) → k < length ys → get_or ys k n ≡ n → suc (length (filter (other n) ys)) ≤ length ys
@@ -31,7 +32,7 @@ drops n (y ∷ ys) (suc k) l is =
       | false ↦ omega arith
     ]
 
-keeps : (n m : ℕ) (ys : List ℕ) (k : ℕ) → k < length ys → get_or ys k m ≡ m → nat_eq m n ≡ false → Contains (filter (other n) ys) m
+pub keeps : (n m : ℕ) (ys : List ℕ) (k : ℕ) → k < length ys → get_or ys k m ≡ m → nat_eq m n ≡ false → Contains (filter (other n) ys) m
 keeps n m [] k l is apart = absurd (omega arith)
 keeps n m (y ∷ ys) zero l is apart =
     let miss : nat_eq y n ≡ false = rw is apart in

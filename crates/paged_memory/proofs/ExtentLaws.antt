@@ -1,19 +1,17 @@
 -- Extents in order: which of them have a byte in a page, and what memory they make up.
-use Rattle.std.proofs.Common.{◌≡◌, ℕ, zero, suc, ◌+◌, ◌-◌, ◌≤◌, ◌<◌, Bool, true, false, cond, List, [], ◌∷◌, length}
-use Rattle.std.proofs.Common.{get_or, take, drop, refl, ap, sym, ◌∙◌, arith, ◌⊎◌, inl, inr, Option, Some, None, map}
-use Rattle.std.proofs.lemmas.List.{get_or-drop, get_or-take, length-take, length-drop}
-use Rattle.std.proofs.lemmas.Bool.Decides.{nat_tests}
-use Rattle.std.specs.Option.{option_map, unwrap_or}
-use Rattle.std.specs.List.{find, filter}
+use Rattle.std.proofs.Common.{◌≡◌, ℕ, zero, suc, ◌+◌, ◌-◌, ◌≤◌, ◌<◌, true, false, cond, List, [], ◌∷◌, length}
 use Rattle.ks_base.specs.declared.places.Range.{Range}
+use Rattle.std.proofs.Common.{get_or, take, drop, refl, sym, ◌∙◌, arith, ◌⊎◌, inl, inr, Some, None}
+use Rattle.std.proofs.lemmas.List.{get_or-drop, get_or-take}
+use Rattle.std.proofs.lemmas.Bool.Decides.{nat_tests}
+use Rattle.std.specs.Option.{option_map}
 use Rattle.image_memory.specs.Ranges.{lies_in, Ascends}
-use Rattle.image_memory.specs.laws.RangeLaws.{inside, within, below, above, nowhere, each_above, one_after, found, found_here}
-use Rattle.image_memory.specs.Contents.{piece_range, holding, look_at}
-use Rattle.image_memory.specs.declared.types.Piece.{Piece}
+use Rattle.image_memory.specs.laws.RangeLaws.{inside, below, above, nowhere, each_above, one_after, found}
+use Rattle.image_memory.specs.Contents.{holding, look_at}
 use Rattle.paged_memory.specs.declared.types.Extent.{Extent}
 use Rattle.paged_memory.specs.declared.types.Page.{Page}
 use Rattle.paged_memory.specs.Pages.{extent_range, extent_at, ends_by, begins_below, ended, begun, piece_of, pieces_of}
-use Rattle.paged_memory.specs.Pages.{stored, stored_from}
+use Rattle.paged_memory.specs.Pages.{stored}
 use Rattle.std.proofs.Common.{◌/◌, subst}
 use Rattle.std.specs.List.{All}
 use Rattle.paged_memory.specs.Pages.{page_low, IsHome}
@@ -67,6 +65,22 @@ module _ (es : List Extent) (up : Ascends extent_range 0 es) where
             below a (extent_range (get_or es k d)) (omega arith)
         | inr (inr here) ↦ among k d here.0 here.1 n
       ]
+
+-- things in order are so in each part
+module _ {X : Type 0} (range : X → Range) where
+  lower : (floor low : ℕ) (xs : List X) → low ≤ floor → Ascends range floor xs → Ascends range low xs
+  lower floor low [] l up = tt
+  lower floor low (x ∷ xs) l up = let h = up.0 in (omega arith, up.1, up.2)
+
+  pub Ascends-drop : (floor n : ℕ) (xs : List X) → Ascends range floor xs → Ascends range 0 (drop n xs)
+  Ascends-drop floor zero xs up = lower floor 0 xs (omega arith) up
+  Ascends-drop floor (suc n) [] up = tt
+  Ascends-drop floor (suc n) (x ∷ xs) up = Ascends-drop (range x).high n xs up.2
+
+  pub Ascends-take : (floor n : ℕ) (xs : List X) → Ascends range floor xs → Ascends range floor (take n xs)
+  Ascends-take floor zero xs up = tt
+  Ascends-take floor (suc n) [] up = tt
+  Ascends-take floor (suc n) (x ∷ xs) up = (up.0, up.1, Ascends-take (range x).high n xs up.2)
 
 -- what is looked up in a part of a list
 pub get_or-part : {X : Type 0} (xs : List X) (i j k : ℕ) (d : X) → k < j - i

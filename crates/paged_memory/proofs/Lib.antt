@@ -3,8 +3,10 @@ pub mod ExtentLaws
 pub mod PageLaws
 pub mod UseLaws
 pub mod PutLaws
+pub mod MissingLaws
 pub mod OpeningLaws
 pub mod AddLaws
+pub mod RemoveLaws
 pub mod NewLaws
 pub mod CountLaws
 pub mod WindowLaws

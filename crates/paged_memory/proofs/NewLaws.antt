@@ -1,20 +1,22 @@
 -- Pieces that are added in their order.
-use Rattle.std.proofs.Common.{◌≡◌, ℕ, zero, suc, ◌+◌, ◌-◌, ◌≤◌, ◌<◌, Bool, true, false, ◌||◌, List, [], ◌∷◌, ◌++◌, take, drop, length}
-use Rattle.std.proofs.Common.{get_or, refl, ap, sym, subst, ◌∙◌, arith, inl, inr, map}
+use Rattle.std.proofs.Common.{◌≡◌, ℕ, ◌+◌, ◌<◌, Bool, ◌||◌, List, [], ◌∷◌, ◌++◌, take, length}
+use Rattle.std.proofs.Common.{append_assoc, length-append, subst}
+use Rattle.std.proofs.Math.Seq.{take-append_seam}
+use Rattle.std.proofs.Common.{get_or, refl, ap, sym, ◌∙◌, arith, inr}
 use Rattle.std.specs.List.{list_any, insert}
 use Rattle.std.proofs.lemmas.List.{take_more, length-take-le, get_or-take}
 use Rattle.std.proofs.lemmas.List.Edits.{insert_end}
 use Rattle.std.proofs.lemmas.List.Folds.{list_any_none}
 use Rattle.ks_base.specs.declared.places.Range.{Range}
 use Rattle.image_memory.specs.declared.types.Piece.{Piece}
-use Rattle.image_memory.specs.Ranges.{meets, MeetsNone, Ascends, put_in}
+use Rattle.image_memory.specs.Ranges.{meets, MeetsNone, Ascends}
 use Rattle.image_memory.specs.Contents.{piece_range}
 use Rattle.image_memory.specs.Changes.{with_piece}
-use Rattle.image_memory.specs.laws.RangeLaws.{one_after, each_above, lows_rise}
+use Rattle.image_memory.specs.laws.RangeLaws.{each_above, one_after, lows_rise}
 use Rattle.image_memory.specs.laws.PutLaws.{insert_is_put}
 use Rattle.paged_memory.specs.declared.types.Extent.{Extent}
 use Rattle.paged_memory.specs.declared.types.Page.{Page}
-use Rattle.paged_memory.specs.Pages.{extent_range, pieces_of, piece_of}
+use Rattle.paged_memory.specs.Pages.{extent_range, pieces_of}
 use Rattle.paged_memory.proofs.PageLaws.{length-stored_from}
 use Rattle.paged_memory.proofs.OpeningLaws.{meets_not}
 use Rattle.paged_memory.proofs.ListLaws.{same_at}
@@ -61,3 +63,34 @@ put_behind ps k p up l is =
   where
     long : length (take k ps) ≡ k
     long = length-take-le k ps (omega arith)
+
+-- the next of some pieces in order isn't empty, meets none of those before it, and is put behind them
+pub next_put : (all done left rest : List Piece) (p : Piece) → Ascends piece_range 0 all → done ++ left ≡ all → left ≡ p ∷ rest
+    → (0 < length p.bytes) × MeetsNone piece_range (piece_range p) done × (with_piece p done ++ rest ≡ all)
+next_put all done left rest p up split next = (
+  (let f = full in let here = ap (λ (x : Piece). length x.bytes) is in omega arith),
+  subst (λ (ps : List Piece). MeetsNone piece_range (piece_range p) ps) seam (apart_before all (length done) p up l is),
+  ap (λ (ps : List Piece). ps ++ rest) (ap (with_piece p) (sym seam) ∙ (put_behind all (length done) p up l is
+      ∙ (take_more all (length done) p l ∙ (ap (λ (ps : List Piece). ps ++ get_or all (length done) p ∷ []) seam
+      ∙ ap (λ (x : Piece). done ++ x ∷ []) (sym is)))))
+      ∙ (append_assoc done (p ∷ []) rest ∙ all_is),
+)
+  where
+    all_is : done ++ p ∷ rest ≡ all
+    all_is = ap (λ (ps : List Piece). done ++ ps) (sym next) ∙ split
+
+    l : length done < length all
+    l = let long = ap (λ (ps : List Piece). length ps) all_is in let both = length-append done (p ∷ rest) in omega (arith, long, both)
+
+    is : p ≡ get_or all (length done) p
+    is = sym (ap (λ (ps : List Piece). get_or ps (length done) p) (sym all_is) ∙ get_or_seam done rest)
+      where
+        get_or_seam : (xs ys : List Piece) → get_or (xs ++ p ∷ ys) (length xs) p ≡ p
+        get_or_seam [] ys = refl
+        get_or_seam (x ∷ xs) ys = get_or_seam xs ys
+
+    seam : take (length done) all ≡ done
+    seam = ap (take (length done)) (sym all_is) ∙ take-append_seam done (p ∷ rest)
+
+    full : (piece_range (get_or all (length done) p)).low < (piece_range (get_or all (length done) p)).high
+    full = (each_above piece_range 0 all (length done) p up l).1

@@ -1,24 +1,24 @@
 -- What new pages leave as it was, and what they add.
-use Rattle.std.proofs.Common.{◌≡◌, ◌≢◌, ℕ, zero, suc, ◌+◌, ◌-◌, ◌*◌, ◌/◌, ◌≤◌, ◌<◌, Bool, true, false, cond, List, [], ◌∷◌}
+use Rattle.std.proofs.Common.{◌≡◌, ℕ, suc, ◌+◌, ◌*◌, ◌≤◌, ◌<◌, Bool, true, false, cond, List, [], ◌∷◌}
 use Rattle.std.proofs.Common.{length, get_or, refl, ap, sym, subst, ◌∙◌, arith, ◌⊎◌, inl, inr, Option, Some, None, nat_lt, min, max}
 use Rattle.std.specs.Option.{is_some}
-use Rattle.std.specs.List.{All, insert, find, filter, list_any}
+use Rattle.std.specs.List.{All, find, filter}
 use Rattle.std.proofs.lemmas.Bool.Decides.{nat_tests}
 use Rattle.std.proofs.lemmas.List.Folds.{list_any_none}
 use Rattle.std.proofs.lemmas.List.Edits.{length-insert, get_or-insert_at}
 use Rattle.ks_base.specs.declared.places.Range.{Range}
 use Rattle.image_memory.specs.Ranges.{lies_in, meets, MeetsNone, Ascends, put_in}
-use Rattle.image_memory.specs.laws.RangeLaws.{inside, within, below, above, each_above, found_here}
+use Rattle.image_memory.specs.laws.RangeLaws.{within, below, above, each_above, found_here}
 use Rattle.image_memory.specs.laws.PutLaws.{insert_is_put, All-put, Ascends-put, not_above}
 use Rattle.paged_memory.specs.declared.types.Extent.{Extent}
 use Rattle.paged_memory.specs.declared.types.Page.{Page}
 use Rattle.paged_memory.specs.Pages.{extent_range, page_range, page_low, extent_at, page_at, ended, begun, ends_by, begins_below}
 use Rattle.paged_memory.specs.Pages.{IsHome, IsGap, IsCovered}
-use Rattle.std.proofs.Common.{take}
-use Rattle.image_memory.specs.Ranges.{are_same}
-use Rattle.image_memory.specs.Changes.{without_first}
-use Rattle.image_memory.proofs.ChangeLaws.{are_same_self}
-use Rattle.paged_memory.specs.Opening.{IsPlaceOf, AreLaid, IsInserted, IsOpened, IsOpenTo, pages_in, pages_for}
+use Rattle.std.proofs.Common.{not}
+use Rattle.std.specs.List.{Contains}
+use Rattle.paged_memory.specs.inside.Missing.{has_page, is_missing, missing}
+use Rattle.paged_memory.proofs.MissingLaws.{missing-less}
+use Rattle.paged_memory.specs.inside.Opening.{IsPlaceOf, AreLaid, IsInserted, IsOpened, IsOpenTo}
 use Rattle.paged_memory.proofs.PageLaws.{numbers_rise, ranked, page_here, page_nowhere, is_none}
 use Rattle.paged_memory.proofs.ListLaws.{same_at}
 
@@ -222,6 +222,10 @@ pub meets_not : (a b : Range) → (a.high ≤ b.low) ⊎ (b.high ≤ a.low) → 
 meets_not a b (inl h) = not_above (max a.low b.low) (min a.high b.high) (omega arith)
 meets_not a b (inr h) = not_above (max a.low b.low) (min a.high b.high) (omega arith)
 
+-- where a number has its gap, it has no page
+pub gap_missing : (ps : List Page) (n at : ℕ) → IsGap ps n at → is_missing ps n ≡ true
+gap_missing ps n at gap = ap (λ (q : Option Page). not (is_some q)) (page_nowhere ps (4096 * n) n at gap (omega arith))
+
 -- a new page among the others
 module _ (es : List Extent) (old now new : List Page) (low n at : ℕ) (up : Ascends extent_range 0 es)
     (covered : IsCovered es old) (order : low ≤ n) (limit : 4096 * n + 4096 ≤ 0xFFFF_0000)
@@ -323,6 +327,25 @@ module _ (es : List Extent) (old now new : List Page) (low n at : ℕ) (up : Asc
     is = λ d. rw i.is (ap (λ (p : Page). p.number) (get_or-insert_at now at i.page d i.gap.bound) ∙ i.number_is);
   }
 
+  -- a page that was missing is there
+  at_new : (k : ℕ) → is_missing new k ≡ not (is_some (page_at (put_in page_range i.page now) (4096 * k)))
+  at_new k = ap (λ (qs : List Page). is_missing qs k) put
+
+  still : (k : ℕ) → is_missing new k ≡ true → is_missing now k ≡ true
+  still k gone = elim (where_is (4096 * k)) [
+    | inl h ↦ ap (λ (q : Option Page). not (is_some q)) (sym (outside (4096 * k) (inl h))) ∙ (sym (at_new k) ∙ gone)
+    | inr (inl h) ↦ ap (λ (q : Option Page). not (is_some q)) (sym (outside (4096 * k) (inr h))) ∙ (sym (at_new k) ∙ gone)
+    | inr (inr h) ↦
+        let there = at_new k ∙ ap (λ (q : Option Page). not (is_some q)) (in_page (4096 * k) h.0 h.1) in
+        absurd (cc)
+  ]
+
+  one_less : (ranges : List Range) (range : Range) → Contains ranges range → has_page n range ≡ true
+      → missing ranges new + 1 ≤ missing ranges now
+  one_less ranges range in_ranges has =
+      missing-less ranges new now range n in_ranges has (omega arith) (gap_missing now n at i.gap)
+      (at_new n ∙ ap (λ (q : Option Page). not (is_some q)) (in_page (4096 * n) (omega arith) (omega arith))) still
+
 -- one page more
 pub open_more : (es : List Extent) (old now new : List Page) (low n at : ℕ) → Ascends extent_range 0 es
     → IsCovered es old → low ≤ n → 4096 * n + 4096 ≤ 0xFFFF_0000 → IsOpenTo es old now low n → IsOpened es now new n at
@@ -335,6 +358,20 @@ open_more es old now new low n at up covered order limit o (inr i) =
     let more = open_new es old now new low n at up covered order limit o i in
     (more, place_next new n at more.laid.sorted (home_new es old now new low n at up covered order limit o i))
 
+-- what is enough stays enough: a page that was missing takes one block
+pub enough_more : (es : List Extent) (old now new : List Page) (low n at : ℕ) → Ascends extent_range 0 es
+    → IsCovered es old → low ≤ n → 4096 * n + 4096 ≤ 0xFFFF_0000 → IsOpenTo es old now low n → IsOpened es now new n at
+    → (ranges : List Range) (range : Range) → Contains ranges range → has_page n range ≡ true → (before after : ℕ)
+    → length new + after ≡ length now + before → missing ranges now ≤ before → missing ranges new ≤ after
+enough_more es old now new low n at up covered order limit o (inl s) ranges range in_ranges has before after spent enough =
+    let same = s.0 in
+    let long = ap length s.0 in
+    rw same (omega (arith, long, spent, enough))
+enough_more es old now new low n at up covered order limit o (inr i) ranges range in_ranges has before after spent enough =
+    let less = one_less es old now new low n at up covered order limit o i ranges range in_ranges has in
+    let long = ap length i.is ∙ length-insert now at i.page i.gap.bound in
+    omega (arith, less, long, spent, enough)
+
 pub open_none : (es : List Extent) (old : List Page) (low : ℕ) → AreLaid es old → All (λ p. p.first < p.last) old
     → IsOpenTo es old old low low
 open_none es old low laid some = record {
@@ -343,31 +380,3 @@ open_none es old low laid some = record {
   there = λ a l m. absurd (omega arith);
   each = λ k d l. inr (some k d l);
 }
-
--- the pages of one range more
-pub pages_more : (rs : List Range) (k : ℕ) (d : Range) → k < length rs
-    → pages_for (take (suc k) rs) ≡ pages_for (take k rs) + pages_in (get_or rs k d)
-pages_more [] k d l = absurd (omega arith)
-pages_more (r ∷ rs) zero d l = omega arith
-pages_more (r ∷ rs) (suc k) d l = let rest = pages_more rs k d (omega arith) in omega arith
-
-same_pages : (a b : Range) → are_same a b ≡ true → pages_in a ≡ pages_in b
-same_pages a b h =
-    let low : a.low ≡ b.low = grind (arith, nat_tests) in
-    let high : a.high ≡ b.high = grind (arith, nat_tests) in
-    ap (λ n. (n - 1) / 4096 + 1 - a.low / 4096) high ∙ ap (λ n. (b.high - 1) / 4096 + 1 - n / 4096) low
-
--- the pages of ranges but one
-pub pages_without : (range : Range) (rs : List Range) (k : ℕ) → k < length rs → get_or rs k range ≡ range
-    → pages_for (without_first range rs) + pages_in range ≡ pages_for rs
-pages_without range [] k l at = absurd (omega arith)
-pages_without range (r ∷ rs) zero l at =
-    let hit : are_same r range ≡ true = rw at (are_same_self range) in
-    let same = same_pages r range hit in
-    rw hit (omega (arith, same))
-pages_without range (r ∷ rs) (suc k) l at = by_test (pages_without range rs k (omega arith) at) (are_same r range) refl
-  where
-    by_test : pages_for (without_first range rs) + pages_in range ≡ pages_for rs → (b : Bool) → are_same r range ≡ b
-        → pages_for (cond b rs (r ∷ without_first range rs)) + pages_in range ≡ pages_in r + pages_for rs
-    by_test rest true e = let same = same_pages r range e in omega (arith, same)
-    by_test rest false e = omega (arith, rest)

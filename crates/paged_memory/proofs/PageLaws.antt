@@ -1,15 +1,13 @@
 -- What pages and extents have at an address.
-use Rattle.std.proofs.Common.{◌≡◌, ℕ, zero, suc, ◌+◌, ◌-◌, ◌*◌, ◌≤◌, ◌<◌, Bool, true, false, cond, List, [], ◌∷◌, length}
-use Rattle.std.proofs.Common.{get_or, refl, ap, sym, ◌∙◌, arith, ◌⊎◌, inl, inr, Option, Some, None, map}
-use Rattle.std.proofs.Common.{◌^◌, ◌/◌}
+use Rattle.std.proofs.Common.{◌≡◌, ℕ, zero, suc, ◌+◌, ◌-◌, ◌*◌, ◌≤◌, ◌<◌, true, false, List, length}
+use Rattle.std.proofs.Common.{get_or, refl, ap, sym, ◌∙◌, arith, ◌⊎◌, inl, inr, Option, Some, None}
+use Rattle.std.proofs.Common.{◌^◌, ◌/◌, ◌%◌, take, drop}
+use Rattle.std.proofs.lemmas.List.{ext_get_or, get_or-take, get_or-drop, length-take-le}
 use Rattle.std.proofs.Math.Nat.{mul-le-mul_left, pow-suc}
-use Rattle.std.specs.Option.{option_map, unwrap_or, is_some}
-use Rattle.std.specs.List.{find, filter}
+use Rattle.std.specs.Option.{is_some}
 use Rattle.image_memory.specs.Ranges.{lies_in, Ascends}
 use Rattle.image_memory.specs.laws.RangeLaws.{one_after, found_here, within, above, below, nowhere, inside, found}
 use Rattle.image_memory.specs.laws.RangeLaws.{IsFound, lows_rise}
-use Rattle.image_memory.specs.Contents.{piece_range, holding, look_at, kind_and_byte}
-use Rattle.image_memory.specs.declared.types.Piece.{Piece}
 use Rattle.paged_memory.specs.declared.types.Extent.{Extent}
 use Rattle.paged_memory.specs.declared.types.Page.{Page}
 use Rattle.image_memory.specs.laws.AccessLaws.{overlaid_apart}
@@ -83,6 +81,23 @@ page_nowhere pages a number at gap is = nowhere (λ p. lies_in a (page_range p))
 pub stored_is : (pages : List Page) (a : ℕ) (p : Page) → page_at pages a ≡ Some p → stored pages a ≡ byte_of a p
 unfolding stored
 stored_is pages a p is = rw is refl
+
+-- bytes of one page are those that pages have from an address on
+pub part_stored : (pages : List Page) (a n at : ℕ) (page : Page) → Ascends page_range 0 pages → IsHome pages (a / 4096) at
+    → page ≡ get_or pages at page → n ≤ length (drop (a % 4096) page.bytes) → n + a % 4096 ≤ 4096
+    → take n (drop (a % 4096) page.bytes) ≡ stored_from pages a n
+part_stored pages a n at page up home is long few =
+    ext_get_or 0 _ _ (length-take-le n (drop (a % 4096) page.bytes) long ∙ sym (length-stored_from pages a n)) (λ k l.
+    let m : k < n = rw (length-take-le n (drop (a % 4096) page.bytes) long) at l in
+    let number = home.is page in
+    let number' = ap (λ (p : Page). p.number) is in
+    let of_page : a / 4096 ≡ (a + k) / 4096 = omega arith in
+    let at_byte : a % 4096 + k ≡ a + k - page_low page = omega arith in
+    let in_page = page_here pages (a + k) (a / 4096) at page up home of_page ∙ ap (λ (p : Page). Some p) (sym is) in
+    get_or-take n (drop (a % 4096) page.bytes) k 0 m
+    ∙ (get_or-drop (a % 4096) page.bytes k 0
+    ∙ (ap (λ i. get_or page.bytes i 0) at_byte
+    ∙ sym (get_or-stored_from pages a n k m ∙ stored_is pages (a + k) page in_page))))
 
 pub is_none : {X : Type 0} (o : Option X) → is_some o ≡ false → o ≡ None
 is_none None h = refl

@@ -1,19 +1,18 @@
 -- What pages have after bytes were put over theirs, or what they know of extents was changed.
-use Rattle.std.proofs.Common.{◌≡◌, ℕ, zero, suc, ◌+◌, ◌-◌, ◌*◌, ◌≤◌, ◌<◌, Bool, true, false, cond, List, [], ◌∷◌, length}
-use Rattle.std.proofs.Common.{get_or, refl, ap, sym, subst, ◌∙◌, arith, ◌⊎◌, inl, inr, Option, Some, None, map, Vec}
+use Rattle.std.proofs.Common.{◌≡◌, ℕ, suc, ◌+◌, ◌-◌, ◌*◌, ◌≤◌, ◌<◌, Bool, true, false, cond, List, [], ◌∷◌, length}
+use Rattle.std.proofs.Common.{get_or, refl, ap, sym, subst, ◌∙◌, arith, ◌⊎◌, Option, Some, None, map, Vec}
 use Rattle.std.specs.Vec.{with_items}
 use Rattle.std.proofs.lemmas.List.{ext_get_or, with_items_is}
 use Rattle.std.specs.Option.{option_map, is_some}
 use Rattle.std.specs.List.{All}
-use Rattle.ks_base.specs.declared.places.Range.{Range}
 use Rattle.image_memory.specs.declared.types.Piece.{Piece}
 use Rattle.image_memory.specs.Ranges.{lies_in, Ascends}
 use Rattle.image_memory.specs.laws.RangeLaws.{inside, within, found, found_here}
 use Rattle.image_memory.specs.laws.AccessLaws.{length-overlaid, get_or-overlaid, overlaid_outside}
-use Rattle.image_memory.specs.Access.{overlaid, overlaid_piece, written, new_byte}
+use Rattle.image_memory.specs.Access.{overlaid_piece, written, new_byte}
 use Rattle.paged_memory.specs.declared.types.Extent.{Extent}
 use Rattle.paged_memory.specs.declared.types.Page.{Page}
-use Rattle.paged_memory.specs.Pages.{extent_range, page_range, page_low, extent_at, page_at, pieces_of, piece_of, byte_of}
+use Rattle.paged_memory.specs.Pages.{extent_range, page_range, page_low, page_at, pieces_of, piece_of}
 use Rattle.paged_memory.specs.Pages.{stored, stored_from, IsCovered, overlaid_page}
 use Rattle.paged_memory.proofs.PageLaws.{length-stored_from, get_or-stored_from, stored_is}
 use Rattle.paged_memory.proofs.UseLaws.{paged_where_held}

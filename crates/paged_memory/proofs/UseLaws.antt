@@ -1,27 +1,23 @@
 -- What memory answers, by its extents and pages.
-use Rattle.std.proofs.Common.{◌≡◌, ℕ, zero, suc, ◌+◌, ◌-◌, ◌/◌, ◌≤◌, ◌<◌, Bool, true, false, cond, List, [], ◌∷◌, length}
-use Rattle.std.proofs.Common.{get_or, take, drop, refl, ap, sym, ◌∙◌, arith, ◌⊎◌, inl, inr, Option, Some, None, map, min}
+use Rattle.std.proofs.Common.{◌≡◌, ℕ, zero, suc, ◌+◌, ◌-◌, ◌/◌, ◌≤◌, ◌<◌, Bool, true, false, cond, List, length}
+use Rattle.std.proofs.Common.{get_or, take, drop, refl, ap, sym, ◌∙◌, arith, ◌⊎◌, inl, inr, Option, Some, None, min}
 use Rattle.std.proofs.lemmas.List.{ext_get_or, get_or-drop, get_or-take, length-take, length-drop}
-use Rattle.std.specs.Option.{option_map, option_or, unwrap_or, is_some}
+use Rattle.std.specs.Option.{option_map, option_or, is_some}
 use Rattle.ks_base.specs.declared.refusals.Fault.{Fault}
-use Rattle.ks_base.specs.declared.refusals.Fault.TheVariants.{Unmapped}
-use Rattle.image_memory.specs.declared.types.Piece.{Piece}
-use Rattle.image_memory.specs.declared.types.Kind.TheVariants.{Code, ReadOnly, Writable}
 use Rattle.image_memory.specs.declared.types.Access.{Access}
 use Rattle.image_memory.specs.declared.types.Access.TheVariants.{Read, Write}
 use Rattle.image_memory.specs.Ranges.{lies_in, Ascends}
-use Rattle.image_memory.specs.laws.RangeLaws.{inside, each_above, one_after, found, found_here}
+use Rattle.image_memory.specs.laws.RangeLaws.{inside, each_above, one_after, found}
 use Rattle.image_memory.specs.laws.AccessLaws.{good_at, length-bytes_at, get_or-bytes_at}
-use Rattle.image_memory.specs.Contents.{holding}
 use Rattle.image_memory.specs.Access.{first_fault, access_fault, kind_of, byte_at, bytes_at, read_fault, write_fault}
-use Rattle.image_memory.specs.Fetch.{code_from, code_in, is_code}
-use Rattle.image_memory.proofs.AccessLaws.{access_none}
+use Rattle.image_memory.specs.Fetch.{code_from, is_code}
+use Rattle.image_memory.specs.laws.ByteLaws.{access_none}
 use Rattle.paged_memory.specs.declared.types.Extent.{Extent}
 use Rattle.paged_memory.specs.declared.types.Page.{Page}
 use Rattle.paged_memory.specs.Pages.{extent_range, page_range, extent_at, page_at, kind_of_extent, extent_fault, pieces_of, piece_of}
 use Rattle.paged_memory.specs.Pages.{stored, stored_from, IsCovered, IsHolder, IsHome, AreStored}
 use Rattle.paged_memory.proofs.ExtentLaws.{holding_is}
-use Rattle.paged_memory.proofs.PageLaws.{length-stored_from, get_or-stored_from, numbers_rise, is_none}
+use Rattle.paged_memory.proofs.PageLaws.{length-stored_from, get_or-stored_from, numbers_rise}
 
 -- faults by the kinds of pieces are those by the kinds of extents
 kind_is : (ps : List Page) (o : Option Extent) → option_map kind_of (option_map (piece_of ps) o) ≡ option_map kind_of_extent o

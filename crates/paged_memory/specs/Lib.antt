@@ -1,6 +1,5 @@
--- What a memory in pages holds (Pages), and how pages come (Opening), and what is fetched (Windows).
-pub mod Pages
-pub mod Opening
+-- Public clauses cite Windows, and Pages by what a memory is seen as. What `inside` holds is the code's own.
 pub mod Windows
-pub mod Placed
-pub mod Seen
+pub mod Pages
+pub mod inside
+pub mod laws

@@ -1,8 +1,8 @@
 -- Pages of bytes, and the pieces that stand in them.
-use Rattle.std.specs.Prelude.{◌≡◌, ℕ, zero, suc, ◌+◌, ◌-◌, ◌*◌, ◌/◌, ◌≤◌, ◌<◌, Bool, List, [], ◌∷◌, map, length}
+use Rattle.std.specs.Prelude.{◌≡◌, ℕ, zero, suc, ◌+◌, ◌-◌, ◌*◌, ◌/◌, ◌≤◌, ◌<◌, Bool, true, false, List, [], ◌∷◌, map, length}
 use Rattle.std.specs.Prelude.{Option, Some, None, slice_index, slice_index_or, nat_le, nat_lt, IsSome, IsNone, if◌then◌else◌}
 use Rattle.std.specs.Option.{option_map, unwrap_or}
-use Rattle.std.specs.List.{find, filter, All}
+use Rattle.std.specs.List.{find, filter}
 use Rattle.ks_base.specs.declared.places.Range.{Range}
 use Rattle.image_memory.specs.Ranges.{lies_in}
 use Rattle.ks_base.specs.declared.refusals.Fault.{Fault}
@@ -80,11 +80,25 @@ pub record IsHome (pages : List Page) (number at : ℕ) : Type 0 where
   pub within : at < length pages
   pub is : (d : Page) → (slice_index_or pages at d).number ≡ number
 
+-- no page has an address of the page of a number
+abbrev pub IsNowhere : List Page → ℕ → Type 0
+IsNowhere pages number = (address : ℕ) → address / 4096 ≡ number → page_at pages address ≡ None
+
 -- no page has a number, and a place is the one that its page would have
 pub record IsGap (pages : List Page) (number at : ℕ) : Type 0 where
   pub bound : at ≤ length pages
   pub before : (k : ℕ) (d : Page) → k < at → (slice_index_or pages k d).number < number
   pub above : (k : ℕ) (d : Page) → at ≤ k → k < length pages → number < (slice_index_or pages k d).number
+
+-- no extent has an address
+abbrev pub HoldsNone : List Extent → ℕ → Type 0
+HoldsNone extents address = (k : ℕ) (d : Extent) → k < length extents
+    → lies_in address (extent_range (slice_index_or extents k d)) ≡ false
+
+-- the extent at a place has an address
+pub record Holds (extents : List Extent) (address at : ℕ) : Type 0 where
+  pub within : at < length extents
+  pub has : (d : Extent) → lies_in address (extent_range (slice_index_or extents at d)) ≡ true
 
 -- the extent that has an address is at a place
 pub record IsHolder (extents : List Extent) (address at : ℕ) : Type 0 where

@@ -2,6 +2,7 @@
 ghost use Rattle.std.specs.Prelude.{◌≡◌, ◌+◌, ◌<◌, ◌^◌, length, drop, IfOk};
 ghost use Rattle.image_memory.specs.Access.{overlaid};
 
+use image_memory::overlay;
 use std::alloc::{AllocError, Global};
 use std::marker::Model;
 
@@ -11,17 +12,17 @@ pub(crate) const PAGE_LENGTH: usize = 4096;
 /// The bytes of a page.
 #[derive(Drop)]
 pub(crate) struct Block {
-    bytes: Vec<u8>,
+    bytes: Box<[u8; PAGE_LENGTH]>,
 }
 
 impl Model for Block {
-    ghost use Rattle.std.specs.Prelude.{◌≡◌, ℕ, List, vec_len};
+    ghost use Rattle.std.specs.Prelude.{◌≡◌, ℕ, List, length};
 
     ghost Value = { List ℕ };
 
-    ghost view = { λ b. b.bytes.items };
+    ghost view = { λ b. b.bytes.value };
 
-    ghost invariant = { λ b. vec_len b.bytes ≡ 4096 };
+    ghost invariant = { λ b. length b.bytes.value ≡ 4096 };
 }
 
 impl Block {
@@ -30,7 +31,7 @@ impl Block {
         ensures { IfOk result (λ block. length block ≡ 4096) }
     {
         Ok(Block {
-            bytes: vec![in alloc; 0; PAGE_LENGTH]?,
+            bytes: Box::new(alloc, [0; PAGE_LENGTH])?,
         })
     }
 
@@ -39,7 +40,7 @@ impl Block {
         ensures bytes { result.now ≡ self.now }
         ensures count { length result.now ≡ 4096 }
     {
-        self.bytes.as_slice()
+        &self.bytes[..]
     }
 
     /// The bytes from an offset on.
@@ -58,21 +59,6 @@ impl Block {
         requires start_low { start < 2 ^ 32 }
         ensures { self.new ≡ overlaid start from.now at self.old }
     {
-        overlay(self.bytes.as_mut_slice(), at, start, from);
-    }
-}
-
-/// Puts the bytes of `from`, whose first one has the address `start`, over those of `target`, whose first one has the
-/// address `at`.
-fn overlay(target: &mut [u8], at: u64, start: u64, from: &[u8])
-    requires target_low { at < 2 ^ 48 }
-    requires from_low { start < 2 ^ 32 }
-    ensures { target.new ≡ overlaid start from.now at target.old }
-{
-    let low = at.max(start);
-    let high = (at + target.len() as u64).min(start + from.len() as u64);
-    if low < high {
-        let part = &from[(low - start) as usize..(high - start) as usize];
-        target[(low - at) as usize..(high - at) as usize].copy_from_slice(part);
+        overlay(&mut self.bytes[..], at, start, from);
     }
 }

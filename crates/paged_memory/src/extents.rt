@@ -1,13 +1,13 @@
 //! Where pieces lie: what one extent answers by itself, and finding among them.
-ghost use Rattle.std.specs.Prelude.{◌≡◌, ◌+◌, ◌-◌, ◌≤◌, ◌<◌, ◌^◌, length, IsTrue, Some, position};
+ghost use Rattle.std.specs.Prelude.{◌≡◌, ◌+◌, ◌-◌, ◌≤◌, ◌<◌, ◌^◌, length, MatchOption, Some};
 ghost use Rattle.std.specs.List.{AllWithin};
 ghost use Rattle.image_memory.specs.Ranges.{Ascends, lies_in};
 ghost use Rattle.image_memory.specs.Contents.{piece_range};
 ghost use Rattle.image_memory.specs.Access.{access_fault, first_fault};
-ghost use Rattle.paged_memory.specs.Pages.{extent_range, extent_of, extent_fault, begun};
+ghost use Rattle.paged_memory.specs.Pages.{extent_range, extent_of, extent_fault, begun, HoldsNone, Holds};
 
 use crate::types::Extent;
-use image_memory::{Access, Kind, Piece};
+use image_memory::{Access, Piece};
 use ks_base::Fault;
 
 impl Extent {
@@ -41,20 +41,40 @@ impl Extent {
     fn fault(&self, access: Access) -> Option<Fault>
         ensures { result ≡ access_fault access (Some self.now.kind) }
     {
-        match (access, self.kind) {
-            (_, Kind::Code) => Some(Fault::CodeAccess),
-            (Access::Write, Kind::ReadOnly) => Some(Fault::ReadOnlyWrite),
-            (Access::Read, Kind::ReadOnly) => None,
-            (_, Kind::Writable) => None,
-        }
+        access.fault(Some(self.kind))
     }
 }
 
-/// The place of the extent that has an address: it is looked for one after the other.
+/// The place of the extent that has an address; `None` where none has it. The first one is tried, and then it is found by
+/// halving.
 pub(crate) fn holder(extents: &[Extent], address: u32) -> Option<usize>
-    ensures { result ≡ position (λ e. lies_in address (extent_range e)) extents.now }
+    requires { Ascends extent_range 0 extents.now }
+    ensures { MatchOption result (HoldsNone extents.now address) (Holds extents.now address) }
 {
-    extents.iter().position(|extent| extent.holds(address))
+    let Some(first) = extents.first() else {
+        return None;
+    };
+    if first.holds(address) {
+        return Some(0);
+    }
+    halved(extents, address)
+}
+
+/// The same, by halving.
+#[inline(never)]
+fn halved(extents: &[Extent], address: u32) -> Option<usize>
+    requires { Ascends extent_range 0 extents.now }
+    ensures { MatchOption result (HoldsNone extents.now address) (Holds extents.now address) }
+{
+    let begun = begun(extents, u64::from(address) + 1);
+    if begun == 0 {
+        return None;
+    }
+    if extents[begun - 1].holds(address) {
+        Some(begun - 1)
+    } else {
+        None
+    }
 }
 
 /// How many extents in order begin below an address.
@@ -68,7 +88,8 @@ pub(crate) fn begun(extents: &[Extent], address: u64) -> usize
     extents.partition_point(|extent| u64::from(extent.base) < address)
 }
 
-/// Why the first bad byte of so many from an address on can't be used. The address is one of the extent at a place.
+/// Why the first bad byte of so many from an address on can't be used. The extents before `first` end at or below the
+/// address, and those from it on above it.
 pub(crate) fn first_fault(
     extents: &[Extent],
     first: usize,

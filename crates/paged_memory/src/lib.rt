@@ -2,13 +2,13 @@
 #![tactic(auto)]
 
 mod blocks;
+mod closing;
 mod extents;
-mod fences;
 mod opening;
 mod paged;
 mod pages;
+mod room;
 mod search;
-mod spare;
 mod steps;
 mod table;
 mod types;

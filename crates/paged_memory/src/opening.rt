@@ -1,36 +1,46 @@
 //! New pages among those that there are, and what pages know of an extent that comes.
-ghost use Rattle.std.specs.Prelude.{◌≡◌, ◌+◌, ◌*◌, ◌≤◌, ◌<◌, ◌^◌, length, map, vec_len, vec_capacity};
-ghost use Rattle.std.specs.List.{All, AllWithin, insert};
+ghost use Rattle.std.specs.Prelude.{◌≡◌, ◌+◌, ◌-◌, ◌/◌, ◌≤◌, ◌<◌, ◌^◌, List, [], ◌∷◌, length, map};
+ghost use Rattle.std.specs.Prelude.{vec_len, vec_capacity};
+ghost use Rattle.std.specs.List.{All, AllWithin, Contains};
+ghost use Rattle.ks_base.specs.declared.places.Range.{Range};
 ghost use Rattle.image_memory.specs.Ranges.{Ascends, put_in};
-ghost use Rattle.paged_memory.specs.Pages.{extent_range, page_range, counting, overlaid_page, IsCovered};
-ghost use Rattle.paged_memory.specs.Opening.{IsPlaceOf, IsOpened, IsOpenTo, AreLaid};
+ghost use Rattle.image_memory.specs.Changes.{IsPlaceable};
+ghost use Rattle.paged_memory.specs.Pages.{extent_range, page_range, counting, overlaid_page, IsCovered, IsGap};
+ghost use Rattle.paged_memory.specs.inside.Missing.{missing};
+ghost use Rattle.paged_memory.specs.inside.Opening.{IsPlaceOf, IsOpened, IsOpenTo, AreLaid};
 
 use crate::blocks::{Block, PAGE_LENGTH};
 use crate::extents::begun;
 use crate::pages::put_bytes;
-use crate::search::place_of;
+use crate::search::{is_at, place_of};
 use crate::types::{Extent, Page};
+use image_memory::insert_spare;
+use ks_base::Range;
 
-/// Makes sure that there are pages of the numbers from `low` up to `end`.
+/// Makes sure that there is each page of which a range has an address. What is enough for ranges with this one among
+/// them stays enough.
 pub(crate) fn open_pages(
     pages: &mut Vec<Page>,
     blocks: &mut Vec<Block>,
     extents: &[Extent],
-    low: u32,
-    end: u32,
+    range: Range,
 )
     requires ascend { Ascends extent_range 0 extents.now }
     requires laid { AreLaid extents.now pages.old.items }
     requires some { All (λ page. page.first < page.last) pages.old.items }
     requires covered { IsCovered extents.now pages.old.items }
-    requires high { 4096 * end ≤ 0xFFFF_0000 }
-    requires order { low ≤ end }
-    requires blocks { end ≤ vec_len blocks.old + low }
+    requires placeable { IsPlaceable range }
+    requires blocks { missing (range ∷ []) pages.old.items ≤ vec_len blocks.old }
     requires room { vec_len pages.old + vec_len blocks.old ≤ vec_capacity pages.old }
-    ensures open { IsOpenTo extents.now pages.old.items pages.new.items low end }
-    ensures blocks { vec_len blocks.old + low ≤ vec_len blocks.new + end }
+    ensures open { IsOpenTo extents.now pages.old.items pages.new.items
+        (range.low / 4096) ((range.high - 1) / 4096 + 1) }
+    ensures blocks { (ranges : List Range) → Contains ranges range
+        → missing ranges pages.old.items ≤ vec_len blocks.old
+        → missing ranges pages.new.items ≤ vec_len blocks.new }
     ensures room { vec_len pages.new + vec_len blocks.new ≤ vec_capacity pages.new }
 {
+    let low = range.low / 4096;
+    let end = (range.high - 1) / 4096 + 1;
     let mut at = place_of(pages.as_slice(), low);
     for number in low..end {
         open_page(pages, blocks, extents, at, number);
@@ -38,7 +48,8 @@ pub(crate) fn open_pages(
     }
 }
 
-/// Makes sure that there is a page of a number at its place: one that is there already, or a new one.
+/// Makes sure that there is a page of a number at its place: one that is there already, or a new one, which takes a
+/// block.
 fn open_page(
     pages: &mut Vec<Page>,
     blocks: &mut Vec<Block>,
@@ -49,18 +60,19 @@ fn open_page(
     requires ascend { Ascends extent_range 0 extents.now }
     requires sorted { Ascends page_range 0 pages.old.items }
     requires place { IsPlaceOf pages.old.items number at }
-    requires some { 0 < vec_len blocks.old }
+    requires some { IsGap pages.old.items number at → 0 < vec_len blocks.old }
     requires room { vec_len pages.old + vec_len blocks.old ≤ vec_capacity pages.old }
     ensures opened { IsOpened extents.now pages.old.items pages.new.items number at }
-    ensures spent { vec_len blocks.old ≤ vec_len blocks.new + 1 }
+    ensures spent { vec_len pages.new + vec_len blocks.new ≡ vec_len pages.old + vec_len blocks.old }
     ensures room { vec_len pages.new + vec_len blocks.new ≤ vec_capacity pages.new }
 {
-    if at < pages.len() && pages[at].number == number {
+    if is_at(pages.as_slice(), at, number) {
         return;
     }
     let Some(bytes) = blocks.pop() else {
         unreachable!()
     };
+    // A block has 4,096 bytes.
     let _count = bytes.as_slice();
     let place = begun(extents, u64::from(number) * PAGE_LENGTH as u64);
     let page = Page {
@@ -129,16 +141,4 @@ pub(crate) fn put_extent(extents: &mut Vec<Extent>, extent: Extent)
 {
     let at = begun(extents.as_slice(), u64::from(extent.base) + 1);
     insert_spare(extents, at, extent);
-}
-
-/// Puts an item at a place where there is room for it.
-pub(crate) fn insert_spare<T: Drop>(items: &mut Vec<T>, at: usize, item: T)
-    requires within { at ≤ vec_len items.old }
-    requires room { vec_len items.old < vec_capacity items.old }
-    ensures items { items.new.items ≡ insert items.old.items at item }
-    ensures len { vec_len items.new ≡ vec_len items.old + 1 }
-    ensures capacity { vec_capacity items.old ≤ vec_capacity items.new }
-{
-    // This can't fail, since there is room.
-    let _ = items.insert(at, item);
 }

@@ -7,10 +7,7 @@ ghost use Rattle.paged_memory.specs.Pages.{page_range, byte_of, stored_from, Are
 
 use crate::blocks::PAGE_LENGTH;
 use crate::types::Page;
-use image_memory::Window;
-
-/// A window has at most so many bytes.
-pub(crate) const WINDOW_LENGTH: usize = 15;
+use image_memory::{WINDOW_LENGTH, Window};
 
 impl Page {
     /// The first address.
@@ -64,15 +61,17 @@ pub(crate) fn window_of(pages: &[Page], first: usize, address: u32, count: usize
     requires ascend { Ascends page_range 0 pages.now }
     requires few { count ≤ 15 }
     requires had { AreStored pages.now address count }
-    requires at { 0 < count → IsHome pages.now (address / 4096) first }
-    ensures { result ≡ shown (stored_from pages.now address count) }
+    requires at { IsHome pages.now (address / 4096) first }
+    ensures shown { result ≡ shown (stored_from pages.now address count) }
+    ensures short { result.length ≤ 15 }
 {
+    let rest = pages[first].bytes.rest_from((address % 4096) as usize);
+    if count <= rest.len() {
+        return Window::of(&rest[..count]);
+    }
     let mut filled = [0; WINDOW_LENGTH];
     copy_out(pages, first, u64::from(address), &mut filled[..count]);
-    Window {
-        bytes: filled,
-        length: count as u32,
-    }
+    Window::of(&filled[..count])
 }
 
 /// Puts bytes over those that pages have from an address on. The pages before `first` end at or below it.

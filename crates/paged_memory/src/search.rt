@@ -1,13 +1,13 @@
 //! Finding a page by halving.
-ghost use Rattle.std.specs.Prelude.{◌≡◌, ◌+◌, ◌-◌, ◌*◌, ◌≤◌, ◌<◌, ◌^◌, length, MatchResult};
-ghost use Rattle.std.specs.Ordering.{MatchOrdering};
+ghost use Rattle.std.specs.Prelude.{◌≡◌, ◌+◌, ◌-◌, ◌*◌, ◌≤◌, ◌<◌, ◌^◌, length, MatchResult, MatchOption, IsTrue};
+ghost use Rattle.std.specs.Bool.{MatchBool};
 ghost use Rattle.image_memory.specs.Ranges.{Ascends};
-ghost use Rattle.paged_memory.specs.Pages.{page_range, IsHome, IsGap};
-ghost use Rattle.paged_memory.specs.Opening.{IsPlaceOf};
+ghost use Rattle.paged_memory.specs.Pages.{page_range, IsHome, IsGap, IsNowhere};
+ghost use Rattle.paged_memory.specs.inside.Missing.{is_missing};
+ghost use Rattle.paged_memory.specs.inside.Opening.{IsPlaceOf};
 
 use crate::steps::Steps;
 use crate::types::Page;
-use std::cmp::Ordering;
 use std::marker::Brand;
 use std::sync::ledger::{Blank, Ledger};
 
@@ -26,42 +26,93 @@ pub(crate) fn place<L: Ledger>(
     let mut high = pages.len();
     while low < high {
         let middle = low + (high - low) / 2;
-        match compared(&pages[middle], number, steps) {
-            Ordering::Less => low = middle + 1,
-            Ordering::Equal => return Ok(middle),
-            Ordering::Greater => high = middle,
+        let here = number_of(&pages[middle], steps);
+        if here < number {
+            low = middle + 1;
+        } else if number < here {
+            high = middle;
+        } else {
+            return Ok(middle);
         }
     }
     Err(low)
 }
 
-/// The place of the page of a number, or the one that it would have, with steps counted from none.
-fn place_from<L: Ledger>(pages: &[Page], number: u32, blank: Blank) -> usize
-    requires name { blank.name ≡ L.name }
-    requires parts { blank.parts ≡ L.parts }
-    requires some { 0 < blank.parts }
-    requires ascend { Ascends page_range 0 pages.now }
-    ensures { IsPlaceOf pages.now number result }
-{
-    match place::<L>(pages, number, &mut Steps::new(blank)) {
-        Ok(at) => at,
-        Err(at) => at,
-    }
-}
-
-/// The place of the page of a number, or the one that it would have.
+/// The place of the page of a number, or the one that it would have: with no step counted.
 pub(crate) fn place_of(pages: &[Page], number: u32) -> usize
     requires { Ascends page_range 0 pages.now }
     ensures { IsPlaceOf pages.now number result }
 {
-    place_from::<Brand>(pages, number, Blank::new(1))
+    pages.partition_point(|page| page.number < number)
 }
 
-/// How the number of a page compares to one: a step.
-fn compared<L: Ledger>(page: &Page, number: u32, steps: &mut Steps<L>) -> Ordering
-    ensures order { MatchOrdering result (page.now.number < number) (page.now.number ≡ number) (number < page.now.number) }
+/// The place of the page of a number; `None` where no page has it. It is tried first where it stands if no page is missing
+/// between the first one and it, as in a program's code, and else found by halving.
+#[inline(always)]
+pub(crate) fn home_of(pages: &[Page], number: u32) -> Option<usize>
+    requires { Ascends page_range 0 pages.now }
+    ensures { MatchOption result (IsNowhere pages.now number) (IsHome pages.now number) }
+{
+    let first = match pages.first() {
+        Some(page) => page.number,
+        None => 0,
+    };
+    let near = number.wrapping_sub(first) as usize;
+    if has_number(pages, near, number) {
+        return Some(near);
+    }
+    halved(pages, number)
+}
+
+/// The place of the page of a number, found by halving; `None` where no page has it.
+#[inline(never)]
+fn halved(pages: &[Page], number: u32) -> Option<usize>
+    requires { Ascends page_range 0 pages.now }
+    ensures { MatchOption result (IsNowhere pages.now number) (IsHome pages.now number) }
+{
+    place_from::<Brand>(pages, number, Blank::new(1)).ok()
+}
+
+/// The place of the page of a number, or the one that it would have, with steps counted from none.
+fn place_from<L: Ledger>(pages: &[Page], number: u32, blank: Blank) -> Result<usize, usize>
+    requires name { blank.name ≡ L.name }
+    requires parts { blank.parts ≡ L.parts }
+    requires some { 0 < blank.parts }
+    requires ascend { Ascends page_range 0 pages.now }
+    ensures { MatchResult result (IsHome pages.now number) (IsGap pages.now number) }
+{
+    place::<L>(pages, number, &mut Steps::new(blank))
+}
+
+/// Whether the page at a place has a number.
+fn has_number(pages: &[Page], at: usize, number: u32) -> bool
+    ensures { IsTrue result → IsHome pages.now number at }
+{
+    at < pages.len() && pages[at].number == number
+}
+
+/// Whether the page at the place of a number has it; else none does.
+pub(crate) fn is_at(pages: &[Page], at: usize, number: u32) -> bool
+    requires ascend { Ascends page_range 0 pages.now }
+    requires place { IsPlaceOf pages.now number at }
+    ensures { MatchBool result (IsHome pages.now number at) (IsGap pages.now number at) }
+{
+    at < pages.len() && pages[at].number == number
+}
+
+/// Whether no page has a number.
+pub(crate) fn is_missing(pages: &[Page], number: u32) -> bool
+    requires { Ascends page_range 0 pages.now }
+    ensures { result ≡ is_missing pages.now number }
+{
+    home_of(pages, number).is_none()
+}
+
+/// The number of a page, which is compared: a step.
+fn number_of<L: Ledger>(page: &Page, steps: &mut Steps<L>) -> u32
+    ensures number { result ≡ page.now.number }
     ensures step { steps.new ≡ steps.old + 1 }
 {
     steps.tick();
-    page.number.cmp(&number)
+    page.number
 }

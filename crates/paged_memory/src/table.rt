@@ -1,28 +1,30 @@
 //! The bytes of pieces in pages.
-ghost use Rattle.std.specs.Prelude.{◌≡◌, ◌+◌, ◌-◌, ◌*◌, ◌/◌, ◌≤◌, ◌<◌, ◌^◌, ℕ, [], length, map, take};
+ghost use Rattle.std.specs.Prelude.{◌≡◌, ◌+◌, ◌-◌, ◌*◌, ◌/◌, ◌≤◌, ◌<◌, ◌^◌, List, [], ◌∷◌, length, max};
 ghost use Rattle.std.specs.Prelude.{vec_len, vec_capacity, None, MatchOption, Some, IfOk, OnOk, OnErr, MatchResult};
-ghost use Rattle.std.specs.Option.{option_map, option_copied};
-ghost use Rattle.std.specs.List.{All, AllWithin};
+ghost use Rattle.std.specs.List.{All, AllWithin, Any, Contains};
+ghost use Rattle.ks_base.specs.declared.places.Range.{Range};
 ghost use Rattle.image_memory.specs.Ranges.{Ascends, Ascends-prop, MeetsNone};
 ghost use Rattle.image_memory.specs.Contents.{ArePlaced, look_at, piece_range};
-ghost use Rattle.image_memory.specs.Changes.{with_piece, IsPlaceable};
+ghost use Rattle.image_memory.specs.Changes.{with_piece, without_piece, IsPlaceable};
 ghost use Rattle.image_memory.specs.Access.{first_fault, read_fault, write_fault, bytes_at, written};
-ghost use Rattle.image_memory.specs.Fetch.{code_from, shown, HasCode};
-ghost use Rattle.paged_memory.specs.Pages.{extent_range, extent_at, page_range, page_low, pieces_of, ended, begun, IsCovered, IsHome, IsHolder, IsSpot, IsUsable, extent_fault};
-ghost use Rattle.paged_memory.specs.Opening.{pages_in, pages_for};
+ghost use Rattle.image_memory.specs.Fetch.{window_at, HasCode};
+ghost use Rattle.paged_memory.specs.Pages.{extent_range, extent_at, page_range, page_low, pieces_of, ended, begun};
+ghost use Rattle.paged_memory.specs.Pages.{IsCovered, IsHome, IsHolder, IsSpot, IsUsable, extent_fault};
+ghost use Rattle.paged_memory.specs.inside.Missing.{missing};
 
 use crate::blocks::Block;
+use crate::closing::{close_pages, take_extent};
 use crate::extents::{first_fault, holder};
 use crate::opening::{lay, open_pages, put_extent};
 use crate::pages::{copy_out, put_bytes, window_of};
-use crate::search::{place, place_of};
+use crate::room::count_missing;
+use crate::search::{home_of, place, place_of};
 use crate::steps::Steps;
 use crate::types::{Extent, Page, Spot};
-use image_memory::{Access, Kind, Piece, Window};
+use image_memory::{Access, Kind, Piece, Pieces, RetiredRanges, Window};
 use ks_base::{Fault, Range};
 use std::alloc::{AllocError, Global};
-use std::marker::Brand;
-use std::sync::ledger::{Blank, Ledger};
+use std::sync::ledger::Ledger;
 
 /// Pieces: where each lies, in ascending order, and their bytes in pages in ascending order. Each page has a byte of a
 /// piece, and knows which extents have one in it.
@@ -55,14 +57,20 @@ impl PageTable {
         }
     }
 
-    /// The pieces, which may make up a memory. `Err` comes only if memory runs out.
-    pub(crate) fn of(alloc: Global, pieces: &[Piece]) -> Result<Self, AllocError>
-        requires { ArePlaced pieces.now }
-        ensures { IfOk result (λ table. pieces_of table.extents.items table.pages.items ≡ pieces.now) }
+    /// What blocks are allocated by.
+    pub(crate) fn allocator(&self) -> Global {
+        *self.pages.allocator()
+    }
+
+    /// The pieces, which may make up a memory; each one's bytes are gone once its pages have them. `Err` comes only if
+    /// memory runs out.
+    pub(crate) fn of(alloc: Global, pieces: Pieces) -> Result<Self, AllocError>
+        requires { ArePlaced pieces }
+        ensures { IfOk result (λ table. pieces_of table.extents.items table.pages.items ≡ pieces) }
     {
         let mut table = PageTable::new(alloc);
-        for piece in pieces {
-            table.append(piece)?;
+        for piece in pieces.into_vec() {
+            table.append(&piece)?;
         }
         Ok(table)
     }
@@ -75,10 +83,7 @@ impl PageTable {
         ensures { OnOk result (pieces_of self.new.extents.items self.new.pages.items
             ≡ with_piece piece.now (pieces_of self.old.extents.items self.old.pages.items)) }
     {
-        self.extents.reserve(1)?;
-        let spare = self.blocks.len();
-        let wanted = pages_in(piece.range());
-        self.add_blocks(wanted.saturating_sub(spare))?;
+        self.make_room(&[piece.range()])?;
         self.add(piece);
         Ok(())
     }
@@ -87,7 +92,8 @@ impl PageTable {
     fn add_blocks(&mut self, count: usize) -> Result<(), AllocError>
         ensures extents { self.new.extents ≡ self.old.extents }
         ensures pages { self.new.pages.items ≡ self.old.pages.items }
-        ensures ok { OnOk result (vec_len self.old.blocks + count ≤ vec_len self.new.blocks) }
+        ensures ok { OnOk result (vec_len self.new.blocks ≡ vec_len self.old.blocks + count) }
+        ensures more { vec_len self.old.blocks ≤ vec_len self.new.blocks }
     {
         for _block in 0..count {
             self.add_block()?;
@@ -100,6 +106,7 @@ impl PageTable {
         ensures extents { self.new.extents ≡ self.old.extents }
         ensures pages { self.new.pages.items ≡ self.old.pages.items }
         ensures ok { OnOk result (vec_len self.new.blocks ≡ vec_len self.old.blocks + 1) }
+        ensures more { vec_len self.old.blocks ≤ vec_len self.new.blocks }
     {
         let alloc = *self.blocks.allocator();
         let count = self.blocks.len();
@@ -108,19 +115,22 @@ impl PageTable {
         Ok(())
     }
 
-    /// Takes the memory that pieces of these ranges need.
+    /// Takes the memory that pieces of these ranges need: a block for each page that isn't there, and room. What was
+    /// spare before is used for it.
     pub(crate) fn make_room(&mut self, ranges: &[Range]) -> Result<(), AllocError>
         requires { All IsPlaceable ranges.now }
         ensures extents { self.new.extents.items ≡ self.old.extents.items }
         ensures pages { self.new.pages.items ≡ self.old.pages.items }
         ensures room { OnOk result (vec_len self.new.extents + length ranges.now ≤ vec_capacity self.new.extents) }
-        ensures blocks { OnOk result (pages_for ranges.now ≤ vec_len self.new.blocks) }
+        ensures capacity { vec_capacity self.old.extents ≤ vec_capacity self.new.extents }
+        ensures blocks { OnOk result (vec_len self.new.blocks
+            ≡ max (vec_len self.old.blocks) (missing ranges.now self.old.pages.items)) }
+        ensures more { vec_len self.old.blocks ≤ vec_len self.new.blocks }
     {
         self.extents.reserve(ranges.len())?;
-        for range in ranges {
-            self.add_blocks(pages_in(*range))?;
-        }
-        Ok(())
+        let wanted = count_missing(self.allocator(), ranges, self.pages.as_slice())?;
+        let spare = self.blocks.len();
+        self.add_blocks(wanted.saturating_sub(spare))
     }
 
     /// Where an address is found.
@@ -150,22 +160,14 @@ impl PageTable {
     }
 
     /// Where an address is found, with no step counted.
+    #[inline(always)]
     fn spot_at(&self, address: u32) -> Option<Spot>
         ensures { MatchOption result (extent_at self.now.extents.items address ≡ None)
             (IsSpot self.now.extents.items self.now.pages.items address) }
     {
-        self.spot_from::<Brand>(address, Blank::new(1))
-    }
-
-    /// Where an address is found, with steps counted from none.
-    fn spot_from<L: Ledger>(&self, address: u32, blank: Blank) -> Option<Spot>
-        requires name { blank.name ≡ L.name }
-        requires parts { blank.parts ≡ L.parts }
-        requires some { 0 < blank.parts }
-        ensures { MatchOption result (extent_at self.now.extents.items address ≡ None)
-            (IsSpot self.now.extents.items self.now.pages.items address) }
-    {
-        self.spot::<L>(address, &mut Steps::new(blank))
+        let page = home_of(self.pages.as_slice(), address / 4096)?;
+        let extent = self.holder_at(page, address)?;
+        Some(Spot { page, extent })
     }
 
     /// The kind of the piece at an address, and the byte there.
@@ -203,17 +205,9 @@ impl PageTable {
     pub(crate) fn look_at(&self, address: u32) -> Option<(Kind, u8)>
         ensures { result ≡ look_at (pieces_of self.now.extents.items self.now.pages.items) address }
     {
-        self.look_from::<Brand>(address, Blank::new(1))
-    }
-
-    /// The same, with steps counted from none.
-    fn look_from<L: Ledger>(&self, address: u32, blank: Blank) -> Option<(Kind, u8)>
-        requires name { blank.name ≡ L.name }
-        requires parts { blank.parts ≡ L.parts }
-        requires some { 0 < blank.parts }
-        ensures { result ≡ look_at (pieces_of self.now.extents.items self.now.pages.items) address }
-    {
-        self.look::<L>(address, &mut Steps::new(blank))
+        let spot = self.spot_at(address)?;
+        let byte = self.pages[spot.page].byte(address);
+        Some((self.extents[spot.extent].kind, byte))
     }
 
     /// Reads the bytes from an address on as data.
@@ -241,6 +235,8 @@ impl PageTable {
         ensures err { OnErr result (self.new.pages.items ≡ self.old.pages.items) }
         ensures extents { self.new.extents ≡ self.old.extents }
         ensures blocks { self.new.blocks ≡ self.old.blocks }
+        ensures missing { (ranges : List Range)
+            → missing ranges self.new.pages.items ≡ missing ranges self.old.pages.items }
         ensures cause { MatchResult result
             (λ _. first_fault (write_fault (pieces_of self.old.extents.items self.old.pages.items)) address (length from.now) ≡ None)
             (λ f. first_fault (write_fault (pieces_of self.old.extents.items self.old.pages.items)) address (length from.now) ≡ Some f) }
@@ -261,6 +257,8 @@ impl PageTable {
             ≡ written address from.now (pieces_of self.old.extents.items self.old.pages.items) }
         ensures extents { self.new.extents ≡ self.old.extents }
         ensures blocks { self.new.blocks ≡ self.old.blocks }
+        ensures missing { (ranges : List Range)
+            → missing ranges self.new.pages.items ≡ missing ranges self.old.pages.items }
     {
         if let Some(spot) = self.spot_at(address) {
             self.put(spot.page, address, from);
@@ -275,49 +273,59 @@ impl PageTable {
             ≡ written address from.now (pieces_of self.old.extents.items self.old.pages.items) }
         ensures extents { self.new.extents ≡ self.old.extents }
         ensures blocks { self.new.blocks ≡ self.old.blocks }
+        ensures missing { (ranges : List Range)
+            → missing ranges self.new.pages.items ≡ missing ranges self.old.pages.items }
     {
         put_bytes(self.pages.as_mut_slice(), first, u64::from(address), from);
     }
 
-    /// At most so many bytes of the code piece that holds an address, from there on; `None` where no code piece does.
-    pub(crate) fn window(&self, pc: u32, limit: usize) -> Option<Window>
-        requires { limit ≤ 15 }
-        ensures { result ≡ option_map (λ code. shown (take limit code))
-            (code_from (pieces_of self.now.extents.items self.now.pages.items) pc) }
+    /// What is fetched at an address among retired ranges.
+    pub(crate) fn window(&self, pc: u32, retired: &RetiredRanges) -> Result<Window, Fault>
+        ensures exact { result ≡ window_at (record {
+          pieces = pieces_of self.now.extents.items self.now.pages.items;
+          fences = retired.now.fences;
+        }) pc }
+        ensures short { IfOk result (λ window. window.length ≤ 15) }
     {
-        let spot = self.spot_at(pc)?;
+        let Some(spot) = self.spot_at(pc) else {
+            return Err(Fault::Unmapped);
+        };
         let extent = self.extents[spot.extent];
         match extent.kind {
             Kind::Code => {
+                let Some(limit) = retired.limit(pc) else {
+                    return Err(Fault::Stray);
+                };
                 let count = limit.min((extent.end() - u64::from(pc)) as usize);
-                Some(window_of(self.pages.as_slice(), spot.page, pc, count))
+                Ok(window_of(self.pages.as_slice(), spot.page, pc, count))
             }
-            Kind::ReadOnly => None,
-            Kind::Writable => None,
+            Kind::ReadOnly => Err(Fault::Unmapped),
+            Kind::Writable => Err(Fault::Unmapped),
         }
     }
 
-    /// Adds a piece that isn't empty, doesn't end above 0xFFFF0000 and meets none. It takes at most one block for each of
-    /// its pages.
+    /// Adds a piece that isn't empty, doesn't end above 0xFFFF0000 and meets none. What is enough for ranges with its own
+    /// among them stays enough.
     pub(crate) fn add(&mut self, piece: &Piece)
         requires full { 0 < length piece.now.bytes }
         requires below { (piece_range piece.now).high ≤ 0xFFFF_0000 }
         requires apart { MeetsNone extent_range (piece_range piece.now) self.old.extents.items }
-        requires blocks { pages_in (piece_range piece.now) ≤ vec_len self.old.blocks }
+        requires blocks { missing (piece_range piece.now ∷ []) self.old.pages.items ≤ vec_len self.old.blocks }
         requires room { vec_len self.old.extents < vec_capacity self.old.extents }
         ensures pieces { pieces_of self.new.extents.items self.new.pages.items
             ≡ with_piece piece.now (pieces_of self.old.extents.items self.old.pages.items) }
-        ensures blocks { vec_len self.old.blocks ≤ vec_len self.new.blocks + pages_in (piece_range piece.now) }
+        ensures blocks { (ranges : List Range) → Contains ranges (piece_range piece.now)
+            → missing ranges self.old.pages.items ≤ vec_len self.old.blocks
+            → missing ranges self.new.pages.items ≤ vec_len self.new.blocks }
         ensures len { vec_len self.new.extents ≡ vec_len self.old.extents + 1 }
         ensures capacity { vec_capacity self.old.extents ≤ vec_capacity self.new.extents }
     {
         let extent = Extent::of(piece);
-        let low = extent.base / 4096;
-        let end = (extent.base + (extent.length - 1)) / 4096 + 1;
+        let range = piece.range();
         let extents = self.extents.as_slice();
-        open_pages(&mut self.pages, &mut self.blocks, extents, low, end);
+        open_pages(&mut self.pages, &mut self.blocks, extents, range);
         put_extent(&mut self.extents, extent);
-        let first = place_of(self.pages.as_slice(), low);
+        let first = place_of(self.pages.as_slice(), extent.base / 4096);
         lay(
             self.pages.as_mut_slice(),
             first,
@@ -325,12 +333,15 @@ impl PageTable {
             piece.bytes.as_slice(),
         );
     }
-}
 
-/// How many pages have an address of a range that isn't empty.
-fn pages_in(range: Range) -> usize
-    requires { range.low < range.high }
-    ensures { result ≡ pages_in range }
-{
-    ((range.high - 1) / 4096 + 1 - range.low / 4096) as usize
+    /// Takes the piece away that begins at a base, and the pages in which no other piece has a byte.
+    pub(crate) fn remove(&mut self, base: u32)
+        requires { Any (λ piece. piece.base ≡ base) (pieces_of self.old.extents.items self.old.pages.items) }
+        ensures { pieces_of self.new.extents.items self.new.pages.items
+            ≡ without_piece base (pieces_of self.old.extents.items self.old.pages.items) }
+    {
+        let extent = take_extent(&mut self.extents, base);
+        let first = place_of(self.pages.as_slice(), extent.base / 4096);
+        close_pages(&mut self.pages, first, extent);
+    }
 }

@@ -1,5 +1,5 @@
-//! Tests of symbols, memory, jumps, images and listings: `symbol_table`, `image_memory`, `splice_jump`, `image_file`,
-//! `code_listing`.
+//! Tests of symbols, memory, jumps, images and listings: `symbol_table`, `image_memory`, `paged_memory`, `splice_jump`,
+//! `image_file`, `code_listing`.
 //! They stand apart so that those crates are proved once, and not once more for their tests.
 #![tactic(auto)]
 
@@ -11,5 +11,7 @@ mod jumps;
 mod listings;
 #[cfg(test)]
 mod memory;
+#[cfg(test)]
+mod pages;
 #[cfg(test)]
 mod symbols;

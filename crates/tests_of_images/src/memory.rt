@@ -1,10 +1,13 @@
-//! Each call of a memory, over code, read-only and writable pieces of which two are adjacent.
-ghost use Rattle.std.specs.Prelude.{◌≡◌, ◌==◌, [], ◌∷◌, true, IfOk};
-ghost use Rattle.std.specs.List.{list_any};
-ghost use Rattle.image_memory.specs.Changes.{after_drop};
+//! Each call of a memory, over code, read-only and writable pieces of which two are adjacent; in each of the memories.
+ghost use Rattle.std.specs.Prelude.{◌≡◌, ◌<◌, ◌+◌, ◌==◌, [], ◌∷◌, ◌++◌, length, true, IfOk, OnOk};
+ghost use Rattle.std.specs.List.{list_any, Contains};
+ghost use Rattle.image_memory.specs.Ranges.{from_to, MeetsNone};
+ghost use Rattle.image_memory.specs.Contents.{ArePlaced, piece_range};
+ghost use Rattle.image_memory.specs.Changes.{IsPlaceable, after_add, after_drop, without_first};
 
 use image_memory::{FlatSpace, Kind, Piece, Pieces, Space, are_placed, piece_at};
 use ks_base::{Bytes, Fault, Range};
+use paged_memory::PagedSpace;
 use std::alloc::{AllocError, Global};
 use std::test::Fail;
 
@@ -30,13 +33,15 @@ pub(crate) fn alone(alloc: Global, piece: Piece) -> Result<Pieces, AllocError>
     Ok(pieces)
 }
 
-fn push(
+pub(crate) fn push(
     alloc: Global,
     pieces: &mut Pieces,
     kind: Kind,
     base: u32,
     bytes: &[u8],
-) -> Result<(), AllocError> {
+) -> Result<(), AllocError>
+    ensures { OnOk result (pieces.new ≡ pieces.old ++ record { kind = kind; base = base; bytes = bytes.now } ∷ []) }
+{
     pieces.push(piece_of(alloc, kind, base, bytes)?)
 }
 
@@ -75,17 +80,88 @@ fn placed(alloc: Global, low: u32, high: u32, bytes: &[u8]) -> Result<bool, Allo
     Ok(are_placed(&pieces))
 }
 
-fn reads<S: Space>(space: &S, address: u32) -> (Result<(), Fault>, [u8; 4]) {
+pub(crate) fn reads<S: Space>(space: &S, address: u32) -> (Result<(), Fault>, [u8; 4]) {
     let mut bytes = [0xee; 4];
     let answer = space.read(address, &mut bytes);
     (answer, bytes)
 }
 
+/// A memory that can be made of pieces.
+pub(crate) trait FromPieces: Space + Drop {
+    /// The memory that holds the pieces, with no retired range and nothing spare.
+    fn from_pieces(alloc: Global, pieces: Pieces) -> Result<Self, AllocError>
+        requires { ArePlaced pieces }
+        ensures contents { IfOk result (λ space. Self.contents space ≡ record { pieces = pieces; fences = [] }) }
+        ensures room { IfOk result (λ space. Self.room space ≡ record { ranges = []; fences = 0 }) };
+}
+
+impl FromPieces for FlatSpace {
+    fn from_pieces(alloc: Global, pieces: Pieces) -> Result<Self, AllocError> {
+        FlatSpace::new(alloc, pieces)
+    }
+}
+
+impl FromPieces for PagedSpace {
+    fn from_pieces(alloc: Global, pieces: Pieces) -> Result<Self, AllocError> {
+        PagedSpace::new(alloc, pieces)
+    }
+}
+
+/// The memory that holds pieces which may make one up.
+pub(crate) fn memory_of<S: FromPieces>(alloc: Global, pieces: Pieces) -> Result<S, Fail>
+    ensures contents { IfOk result (λ space. S.contents space ≡ record { pieces = pieces; fences = [] }) }
+    ensures room { IfOk result (λ space. S.room space ≡ record { ranges = []; fences = 0 }) }
+{
+    if !are_placed(&pieces) {
+        return Err(Fail::from("pieces that may not make up a memory"));
+    }
+    Ok(S::from_pieces(alloc, pieces)?)
+}
+
+/// Adds a piece for which there is room.
+pub(crate) fn add<S: Space>(
+    space: &mut S,
+    alloc: Global,
+    kind: Kind,
+    base: u32,
+    bytes: &[u8],
+) -> Result<(), AllocError>
+    requires spare { Contains (S.room space.old).ranges (from_to base (base + length bytes.now)) }
+    requires apart { MeetsNone piece_range (from_to base (base + length bytes.now)) (S.contents space.old).pieces }
+    ensures contents { OnOk result (S.contents space.new
+        ≡ after_add (S.contents space.old) (record { kind = kind; base = base; bytes = bytes.now })) }
+    ensures room { OnOk result (S.room space.new ≡ record (S.room space.old) {
+      ranges = without_first (from_to base (base + length bytes.now)) (S.room space.old).ranges;
+    }) }
+{
+    space.add_piece(piece_of(alloc, kind, base, bytes)?);
+    Ok(())
+}
+
+/// Makes room for a piece and for a retired range, and adds the piece.
+pub(crate) fn put<S: Space>(
+    space: &mut S,
+    alloc: Global,
+    kind: Kind,
+    base: u32,
+    bytes: &[u8],
+) -> Result<(), AllocError>
+    requires fits { IsPlaceable (from_to base (base + length bytes.now)) }
+    requires apart { MeetsNone piece_range (from_to base (base + length bytes.now)) (S.contents space.old).pieces }
+    ensures contents { OnOk result (S.contents space.new
+        ≡ after_add (S.contents space.old) (record { kind = kind; base = base; bytes = bytes.now })) }
+    ensures fences { OnOk result (0 < (S.room space.new).fences) }
+{
+    let wanted = alone(alloc, piece_of(alloc, kind, base, bytes)?)?;
+    space.reserve(&wanted, 1)?;
+    add(space, alloc, kind, base, bytes)
+}
+
 /// Drops the piece that begins at a base.
-fn drop_at(space: &mut FlatSpace, base: u32)
-    requires { list_any (λ piece. piece.base == base) (⟦<FlatSpace as Space>⟧.contents space.old).pieces ≡ true }
-    ensures { ⟦<FlatSpace as Space>⟧.contents space.new
-        ≡ after_drop (⟦<FlatSpace as Space>⟧.contents space.old) base }
+pub(crate) fn drop_at<S: Space>(space: &mut S, base: u32)
+    requires { list_any (λ piece. piece.base == base) (S.contents space.old).pieces ≡ true }
+    ensures contents { S.contents space.new ≡ after_drop (S.contents space.old) base }
+    ensures room { S.room space.new ≡ record (S.room space.old) { ranges = [] } }
 {
     space.drop_piece(base);
 }
@@ -137,7 +213,7 @@ fn looks<S: Space>(space: &S) -> bool {
 }
 
 /// Whether the bytes that are fetched are these, with zeros after them.
-fn fetches<S: Space>(space: &S, pc: u32, length: u32, bytes: [u8; 15]) -> bool {
+pub(crate) fn fetches<S: Space>(space: &S, pc: u32, length: u32, bytes: [u8; 15]) -> bool {
     match space.window(pc) {
         Ok(window) => {
             let fetched = window.bytes;
@@ -184,76 +260,89 @@ fn all_written<S: Space>(space: &mut S) -> bool {
         && reads(space, 0x0020_0000) == (Ok(()), [1, 2, 3, 4])
 }
 
-#[test]
-fn looks_windows_reads_and_writes(rt: HostRuntime) -> Result<(), Fail> {
-    let pieces = example(rt.alloc())?;
-    assert!(rt; are_placed(&pieces));
-    let mut space = FlatSpace::new(rt.alloc(), pieces)?;
+/// Whether the example is seen, fetched, read and written as it should be.
+fn serves_example<S: FromPieces>(alloc: Global) -> Result<bool, Fail> {
+    let mut space: S = memory_of(alloc, example(alloc)?)?;
     let found = [
         looks(&space),
         windows(&space),
         all_read(&space),
         all_written(&mut space),
     ];
-    assert!(rt; found == [true; 4]);
+    Ok(found == [true; 4])
+}
+
+#[test]
+fn looks_windows_reads_and_writes(rt: HostRuntime) -> Result<(), Fail> {
+    let right = [
+        serves_example::<FlatSpace>(rt.alloc())?,
+        serves_example::<PagedSpace>(rt.alloc())?,
+    ];
+    assert!(rt; right == [true; 2]);
     Ok(())
 }
 
 /// How many bytes are fetched at some places of the code.
 fn all_fetched<S: Space>(space: &S) -> [Result<u32, Fault>; 4] {
     [
-        fetched(space, 0x1000),
-        fetched(space, 0x1004),
-        fetched(space, 0x1005),
-        fetched(space, 0x1009),
+        fetched(space, 0x0ffa),
+        fetched(space, 0x0ffe),
+        fetched(space, 0x0fff),
+        fetched(space, 0x1003),
     ]
 }
 
 /// What is seen at three places of the code.
 fn seen<S: Space>(space: &S) -> [Option<(Kind, u8)>; 3] {
-    [space.look(0x1004), space.look(0x1005), space.look(0x1006)]
+    [space.look(0x0fff), space.look(0x1000), space.look(0x1001)]
 }
 
 fn code_byte(byte: u8) -> Option<(Kind, u8)> {
     Some((Kind::Code, byte))
 }
 
-#[test]
-fn changes(rt: HostRuntime) -> Result<(), Fail> {
-    let alloc = rt.alloc();
+/// Whether code over a page's end, with a page of data behind it, is seen as it should be while it is added, retired,
+/// changed, open again and dropped.
+fn serves_changes<S: FromPieces>(alloc: Global) -> Result<bool, Fail> {
     let data = alone(alloc, piece_of(alloc, Kind::Writable, 0x2000, &[1, 2, 3])?)?;
-    assert!(rt; are_placed(&data));
-    let mut space = FlatSpace::new(alloc, data)?;
-    let wanted = alone(alloc, piece_of(alloc, Kind::Code, 0x1000, &LONG_CODE)?)?;
-    let code = piece_of(alloc, Kind::Code, 0x1000, &LONG_CODE)?;
-    space.reserve(&wanted, 1)?;
-    let before = space.look(0x1000);
-
-    space.add_piece(code);
-    let added = (space.look(0x1000), fetched(&space, 0x1000));
+    let mut space: S = memory_of(alloc, data)?;
+    let before = space.look(0x0ffa);
+    put(&mut space, alloc, Kind::Code, 0x0ffa, &LONG_CODE)?;
+    let added = (space.look(0x0ffa), fetched(&space, 0x0ffa));
 
     let retired = Range {
-        low: 0x1004,
-        high: 0x1009,
+        low: 0x0ffe,
+        high: 0x1003,
     };
     space.fence(retired, true);
-    let fenced = (space.spliced(0x1004), all_fetched(&space));
+    let fenced = (space.spliced(0x0ffe), all_fetched(&space));
 
-    space.poke_code(0x1004, &[0xe9, 0xff]);
+    space.poke_code(0x0fff, &[0xe9, 0xff]);
     let poked = seen(&space);
 
     space.unfence(retired);
-    let open = (space.spliced(0x1004), fetched(&space, 0x1004));
+    let end = [5, 0xe9, 0xff, 8, 9, 10, 11, 12, 13, 14, 15, 16, 17, 0, 0];
+    let open = (space.spliced(0x0ffe), fetches(&space, 0x0ffe, 13, end));
 
-    drop_at(&mut space, 0x1000);
-    let dropped = (space.look(0x1004), space.look(0x2001));
+    drop_at(&mut space, 0x0ffa);
+    let dropped = [before, space.look(0x0fff), space.look(0x2001)];
 
-    let right = before.is_none()
-        && added == (code_byte(1), Ok(15))
-        && fenced == (true, [Ok(4), Ok(5), Err(Fault::Stray), Ok(8)])
-        && poked == [code_byte(0xe9), code_byte(0xff), code_byte(7)]
-        && open == (false, Ok(13))
-        && dropped == (None, Some((Kind::Writable, 2)));
-    assert!(rt; right);
+    let wanted = (
+        (code_byte(1), Ok(15)),
+        (true, [Ok(4), Ok(5), Err(Fault::Stray), Ok(8)]),
+        [code_byte(0xe9), code_byte(0xff), code_byte(8)],
+        (false, true),
+        [None, None, Some((Kind::Writable, 2))],
+    );
+    Ok((added, fenced, poked, open, dropped) == wanted)
+}
+
+#[test]
+fn changes(rt: HostRuntime) -> Result<(), Fail> {
+    let right = [
+        serves_changes::<FlatSpace>(rt.alloc())?,
+        serves_changes::<PagedSpace>(rt.alloc())?,
+    ];
+    assert!(rt; right == [true; 2]);
     Ok(())
 }

@@ -1,7 +1,7 @@
 -- Both lists have the same byte at each address.
 use Rattle.std.proofs.Common.{arith, sym}
 use Rattle.image_memory.specs.laws.AccessLaws.{overlaid_outside}
-use Rattle.image_memory.proofs.AccessLaws.{overlaid_where_met}
+use Rattle.image_memory.specs.laws.ByteLaws.{overlaid_where_met}
 use Rattle.image_memory.proofs.bytes.overlay.Goals as goal
 
 pub returns-then-low-high : goal.returns-then-low-high

@@ -5,7 +5,7 @@ use Rattle.image_memory.specs.Contents.{piece_range}
 use Rattle.image_memory.specs.declared.types.Piece.{Piece}
 use Rattle.image_memory.specs.laws.RangeLaws.{lows_rise}
 use Rattle.image_memory.specs.laws.AccessLaws.{piece_apart}
-use Rattle.image_memory.proofs.AccessLaws.{written_is}
+use Rattle.image_memory.specs.laws.ByteLaws.{written_is}
 use Rattle.image_memory.proofs.flat.overlay_pieces.Goals as goal
 
 pub loop-i-init : goal.loop-i-init

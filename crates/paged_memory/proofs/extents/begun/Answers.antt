@@ -1,7 +1,6 @@
 -- What halving finds, where the bases rise.
 use Rattle.std.proofs.Common.{rules, arith, ltb, ltb-true, ltb-false, sym}
 use Rattle.std.proofs.lemmas.List.Sorted.{IsPartitionPoint-from_clause, IsPartitionedBy-ltb}
-use Rattle.std.specs.List.Sorted.{IsPartitionPoint}
 use Rattle.image_memory.specs.laws.RangeLaws.{lows_rise}
 use Rattle.paged_memory.specs.Pages.{extent_range, begins_below}
 use Rattle.paged_memory.specs.declared.types.Extent.{Extent}

@@ -1,14 +1,12 @@
 -- Each byte of one extent is as good as its first.
-use Rattle.std.proofs.Common.{◌≡◌, ℕ, ◌+◌, ◌-◌, ◌<◌, ◌≤◌, arith, sym, refl, ap, ◌∙◌, Some, None, get_or, length, inl, inr}
-use Rattle.std.proofs.lemmas.List.{get_or_read}
-use Rattle.std.specs.Option.{option_map}
+use Rattle.std.proofs.Common.{◌≡◌, ◌+◌, ◌-◌, ◌<◌, ◌≤◌, arith, sym, refl, ap, ◌∙◌, Some, None, get_or, length, inl, inr}
 use Rattle.image_memory.specs.Ranges.{lies_in}
 use Rattle.image_memory.specs.Access.{first_fault, access_fault}
 use Rattle.ks_base.specs.declared.refusals.Fault.TheVariants.{Unmapped}
 use Rattle.image_memory.specs.laws.RangeLaws.{found_along, found_here, nowhere, within, above, below, lows_rise, one_after}
 use Rattle.image_memory.specs.laws.RangeLaws.{each_above}
-use Rattle.image_memory.proofs.AccessLaws.{fault_stops, fault_more, access_none, earlier_or_later}
-use Rattle.paged_memory.specs.Pages.{extent_range, extent_at, extent_fault, kind_of_extent}
+use Rattle.image_memory.specs.laws.ByteLaws.{fault_stops, fault_more, access_none, earlier_or_later}
+use Rattle.paged_memory.specs.Pages.{extent_range, extent_at, extent_fault}
 use Rattle.paged_memory.specs.declared.types.Extent.{Extent}
 use Rattle.image_memory.specs.declared.types.Kind.TheVariants.{Code}
 use Rattle.image_memory.specs.laws.AccessLaws.{all_good, good_at}

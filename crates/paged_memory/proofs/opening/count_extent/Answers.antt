@@ -1,8 +1,8 @@
 -- The pages before the loop end below the extent.
-use Rattle.std.proofs.Common.{◌≡◌, ◌≤◌, ◌<◌, ◌+◌, ◌^◌, ◌∙◌, ap, arith, sym, refl, get_or, length}
+use Rattle.std.proofs.Common.{◌<◌, ap, arith, sym, refl, get_or, length}
 use Rattle.paged_memory.specs.Pages.{counting}
 use Rattle.paged_memory.specs.declared.types.Page.{Page}
-use Rattle.paged_memory.proofs.ListLaws.{map_is, same_at}
+use Rattle.paged_memory.proofs.ListLaws.{map_is}
 use Rattle.paged_memory.proofs.PageLaws.{uncounted}
 use Rattle.paged_memory.proofs.opening.count_extent.Goals as goal
 

@@ -1,10 +1,10 @@
 -- Pages keep their numbers when an extent is counted.
-use Rattle.std.proofs.Common.{◌≡◌, ◌≤◌, ◌<◌, ◌+◌, ◌∙◌, List, refl, sym, subst, length, map, get_or, ap, arith}
-use Rattle.std.specs.List.{All, AllWithin}
+use Rattle.std.proofs.Common.{◌≡◌, ◌<◌, ◌∙◌, List, refl, sym, subst, length, get_or, ap, arith}
+use Rattle.std.specs.List.{All}
 use Rattle.std.proofs.lemmas.List.Elements.{All-map}
 use Rattle.std.proofs.lemmas.List.{get_or-map}
 use Rattle.image_memory.specs.Ranges.{Ascends}
-use Rattle.paged_memory.specs.Pages.{page_range, page_low, counting}
+use Rattle.paged_memory.specs.Pages.{page_range, counting}
 use Rattle.paged_memory.specs.declared.types.Page.{Page}
 use Rattle.paged_memory.proofs.PutLaws.{Ascends-kept}
 use Rattle.paged_memory.proofs.opening.lay.Goals as goal

@@ -1,5 +1,5 @@
 -- The place after all that begin at or below it.
-use Rattle.std.proofs.Common.{◌≡◌, ◌≤◌, ◌<◌, ◌∙◌, arith, sym, ap, length}
+use Rattle.std.proofs.Common.{◌∙◌, arith, ap, length}
 use Rattle.image_memory.specs.laws.PutLaws.{insert_is_put}
 use Rattle.paged_memory.specs.Pages.{extent_range}
 use Rattle.paged_memory.proofs.opening.put_extent.Goals as goal

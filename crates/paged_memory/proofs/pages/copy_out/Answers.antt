@@ -1,9 +1,9 @@
 -- Each byte that is copied is the one of the page that has its address.
-use Rattle.std.proofs.Common.{◌≡◌, ℕ, ◌+◌, ◌-◌, ◌*◌, ◌/◌, ◌%◌, ◌<◌, ◌≤◌, inl, inr, arith, sym, ap, refl, subst}
-use Rattle.std.proofs.Common.{◌∙◌, ◌++◌, List, min, length, length-append, get_or, take, drop, Some, None}
-use Rattle.std.proofs.lemmas.List.{ext_get_or, length-take, length-drop, get_or-take, get_or-drop, get_or_read}
-use Rattle.image_memory.proofs.AccessLaws.{earlier_or_later, copied_below, copied_from, length_copied}
-use Rattle.paged_memory.specs.Pages.{stored, stored_from, page_at, page_low, byte_of, IsHome}
+use Rattle.std.proofs.Common.{◌≡◌, ℕ, ◌+◌, ◌-◌, ◌/◌, ◌%◌, ◌<◌, ◌≤◌, inl, inr, arith, sym, ap, subst}
+use Rattle.std.proofs.Common.{◌∙◌, ◌++◌, List, min, length, length-append, get_or, take, drop, Some}
+use Rattle.std.proofs.lemmas.List.{ext_get_or, length-take, length-drop, get_or-take, get_or-drop}
+use Rattle.image_memory.specs.laws.ByteLaws.{earlier_or_later, copied_below, copied_from}
+use Rattle.paged_memory.specs.Pages.{page_low}
 use Rattle.paged_memory.specs.declared.types.Page.{Page}
 use Rattle.paged_memory.proofs.PageLaws.{length-stored_from, get_or-stored_from, page_here, stored_is, next_home}
 use Rattle.paged_memory.proofs.pages.copy_out.Goals as goal

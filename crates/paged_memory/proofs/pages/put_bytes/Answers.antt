@@ -1,6 +1,5 @@
 -- The pages before the loop end below the written bytes, and those after it begin above them.
-use Rattle.std.proofs.Common.{◌≡◌, ◌<◌, ◌≤◌, ◌∙◌, ap, arith, sym, refl, inl, inr, get_or, length}
-use Rattle.std.proofs.lemmas.List.{get_or_read}
+use Rattle.std.proofs.Common.{◌<◌, ap, arith, sym, refl, inl, inr, get_or, length}
 use Rattle.paged_memory.specs.Pages.{page_range, overlaid_page}
 use Rattle.paged_memory.specs.declared.types.Page.{Page}
 use Rattle.image_memory.specs.laws.RangeLaws.{lows_rise}

@@ -7,8 +7,8 @@ use Rattle.image_memory.specs.Access.{read_fault}
 use Rattle.image_memory.specs.Ranges.{lies_in}
 use Rattle.image_memory.specs.laws.RangeLaws.{inside, found}
 use Rattle.image_memory.specs.laws.AccessLaws.{good_at, length-bytes_at, get_or-bytes_at}
-use Rattle.image_memory.proofs.AccessLaws.{byte_along}
-use Rattle.image_memory.proofs.AccessLaws.{earlier_or_later, copied_below, copied_from, length_copied}
+use Rattle.image_memory.specs.laws.ByteLaws.{byte_along}
+use Rattle.image_memory.specs.laws.ByteLaws.{earlier_or_later, copied_below, copied_from, length_copied}
 use Rattle.image_memory.proofs.flat.FlatSpace.copy_out.Goals as goal
 
 pub unreachable-requires : goal.unreachable-requires

@@ -5,7 +5,7 @@ use Rattle.image_memory.specs.Contents.{piece_range, holding}
 use Rattle.image_memory.specs.Access.{first_fault, access_fault, kind_of}
 use Rattle.ks_base.specs.declared.refusals.Fault.TheVariants.{Unmapped}
 use Rattle.image_memory.specs.laws.RangeLaws.{found_along}
-use Rattle.image_memory.proofs.AccessLaws.{fault_stops, fault_more, access_none}
+use Rattle.image_memory.specs.laws.ByteLaws.{fault_stops, fault_more, access_none}
 use Rattle.image_memory.proofs.flat.FlatSpace.first_fault.Goals as goal
 
 pub loop-done-init : goal.loop-done-init

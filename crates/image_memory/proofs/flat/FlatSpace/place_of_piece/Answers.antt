@@ -4,7 +4,7 @@ use Rattle.std.proofs.lemmas.List.{get_or_default}
 use Rattle.std.proofs.lemmas.Bool.Decides.{nat_tests}
 use Rattle.image_memory.specs.Contents.{piece_range}
 use Rattle.image_memory.specs.declared.types.Piece.{Piece}
-use Rattle.image_memory.proofs.ChangeLaws.{place_of, taken_out}
+use Rattle.image_memory.specs.laws.ChangeLaws.{place_of, taken_out}
 use Rattle.image_memory.proofs.flat.FlatSpace.place_of_piece.Goals as goal
 
 begins : (c : goal.After-begun) (d : Piece) → (get_or c.args.self.now.pieces.items c.requires.0 d).base ≡ c.args.base

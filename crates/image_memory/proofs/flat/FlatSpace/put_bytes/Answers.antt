@@ -6,7 +6,7 @@ use Rattle.image_memory.specs.Contents.{piece_range}
 use Rattle.image_memory.specs.declared.types.Piece.{Piece}
 use Rattle.image_memory.specs.laws.RangeLaws.{one_after}
 use Rattle.image_memory.specs.laws.AccessLaws.{Ascends-written}
-use Rattle.image_memory.proofs.AccessLaws.{ends-written, kept_as}
+use Rattle.image_memory.specs.laws.ByteLaws.{ends-written, kept_as}
 use Rattle.image_memory.proofs.flat.FlatSpace.put_bytes.Goals as goal
 
 pub overlay_pieces-requires-clause-below : goal.overlay_pieces-requires-clause-below

@@ -8,7 +8,7 @@ use Rattle.image_memory.specs.Contents.{piece_range}
 use Rattle.image_memory.specs.Changes.{IsPlaceable}
 use Rattle.image_memory.specs.declared.types.Piece.{Piece}
 use Rattle.image_memory.specs.laws.PutLaws.{Ascends-put, All-put}
-use Rattle.image_memory.proofs.ChangeLaws.{All-without_first}
+use Rattle.image_memory.specs.laws.ChangeLaws.{All-without_first}
 use Rattle.image_memory.proofs.flat.FlatSpaceSpace.add_piece.Goals as goal
 
 pub range-requires : goal.range-requires

@@ -5,7 +5,7 @@ use Rattle.std.proofs.lemmas.List.Elements.{All-append, All-take, All-drop}
 use Rattle.image_memory.specs.Ranges.{Ascends}
 use Rattle.image_memory.specs.Contents.{piece_range}
 use Rattle.image_memory.specs.declared.types.Piece.{Piece}
-use Rattle.image_memory.proofs.ChangeLaws.{Ascends-remove}
+use Rattle.image_memory.specs.laws.ChangeLaws.{Ascends-remove}
 use Rattle.image_memory.proofs.flat.FlatSpaceSpace.drop_piece.Goals as goal
 
 pub invariant_of-self-clause-ascend : goal.invariant_of-self-clause-ascend

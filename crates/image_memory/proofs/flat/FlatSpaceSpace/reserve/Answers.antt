@@ -3,22 +3,15 @@ use Rattle.std.proofs.Common.{◌≤◌, ◌∙◌, List, map, sym, ap, subst}
 use Rattle.std.specs.List.{All}
 use Rattle.std.proofs.lemmas.List.Elements.{All-map}
 use Rattle.ks_base.specs.declared.places.Range.{Range}
-use Rattle.image_memory.specs.Ranges.{Ascends}
-use Rattle.image_memory.specs.Contents.{piece_range, fence_range}
+use Rattle.image_memory.specs.Contents.{piece_range}
 use Rattle.image_memory.specs.Changes.{IsPlaceable}
 use Rattle.image_memory.specs.declared.types.Piece.{Piece}
-use Rattle.image_memory.specs.declared.types.Fence.{Fence}
 use Rattle.image_memory.proofs.flat.FlatSpaceSpace.reserve.Goals as goal
 
 pub invariant_of-self-2-clause-end_below : goal.invariant_of-self-2-clause-end_below
 invariant_of-self-2-clause-end_below c =
     let P : List Piece → Type 0 = λ ps. All (λ p. (piece_range p).high ≤ 0xFFFF_0000) ps in
     subst P (sym c.reserve.ensures.items) c.args.self.now.end_below
-
-pub invariant_of-self-2-clause-fenced : goal.invariant_of-self-2-clause-fenced
-invariant_of-self-2-clause-fenced c =
-    let P : List Fence → Type 0 = λ fs. Ascends fence_range 0 fs in
-    subst P (sym c.reserve-2.ensures.items) c.args.self.now.fenced
 
 pub invariant_of-self-2-clause-placeable : goal.invariant_of-self-2-clause-placeable
 invariant_of-self-2-clause-placeable c =

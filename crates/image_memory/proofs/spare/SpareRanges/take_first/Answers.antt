@@ -3,7 +3,7 @@ use Rattle.std.proofs.Common.{◌≡◌, ◌∙◌, List, drop, Some, sym, subst
 use Rattle.std.specs.List.{Contains}
 use Rattle.ks_base.specs.declared.places.Range.{Range}
 use Rattle.image_memory.specs.Changes.{without_first}
-use Rattle.image_memory.proofs.ChangeLaws.{first_place, first_is, removed_first, front_passed, removed_behind}
+use Rattle.image_memory.specs.laws.ChangeLaws.{first_place, first_is, removed_first, front_passed, removed_behind}
 use Rattle.image_memory.proofs.spare.SpareRanges.take_first.Goals as goal
 
 pub unreachable-requires : goal.unreachable-requires

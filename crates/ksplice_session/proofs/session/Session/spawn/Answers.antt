@@ -2,6 +2,7 @@ use Rattle.std.proofs.Common.{◌≡◌, List, [], ◌∷◌, Some, None, Ok, Er
 use Rattle.std.specs.List.{slice_get}
 use Rattle.std.specs.Option.{option_copied}
 use Rattle.image_memory.specs.Contents.{Contents}
+use Rattle.paged_memory.specs.contracts.paged.PagedSpaceSpace.TheImpl as paged
 use Rattle.ia32_step.specs.declared.types.Thread.{Thread}
 use Rattle.frame_watch.specs.Frames.{Watching}
 use Rattle.update_stack.specs.AbstractMachine.{AbstractMachine}
@@ -35,7 +36,7 @@ got_after c =
 
 -- the memory that the watch sees
 abbrev memory : After-space → Contents
-memory c = record { pieces = c.space.result.now.pieces.items; fences = c.space.result.now.fences.items }
+memory c = (paged.ghosts).contents c.space.result.now
 
 begun : (c : After-space)
     → IsBegun (memory c) c.self.inside.system c.spawn.new.self c.self.inside.watch c.in-Some.thread.now

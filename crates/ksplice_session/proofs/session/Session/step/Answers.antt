@@ -2,6 +2,7 @@ use Rattle.std.proofs.Common.{◌≡◌, List, Some, None, Err, sym, ◌∙◌, 
 use Rattle.std.specs.List.{slice_get}
 use Rattle.std.specs.Option.{option_copied}
 use Rattle.image_memory.specs.Contents.{Contents}
+use Rattle.paged_memory.specs.contracts.paged.PagedSpaceSpace.TheImpl as paged
 use Rattle.ia32_step.specs.declared.types.Thread.{Thread}
 use Rattle.update_stack.specs.AbstractMachine.{AbstractMachine}
 use Rattle.update_stack.specs.Events.{Step, answered}
@@ -43,7 +44,7 @@ got_after c =
 
 -- the memory that the watch sees
 abbrev memory : After-space → Contents
-memory c = record { pieces = c.space.result.now.pieces.items; fences = c.space.result.now.fences.items }
+memory c = (paged.ghosts).contents c.space.result.now
 
 memory_is : (c : After-space) → memory c ≡ c.machine-machine.result.now.contents
 memory_is c = c.space.ensures.contents

@@ -1,5 +1,5 @@
 -- There are as few pages as pieces need.
-use Rattle.std.proofs.Common.{◌≡◌, ◌≤◌, ◌+◌, ◌*◌, arith, length}
+use Rattle.std.proofs.Common.{arith}
 use Rattle.paged_memory.proofs.CountLaws.{as_few}
 use Rattle.paged_memory.proofs.paged.PagedSpace.look_counted.Goals as goal
 

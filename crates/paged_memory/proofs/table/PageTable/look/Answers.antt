@@ -1,8 +1,7 @@
 -- The byte of the address's page, and the kind of the extent that has it.
-use Rattle.std.proofs.Common.{◌≡◌, ◌∙◌, ◌/◌, ◌*◌, sym, ap, arith, refl, subst, Some, None, get_or}
-use Rattle.image_memory.specs.Contents.{look_at}
+use Rattle.std.proofs.Common.{◌≡◌, ◌∙◌, ◌/◌, sym, ap, arith, refl, subst, Some}
 use Rattle.image_memory.specs.laws.RangeLaws.{within}
-use Rattle.paged_memory.specs.Pages.{page_range, pieces_of, extent_at, stored, byte_of}
+use Rattle.paged_memory.specs.Pages.{page_range, extent_at, stored}
 use Rattle.paged_memory.specs.declared.types.Page.{Page}
 use Rattle.paged_memory.specs.declared.types.Extent.{Extent}
 use Rattle.paged_memory.proofs.ExtentLaws.{look_none, look_some}

@@ -1,8 +1,5 @@
 -- Where there is no code, nothing is written.
-use Rattle.std.proofs.Common.{ℕ, ◌∷◌, ◌≡◌, ◌≤◌, ◌∙◌, [], List, length, refl, sym, ap, subst, arith, None}
-use Rattle.std.proofs.Common.{unwrap_or}
-use Rattle.image_memory.specs.Access.{written}
-use Rattle.image_memory.specs.Fetch.{code_from}
+use Rattle.std.proofs.Common.{ℕ, ◌∷◌, ◌≡◌, ◌≤◌, [], List, length, refl, arith, None}
 use Rattle.paged_memory.specs.Pages.{pieces_of, extent_at}
 use Rattle.paged_memory.proofs.UseLaws.{home_below, code_none}
 use Rattle.paged_memory.proofs.PutLaws.{written_nothing}

@@ -1,13 +1,13 @@
 -- A write leaves each page where it is.
-use Rattle.std.proofs.Common.{◌≡◌, ◌≤◌, ◌<◌, ◌+◌, ◌*◌, List, arith, sym, subst, length, ap, ◌∙◌, refl, map}
+use Rattle.std.proofs.Common.{◌≡◌, ◌≤◌, ◌<◌, ◌+◌, List, sym, subst, length, ap, ◌∙◌, refl}
 use Rattle.std.specs.List.{All}
-use Rattle.std.specs.Vec.{with_items}
 use Rattle.std.proofs.lemmas.List.Elements.{All-map}
 use Rattle.image_memory.specs.Ranges.{Ascends}
-use Rattle.image_memory.specs.Access.{written}
 use Rattle.image_memory.specs.laws.AccessLaws.{length-overlaid}
 use Rattle.paged_memory.specs.Pages.{page_range, page_low, overlaid_page, pieces_of, ended, begun, IsCovered}
 use Rattle.paged_memory.specs.declared.types.Page.{Page}
+use Rattle.paged_memory.specs.inside.Missing.{missing}
+use Rattle.paged_memory.proofs.MissingLaws.{missing-kept}
 use Rattle.paged_memory.proofs.PutLaws.{kept_as, Ascends-kept, covered-kept, pieces-put}
 use Rattle.paged_memory.proofs.table.PageTable.put.Goals as goal
 
@@ -67,3 +67,10 @@ returns-clause-pieces c =
     ap (pieces_of t.extents.items) (kept_as c.args.self.now.pages (overlaid_page c.args.address c.args.from.now) c.put_bytes.new.pages
     c.as_mut_slice.result.now c.put_bytes.auto.pages (rw c.from.ensures at c.put_bytes.ensures) c.as_mut_slice.ensures.value)
     ∙ pieces-put t.extents.items t.pages.items c.args.address c.args.from.now t.ascend t.covered t.full
+
+pub returns-clause-missing : goal.returns-clause-missing
+returns-clause-missing c = λ ranges.
+    let t = c.args.self.now in
+    ap (missing ranges) (kept_as c.args.self.now.pages (overlaid_page c.args.address c.args.from.now) c.put_bytes.new.pages
+    c.as_mut_slice.result.now c.put_bytes.auto.pages (rw c.from.ensures at c.put_bytes.ensures) c.as_mut_slice.ensures.value)
+    ∙ missing-kept (overlaid_page c.args.address c.args.from.now) (λ p. refl) ranges t.pages.items

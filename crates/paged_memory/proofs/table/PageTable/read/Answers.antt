@@ -1,6 +1,6 @@
 -- What pieces have is what pages have.
-use Rattle.std.proofs.Common.{◌≡◌, ℕ, ◌+◌, ◌<◌, refl, sym, ap, ◌∙◌, Some, None, length}
-use Rattle.image_memory.specs.Access.{first_fault, read_fault, bytes_at}
+use Rattle.std.proofs.Common.{◌≡◌, ◌+◌, sym, ◌∙◌, length}
+use Rattle.image_memory.specs.Access.{read_fault}
 use Rattle.image_memory.specs.laws.AccessLaws.{good_at}
 use Rattle.image_memory.specs.declared.types.Access.TheVariants.{Read}
 use Rattle.paged_memory.specs.Pages.{extent_fault, pieces_of, stored_from}

@@ -1,8 +1,7 @@
 -- Where no page has the address, no extent does.
-use Rattle.std.proofs.Common.{◌≡◌, ◌/◌, refl, sym, ap, ◌∙◌, subst, List, None, Option, Some, true, false}
+use Rattle.std.proofs.Common.{◌/◌, refl, ap, subst, List}
 use Rattle.std.specs.Option.{is_some}
-use Rattle.paged_memory.specs.Pages.{extent_at, page_at, IsGap}
-use Rattle.paged_memory.specs.declared.types.Extent.{Extent}
+use Rattle.paged_memory.specs.Pages.{extent_at, IsGap}
 use Rattle.paged_memory.specs.declared.types.Page.{Page}
 use Rattle.paged_memory.proofs.PageLaws.{page_nowhere, is_none}
 use Rattle.paged_memory.proofs.table.PageTable.spot.Goals as goal

@@ -1,10 +1,9 @@
 -- Where no extent has the first byte it is unmapped.
-use Rattle.std.proofs.Common.{◌≡◌, ℕ, zero, ◌+◌, ◌/◌, ◌<◌, ◌≤◌, arith, refl, sym, ap, ◌∙◌, subst, List, None, Some, length}
+use Rattle.std.proofs.Common.{◌≡◌, ◌+◌, arith, refl, sym, ◌∙◌, None, Some}
 use Rattle.ks_base.specs.declared.refusals.Fault.TheVariants.{Unmapped}
 use Rattle.image_memory.specs.Access.{first_fault}
-use Rattle.image_memory.proofs.AccessLaws.{fault_stops, access_none}
-use Rattle.paged_memory.specs.Pages.{extent_at, extent_fault, IsHolder}
-use Rattle.paged_memory.specs.declared.types.Extent.{Extent}
+use Rattle.image_memory.specs.laws.ByteLaws.{fault_stops, access_none}
+use Rattle.paged_memory.specs.Pages.{extent_at, extent_fault}
 use Rattle.paged_memory.proofs.UseLaws.{holder_before, holder_from, home_below}
 use Rattle.paged_memory.proofs.table.PageTable.usable.Goals as goal
 

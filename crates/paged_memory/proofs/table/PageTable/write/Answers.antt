@@ -1,6 +1,6 @@
 -- Why a write fails.
-use Rattle.std.proofs.Common.{◌≡◌, ◌∙◌, Some, None, length}
-use Rattle.image_memory.specs.Access.{first_fault, write_fault}
+use Rattle.std.proofs.Common.{◌∙◌, length}
+use Rattle.image_memory.specs.Access.{write_fault}
 use Rattle.image_memory.specs.declared.types.Access.TheVariants.{Write}
 use Rattle.paged_memory.specs.Pages.{extent_fault, pieces_of}
 use Rattle.paged_memory.proofs.UseLaws.{write_fault_is, first_same}
