@@ -268,5 +268,21 @@ def long_symbols(part, version):
     return unit.bytes(), [f"changed function_{count - 1}"]
 
 
+def long_sections(part, version):
+    """A few long sections of code and of constants, which are equal to their ends, and a small function of which one
+    byte is another."""
+    count, chance = 8, random.Random(1)
+    size = (int(FILE * part) - 2000) // count & ~15
+    unit = Unit()
+    for i in range(count):
+        name, flags = (f".text.function_{i}", CODE) if i % 2 == 0 else (f".rodata.table_{i}", READ_ONLY)
+        unit.section(name, flags, chance.randbytes(size))
+    unit.section(".text.small", CODE, body(version, 0))
+    for i in range(0, count, 2):
+        unit.symbol(f"function_{i}", i + 1, 0, size)
+    unit.symbol("small", count + 1, 0, len(body(version, 0)))
+    return unit.bytes(), ["changed small"]
+
+
 CASES = {make.__name__: make for make in (functions, relocations, chain, constants, readers, texts, long_text,
-                                          long_names, long_symbols)}
+                                          long_names, long_symbols, long_sections)}

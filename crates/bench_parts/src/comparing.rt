@@ -5,8 +5,9 @@ ghost use Rattle.i386_reloc.specs.Reaches.{is_in};
 
 use i386_reloc::{Normal, read_sections};
 use image_file::read_image;
-use image_memory::{FlatSpace, Kind, Piece, Pieces, are_placed};
+use image_memory::{Kind, Piece, Pieces, are_placed};
 use ks_base::{Bytes, Line, Name, Range, Refusal};
+use paged_memory::PagedSpace;
 use run_pre_match::{MatchFault, Matched, match_body};
 use std::alloc::{AllocError, Global};
 
@@ -70,7 +71,7 @@ fn compared<'a>(
     if !has_code(&normal, section) || !are_placed(&pieces) {
         return Ok(None);
     }
-    let space = FlatSpace::new(alloc, pieces)?;
+    let space = PagedSpace::new(alloc, pieces)?;
     match match_body(alloc, &normal, section, &space, &table, address, address) {
         Ok(matched) => Ok(Some(matched)),
         Err(fault) => Err(refusal_of(alloc, section, fault)),

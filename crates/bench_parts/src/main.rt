@@ -4,23 +4,29 @@
 //!   instructions it met, and how many bytes at which nothing decodes, in all.
 //! - `place SECTIONS GAPS` places so many sections among so many gaps, which it makes itself, and prints the sum of
 //!   their places.
-//! - `stands DWORDS RANGES` looks at a stack of so many dwords of which the last alone is an address of one of so many
-//!   ranges, all made by itself, and prints where that dword stands.
+//! - `stands DWORDS RANGES FIRST LAST TIMES` looks TIMES times at a thread on a stack of so many dwords for addresses
+//!   of so many ranges, the first at the address FIRST and the last at LAST, all made by itself (`stacks.rt`), and
+//!   prints where the one dword stands that is such an address, the stack's last.
+//! - `search DWORDS RANGES FIRST LAST TIMES` finds that dword by a plain loop over the dwords.
 //! - `match OBJECT IMAGE SECTION ADDRESS` compares the code of a section of an object file once with what stands at an
 //!   address of an image file, the home and the base of the function, and prints `ok` with the length of the running
 //!   body and how many claims and interiors it has, or what was refused.
 //!
-//! Numbers and the address are decimal.
+//! Numbers and addresses are decimal.
 #![tactic(auto)]
 
 mod comparing;
 mod counting;
 mod placing;
+mod searching;
+mod stacks;
 mod standing;
 
 use crate::comparing::line_of;
 use crate::counting::{Tally, count_times};
 use crate::placing::sum_of_places;
+use crate::searching::place_by_halving;
+use crate::stacks::Trial;
 use crate::standing::place_on_stack;
 use std::io::{self, ErrorKind};
 use std::process::ExitCode;
@@ -39,11 +45,10 @@ enum Asked<'w> {
         sections: u32,
         gaps: u32,
     },
-    /// To look at a stack of so many dwords for so many ranges.
-    Stands {
-        dwords: u32,
-        ranges: u32,
-    },
+    /// To look at a thread on a stack for addresses of ranges.
+    Stands(Trial),
+    /// To find the same by a plain loop over the stack's dwords.
+    Search(Trial),
     /// To compare a section of an object with what stands at an address of an image.
     Match {
         object: &'w str,
@@ -51,6 +56,20 @@ enum Asked<'w> {
         section: &'w str,
         address: u32,
     },
+}
+
+/// The numbers of a trial; `None` where they have no reading.
+fn read_trial(words: &[String]) -> Option<Trial> {
+    let [dwords, ranges, first, last, times] = words else {
+        return None;
+    };
+    Some(Trial {
+        dwords: dwords.parse::<u32>().ok()?,
+        ranges: ranges.parse::<u32>().ok()?,
+        first: first.parse::<u32>().ok()?,
+        last: last.parse::<u32>().ok()?,
+        times: times.parse::<u32>().ok()?,
+    })
 }
 
 /// What the words ask for; `None` where they have no reading.
@@ -64,10 +83,8 @@ fn read_words(words: &[String]) -> Option<Asked<'_>> {
             sections: sections.parse::<u32>().ok()?,
             gaps: gaps.parse::<u32>().ok()?,
         }),
-        [word, dwords, ranges] if word.as_str() == "stands" => Some(Asked::Stands {
-            dwords: dwords.parse::<u32>().ok()?,
-            ranges: ranges.parse::<u32>().ok()?,
-        }),
+        [word, sizes @ ..] if word.as_str() == "stands" => Some(Asked::Stands(read_trial(sizes)?)),
+        [word, sizes @ ..] if word.as_str() == "search" => Some(Asked::Search(read_trial(sizes)?)),
         [word, object, image, section, address] if word.as_str() == "match" => Some(Asked::Match {
             object: object.as_str(),
             image: image.as_str(),
@@ -129,9 +146,8 @@ fn carry_out(rt: &HostRuntime, asked: Asked<'_>) -> io::Result<()> {
         Asked::Place { sections, gaps } => {
             print_place(rt, sum_of_places(rt.alloc(), sections, gaps)?)
         }
-        Asked::Stands { dwords, ranges } => {
-            print_place(rt, place_on_stack(rt.alloc(), dwords, ranges)?)
-        }
+        Asked::Stands(trial) => print_place(rt, place_on_stack(rt.alloc(), trial)?),
+        Asked::Search(trial) => print_place(rt, place_by_halving(rt.alloc(), trial)?),
         Asked::Match {
             object,
             image,
@@ -148,7 +164,7 @@ fn main(rt: HostRuntime) -> io::Result<ExitCode> {
     }
     let Some(asked) = read_words(words.as_slice()) else {
         println!(rt;
-            "usage: bench_parts decode FILE TIMES | place SECTIONS GAPS | stands DWORDS RANGES | match OBJECT IMAGE SECTION ADDRESS"
+            "usage: bench_parts decode FILE TIMES | place SECTIONS GAPS | stands DWORDS RANGES FIRST LAST TIMES | search DWORDS RANGES FIRST LAST TIMES | match OBJECT IMAGE SECTION ADDRESS"
         )?;
         return Ok(ExitCode::from(2));
     };

@@ -1,42 +1,31 @@
 //! A look at a thread on a large stack, for many ranges of code.
 ghost use Rattle.std.specs.Prelude.{◌≡◌};
+ghost use Rattle.stack_scan.specs.Standing.{IsStack};
 
+use crate::stacks::{LOW, Trial, dword, ranges_of};
 use ia32_alu::Flags;
 use ia32_step::{State, Thread};
-use image_memory::{FlatSpace, Kind, Piece, Pieces, are_placed};
-use ks_base::{Bytes, Place, Range, Ranges, Standing};
+use image_memory::{Kind, Piece, Pieces, Space, are_placed};
+use ks_base::{Bytes, Place, Range, Standing};
+use paged_memory::PagedSpace;
 use stack_scan::{is_stack, stands};
 use std::alloc::{AllocError, Global};
 
-/// Where the stack begins.
-const LOW: u32 = 0x8000_0000;
-
-/// So many ranges of 32 bytes, one every 64 bytes.
-fn ranges_of(alloc: Global, count: u32) -> Result<Ranges, AllocError> {
-    let mut ranges = Ranges::new(alloc);
-    for k in 0..count {
-        let low = k.wrapping_mul(64);
-        ranges.push(Range {
-            low,
-            high: low.wrapping_add(32),
-        })?;
-    }
-    Ok(ranges)
-}
-
-/// So many dwords, spread over the ranges: each lies just after one of them, and the last in one.
-fn stack_of(alloc: Global, count: u32, ranges: u32) -> Result<Bytes, AllocError> {
+/// The piece that has the dwords of a stack.
+fn stack_piece(alloc: Global, trial: Trial) -> Result<Piece, AllocError> {
     let mut bytes = Vec::new(alloc);
-    for k in 1..count {
-        let behind = (k.wrapping_mul(0x9E37_79B1) >> 8) % ranges.max(1);
-        bytes.extend_from_slice(&behind.wrapping_mul(64).wrapping_add(32).to_le_bytes())?;
+    for k in 0..trial.dwords {
+        bytes.extend_from_slice(&dword(trial, k).to_le_bytes())?;
     }
-    bytes.extend_from_slice(&0u32.to_le_bytes())?;
-    Ok(Bytes::from_vec(bytes))
+    Ok(Piece {
+        kind: Kind::Writable,
+        base: LOW,
+        bytes: Bytes::from_vec(bytes),
+    })
 }
 
-/// A thread whose registers hold no address of a range, at the foot of its stack.
-fn thread_on(stack: Range) -> Thread
+/// A thread whose registers hold no address of a range, so many dwords above the foot of its stack.
+fn thread_on(stack: Range, passed: u32) -> Thread
     ensures { result.stack ≡ stack }
 {
     Thread {
@@ -47,7 +36,7 @@ fn thread_on(stack: Range) -> Thread
             u32::MAX,
             u32::MAX,
             u32::MAX,
-            stack.low,
+            stack.low.wrapping_add(passed.wrapping_mul(4)),
             u32::MAX,
             u32::MAX,
             u32::MAX,
@@ -64,26 +53,11 @@ fn thread_on(stack: Range) -> Thread
     }
 }
 
-/// Where on a stack of so many dwords the one stands that is an address of a range. `None` comes for a stack for which
-/// there are no addresses.
-pub fn place_on_stack(alloc: Global, dwords: u32, ranges: u32) -> Result<Option<u64>, AllocError> {
-    let bytes = stack_of(alloc, dwords, ranges)?;
-    let ranges = ranges_of(alloc, ranges)?;
-    let mut pieces = Pieces::new(alloc);
-    pieces.push(Piece {
-        kind: Kind::Writable,
-        base: LOW,
-        bytes,
-    })?;
-    let stack = Range {
-        low: LOW,
-        high: LOW.wrapping_add(dwords.wrapping_mul(4)),
-    };
-    if !are_placed(&pieces) || !is_stack(&pieces, stack) {
-        return Ok(None);
-    }
-    let space = FlatSpace::new(alloc, pieces)?;
-    match stands(&thread_on(stack), &space, ranges.as_slice()) {
+/// Where on a stack, after so many dwords, the first one stands that is an address of a range.
+fn place_after<S: Space>(space: &S, stack: Range, passed: u32, ranges: &[Range]) -> Option<u64>
+    requires { IsStack (S.contents space.now).pieces stack }
+{
+    match stands(&thread_on(stack, passed), space, ranges) {
         Ok(
             Some(
                 Standing {
@@ -91,7 +65,31 @@ pub fn place_on_stack(alloc: Global, dwords: u32, ranges: u32) -> Result<Option<
                     ..
                 },
             ),
-        ) => Ok(Some(u64::from(address))),
-        _ => Ok(None),
+        ) => Some(u64::from(address)),
+        _ => None,
     }
+}
+
+/// Where the dword stands that the last look finds on a stack, `None` where a look finds none, and for a stack for
+/// which there are no addresses.
+pub fn place_on_stack(alloc: Global, trial: Trial) -> Result<Option<u64>, AllocError> {
+    let ranges = ranges_of(alloc, trial)?;
+    let mut pieces = Pieces::new(alloc);
+    pieces.push(stack_piece(alloc, trial)?)?;
+    let stack = Range {
+        low: LOW,
+        high: LOW.wrapping_add(trial.dwords.wrapping_mul(4)),
+    };
+    if !are_placed(&pieces) || !is_stack(&pieces, stack) {
+        return Ok(None);
+    }
+    let space = PagedSpace::new(alloc, pieces)?;
+    let mut place = None;
+    for look in 0..trial.times {
+        place = place_after(&space, stack, look, ranges.as_slice());
+        if place.is_none() {
+            return Ok(None);
+        }
+    }
+    Ok(place)
 }

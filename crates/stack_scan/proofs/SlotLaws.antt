@@ -23,16 +23,16 @@ slot_ends low word size some l =
     rw e (omega (arith, lt-div-mul-add {a = word - low} {b = size} some))
 
 -- and is one of those that take in the address
-pub slot_inside : (low high word size : ℕ) → 0 < size → low ≤ word → word < high → high - low < 1024 * size
-    → (word - low) / size < 1024
-slot_inside low high word size some l m reach = div_below (word - low) size 1024 some (omega arith)
+pub slot_inside : (low high word size : ℕ) → 0 < size → low ≤ word → word < high → high - low < 4096 * size
+    → (word - low) / size < 4096
+slot_inside low high word size some l m reach = div_below (word - low) size 4096 some (omega arith)
 
 -- a slot has an address
 pub some_address : (shift : ℕ) → 0 < 2 ^ shift
 some_address shift = one-le-pow shift 2 (omega arith)
 
 -- slots that are enough for a number of addresses, by how many slots these would take
-pub enough : (span shift : ℕ) → span / 2 ^ shift < 1024 → span < 1024 * 2 ^ shift
+pub enough : (span shift : ℕ) → span / 2 ^ shift < 4096 → span < 4096 * 2 ^ shift
 enough span shift few = (div-lt_iff_lt-mul (some_address shift)).0 few
 
 below_or_not : (a b : ℕ) → (a < b) ⊎ (b ≤ a)

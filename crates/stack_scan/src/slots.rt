@@ -8,10 +8,10 @@ ghost use Rattle.stack_scan.specs.inside.Cuts.{Ends, IsCut};
 use ks_base::Range;
 
 /// How many slots there are.
-const SLOTS: u32 = 1024;
+const SLOTS: u32 = 4096;
 
 /// How many bounds they have, that of the last one's end included.
-const BOUNDS: usize = 1025;
+const BOUNDS: usize = 4097;
 
 /// Slots of one size, one behind another, and where in some ranges that ascend without meeting each begins.
 #[derive(Drop)]
@@ -69,23 +69,23 @@ impl Slots {
     }
 }
 
-/// The least power of two, at most 22, for a slot, by which the slots take in so many addresses.
+/// The least power of two, at most 20, for a slot, by which the slots take in so many addresses.
 fn shift_for(span: u32) -> u32
-    ensures most { result ≤ 22 }
+    ensures most { result ≤ 20 }
     ensures reach { span < SLOTS * 2 ^ result }
 {
-    for shift in 0..22 {
+    for shift in 0..20 {
         if span >> shift < SLOTS {
             return shift;
         }
     }
-    22
+    20
 }
 
 /// Where a slot begins.
 fn bound(low: u32, shift: u32, slot: usize) -> u64
-    requires shift { shift ≤ 22 }
-    requires slot { slot ≤ 1024 }
+    requires shift { shift ≤ 20 }
+    requires slot { slot ≤ 4096 }
     ensures { result ≡ low + slot * 2 ^ shift }
 {
     u64::from(low) + ((slot as u64) << shift)

@@ -289,11 +289,13 @@ fn spread() -> [Range; 40] {
     ranges
 }
 
-/// How many answers are wrong of one of many ranges: its last address is told, and the next one isn't.
+/// How many answers are wrong of one of many ranges: its first and its last address are told, and the one after it isn't.
 fn wrong_at(range: Range, ranges: &[Range]) -> u32 {
     let last = range.high.wrapping_sub(1);
-    let words = [range.high, range.high, last, range.low];
-    u32::from(first_in(&words, ranges) != Some(2))
+    let to_last = [range.high, range.high, last, range.low];
+    let to_first = [range.high, range.high, range.low, last];
+    let found = (first_in(&to_last, ranges), first_in(&to_first, ranges));
+    u32::from(found != (Some(2), Some(2)))
 }
 
 #[test]

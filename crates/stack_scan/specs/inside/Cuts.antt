@@ -13,6 +13,6 @@ pub record Ends (ranges : List Range) (address n : ℕ) : Type 0 where
 -- Slots from a low address on take in all up to a high one. At each bound it is known how many ranges end there or below.
 pub record IsCut (slots : Slots) (low high : ℕ) (ranges : List Range) : Type 0 where
   pub first : slots.low ≡ low
-  pub shift : slots.shift ≤ 22
-  pub reach : high - low < 1024 * 2 ^ slots.shift
-  pub ended : (s : ℕ) → s < 1025 → Ends ranges (slots.low + s * 2 ^ slots.shift) (get_or slots.ended s 0)
+  pub shift : slots.shift ≤ 20
+  pub reach : high - low < 4096 * 2 ^ slots.shift
+  pub ended : (s : ℕ) → s < 4097 → Ends ranges (slots.low + s * 2 ^ slots.shift) (get_or slots.ended s 0)

@@ -10,7 +10,7 @@ ended_between-requires c =
     let size = 2 ^ slots.shift in
     let some = some_address slots.shift in
     let slot = (word - slots.low) / size in
-    let inside : slot < 1024 =
+    let inside : slot < 4096 =
     slot_inside slots.low c.args.high word size some c.requires.above c.requires.below c.requires.slots.reach in
     let around = around_word slots.low word size (get_or slots.ended slot 0) (get_or slots.ended (slot + 1) 0)
     c.args.ranges.now some c.requires.above
