@@ -24,5 +24,5 @@ pub use laws::{
 pub use padding_forms::is_padding;
 pub use types::{
     Arithmetic, Branch, BranchKind, Condition, Counting, Decoded, Field, Fields, Index, Instr,
-    Memory, Operand, Prefixes, Register, Shift, Source, Unary, Width,
+    Memory, Operand, Prefixes, Register, Shift, Source, Unary, Wide, Width,
 };

@@ -557,3 +557,15 @@ pub struct Branch {
     /// How far from the instruction's end it goes, sign-extended to 32 bits.
     pub displacement: u32,
 }
+
+/// The wide form of an instruction: the same instruction with each number at full width that another form of it can
+/// write in one byte.
+#[derive(Clone, Copy)]
+pub struct Wide {
+    /// Its bytes, and zeros behind them.
+    pub bytes: [u8; 24],
+    /// How many bytes it has, at most 21.
+    pub length: u32,
+    /// Where its parts are.
+    pub fields: Fields,
+}
