@@ -15,6 +15,7 @@ mod opcode_table;
 mod padding_forms;
 mod registers;
 mod types;
+mod widening;
 mod widths;
 
 pub use decoder::decode;
@@ -26,3 +27,4 @@ pub use types::{
     Arithmetic, Branch, BranchKind, Condition, Counting, Decoded, Field, Fields, Index, Instr,
     Memory, Operand, Prefixes, Register, Shift, Source, Unary, Wide, Width,
 };
+pub use widening::{has_short_number, widen};
