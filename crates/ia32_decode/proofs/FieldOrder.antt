@@ -34,6 +34,7 @@ record Reaches (at : ℕ) (r : Addressing) : Type 0 where
   pub starts : at ≤ begin
   pub follows_mode : 0 < width → at < begin
   pub narrow : width ≤ 4
+  pub full : 0 < width → cond (width == 1) 4 width ≡ 4
 
 modrm_reaches : (w : List ℕ) (at : ℕ) → Reaches at (addressing_of w at)
 unfolding addressing_with
@@ -47,6 +48,7 @@ modrm_reaches w at =
       starts = after at (sib_length m);
       follows_mode = λ _. later at (sib_length m);
       narrow = few (m / 64 == 1) (m / 64 == 2 || lacks_base m (byte_in w (at + 1)));
+      full = whole (m / 64 == 1) (m / 64 == 2 || lacks_base m (byte_in w (at + 1)));
     }
   where
     after : (at k : ℕ) → at ≤ at + 1 + k
@@ -60,6 +62,12 @@ modrm_reaches w at =
     few false true = omega arith
     few false false = omega arith
 
+    whole : (a b : Bool) → 0 < cond a 1 (cond b 4 0)
+        → cond {A = ℕ} (cond a 1 (cond b 4 0) == 1) 4 (cond a 1 (cond b 4 0)) ≡ 4
+    whole true b some = refl
+    whole false true some = refl
+    whole false false some = omega arith
+
 absent_reaches : (at : ℕ) → Reaches at (no_addressing at)
 unfolding no_addressing
 absent_reaches at = record {
@@ -70,6 +78,7 @@ absent_reaches at = record {
   starts = omega arith;
   follows_mode = λ h. omega arith;
   narrow = omega arith;
+  full = λ h. omega arith;
 }
 
 form_reaches : (form : Form) (w : List ℕ) (at : ℕ) → Reaches at (form_addressing form w at)
@@ -92,6 +101,7 @@ pub record Laid (d : Decoded) : Type 0 where
   pub starts : d.fields.opcode_end ≤ begin
   pub follows_mode : displacement_width ≡ 1 → d.fields.opcode_end < begin
   pub narrow : displacement_width ≤ 4
+  pub full : 0 < displacement_width → cond (displacement_width == 1) 4 displacement_width ≡ 4
   pub number_narrow : immediate_width ≤ 4
 
 count_narrow : (width : Width) → byte_count width ≤ 4
@@ -131,6 +141,7 @@ laid_with Address end r width digit d s p head = record {
   starts = subst (λ k. k ≤ r.end) (sym (ap (λ (f : Fields). f.opcode_end) p.fields)) (before _ _ _ _ s.starts s.end);
   follows_mode = λ is. absurd (four 4 refl is);
   narrow = omega arith;
+  full = λ _. refl;
   number_narrow = omega arith;
 }
   where
@@ -156,6 +167,7 @@ laid_with follows end r width digit d s p head =
       starts = subst (λ k. k ≤ s.begin) (sym (ap (λ (f : Fields). f.opcode_end) fields)) s.starts;
       follows_mode = λ is. subst (λ k. k < s.begin) (sym (ap (λ (f : Fields). f.opcode_end) fields)) (s.follows_mode (some s.width is));
       narrow = s.narrow;
+      full = s.full;
       number_narrow = follows_narrow follows width digit;
     }
   where

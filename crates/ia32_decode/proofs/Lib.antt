@@ -5,3 +5,4 @@ pub mod Readings
 pub mod Jumps
 pub mod FieldOrder
 pub mod WideForms
+pub mod WideFormsRest

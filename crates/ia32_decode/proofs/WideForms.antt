@@ -3,7 +3,7 @@ use Rattle.std.proofs.Common.{◌≡◌, ℕ, zero, suc, ◌+◌, ◌-◌, ◌<�
 use Rattle.std.proofs.Common.{Option, Some, None, refl, ap, sym, subst, ◌∙◌, arith, true, false, Bool, get_or, set, nat_lt}
 use Rattle.std.proofs.Common.{length-take, length-drop, replicate, append_assoc}
 use Rattle.std.specs.Prelude.{◌==◌, ◌||◌, IfSome}
-use Rattle.std.proofs.lemmas.Bool.{eqb-true, ne_eqb}
+use Rattle.std.proofs.lemmas.Bool.{eqb-true, eqb-false, ne_eqb}
 use Rattle.std.proofs.lemmas.List.{length-set, set-get_or, length-append, length-replicate}
 use Rattle.std.proofs.lemmas.List.{length-take-le, drop_at, drop-replicate, get_or-take, set-append_right}
 use Rattle.std.proofs.Math.Seq.{take-add}
@@ -184,7 +184,7 @@ pushed xs ys a k whole is same fits =
     left : (n f y : ℕ) → k ≡ y → n ≡ f + y → 24 - f - k ≡ 24 - n
     left n f y is sum = omega arith
 
-wide_bytes_is : (w : List ℕ) (d : Decoded)
+pub wide_bytes_is : (w : List ℕ) (d : Decoded)
     → wide_bytes w d ≡ wide_head w d ++ wide_addressing w d ++ wide_displacement w d ++ wide_immediate w d
 unfolding wide_bytes
 wide_bytes_is w d = refl
@@ -246,9 +246,14 @@ unchanged w d p none =
     let third : take (b + l.displacement_width) w ++ take l.immediate_width (drop (b + l.displacement_width) w)
     ≡ take d.length w =
     sym (take-add (b + l.displacement_width) l.immediate_width w) ∙ ap (λ n. take n w) l.total in
-    let whole : wide_bytes w d ≡ wide_head w d ++ wide_addressing w d ++ wide_displacement w d ++ wide_immediate w d =
-    wide_bytes_is w d in
-    cc
+    wide_bytes_is w d
+    ∙ ap (λ l. l ++ wide_addressing w d ++ wide_displacement w d ++ wide_immediate w d) head
+    ∙ ap (λ l. take e w ++ l ++ wide_displacement w d ++ wide_immediate w d) addressing
+    ∙ ap (λ l. l ++ wide_displacement w d ++ wide_immediate w d) first
+    ∙ ap (λ l. take b w ++ l ++ wide_immediate w d) displacement
+    ∙ ap (λ l. l ++ wide_immediate w d) second
+    ∙ ap (λ number. take (b + l.displacement_width) w ++ number) immediate
+    ∙ third
   where
     back : (e b : ℕ) → e ≤ b → e + (b - e) ≡ b
     back e b h = omega arith
@@ -495,7 +500,7 @@ same_form w d is none bytes same =
     wide_of_is w d bytes d.length d.fields (same ∙ ap padded (sym form))
     (sym (ap length form ∙ length-take-le d.length w p.within)) (sym (fields_unchanged w d p none))
 
-fields_is : (w : List ℕ) (d : Decoded)
+pub fields_is : (w : List ℕ) (d : Decoded)
     → wide_fields w d
     ≡ record {
       opcode_end = d.fields.opcode_end;
@@ -553,3 +558,83 @@ longer w d =
       ap length (wide_bytes_is w d),
       length-append (wide_head w d ++ wide_addressing w d ++ wide_displacement w d) (wide_immediate w d),
     )
+
+width_more : (k : ℕ) → k ≤ wide_width 4 k
+width_more k = by (k == 1) (eqb-true k 1)
+  where
+    by : (b : Bool) → (b ≡ true → k ≡ 1) → k ≤ cond b 4 k
+    by true is = let h : k ≡ 1 = is refl in omega arith
+    by false is = omega arith
+
+immediate_more : (w : List ℕ) (d : Decoded) (p : Parts w d) → p.order.immediate_width ≤ length (wide_immediate w d)
+immediate_more w d p =
+    let width : Width = full_width_of d.prefixes.operand_size in
+    by (has_wide_opcode (opcode_in w d)) (byte_count width) (field_bytes w d.fields.imm) p.order.immediate_width
+    (count_few width).0 (length_of_immediate w d p)
+  where
+    more : (count : ℕ) (bytes : List ℕ) → 0 < count → length bytes ≤ length (widened count bytes)
+    more count [] some = omega arith
+    more count (x ∷ []) some = omega arith
+    more count (x ∷ y ∷ bytes) some = omega arith
+
+    by : (b : Bool) (count : ℕ) (bytes : List ℕ) (n : ℕ) → 0 < count → length bytes ≡ n
+        → n ≤ length (cond b (widened count bytes) bytes)
+    by true count bytes n some is = omega (arith, more count bytes some)
+    by false count bytes n some is = omega arith
+
+-- What a wide form has more than its instruction, and where its parts lie.
+pub record WideBounds (w : List ℕ) (d : Decoded) : Type 0 where
+  pub longer : d.length ≤ length (wide_bytes w d)
+  pub opcode : (wide_fields w d).opcode_end ≤ length (wide_bytes w d)
+  pub displacement : IfSome (wide_fields w d).disp (λ (f : Field). f.offset + f.width ≤ length (wide_bytes w d))
+  pub full : IfSome (wide_fields w d).disp (λ (f : Field). f.width ≡ 4)
+  pub immediate : IfSome (wide_fields w d).imm (λ (f : Field). f.offset + f.width ≤ length (wide_bytes w d))
+
+pub wide_bounds : (w : List ℕ) (d : Decoded) → decoded_from w ≡ Some d → WideBounds w d
+wide_bounds w d is =
+    let p : Parts w d = parts w d is in
+    let l : Laid d = p.order in
+    let k : ℕ = wide_width 4 l.displacement_width in
+    let n : ℕ = length (wide_immediate w d) in
+    let total : length (wide_bytes w d) ≡ l.begin + k + n = wide_length_is w d p in
+    let fields : wide_fields w d
+    ≡ record { opcode_end = d.fields.opcode_end; disp = field_of l.begin k; imm = field_of (l.begin + k) n } =
+    wide_fields_are w d p in
+    let disp : (wide_fields w d).disp ≡ field_of l.begin k = ap (λ (f : Fields). f.disp) fields in
+    let imm : (wide_fields w d).imm ≡ field_of (l.begin + k) n = ap (λ (f : Fields). f.imm) fields in
+    record {
+      longer = bound _ _ _ _ _ _ _ l.total total (width_more l.displacement_width) (immediate_more w d p);
+      opcode = subst (λ (f : Fields). f.opcode_end ≤ length (wide_bytes w d)) (sym fields)
+          (before _ _ _ _ _ l.starts total);
+      displacement = subst (λ f. IfSome f (λ (x : Field). x.offset + x.width ≤ length (wide_bytes w d))) (sym disp)
+          (field_within l.begin k (length (wide_bytes w d)) (first _ _ _ _ total));
+      full = subst (λ f. IfSome f (λ (x : Field). x.width ≡ 4)) (sym disp)
+          (field_full l.begin k (λ some. l.full (positive l.displacement_width (λ none. some (ap (wide_width 4) none)))));
+      immediate = subst (λ f. IfSome f (λ (x : Field). x.offset + x.width ≤ length (wide_bytes w d))) (sym imm)
+          (field_within (l.begin + k) n (length (wide_bytes w d)) (second _ _ _ _ total));
+    }
+  where
+    bound : (b k n k' n' x y : ℕ) → b + k + n ≡ x → y ≡ b + k' + n' → k ≤ k' → n ≤ n' → x ≤ y
+    bound b k n k' n' x y p q r s = omega arith
+
+    before : (e b k n y : ℕ) → e ≤ b → y ≡ b + k + n → e ≤ y
+    before e b k n y p q = omega arith
+
+    first : (b k n y : ℕ) → y ≡ b + k + n → b + k ≤ y
+    first b k n y p = omega arith
+
+    second : (b k n y : ℕ) → y ≡ b + k + n → b + k + n ≤ y
+    second b k n y p = omega arith
+
+    positive : (k : ℕ) → (k ≡ 0 → ⊥) → 0 < k
+    positive zero some = absurd (some refl)
+    positive (suc k) some = omega arith
+
+    field_full : (at width : ℕ) → ((width ≡ 0 → ⊥) → width ≡ 4)
+        → IfSome (field_of at width) (λ (f : Field). f.width ≡ 4)
+    field_full at width full = by (width == 0) (λ is. full (eqb-false width 0 is))
+      where
+        by : (b : Bool) → (b ≡ false → width ≡ 4)
+            → IfSome {T = Field} (cond b None (Some (record { offset = at; width = width }))) (λ f. f.width ≡ 4)
+        by true is = tt
+        by false is = is refl
