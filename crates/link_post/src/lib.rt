@@ -1,5 +1,5 @@
-//! Values of what the references of new code go to, places for its sections, their bytes at these places, and what is
-//! free of an arena.
+//! Values of what the references of new code go to, places for its sections, their bytes at these places, what these
+//! bytes need of the running program, and what is free of an arena.
 #![tactic(auto)]
 
 mod arena;
@@ -22,8 +22,8 @@ pub use crate::laws::{
     needed_targets_have_addresses, places_are_lowest, places_keep_the_order, places_lie_apart,
     values_are_found,
 };
-pub use crate::linking::linked;
+pub use crate::linking::{linked, needs};
 pub use crate::lookups::{in_order, solved_as};
 pub use crate::placing::{ascend, place};
 pub use crate::resolving::resolve_post;
-pub use crate::types::{Placed, Placement, SectionSize};
+pub use crate::types::{Need, Needs, Placed, Placement, SectionSize};

@@ -1,14 +1,15 @@
-//! The bytes of new sections at their places.
-ghost use Rattle.std.specs.Prelude.{◌≡◌, ◌<◌, ◌^◌, unwrap_or, IfOk, OnOk};
+//! The bytes of new sections at their places, and what their fields need.
+ghost use Rattle.std.specs.Prelude.{◌≡◌, ◌<◌, ◌^◌, map, unwrap_or, IfOk, OnOk};
 ghost use Rattle.std.specs.List.{fold};
 ghost use Rattle.i386_reloc.specs.Classes.{is_code_class};
 ghost use Rattle.i386_reloc.specs.Reaches.{is_data_class, is_in};
 ghost use Rattle.link_post.specs.Places.{base_in as base_in_list};
 ghost use Rattle.link_post.specs.Linked.{AreInOrder, function_address, section_address};
 ghost use Rattle.link_post.specs.Linked.{target_address, address_of, with_word, filled, linked};
+ghost use Rattle.link_post.specs.Needs.{need_of, needs};
 
 use crate::lookups::{base_in, value_in};
-use crate::types::{Placed, Placement};
+use crate::types::{Need, Needs, Placed, Placement};
 use i386_reloc::{Class, Normal, NormalSection, Ref, Target, field_value};
 use ks_base::{Bytes, Name};
 use std::alloc::{AllocError, Global};
@@ -55,6 +56,31 @@ pub fn linked(
     Ok(Bytes::from_vec(bytes))
 }
 
+/// The needs of the section of a name, by offset: for each of its fields the `S` with which [`linked`]
+/// fills it from the same places and values. There are none where `post` has no such section. It takes time in
+/// proportion to the references, and each name is found by halving or a map.
+#[tactic(auto, unfolding(crate::specs::Needs::needs))]
+pub fn needs(
+    alloc: Global,
+    post: &Normal<'_>,
+    section: &Name,
+    placement: &Placement,
+    values: &Values,
+) -> Result<Needs, AllocError>
+    requires { AreInOrder post.now placement.now }
+    ensures { IfOk result (λ found. found ≡ needs post.now placement.now values.now.entries section.now) }
+{
+    let Some(normal) = post.find(section.as_slice()) else {
+        return Ok(Needs::new(alloc));
+    };
+    let linking = Linking {
+        post,
+        placement: placement.as_slice(),
+        values,
+    };
+    linking.needs_of(alloc, section, normal.refs.as_slice())
+}
+
 /// What the fields of new sections are filled from.
 #[derive(Drop)]
 struct Linking<'a, 'b> {
@@ -82,6 +108,32 @@ impl<'a, 'b> Linking<'a, 'b> {
             self.fill_field(alloc, base, &mut bytes, r)?;
         }
         Ok(bytes)
+    }
+
+    /// The needs of references that stand in the section of a name.
+    fn needs_of(&self, alloc: Global, section: &Name, refs: &[Ref<'_>]) -> Result<Needs, AllocError>
+        requires { AreInOrder self.now.post.now self.now.placement.now }
+        ensures { IfOk result (λ found. found ≡ map
+            (need_of self.now.post.now self.now.placement.now self.now.values.now.entries section.now) refs.now) }
+    {
+        let mut found = Needs::new(alloc);
+        for r in refs {
+            found.push(self.need_of(alloc, section, r)?)?;
+        }
+        Ok(found)
+    }
+
+    /// The need of a reference that stands in the section of a name.
+    fn need_of(&self, alloc: Global, section: &Name, r: &Ref<'_>) -> Result<Need, AllocError>
+        requires { AreInOrder self.now.post.now self.now.placement.now }
+        ensures { IfOk result (λ need. need
+            ≡ need_of self.now.post.now self.now.placement.now self.now.values.now.entries section.now r.now) }
+    {
+        Ok(Need {
+            section: section.clone()?,
+            offset: r.offset,
+            s: self.address_of(alloc, r)?,
+        })
     }
 
     /// Fills the field of a reference.

@@ -1,4 +1,4 @@
-//! Sections that are to be placed, and their places.
+//! Sections that are to be placed, their places, and what their fields need.
 use ks_base::{ListOf, Name};
 
 /// A section that is to be placed.
@@ -23,3 +23,17 @@ pub struct Placed {
 
 /// Places of sections, in the order in which they were placed.
 pub type Placement = ListOf<Placed>;
+
+/// What a field of new code needs of the running program.
+#[derive(Clone, PartialEq, Eq, Drop)]
+pub struct Need {
+    /// The name of the section in which the field stands.
+    pub section: Name,
+    /// Where the field begins in that section, in bytes.
+    pub offset: u32,
+    /// The address of what the field's reference goes to.
+    pub s: u32,
+}
+
+/// Needs, by section and offset.
+pub type Needs = ListOf<Need>;

@@ -1,10 +1,11 @@
 //! The table of symbols.
-ghost use Rattle.std.specs.Prelude.{◌≡◌, ◌==◌, ◌+◌, ◌-◌, ◌<◌, ◌≤◌, ◌++◌, [], ◌∷◌, length, take, max, OnOk, OnErr, IfOk};
+ghost use Rattle.std.specs.Prelude.{◌≡◌, ◌==◌, ◌+◌, ◌<◌, ◌≤◌, ◌^◌, ◌++◌, [], ◌∷◌, length, max, vec_capacity, OnOk, OnErr, IfOk};
 ghost use Rattle.std.specs.Option.{option_copied, option_map};
 ghost use Rattle.std.specs.List.{slice_get, list_any};
 ghost use Rattle.ks_base.specs.Gives.{Gives};
 ghost use Rattle.symbol_table.specs.Symbols.{function_addresses, global_addresses, data_addresses};
 ghost use Rattle.symbol_table.specs.Symbols.{name_below, missing_as, only_address, function_named, next_address};
+ghost use Rattle.symbol_table.specs.Table.{without_symbols};
 
 use crate::addresses::Addresses;
 use crate::entries::{Entry, Index, entries_of, list_entries, note_last};
@@ -18,6 +19,9 @@ use std::marker::Model;
 
 /// The offsets below which an address is shown with a function's name.
 const NAMED_REACH: u32 = 65_536;
+
+/// The most symbols that a table has, so that 32 bits count them.
+const MOST_SYMBOLS: usize = u32::MAX as usize;
 
 /// The symbols of a running program in order. A clause sees it as the list of its symbols and the number
 /// of its spare places, which [`reserve`](SymbolTable::reserve) makes and [`add`](SymbolTable::add) takes.
@@ -62,10 +66,14 @@ impl SymbolTable {
     }
 
     /// The table of some symbols, in their order, without spare places. Each index is sorted once, so that it is
-    /// made faster than by [`add`](SymbolTable::add) of each symbol. An error comes only if memory runs out.
+    /// made faster than by [`add`](SymbolTable::add) of each symbol. An error comes only if memory runs out; for 2 to
+    /// the 32nd symbols there is none.
     pub fn from_symbols(alloc: Global, symbols: Vec<Symbol>) -> Result<Self, AllocError>
         ensures { IfOk result (λ table. table ≡ record { symbols = symbols.items; spare = 0 }) }
     {
+        if symbols.len() > MOST_SYMBOLS {
+            return Err(AllocError);
+        }
         let functions = entries_of(alloc, Index::Functions, symbols.as_slice())?;
         let data_entries = entries_of(alloc, Index::Data, symbols.as_slice())?;
         let globals = entries_of(alloc, Index::Globals, symbols.as_slice())?;
@@ -82,7 +90,8 @@ impl SymbolTable {
 
     /// How many symbols the table has.
     pub fn len(&self) -> usize
-        ensures { result ≡ length self.now.symbols }
+        ensures value { result ≡ length self.now.symbols }
+        ensures few { result < 2 ^ 32 }
     {
         self.symbols.len()
     }
@@ -190,7 +199,7 @@ impl SymbolTable {
     }
 
     /// Makes spare places until there are `n`, if there are fewer. The symbols stay. `Err` comes only if memory runs
-    /// out, and the table is then as before.
+    /// out, as it does where places and symbols would be 2 to the 32nd or more, and the table is then as before.
     pub fn reserve(&mut self, n: u32) -> Result<(), AllocError>
         ensures symbols { self.new.symbols ≡ self.old.symbols }
         ensures spare { OnOk result (self.new.spare ≡ max self.old.spare n) }
@@ -200,8 +209,11 @@ impl SymbolTable {
         if wanted <= self.spare {
             return Ok(());
         }
-        self.symbols.reserve(wanted)?;
         let count = self.symbols.len();
+        if count + wanted > MOST_SYMBOLS {
+            return Err(AllocError);
+        }
+        self.symbols.reserve(wanted)?;
         self.functions
             .reserve(count - self.functions.len() + wanted)?;
         self.data_entries
@@ -227,20 +239,29 @@ impl SymbolTable {
         self.spare -= 1;
     }
 
-    /// Takes the last `n` symbols away. The spare places stay as many. It takes no memory.
-    pub fn remove_last(&mut self, n: u32)
-        requires { n ≤ length self.old.symbols }
-        ensures symbols { self.new.symbols ≡ take (length self.old.symbols - n) self.old.symbols }
+    /// Takes `n` symbols away, the first of them at index `first`. The others stay in their order, and the spare places
+    /// as many. It takes no memory.
+    pub fn remove_at(&mut self, first: u32, n: u32)
+        requires { first + n ≤ length self.old.symbols }
+        ensures symbols { self.new.symbols ≡ without_symbols first n self.old.symbols }
         ensures spare { self.new.spare ≡ self.old.spare }
     {
-        let kept = self.symbols.len() - n as usize;
-        self.symbols.truncate(kept);
+        drop_range(&mut self.symbols, first as usize, n as usize);
         let symbols = self.symbols.as_slice();
         list_entries(&mut self.functions, Index::Functions, symbols);
         list_entries(&mut self.data_entries, Index::Data, symbols);
         list_entries(&mut self.globals, Index::Globals, symbols);
         list_entries(&mut self.names, Index::Names, symbols);
     }
+}
+
+/// Drops `n` symbols, the first of them at index `first`, and moves those behind them once.
+fn drop_range(symbols: &mut Vec<Symbol>, first: usize, n: usize)
+    requires { first + n ≤ length symbols.old.items }
+    ensures items { symbols.new.items ≡ without_symbols first n symbols.old.items }
+    ensures capacity { vec_capacity symbols.new ≡ vec_capacity symbols.old }
+{
+    symbols.drain(first..first + n);
 }
 
 /// The one address of a name, whose addresses are given in ascending order. The refusal that `missing` names comes

@@ -48,8 +48,17 @@ fn table_of_rows(alloc: Global) -> Result<SymbolTable, AllocError> {
 /// The table with its last four symbols taken away.
 fn table_shortened(alloc: Global) -> Result<SymbolTable, AllocError> {
     let mut table = table_of_rows(alloc)?;
-    if 4 <= table.len() {
-        table.remove_last(4);
+    if 13 <= table.len() {
+        table.remove_at(9, 4);
+    }
+    Ok(table)
+}
+
+/// The table with three symbols taken away from among the others: data of `f`, the function `g` and a function `f`.
+fn table_without_three(alloc: Global) -> Result<SymbolTable, AllocError> {
+    let mut table = table_of_rows(alloc)?;
+    if 5 <= table.len() {
+        table.remove_at(2, 3);
     }
     Ok(table)
 }
@@ -81,6 +90,9 @@ fn symbols_stand_in_order(rt: HostRuntime) -> Result<(), Fail> {
     let table = table_shortened(rt.alloc())?;
     let next = table.next_address(0x30) == Some(0x20100);
     assert!(rt; ends_with(&table, 8, 0x20100, b"twin", 9) && next && table.name_at(0xf).is_none());
+    let table = table_without_three(rt.alloc())?;
+    let around = has_at(&table, 1, 0x10, b"early") && has_at(&table, 2, 0x20, b"d");
+    assert!(rt; around && ends_with(&table, 9, 0x28, b"f", 10));
     Ok(())
 }
 
@@ -137,6 +149,14 @@ fn names_have_their_addresses(rt: HostRuntime) -> Result<(), Fail> {
         (Kind::Data, "f", &[0x20]),
     ];
     let table = table_shortened(rt.alloc())?;
+    assert!(rt; have_addresses(rt.alloc(), &table, &rows)?);
+    let rows: [(Kind, &str, &[u32]); 4] = [
+        (Kind::Function, "f", &[0x8, 0x30, 0x40]),
+        (Kind::Function, "g", &[]),
+        (Kind::Global, "f", &[0x28, 0x30, 0x40]),
+        (Kind::Data, "f", &[0x28]),
+    ];
+    let table = table_without_three(rt.alloc())?;
     assert!(rt; have_addresses(rt.alloc(), &table, &rows)?);
     Ok(())
 }

@@ -1,10 +1,10 @@
-//! New code at its places: the values of its references and its bytes.
+//! New code at its places: the values of its references, its bytes and its needs.
 
 use crate::link_post_files::{NEW, OLD};
 use crate::normals::normal_of;
 use i386_reloc::Normal;
 use ks_base::{Bytes, Name, Names};
-use link_post::{Placed, Placement, in_order, linked, resolve_post};
+use link_post::{Needs, Placed, Placement, in_order, linked, needs, resolve_post};
 use std::alloc::Global;
 use std::test::Fail;
 use symbol_table::{Solved, Symbol, SymbolTable, Unknown, Values};
@@ -112,14 +112,16 @@ fn linked_of(
     Ok(linked(alloc, post, &section, placement, values)?)
 }
 
+/// The symbols that the new sections refer to, and a function of the same name as data.
+static SYMBOLS: [(bool, &str, u32); 3] = [
+    (false, "x", 0x0020_0014),
+    (true, "spin", 0x0010_0020),
+    (true, "x", 0x0010_0030),
+];
+
 /// How many sections are linked as they have to be.
 fn count_of_linked(alloc: Global) -> Result<usize, Fail> {
-    let symbols = [
-        (false, "x", 0x0020_0014),
-        (true, "spin", 0x0010_0020),
-        (true, "x", 0x0010_0030),
-    ];
-    let values = values_of(alloc, &symbols)?;
+    let values = values_of(alloc, &SYMBOLS)?;
     let post = normal_of(alloc, NEW)?;
     let placement = placement_of(alloc)?;
     let mut count = 0usize;
@@ -135,6 +137,62 @@ fn count_of_linked(alloc: Global) -> Result<usize, Fail> {
 #[test]
 fn new_sections_are_linked(rt: HostRuntime) -> Result<(), Fail> {
     assert!(rt; count_of_linked(rt.alloc())? == LINKED.len());
+    Ok(())
+}
+
+/// The fields of the new sections, and of one that isn't there: where each begins, and the address that it needs.
+static NEEDS: [(&str, &[(u32, u32)]); 8] = [
+    (".text.main", &[(1, 0x0010_0000)]),
+    (".text.s", &[(7, 0x0080_0040)]),
+    (".rodata.s", &[(0, 0x0080_0020), (4, 0x0080_0020)]),
+    (
+        ".text.d",
+        &[
+            (1, 0x0020_0010),
+            (6, 0x0080_0070),
+            (11, 0x0080_0083),
+            (16, 0x0010_0020),
+            (21, 0x0080_0090),
+        ],
+    ),
+    (".bss.n", &[]),
+    (".rodata.str1.1", &[]),
+    (".text.g", &[(1, 0x0020_0100)]),
+    (".text.none", &[]),
+];
+
+/// Whether these are the needs of the fields of a section.
+fn are_needs(found: &Needs, name: &str, fields: &[(u32, u32)]) -> bool {
+    found.len() == fields.len()
+        && found.as_slice().iter().zip(fields).all(|(need, field)| {
+            need.section.as_slice() == name.as_bytes()
+                && need.offset == field.0
+                && need.s == field.1
+        })
+}
+
+/// How many sections need what they have to.
+fn count_of_needing(alloc: Global) -> Result<usize, Fail> {
+    let values = values_of(alloc, &SYMBOLS)?;
+    let post = normal_of(alloc, NEW)?;
+    let placement = placement_of(alloc)?;
+    if !in_order(&post, &placement) {
+        return Err(Fail::from("another order"));
+    }
+    let mut count = 0usize;
+    for (name, fields) in &NEEDS {
+        let section = Name::from_slice(alloc, name.as_bytes())?;
+        let found = needs(alloc, &post, &section, &placement, &values)?;
+        if are_needs(&found, name, fields) {
+            count = count.saturating_add(1);
+        }
+    }
+    Ok(count)
+}
+
+#[test]
+fn new_sections_need_what_they_refer_to(rt: HostRuntime) -> Result<(), Fail> {
+    assert!(rt; count_of_needing(rt.alloc())? == NEEDS.len());
     Ok(())
 }
 

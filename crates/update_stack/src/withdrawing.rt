@@ -1,8 +1,9 @@
 //! What taking the newest update back does.
-ghost use Rattle.std.specs.Prelude.{◌≡◌, List, ◌++◌, [], ◌∷◌, ◌+◌, length, IfSome, IfNone};
+ghost use Rattle.std.specs.Prelude.{◌≡◌, ◌≤◌, List, ◌++◌, [], ◌∷◌, ◌+◌, length, IfSome, IfNone};
 ghost use Rattle.ks_base.specs.declared.places.Range.{Range as RangeOf};
 ghost use Rattle.image_threads.specs.Program.{Program};
 ghost use Rattle.update_stack.specs.StandsFor.{seen};
+ghost use Rattle.update_stack.specs.Undo.{without_last};
 ghost use Rattle.update_stack.specs.Systems.{Holds};
 ghost use Rattle.update_stack.specs.declared.updates.Kept.{Kept as KeptOf};
 ghost use Rattle.update_stack.specs.declared.updates.Update.{Update as Shown};
@@ -16,6 +17,7 @@ use splice_jump::{
     code_stays_code, homes_stay_spliced, jumps_are_added_and_replaced, jumps_are_taken_back,
     jumps_change_their_bytes_alone,
 };
+use symbol_table::SymbolTable;
 use update_memory::{
     changes_are_withdrawn, code_that_stays, dropping_goes_past_writes, memory_stays_memory,
     withdraw,
@@ -45,8 +47,18 @@ pub(crate) fn take_back<S: Space>(machine: &mut Machine<S>, one: Kept) -> Ranges
     let pieces = one.pieces.as_slice();
     let retired = one.retired.as_slice();
     withdraw(machine.space_mut(), pieces, retired, one.jumps.as_slice());
-    machine.symbols_mut().remove_last(one.symbol_count);
+    remove_last(machine.symbols_mut(), one.symbol_count);
     one.gaps
+}
+
+/// Takes the last `n` symbols away. It takes no memory.
+fn remove_last(table: &mut SymbolTable, n: u32)
+    requires { n ≤ length table.old.symbols }
+    ensures symbols { table.new.symbols ≡ without_last n table.old.symbols }
+    ensures spare { table.new.spare ≡ table.old.spare }
+{
+    let first = table.len() - n as usize;
+    table.remove_at(first as u32, n);
 }
 
 /// What is kept of the newest update can be taken away, and the system holds then, as the machine without that update.

@@ -18,6 +18,6 @@ returns c =
       c.in_ok-put_number-2.ensures,
       c.in_ok-put_number.ensures,
       c.len.ensures,
-      c.len-2.ensures,
+      c.len-2.ensures.value,
       c.len-3.ensures,
     )
