@@ -56,9 +56,10 @@ pub fn linked(
     Ok(Bytes::from_vec(bytes))
 }
 
-/// The needs of the section of a name, by offset: for each of its fields the `S` with which [`linked`]
-/// fills it from the same places and values. There are none where `post` has no such section. It takes time in
-/// proportion to the references, and each name is found by halving or a map.
+/// The needs of the section of a name, by offset: for each of its fields the `S` with which [`linked`] fills it from the
+/// same places and values. There are none where `post` has no such section. It takes time in proportion to the
+/// references, and each name is found by halving or a map. Each need holds the section's name, so the answer takes
+/// memory for as many copies of the name as there are references.
 #[tactic(auto, unfolding(crate::specs::Needs::needs))]
 pub fn needs(
     alloc: Global,

@@ -255,7 +255,7 @@ impl SymbolTable {
     }
 }
 
-/// Drops `n` symbols, the first of them at index `first`, and moves those behind them once.
+/// Drops `n` symbols, the first of them at index `first`. It takes time in proportion to the symbols from there on.
 fn drop_range(symbols: &mut Vec<Symbol>, first: usize, n: usize)
     requires { first + n ≤ length symbols.old.items }
     ensures items { symbols.new.items ≡ without_symbols first n symbols.old.items }
