@@ -104,6 +104,13 @@ impl<'s, 'a> PreInstruction<'s, 'a> {
         self.after().wrapping_add(displacement(self.branch()))
     }
 
+    /// Whether a reference stands on its displacement, or on the address that follows an opcode A0 to A3.
+    pub fn is_on_displacement(&self, r: &Ref<'_>) -> bool
+        ensures { result ≡ is_field_at self.now.place r.now.offset self.now.decoded.fields.disp }
+    {
+        is_field_at(self.place, r.offset, self.decoded.fields.disp)
+    }
+
     /// Whether each of its references stands on a field on which it may.
     pub(crate) fn may_all_stand(&self) -> bool
         ensures { result ≡ may_all_stand self.now }
