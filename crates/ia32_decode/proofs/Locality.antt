@@ -242,7 +242,7 @@ read_with_is : (line : Line) (w : List ℕ) (h : Head) (r : Addressing)
 unfolding read_with
 read_with_is line w h r = refl
 
-read_line_is : (line : Line) (w : List ℕ) (h : Head)
+pub read_line_is : (line : Line) (w : List ℕ) (h : Head)
     → read_line line w h ≡ read_with line w h (line_addressing (shape_of line) w h)
 unfolding read_line
 read_line_is line w h = refl
@@ -253,7 +253,7 @@ pub record Fitting (line : Line) (v : List ℕ) (h : Head) (r : Addressing) (d :
   pub same : completed line v h r ≡ d
   pub length : r.end + number_width (shape_of line) h r ≡ d.length
 
-fitting : (line : Line) (v : List ℕ) (h : Head) (r : Addressing) (d : Decoded) → read_with line v h r ≡ Some d
+pub fitting : (line : Line) (v : List ℕ) (h : Head) (r : Addressing) (d : Decoded) → read_with line v h r ≡ Some d
     → Fitting line v h r d
 fitting line v h r d is =
     let c : Chosen (accepts line v h r) (nat_le (completed line v h r).length (length v)) (completed line v h r) d =
@@ -340,12 +340,12 @@ count_same v w n a few = by_place v w n a (position is_other v) refl few
         ∙ ap (λ b. unwrap_or (cond b (Some p) None) (length w)) (le-leb (suc p) (length w) (omega arith))
 
 -- the opcode after p bytes of prefixes, by its first byte and the byte after
-abbrev headed : Prefixes → ℕ → ℕ → ℕ → Head
+abbrev pub headed : Prefixes → ℕ → ℕ → ℕ → Head
 headed prefixes p b c =
     cond (b == 0x0F) (record { prefixes = prefixes; escaped = true; opcode = c; end = p + 2 })
     (record { prefixes = prefixes; escaped = false; opcode = b; end = p + 1 })
 
-head_is : (w : List ℕ) (prefixes : Prefixes) (p : ℕ)
+pub head_is : (w : List ℕ) (prefixes : Prefixes) (p : ℕ)
     → head_after w prefixes p ≡ headed prefixes p (byte_in w p) (byte_in w (p + 1))
 unfolding head_after
 head_is w prefixes p = refl
@@ -405,7 +405,7 @@ head_same v w n a fits =
     ∙ opcode_same v w n prefixes p a opcode
     ∙ sym (head_is v prefixes p)
 
-read_front_by_line : (w : List ℕ)
+pub read_front_by_line : (w : List ℕ)
     → read_front w ≡ read_line (line_of (head_of w).escaped (head_of w).opcode) w (head_of w)
 unfolding read_front
 read_front_by_line w = refl

@@ -1,10 +1,12 @@
 //! What holds of decoding at every window.
-ghost use Rattle.std.specs.Prelude.{◌≡◌, ◌≤◌, ◌<◌, ◌+◌, ◌*◌, ◌^◌, ◌∷◌, ◌++◌, ℕ, List, Some, length, take};
+ghost use Rattle.std.specs.Prelude.{◌≡◌, ◌≤◌, ◌<◌, ◌+◌, ◌*◌, ◌^◌, ◌∷◌, ◌++◌, ℕ, false, List, Some, length, take};
+ghost use Rattle.std.specs.Prelude.{IfSome};
 ghost use Rattle.std.specs.Int.{w32, to_le_bytes};
 ghost use Rattle.ia32_decode.specs.declared.types.Decoded.{Decoded};
 ghost use Rattle.ia32_decode.specs.Encoding.{byte_in};
 ghost use Rattle.ia32_decode.specs.Decode.{decoded_from, Spells};
 ghost use Rattle.ia32_decode.specs.Branches.{jump_by};
+ghost use Rattle.ia32_decode.specs.Wide.{has_short_number, wide_bytes, wide_fields};
 
 /// What is decoded rests on the instruction's own bytes: whatever follows them, it is decoded the same.
 pub fn decoding_rests_on_its_bytes()
@@ -18,6 +20,39 @@ pub fn instructions_have_bytes()
     ensures short { (window : List ℕ) (decoded : Decoded) → decoded_from window ≡ Some decoded → decoded.length ≤ 15 }
     ensures within { (window : List ℕ) (decoded : Decoded) → decoded_from window ≡ Some decoded →
         decoded.length ≤ length window }
+{}
+
+/// The wide form of an instruction rests on the instruction's own bytes: whatever follows them, it is the same.
+pub fn wide_forms_rest_on_their_bytes()
+    ensures bytes { (window other : List ℕ) (decoded : Decoded) → decoded_from window ≡ Some decoded →
+        take decoded.length other ≡ take decoded.length window → wide_bytes other decoded ≡ wide_bytes window decoded }
+    ensures fields { (window other : List ℕ) (decoded : Decoded) → decoded_from window ≡ Some decoded →
+        take decoded.length other ≡ take decoded.length window → wide_fields other decoded ≡ wide_fields window decoded }
+{}
+
+/// An instruction without a short number is its own wide form.
+pub fn others_are_their_own_wide_form()
+    ensures bytes { (window : List ℕ) (decoded : Decoded) → decoded_from window ≡ Some decoded →
+        has_short_number window decoded ≡ false → wide_bytes window decoded ≡ take decoded.length window }
+    ensures fields { (window : List ℕ) (decoded : Decoded) → decoded_from window ≡ Some decoded →
+        has_short_number window decoded ≡ false → wide_fields window decoded ≡ decoded.fields }
+{}
+
+/// A wide form is no shorter than its instruction and has at most 21 bytes, and its parts lie in it. A displacement in
+/// it has four bytes.
+pub fn wide_forms_have_bytes()
+    ensures longer { (window : List ℕ) (decoded : Decoded) → decoded_from window ≡ Some decoded →
+        decoded.length ≤ length (wide_bytes window decoded) }
+    ensures short { (window : List ℕ) (decoded : Decoded) → decoded_from window ≡ Some decoded →
+        length (wide_bytes window decoded) ≤ 21 }
+    ensures opcode { (window : List ℕ) (decoded : Decoded) → decoded_from window ≡ Some decoded →
+        (wide_fields window decoded).opcode_end ≤ length (wide_bytes window decoded) }
+    ensures displacement { (window : List ℕ) (decoded : Decoded) → decoded_from window ≡ Some decoded →
+        IfSome (wide_fields window decoded).disp (λ f. f.offset + f.width ≤ length (wide_bytes window decoded)) }
+    ensures full { (window : List ℕ) (decoded : Decoded) → decoded_from window ≡ Some decoded →
+        IfSome (wide_fields window decoded).disp (λ f. f.width ≡ 4) }
+    ensures immediate { (window : List ℕ) (decoded : Decoded) → decoded_from window ≡ Some decoded →
+        IfSome (wide_fields window decoded).imm (λ f. f.offset + f.width ≤ length (wide_bytes window decoded)) }
 {}
 
 /// At most one line of the opcode table spells the first bytes of a window, and so one instruction stands there.

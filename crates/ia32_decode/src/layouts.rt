@@ -141,7 +141,7 @@ pub(crate) fn allows(digits: Digits, digit: u8) -> bool
 }
 
 /// 32 bits, or 16 with prefix 66.
-fn full_width(small: bool) -> Width
+pub(crate) fn full_width(small: bool) -> Width
     ensures { result ≡ full_width_of small }
 {
     if small { Width::Word } else { Width::Dword }

@@ -15,14 +15,17 @@ mod opcode_table;
 mod padding_forms;
 mod registers;
 mod types;
+mod widening;
 mod widths;
 
 pub use decoder::decode;
 pub use laws::{
     decoding_rests_on_its_bytes, instructions_have_bytes, jumps_decode, one_line_spells,
+    others_are_their_own_wide_form, wide_forms_have_bytes, wide_forms_rest_on_their_bytes,
 };
 pub use padding_forms::is_padding;
 pub use types::{
     Arithmetic, Branch, BranchKind, Condition, Counting, Decoded, Field, Fields, Index, Instr,
     Memory, Operand, Prefixes, Register, Shift, Source, Unary, Wide, Width,
 };
+pub use widening::{has_short_number, widen};
