@@ -41,15 +41,15 @@ no_other xs ys e = ap not ((bytes_decides xs ys).1 e)
 all_full : (pair : Pair) (refs : List Ref) → list_any (is_cut pair.pre pair.run) refs ≡ false →
     All (λ r. IsTrue (is_full pair.pre pair.run r)) refs
 all_full pair refs none =
-    All-weaker (λ (r : Ref). is_cut pair.pre pair.run r ≡ false) (λ (r : Ref). IsTrue (is_full pair.pre pair.run r)) refs
-    (λ r uncut. not_not (is_full pair.pre pair.run r) uncut)
+    All-weaker (λ (r : Ref). is_cut pair.pre pair.run r ≡ false) (λ (r : Ref). IsTrue (is_full pair.pre pair.run r))
+    (λ r uncut. not_not (is_full pair.pre pair.run r) uncut) refs
     (none_pass (is_cut pair.pre pair.run) refs none)
 
 none_cut : (pair : Pair) (refs : List Ref) → All (λ r. IsTrue (is_full pair.pre pair.run r)) refs →
     list_any (is_cut pair.pre pair.run) refs ≡ false
 none_cut pair refs full = list_any_none (is_cut pair.pre pair.run) refs
     (All-weaker (λ (r : Ref). IsTrue (is_full pair.pre pair.run r)) (λ (r : Ref). is_cut pair.pre pair.run r ≡ false)
-    refs (λ r is. ap not is) full)
+    (λ r is. ap not is) refs full)
 
 neither : (a b : Bool) → a ≡ false → b ≡ false → (a || b) ≡ false
 neither true b is_false other = absurd (let no : true ≡ false = is_false in cc)

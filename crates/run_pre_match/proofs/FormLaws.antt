@@ -6,12 +6,15 @@ use Rattle.std.specs.Cmp.Lexicographic.{bytes_decides}
 use Rattle.i386_reloc.specs.declared.types.Ref.{Ref}
 use Rattle.i386_reloc.specs.Normal.{same_bytes}
 use Rattle.ia32_decode.specs.declared.types.Decoded.{Decoded}
+use Rattle.ia32_decode.specs.declared.types.Fields.{Fields}
 use Rattle.ia32_decode.specs.Decode.{decoded_from}
 use Rattle.ia32_decode.specs.Wide.{wide_bytes}
 use Rattle.match_instructions.specs.Instructions.{Instruction}
 use Rattle.run_pre_match.specs.Candidate.{Pair}
-use Rattle.run_pre_match.specs.WideForms.{form_bytes, moved, is_cut}
+use Rattle.match_constants.specs.Constants.{covers}
+use Rattle.run_pre_match.specs.WideForms.{form_bytes, form_fields, moved, moved_references, is_cut}
 use Rattle.run_pre_match.specs.Differences.{opcode_bytes, blanked, blanked_form, differs_in_opcode, differs_in_operand}
+use Rattle.run_pre_match.specs.inside.Forms.{covers_in}
 
 -- one list of bytes spells one instruction
 pub spelt_once : (bytes other : List ℕ) (one two : Decoded) → bytes ≡ other → decoded_from bytes ≡ Some one →
@@ -72,3 +75,9 @@ pub any_made : {X Y : Type 0} (p : Y → Bool) (f : X → Y) (xs : List X) →
     list_any p (map f xs) ≡ list_any (λ x. p (f x)) xs
 any_made p f [] = refl
 any_made p f (x ∷ xs) = ap (λ (b : Bool). p (f x) || b) (any_made p f xs)
+
+pub field_covers : (i : Instruction) (fields : Fields) (place : ℕ) → fields ≡ form_fields i →
+    list_any (covers_in i fields place) i.references ≡ list_any (covers place) (moved_references i)
+field_covers i fields place laid =
+    ap (λ (fs : Fields). list_any (covers_in i fs place) i.references) laid
+    ∙ sym (any_made (covers place) (moved i) i.references)

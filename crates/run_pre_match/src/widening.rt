@@ -4,13 +4,13 @@ ghost use Rattle.std.specs.List.{list_any};
 ghost use Rattle.ia32_decode.specs.Decode.{decoded_from};
 ghost use Rattle.ia32_decode.specs.Wide.{wide_bytes, wide_fields};
 ghost use Rattle.match_constants.specs.Constants.{covers};
-ghost use Rattle.run_pre_match.specs.WideForms.{form_fields, field_for, offset_in, moved, moved_references, has_four};
-ghost use Rattle.run_pre_match.specs.inside.Forms.{bytes_in, fields_in};
+ghost use Rattle.run_pre_match.specs.WideForms.{form_fields, field_for, offset_in, moved_references, has_four};
+ghost use Rattle.run_pre_match.specs.inside.Forms.{bytes_in, fields_in, covers_in};
 
 use crate::forms::Form;
 use i386_reloc::{FIELD_LENGTH, Ref};
 use ia32_decode::{
-    Decoded, Field, Fields, has_short_number, instructions_have_bytes, instructions_without_short_numbers, widen,
+    Decoded, Field, Fields, has_short_number, instructions_have_bytes, others_are_their_own_wide_form, widen,
 };
 use match_instructions::PreInstruction;
 
@@ -30,7 +30,7 @@ impl<'w> Form<'w> {
         ensures short { length (bytes_in result) ≤ 24 }
     {
         // Nothing is done here: the laws say what an instruction without short numbers is, and how long one is.
-        instructions_without_short_numbers();
+        others_are_their_own_wide_form();
         instructions_have_bytes();
         if has_short_number(bytes, decoded) {
             return Form::Made(widen(bytes, decoded));
@@ -90,21 +90,25 @@ pub(crate) fn has_four(field: Option<Field>) -> bool
     }
 }
 
-/// Whether a reference, as it stands in the wide form of its instruction, covers a place.
-fn covers_there(pre: &PreInstruction<'_, '_>, fields: &Fields, place: usize, r: &Ref<'_>) -> bool
-    requires { fields.now ≡ form_fields pre.now }
-    ensures { result ≡ covers place (moved pre.now r.now) }
+/// Whether the field of a reference covers a place, in an instruction whose parts stand so.
+fn covers_place(pre: &PreInstruction<'_, '_>, fields: &Fields, place: usize, r: &Ref<'_>) -> bool
+    ensures { result ≡ covers_in pre.now fields.now place r.now }
 {
     let begin = pre.place() as usize + offset_in(field_for(pre, r, fields)) as usize;
     begin <= place && place < begin + FIELD_LENGTH as usize
 }
 
-/// Whether a place of the wide form of an instruction lies in the field of one of its references, which are few.
+/// Whether that of one of its references does, which are few.
+fn any_covers(pre: &PreInstruction<'_, '_>, fields: &Fields, place: usize) -> bool
+    ensures { result ≡ list_any (covers_in pre.now fields.now place) pre.now.references }
+{
+    pre.references().iter().any(|r| covers_place(pre, fields, place, r))
+}
+
+/// Whether a place of the wide form of an instruction lies in the field of one of its references.
 pub(crate) fn is_in_field(pre: &PreInstruction<'_, '_>, fields: &Fields, place: usize) -> bool
     requires { fields.now ≡ form_fields pre.now }
     ensures { result ≡ list_any (covers place) (moved_references pre.now) }
 {
-    pre.references()
-        .iter()
-        .any(|r| covers_there(pre, fields, place, r))
+    any_covers(pre, fields, place)
 }
