@@ -165,10 +165,11 @@ impl Pair<'_, '_, '_> {
     fn is_cut(&self) -> bool
         ensures { result ≡ list_any (is_cut self.now.pre self.now.run) self.now.pre.references }
     {
+        let fields = &self.run.decoded().fields;
         self.pre
             .references()
             .iter()
-            .any(|r| !has_four(field_for(self.pre, r, &self.run.decoded().fields)))
+            .any(|r| !has_four(field_for(self.pre, r, fields)))
     }
 
     /// Whether the wide forms differ outside the fields of references, or a field has fewer than four bytes.

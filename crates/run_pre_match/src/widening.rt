@@ -10,7 +10,8 @@ ghost use Rattle.run_pre_match.specs.inside.Forms.{bytes_in, fields_in, covers_i
 use crate::forms::Form;
 use i386_reloc::{FIELD_LENGTH, Ref};
 use ia32_decode::{
-    Decoded, Field, Fields, has_short_number, instructions_have_bytes, others_are_their_own_wide_form, widen,
+    Decoded, Field, Fields, has_short_number, instructions_have_bytes,
+    others_are_their_own_wide_form, widen,
 };
 use match_instructions::PreInstruction;
 
@@ -102,7 +103,9 @@ fn covers_place(pre: &PreInstruction<'_, '_>, fields: &Fields, place: usize, r: 
 fn any_covers(pre: &PreInstruction<'_, '_>, fields: &Fields, place: usize) -> bool
     ensures { result ≡ list_any (covers_in pre.now fields.now place) pre.now.references }
 {
-    pre.references().iter().any(|r| covers_place(pre, fields, place, r))
+    pre.references()
+        .iter()
+        .any(|r| covers_place(pre, fields, place, r))
 }
 
 /// Whether a place of the wide form of an instruction lies in the field of one of its references.
