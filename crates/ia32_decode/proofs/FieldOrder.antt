@@ -1,5 +1,5 @@
 -- How the parts of an instruction follow one another: prefixes and opcode, ModRM and SIB byte, displacement, immediate.
-use Rattle.std.proofs.Common.{◌≡◌, ℕ, zero, suc, ◌+◌, ◌<◌, ◌≤◌, List, [], length, take, drop, cond, Option, Some, None}
+use Rattle.std.proofs.Common.{◌≡◌, ℕ, ◌+◌, ◌<◌, ◌≤◌, List, take, cond, Some}
 use Rattle.std.proofs.Common.{refl, ap, sym, subst, ◌∙◌, arith, true, false, Bool}
 use Rattle.std.specs.Prelude.{◌==◌, ◌/◌, ◌||◌}
 use Rattle.ia32_decode.specs.declared.opcode_table.Line.{Line}
@@ -11,18 +11,17 @@ use Rattle.ia32_decode.specs.declared.opcode_table.Follows.TheVariants.{Address,
 use Rattle.ia32_decode.specs.declared.types.Decoded.{Decoded}
 use Rattle.ia32_decode.specs.declared.types.Width.{Width}
 use Rattle.ia32_decode.specs.declared.types.Width.TheVariants.{Byte as Width8, Word as Width16, Dword as Width32}
-use Rattle.ia32_decode.specs.declared.types.Field.{Field}
 use Rattle.ia32_decode.specs.declared.types.Fields.{Fields}
 use Rattle.ia32_decode.specs.declared.types.Prefixes.{Prefixes}
 use Rattle.ia32_decode.specs.declared.heads.Head.{Head}
 use Rattle.ia32_decode.specs.declared.addressing.Addressing.{Addressing}
 use Rattle.ia32_decode.specs.Widths.{byte_count}
-use Rattle.ia32_decode.specs.Encoding.{byte_in, prefix_count, prefixes_of, head_of, head_after, sib_length, field_of}
+use Rattle.ia32_decode.specs.Encoding.{byte_in, prefix_count, prefixes_of, head_of, sib_length, field_of}
 use Rattle.ia32_decode.specs.Encoding.{lacks_base}
 use Rattle.ia32_decode.specs.Encoding.{displacement_width, addressing_with, addressing_of, no_addressing}
 use Rattle.ia32_decode.specs.Table.{shape_of, line_of, follows_width}
 use Rattle.ia32_decode.specs.Decode.{front_of, opcode_end_of, form_addressing, fields_of, assembled, completed}
-use Rattle.ia32_decode.specs.Decode.{head_width, number_width, line_addressing, decoded_from, read_front, read_line}
+use Rattle.ia32_decode.specs.Decode.{head_width, number_width, decoded_from, read_line}
 use Rattle.ia32_decode.proofs.Locality.{Fitting, fitting, head_is, read_line_is, read_front_by_line}
 
 -- A reading of a ModRM byte, or of none, that begins at an offset: where its displacement is and how many bytes it has.

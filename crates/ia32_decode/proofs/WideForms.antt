@@ -1,6 +1,6 @@
 -- What the wide form of an instruction is made of, by how its parts follow one another.
 use Rattle.std.proofs.Common.{◌≡◌, ℕ, zero, suc, ◌+◌, ◌-◌, ◌<◌, ◌≤◌, List, [], ◌∷◌, ◌++◌, length, take, drop, cond}
-use Rattle.std.proofs.Common.{Option, Some, None, refl, ap, sym, subst, ◌∙◌, arith, true, false, Bool, get_or, set, nat_lt}
+use Rattle.std.proofs.Common.{Option, Some, None, refl, ap, sym, subst, ◌∙◌, arith, true, false, Bool, set, nat_lt}
 use Rattle.std.proofs.Common.{length-take, length-drop, replicate, append_assoc}
 use Rattle.std.specs.Prelude.{◌==◌, ◌||◌, IfSome}
 use Rattle.std.proofs.lemmas.Bool.{eqb-true, eqb-false, ne_eqb}
@@ -13,7 +13,7 @@ use Rattle.ia32_decode.specs.declared.types.Field.{Field}
 use Rattle.ia32_decode.specs.declared.types.Fields.{Fields}
 use Rattle.ia32_decode.specs.Encoding.{byte_in, field_of}
 use Rattle.ia32_decode.specs.Decode.{decoded_from}
-use Rattle.ia32_decode.specs.Wide.{sign_extended, widened, wide_opcode, has_wide_opcode, opcode_in, wide_head, begin_of}
+use Rattle.ia32_decode.specs.Wide.{widened, wide_opcode, has_wide_opcode, opcode_in, wide_head, begin_of}
 use Rattle.ia32_decode.specs.Wide.{fields_begin, addressing_bytes, is_short, wide_addressing, field_bytes}
 use Rattle.ia32_decode.specs.Wide.{wide_displacement, wide_immediate, has_short_number, wide_bytes, wide_fields}
 use Rattle.ia32_decode.specs.declared.types.Wide.{Wide}

@@ -1,15 +1,14 @@
 -- The wide form of an instruction rests on the instruction's own bytes.
-use Rattle.std.proofs.Common.{◌≡◌, ℕ, ◌+◌, ◌-◌, ◌<◌, ◌≤◌, List, ◌++◌, length, take, drop, cond, Option, refl, ap, sym}
+use Rattle.std.proofs.Common.{◌≡◌, ℕ, ◌+◌, ◌-◌, ◌<◌, ◌≤◌, List, ◌++◌, length, take, drop, cond, refl, ap, sym}
 use Rattle.std.proofs.Common.{◌∙◌, arith, true, false, Bool, set}
 use Rattle.std.proofs.lemmas.List.{get_or-take, take-take, drop-take}
 use Rattle.std.proofs.lemmas.Bool.{eqb-true}
 use Rattle.ia32_decode.specs.declared.types.Decoded.{Decoded}
-use Rattle.ia32_decode.specs.declared.types.Field.{Field}
 use Rattle.ia32_decode.specs.declared.types.Fields.{Fields}
 use Rattle.ia32_decode.specs.Encoding.{byte_in, field_of}
 use Rattle.ia32_decode.specs.Widths.{byte_count}
 use Rattle.ia32_decode.specs.Table.{full_width_of}
-use Rattle.ia32_decode.specs.Wide.{widened, wide_opcode, has_wide_opcode, opcode_in, wide_head, fields_begin}
+use Rattle.ia32_decode.specs.Wide.{widened, wide_opcode, has_wide_opcode, opcode_in, wide_head}
 use Rattle.ia32_decode.specs.Wide.{addressing_bytes, is_short, with_wide_mode, wide_addressing, field_bytes}
 use Rattle.ia32_decode.specs.Wide.{wide_displacement, wide_immediate, wide_bytes, wide_fields}
 use Rattle.ia32_decode.proofs.FieldOrder.{Laid}

@@ -16,3 +16,5 @@ mod steps;
 mod threads;
 #[cfg(test)]
 mod watching;
+#[cfg(test)]
+mod wide_forms;

@@ -1,4 +1,4 @@
-use Rattle.std.proofs.Common.{length, arith, ap, sym, ◌∙◌}
+use Rattle.std.proofs.Common.{length, arith, ap}
 use Rattle.ia32_decode.proofs.WideForms.{put_together, longer}
 use Rattle.ia32_decode.proofs.widening.widen.Goals as goal
 

@@ -1,5 +1,5 @@
-use Rattle.std.proofs.Common.{◌≡◌, ℕ, ◌+◌, ◌-◌, ◌≤◌, List, ◌++◌, length, take, arith, ap, sym, ◌∙◌}
-use Rattle.ia32_decode.proofs.WideForms.{Bounds, bounds}
+use Rattle.std.proofs.Common.{length, arith, ap}
+use Rattle.ia32_decode.proofs.WideForms.{bounds}
 use Rattle.ia32_decode.proofs.widening.Form.push_displacement.Goals as goal
 
 pub field_bytes-requires : goal.field_bytes-requires

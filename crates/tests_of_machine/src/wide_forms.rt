@@ -1,0 +1,314 @@
+//! The wide forms of instructions. Both forms of each were written by an assembler, GNU as, which takes the longer one
+//! where it doesn't know a number yet.
+use ia32_decode::{Wide, decode, has_short_number, widen};
+
+/// Instructions in a short form and in a wide one.
+static WIDENED: [(&[u8], &[u8]); 66] = [
+    // addl $5, %ecx
+    (&[0x83, 0xC1, 5], &[0x81, 0xC1, 5, 0, 0, 0]),
+    // addl $-128, %ecx
+    (&[0x83, 0xC1, 0x80], &[0x81, 0xC1, 0x80, 0xFF, 0xFF, 0xFF]),
+    // orl $127, %edx
+    (&[0x83, 0xCA, 0x7F], &[0x81, 0xCA, 0x7F, 0, 0, 0]),
+    // adcl $-1, %ebx
+    (&[0x83, 0xD3, 0xFF], &[0x81, 0xD3, 0xFF, 0xFF, 0xFF, 0xFF]),
+    // sbbl $0, %esi
+    (&[0x83, 0xDE, 0], &[0x81, 0xDE, 0, 0, 0, 0]),
+    // andl $-16, %esp
+    (&[0x83, 0xE4, 0xF0], &[0x81, 0xE4, 0xF0, 0xFF, 0xFF, 0xFF]),
+    // subl $8, %esp
+    (&[0x83, 0xEC, 8], &[0x81, 0xEC, 8, 0, 0, 0]),
+    // xorl $1, %edi
+    (&[0x83, 0xF7, 1], &[0x81, 0xF7, 1, 0, 0, 0]),
+    // cmpl $-1, %ebp
+    (&[0x83, 0xFD, 0xFF], &[0x81, 0xFD, 0xFF, 0xFF, 0xFF, 0xFF]),
+    // addw $5, %cx
+    (&[0x66, 0x83, 0xC1, 5], &[0x66, 0x81, 0xC1, 5, 0]),
+    // cmpw $-2, %bx
+    (&[0x66, 0x83, 0xFB, 0xFE], &[0x66, 0x81, 0xFB, 0xFE, 0xFF]),
+    // addl $5, (%ecx)
+    (&[0x83, 1, 5], &[0x81, 1, 5, 0, 0, 0]),
+    // cmpl $-1, 8(%ebp)
+    (
+        &[0x83, 0x7D, 8, 0xFF],
+        &[0x81, 0xBD, 8, 0, 0, 0, 0xFF, 0xFF, 0xFF, 0xFF],
+    ),
+    // cmpl $5, 0x12345678(%ebp)
+    (
+        &[0x83, 0xBD, 0x78, 0x56, 0x34, 0x12, 5],
+        &[0x81, 0xBD, 0x78, 0x56, 0x34, 0x12, 5, 0, 0, 0],
+    ),
+    // subw $-5, -4(%esp)
+    (
+        &[0x66, 0x83, 0x6C, 0x24, 0xFC, 0xFB],
+        &[0x66, 0x81, 0xAC, 0x24, 0xFC, 0xFF, 0xFF, 0xFF, 0xFB, 0xFF],
+    ),
+    // lock addl $1, 4(%eax,%ebx,4)
+    (
+        &[0xF0, 0x83, 0x44, 0x98, 4, 1],
+        &[0xF0, 0x81, 0x84, 0x98, 4, 0, 0, 0, 1, 0, 0, 0],
+    ),
+    // addl $5, 0x12345678
+    (
+        &[0x83, 5, 0x78, 0x56, 0x34, 0x12, 5],
+        &[0x81, 5, 0x78, 0x56, 0x34, 0x12, 5, 0, 0, 0],
+    ),
+    // pushl $5
+    (&[0x6A, 5], &[0x68, 5, 0, 0, 0]),
+    // pushl $-1
+    (&[0x6A, 0xFF], &[0x68, 0xFF, 0xFF, 0xFF, 0xFF]),
+    // pushw $5
+    (&[0x66, 0x6A, 5], &[0x66, 0x68, 5, 0]),
+    // pushw $-128
+    (&[0x66, 0x6A, 0x80], &[0x66, 0x68, 0x80, 0xFF]),
+    // addl %eax, 8(%ebp)
+    (&[1, 0x45, 8], &[1, 0x85, 8, 0, 0, 0]),
+    // addb 127(%ebx), %al
+    (&[2, 0x43, 0x7F], &[2, 0x83, 0x7F, 0, 0, 0]),
+    // imull $5, 8(%ebp), %edx
+    (&[0x6B, 0x55, 8, 5], &[0x6B, 0x95, 8, 0, 0, 0, 5]),
+    // imull $1000, -8(%ebp), %edx
+    (
+        &[0x69, 0x55, 0xF8, 0xE8, 3, 0, 0],
+        &[0x69, 0x95, 0xF8, 0xFF, 0xFF, 0xFF, 0xE8, 3, 0, 0],
+    ),
+    // imull -128(%ebp), %edx
+    (
+        &[0x0F, 0xAF, 0x55, 0x80],
+        &[0x0F, 0xAF, 0x95, 0x80, 0xFF, 0xFF, 0xFF],
+    ),
+    // addb $-5, 8(%ebp)
+    (&[0x80, 0x45, 8, 0xFB], &[0x80, 0x85, 8, 0, 0, 0, 0xFB]),
+    // addl $1000, 8(%ebp)
+    (
+        &[0x81, 0x45, 8, 0xE8, 3, 0, 0],
+        &[0x81, 0x85, 8, 0, 0, 0, 0xE8, 3, 0, 0],
+    ),
+    // testl %eax, 1(%esi)
+    (&[0x85, 0x46, 1], &[0x85, 0x86, 1, 0, 0, 0]),
+    // xchgl %eax, 1(%esi)
+    (&[0x87, 0x46, 1], &[0x87, 0x86, 1, 0, 0, 0]),
+    // movl 8(%ebp), %eax
+    (&[0x8B, 0x45, 8], &[0x8B, 0x85, 8, 0, 0, 0]),
+    // movl -8(%ebp), %eax
+    (&[0x8B, 0x45, 0xF8], &[0x8B, 0x85, 0xF8, 0xFF, 0xFF, 0xFF]),
+    // movl 4(%esp), %eax
+    (&[0x8B, 0x44, 0x24, 4], &[0x8B, 0x84, 0x24, 4, 0, 0, 0]),
+    // movl (%ebp), %eax
+    (&[0x8B, 0x45, 0], &[0x8B, 0x85, 0, 0, 0, 0]),
+    // movl %gs:4(%eax), %eax
+    (&[0x65, 0x8B, 0x40, 4], &[0x65, 0x8B, 0x80, 4, 0, 0, 0]),
+    // movw %ax, -2(%ebp,%ecx,2)
+    (
+        &[0x66, 0x89, 0x44, 0x4D, 0xFE],
+        &[0x66, 0x89, 0x84, 0x4D, 0xFE, 0xFF, 0xFF, 0xFF],
+    ),
+    // movb $-1, 4(%esp)
+    (
+        &[0xC6, 0x44, 0x24, 4, 0xFF],
+        &[0xC6, 0x84, 0x24, 4, 0, 0, 0, 0xFF],
+    ),
+    // movl $-1, 4(%esp)
+    (
+        &[0xC7, 0x44, 0x24, 4, 0xFF, 0xFF, 0xFF, 0xFF],
+        &[0xC7, 0x84, 0x24, 4, 0, 0, 0, 0xFF, 0xFF, 0xFF, 0xFF],
+    ),
+    // movw $-1, 4(%esp)
+    (
+        &[0x66, 0xC7, 0x44, 0x24, 4, 0xFF, 0xFF],
+        &[0x66, 0xC7, 0x84, 0x24, 4, 0, 0, 0, 0xFF, 0xFF],
+    ),
+    // leal -4(%ecx,%edx,8), %eax
+    (
+        &[0x8D, 0x44, 0xD1, 0xFC],
+        &[0x8D, 0x84, 0xD1, 0xFC, 0xFF, 0xFF, 0xFF],
+    ),
+    // popl 4(%ecx)
+    (&[0x8F, 0x41, 4], &[0x8F, 0x81, 4, 0, 0, 0]),
+    // pushl 4(%ecx)
+    (&[0xFF, 0x71, 4], &[0xFF, 0xB1, 4, 0, 0, 0]),
+    // shll $3, 4(%ecx)
+    (&[0xC1, 0x61, 4, 3], &[0xC1, 0xA1, 4, 0, 0, 0, 3]),
+    // sarb $1, 4(%ecx)
+    (&[0xD0, 0x79, 4], &[0xD0, 0xB9, 4, 0, 0, 0]),
+    // shrl %cl, 4(%ecx)
+    (&[0xD3, 0x69, 4], &[0xD3, 0xA9, 4, 0, 0, 0]),
+    // testb $3, 4(%ecx)
+    (&[0xF6, 0x41, 4, 3], &[0xF6, 0x81, 4, 0, 0, 0, 3]),
+    // testl $3, 4(%ecx)
+    (
+        &[0xF7, 0x41, 4, 3, 0, 0, 0],
+        &[0xF7, 0x81, 4, 0, 0, 0, 3, 0, 0, 0],
+    ),
+    // negl 4(%ecx)
+    (&[0xF7, 0x59, 4], &[0xF7, 0x99, 4, 0, 0, 0]),
+    // incb 4(%ecx)
+    (&[0xFE, 0x41, 4], &[0xFE, 0x81, 4, 0, 0, 0]),
+    // decl 4(%ecx)
+    (&[0xFF, 0x49, 4], &[0xFF, 0x89, 4, 0, 0, 0]),
+    // call *4(%ecx)
+    (&[0xFF, 0x51, 4], &[0xFF, 0x91, 4, 0, 0, 0]),
+    // jmp *-4(%ecx,%eax,4)
+    (
+        &[0xFF, 0x64, 0x81, 0xFC],
+        &[0xFF, 0xA4, 0x81, 0xFC, 0xFF, 0xFF, 0xFF],
+    ),
+    // nopl 0x10(%eax)
+    (
+        &[0x0F, 0x1F, 0x40, 0x10],
+        &[0x0F, 0x1F, 0x80, 0x10, 0, 0, 0],
+    ),
+    // cmovel 4(%ecx), %eax
+    (&[0x0F, 0x44, 0x41, 4], &[0x0F, 0x44, 0x81, 4, 0, 0, 0]),
+    // setne 4(%ecx)
+    (&[0x0F, 0x95, 0x41, 4], &[0x0F, 0x95, 0x81, 4, 0, 0, 0]),
+    // lock cmpxchgl %edx, 4(%ecx)
+    (
+        &[0xF0, 0x0F, 0xB1, 0x51, 4],
+        &[0xF0, 0x0F, 0xB1, 0x91, 4, 0, 0, 0],
+    ),
+    // xaddl %edx, 4(%ecx)
+    (&[0x0F, 0xC1, 0x51, 4], &[0x0F, 0xC1, 0x91, 4, 0, 0, 0]),
+    // movzbl 4(%ecx), %edx
+    (&[0x0F, 0xB6, 0x51, 4], &[0x0F, 0xB6, 0x91, 4, 0, 0, 0]),
+    // movzwl 4(%ecx), %edx
+    (&[0x0F, 0xB7, 0x51, 4], &[0x0F, 0xB7, 0x91, 4, 0, 0, 0]),
+    // movsbl 4(%ecx), %edx
+    (&[0x0F, 0xBE, 0x51, 4], &[0x0F, 0xBE, 0x91, 4, 0, 0, 0]),
+    // movswl 4(%ecx), %edx
+    (&[0x0F, 0xBF, 0x51, 4], &[0x0F, 0xBF, 0x91, 4, 0, 0, 0]),
+    // flds 4(%ecx)
+    (&[0xD9, 0x41, 4], &[0xD9, 0x81, 4, 0, 0, 0]),
+    // btl %eax, 4(%ecx)
+    (&[0x0F, 0xA3, 0x41, 4], &[0x0F, 0xA3, 0x81, 4, 0, 0, 0]),
+    // shldl $3, %eax, 4(%ecx)
+    (
+        &[0x0F, 0xA4, 0x41, 4, 3],
+        &[0x0F, 0xA4, 0x81, 4, 0, 0, 0, 3],
+    ),
+    // btsl $3, 4(%ecx)
+    (
+        &[0x0F, 0xBA, 0x69, 4, 3],
+        &[0x0F, 0xBA, 0xA9, 4, 0, 0, 0, 3],
+    ),
+    // cmpxchg8b 4(%ecx)
+    (&[0x0F, 0xC7, 0x49, 4], &[0x0F, 0xC7, 0x89, 4, 0, 0, 0]),
+];
+
+/// Instructions that are their own wide form.
+static KEPT: [&[u8]; 25] = [
+    // imull $5, %ecx, %edx
+    &[0x6B, 0xD1, 5],
+    // imulw $-5, %cx, %dx
+    &[0x66, 0x6B, 0xD1, 0xFB],
+    // movl $5, %eax
+    &[0xB8, 5, 0, 0, 0],
+    // movw $5, %ax
+    &[0x66, 0xB8, 5, 0],
+    // movb $5, %al
+    &[0xB0, 5],
+    // movl 0x12345678, %eax
+    &[0xA1, 0x78, 0x56, 0x34, 0x12],
+    // addb $5, %al
+    &[4, 5],
+    // addl $1000, %eax
+    &[5, 0xE8, 3, 0, 0],
+    // testl $5, %eax
+    &[0xA9, 5, 0, 0, 0],
+    // movl (%ecx), %eax
+    &[0x8B, 1],
+    // movl (,%ecx,4), %eax
+    &[0x8B, 4, 0x8D, 0, 0, 0, 0],
+    // movl 0x12345678(,%ecx,4), %eax
+    &[0x8B, 4, 0x8D, 0x78, 0x56, 0x34, 0x12],
+    // shll $3, %eax
+    &[0xC1, 0xE0, 3],
+    // ret
+    &[0xC3],
+    // ret $8
+    &[0xC2, 8, 0],
+    // pushl %ebp
+    &[0x55],
+    // int $0x80
+    &[0xCD, 0x80],
+    // nop
+    &[0x90],
+    // endbr32
+    &[0xF3, 0x0F, 0x1E, 0xFB],
+    // jne .+5
+    &[0x75, 3],
+    // jmp .+5
+    &[0xEB, 3],
+    // .byte 0xe9, 1, 2, 3, 4
+    &[0xE9, 1, 2, 3, 4],
+    // .byte 0x0f, 0x83, 1, 2, 3, 4
+    &[0x0F, 0x83, 1, 2, 3, 4],
+    // ud2
+    &[0x0F, 0x0B],
+    // cpuid
+    &[0x0F, 0xA2],
+];
+
+/// The wide form of the instruction at the start of some bytes.
+fn wide_form(window: &[u8]) -> Option<Wide> {
+    match decode(window) {
+        Some(decoded) => Some(widen(window, &decoded)),
+        None => None,
+    }
+}
+
+/// Its bytes, and the zeros behind them.
+fn wide_bytes(window: &[u8]) -> Option<[u8; 24]> {
+    match wide_form(window) {
+        Some(wide) => Some(wide.bytes),
+        None => None,
+    }
+}
+
+/// Whether an instruction is its own wide form: the bytes, the fields, and that no number is short.
+fn is_kept(window: &[u8]) -> bool {
+    match decode(window) {
+        Some(decoded) => {
+            let wide = widen(window, &decoded);
+            !has_short_number(window, &decoded)
+                && wide.bytes.get(..wide.length as usize) == Some(window)
+                && wide.fields == decoded.fields
+        }
+        None => false,
+    }
+}
+
+/// Whether the second is the wide form of the first: the bytes, and the fields as they are decoded of the second.
+fn is_widened(short: &[u8], long: &[u8]) -> bool {
+    match (wide_form(short), decode(long)) {
+        (Some(wide), Some(decoded)) => {
+            wide.bytes.get(..wide.length as usize) == Some(long) && wide.fields == decoded.fields
+        }
+        _ => false,
+    }
+}
+
+#[test]
+fn short_forms_are_widened(rt: HostRuntime) {
+    for (short, long) in &WIDENED {
+        assert!(rt; is_widened(short, long), "{short:?}");
+    }
+}
+
+#[test]
+fn wide_forms_are_kept(rt: HostRuntime) {
+    for (_, long) in &WIDENED {
+        assert!(rt; is_kept(long), "{long:?}");
+    }
+    for bytes in &KEPT {
+        assert!(rt; is_kept(bytes), "{bytes:?}");
+    }
+}
+
+#[test]
+fn what_follows_does_not_matter(rt: HostRuntime) {
+    let followed = wide_bytes(&[0x83, 0xC0, 0x85, 0xC3, 0x90]);
+    let mut wanted = [0; 24];
+    wanted[..6].copy_from_slice(&[0x81, 0xC0, 0x85, 0xFF, 0xFF, 0xFF]);
+    assert_eq!(rt; followed, Some(wanted));
+}
