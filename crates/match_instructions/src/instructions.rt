@@ -4,6 +4,7 @@ ghost use Rattle.std.specs.List.{filter, list_any, slice_get};
 ghost use Rattle.i386_reloc.specs.declared.types.Ref.{Ref};
 ghost use Rattle.std.specs.List.Sorted.{IsNonDecreasingBy};
 ghost use Rattle.i386_reloc.specs.Normal.{HasFieldsInOrder};
+ghost use Rattle.ia32_decode.specs.Decode.{decoded_from};
 ghost use Rattle.match_instructions.specs.Instructions.{after, displacement_in, direct_branch, target_of};
 ghost use Rattle.match_instructions.specs.PreCode.{code_bytes, is_field_at, stands_on_field, is_kept_with};
 ghost use Rattle.match_instructions.specs.PreCode.{begins_from, begins_before, references_in};
@@ -11,7 +12,10 @@ ghost use Rattle.match_instructions.specs.PreCode.{pre_instruction_at};
 ghost use Rattle.match_instructions.specs.PreCode.{fits_form, may_stand, may_all_stand};
 
 use i386_reloc::{Form, NormalSection, Ref};
-use ia32_decode::{Branch, Decoded, Field, decode, is_padding};
+use ia32_decode::{
+    Branch, Decoded, Field, decode, decoding_rests_on_its_bytes, instructions_have_bytes,
+    is_padding,
+};
 use std::marker::Model;
 
 /// An instruction of a code section of an object. A clause sees it with the references whose fields begin in it.
@@ -25,7 +29,8 @@ pub struct PreInstruction<'s, 'a> {
 }
 
 impl<'s, 'a> Model for PreInstruction<'s, 'a> {
-    ghost use Rattle.std.specs.Prelude.{◌<◌, ◌+◌, ◌^◌};
+    ghost use Rattle.std.specs.Prelude.{◌≡◌, ◌<◌, ◌+◌, ◌^◌, Some};
+    ghost use Rattle.ia32_decode.specs.Decode.{decoded_from};
     ghost use Rattle.match_instructions.specs.Instructions.{Instruction};
 
     ghost Value = { Instruction };
@@ -38,7 +43,7 @@ impl<'s, 'a> Model for PreInstruction<'s, 'a> {
       kept = i.kept;
     } };
 
-    ghost invariant = { λ i. i.place + i.decoded.length < 2 ^ 32 };
+    ghost invariant = { λ i. (i.place + i.decoded.length < 2 ^ 32) × (decoded_from i.bytes.now ≡ Some i.decoded) };
 }
 
 impl<'s, 'a> PreInstruction<'s, 'a> {
@@ -58,7 +63,8 @@ impl<'s, 'a> PreInstruction<'s, 'a> {
 
     /// Its bytes, with zeros in the fields of references.
     pub fn bytes(&self) -> &'s [u8]
-        ensures { result.now ≡ self.now.bytes }
+        ensures bytes { result.now ≡ self.now.bytes }
+        ensures spelt { decoded_from result.now ≡ Some self.now.decoded }
     {
         self.bytes
     }
@@ -96,6 +102,13 @@ impl<'s, 'a> PreInstruction<'s, 'a> {
         ensures { result ≡ target_of self.now }
     {
         self.after().wrapping_add(displacement(self.branch()))
+    }
+
+    /// Whether a reference stands on its displacement, or on the address that follows an opcode A0 to A3.
+    pub fn is_on_displacement(&self, r: &Ref<'_>) -> bool
+        ensures { result ≡ is_field_at self.now.place r.now.offset self.now.decoded.fields.disp }
+    {
+        is_field_at(self.place, r.offset, self.decoded.fields.disp)
     }
 
     /// Whether each of its references stands on a field on which it may.
@@ -222,6 +235,18 @@ fn from(bytes: &[u8], offset: usize) -> &[u8]
     &bytes[offset.min(bytes.len())..]
 }
 
+/// The bytes of an instruction, of some that begin with it.
+pub(crate) fn own_bytes<'w>(window: &'w [u8], decoded: &Decoded) -> &'w [u8]
+    requires { decoded_from window.now ≡ Some decoded.now }
+    ensures which { result.now ≡ take decoded.now.length window.now }
+    ensures spelt { decoded_from result.now ≡ Some decoded.now }
+{
+    // Nothing is done here: the laws say that the instruction rests on these bytes alone, and that all of them are there.
+    decoding_rests_on_its_bytes();
+    instructions_have_bytes();
+    &window[..decoded.length as usize]
+}
+
 /// The instruction of a section at an offset, `None` exactly where the bytes of its code from there on spell none.
 #[tactic(auto, unfolding(crate::specs::PreCode::pre_instruction_at))]
 pub fn pre_instruction_at<'s, 'a>(
@@ -237,7 +262,7 @@ pub fn pre_instruction_at<'s, 'a>(
     let kept = is_kept(offset, &decoded, references);
     Some(PreInstruction {
         place: offset,
-        bytes: &rest[..decoded.length as usize],
+        bytes: own_bytes(rest, &decoded),
         decoded,
         references,
         kept,

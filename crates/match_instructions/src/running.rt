@@ -8,7 +8,7 @@ ghost use Rattle.ia32_decode.specs.Padding.{is_padding_of};
 ghost use Rattle.match_instructions.specs.Instructions.{Instruction, after, direct_branch, target_of, listed_on};
 ghost use Rattle.match_instructions.specs.RunCode.{run_instruction, run_instruction_at, run_code, break_kind};
 
-use crate::instructions::displacement;
+use crate::instructions::{displacement, own_bytes};
 use ia32_decode::{Branch, Decoded, decode, instructions_have_bytes, is_padding};
 use image_memory::{Space, Window, window_met};
 use ks_base::DifferenceKind;
@@ -23,7 +23,8 @@ pub struct RunInstruction {
 }
 
 impl Model for RunInstruction {
-    ghost use Rattle.std.specs.Prelude.{◌<◌, ◌≤◌, not, take, []};
+    ghost use Rattle.std.specs.Prelude.{◌≡◌, ◌<◌, ◌≤◌, not, take, [], Some};
+    ghost use Rattle.ia32_decode.specs.Decode.{decoded_from};
     ghost use Rattle.ia32_decode.specs.Padding.{is_padding_of};
     ghost use Rattle.match_instructions.specs.Instructions.{Instruction};
 
@@ -37,7 +38,8 @@ impl Model for RunInstruction {
       kept = not (is_padding_of i.decoded);
     } };
 
-    ghost invariant = { λ i. (i.place < 0xFFFF_0000) × (i.decoded.length ≤ 15) };
+    ghost invariant = { λ i. (i.place < 0xFFFF_0000) × (i.decoded.length ≤ 15)
+        × (decoded_from (take i.decoded.length i.window.bytes) ≡ Some i.decoded) };
 }
 
 impl RunInstruction {
@@ -47,7 +49,10 @@ impl RunInstruction {
         requires short { window.length ≤ 15 }
         ensures { result ≡ option_map (run_instruction place (fetched window)) (decoded_from (fetched window)) }
     {
-        let decoded = decode(&window.bytes[..window.length as usize])?;
+        let fetched = &window.bytes[..window.length as usize];
+        let decoded = decode(fetched)?;
+        // The call is made for its fact alone: the instruction's own bytes spell it.
+        let _own = own_bytes(fetched, &decoded);
         Some(RunInstruction {
             place,
             decoded,
@@ -73,6 +78,7 @@ impl RunInstruction {
     pub fn bytes(&self) -> &[u8]
         ensures bytes { result.now ≡ self.now.bytes }
         ensures short { length result.now ≤ 15 }
+        ensures spelt { decoded_from result.now ≡ Some self.now.decoded }
     {
         &self.window.bytes[..self.decoded.length as usize]
     }

@@ -92,7 +92,7 @@ by_no_kind c here pair none =
     (list_any is_refused_here here) (list_any is_unmet here) none in
     record { opcode = opcode; operand = operand; landing = (or_parts _ _ target).0; refused = refused; unmet = unmet }
 
-none_pass : {X : Type 0} (p : X → Bool) (xs : List X) → list_any p xs ≡ false → All (λ x. p x ≡ false) xs
+pub none_pass : {X : Type 0} (p : X → Bool) (xs : List X) → list_any p xs ≡ false → All (λ x. p x ≡ false) xs
 none_pass p [] e = All-nil (λ x. p x ≡ false)
 none_pass p (x ∷ xs) e = let both = or_parts (p x) (list_any p xs) e in
     All-cons (λ x. p x ≡ false) x xs both.0 (none_pass p xs both.1)

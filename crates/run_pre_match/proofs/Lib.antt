@@ -10,6 +10,7 @@ mod CodeFields
 mod CodeLaws
 mod ConstantGoals
 mod FirstValues
+mod FormLaws
 mod Following
 mod GoalLaws
 mod InteriorPlaces

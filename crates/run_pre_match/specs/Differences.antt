@@ -21,16 +21,18 @@ use Rattle.run_pre_match.specs.Candidate.{Candidate, pre_list, run_list, Pair, p
 use Rattle.match_constants.specs.Constants.{covers}
 use Rattle.run_pre_match.specs.declared.goals.Verdict.{Verdict}
 use Rattle.run_pre_match.specs.declared.goals.Verdict.TheVariants.{Holds, Refused, Absent}
+use Rattle.run_pre_match.specs.WideForms.{form_bytes, moved_references, is_cut}
 use Rattle.run_pre_match.specs.Found.{Found, found_in}
 
 abbrev pub prefix_bytes : Instruction → List ℕ
 prefix_bytes i = take i.decoded.prefixes.count i.bytes
 
--- prefixes and opcode
+-- prefixes and opcode of the wide form
 abbrev pub opcode_bytes : Instruction → List ℕ
-opcode_bytes i = take i.decoded.fields.opcode_end i.bytes
+opcode_bytes i = take i.decoded.fields.opcode_end (form_bytes i)
 
--- two direct branches of different prefixes or kinds, one direct branch alone, or different prefixes or opcode bytes
+-- two direct branches of different prefixes or kinds, one direct branch alone, or different prefixes or opcode bytes of
+-- the wide forms
 abbrev pub differs_in_opcode : Option Branch → Option Branch → Pair → Bool
 differs_in_opcode (Some a) (Some b) pair =
     not (same_kind a.kind b.kind && same_bytes (prefix_bytes pair.pre) (prefix_bytes pair.run))
@@ -43,10 +45,16 @@ unfoldable pub blanked : List Ref → ℕ → List ℕ → List ℕ
 blanked refs place [] = []
 blanked refs place (byte ∷ bytes) = (if list_any (covers place) refs then 0 else byte) ∷ blanked refs (suc place) bytes
 
--- neither is a direct branch, and their bytes outside the fields of references, or their lengths, aren't equal
+-- bytes of the running instruction's wide form, with zeros in the fields of references
+abbrev pub blanked_form : Pair → List ℕ
+blanked_form pair = blanked (moved_references pair.pre) pair.pre.place (form_bytes pair.run)
+
+-- Neither is a direct branch, and the bytes of the wide forms outside the fields of references, or their lengths,
+-- aren't equal; or the running instruction, as it stands, hasn't four bytes where a reference stands.
 abbrev pub differs_in_operand : Option Branch → Option Branch → Pair → Bool
 differs_in_operand None None pair =
-    not (same_bytes (blanked pair.pre.references pair.pre.place pair.run.bytes) pair.pre.bytes)
+    not (same_bytes (blanked_form pair) (form_bytes pair.pre))
+    || list_any (is_cut pair.pre pair.run) pair.pre.references
 differs_in_operand (Some a) branch pair = false
 differs_in_operand None (Some b) pair = false
 

@@ -1,7 +1,7 @@
 -- The values that a running body gives to what an object's code refers to, in the order in which they are found: by the
 -- fields of its instructions, and by those of each read-only section when a field first says where it lies. Each is
 -- found to hold or not.
-use Rattle.std.specs.Prelude.{ℕ, zero, suc, ◌+◌, ◌-◌, Bool, true, false, not, ◌&&◌, ◌||◌, ◌==◌, if◌then◌else◌, List, []}
+use Rattle.std.specs.Prelude.{ℕ, zero, suc, ◌+◌, Bool, true, false, not, ◌&&◌, ◌||◌, ◌==◌, if◌then◌else◌, List, []}
 use Rattle.std.specs.Prelude.{◌∷◌, ◌++◌, map, length, Option, Some, None, is_some}
 use Rattle.std.specs.Option.{option_map}
 use Rattle.std.specs.List.{find, list_any, slice_get}
@@ -20,6 +20,7 @@ use Rattle.run_pre_match.specs.declared.goals.Verdict.TheVariants.{Holds, Refuse
 use Rattle.match_instructions.specs.Instructions.{direct_branch, target_of}
 use Rattle.run_pre_match.specs.Candidate.{Candidate, Pair, pairs, same_number}
 use Rattle.run_pre_match.specs.Goals.{same_goal, minus, interior_address, given_by}
+use Rattle.run_pre_match.specs.WideForms.{field_for, offset_in}
 use Rattle.match_constants.specs.Constants.{lie_in_constants, stand_at, stand_but_for_fields}
 
 -- A value that was found for a goal: by a field of the instruction itself or by one of a read-only section, and what is
@@ -128,9 +129,9 @@ found_by (suc n) c own before g =
     ∷ found_by_all (found_by n c false) (before ++ judged c own before g ∷ []) (opened_by c before g.goal g.value)
 
 -- the S + A of a reference of an instruction: of a branch it is four less than its target, otherwise it stands in the
--- field
+-- running instruction's field
 abbrev pub held_with : Option Branch → Pair → Ref → ℕ
-held_with None pair r = dword_in pair.run.bytes (r.offset - pair.pre.place)
+held_with None pair r = dword_in pair.run.bytes (offset_in (field_for pair.pre r pair.run.decoded.fields))
 held_with (Some branch) pair r = minus (target_of pair.run) 4
 
 abbrev pub given_in_pair : Candidate → Pair → Ref → Given

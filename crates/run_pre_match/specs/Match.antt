@@ -20,7 +20,8 @@ use Rattle.match_instructions.specs.Landing.{has_no_reference}
 use Rattle.run_pre_match.specs.Candidate.{Candidate, Pair, pre_list, run_list, pairs}
 use Rattle.run_pre_match.specs.Goals.{interior_address}
 use Rattle.match_constants.specs.Constants.{stand_at, stand_but_for_fields}
-use Rattle.run_pre_match.specs.Differences.{prefix_bytes, opcode_bytes, blanked}
+use Rattle.run_pre_match.specs.WideForms.{form_bytes, is_full}
+use Rattle.run_pre_match.specs.Differences.{prefix_bytes, opcode_bytes, blanked_form}
 use Rattle.run_pre_match.specs.Found.{given_in_pair, given_in_constant}
 use Rattle.run_pre_match.specs.Matched.{name_at, unknown_of}
 
@@ -44,9 +45,9 @@ pub record StandForOne (c : Candidate) (offset address : ℕ) : Type 0 where
   pub by_address : stands_for (run_list c) address ≡ Some number
 
 -- Instructions agree but for what references say. Two direct branches have equal prefixes and one kind, and where the
--- object's has no reference their targets stand for the same number. Two others have equal prefixes and opcodes, and
--- equal bytes where zeros are put in the fields of references. (Equal bytes have equal prefixes and opcodes where no
--- reference stands on these.)
+-- object's has no reference their targets stand for the same number. Two others have wide forms with equal prefixes and
+-- opcodes, and with equal bytes where zeros are put in the fields of references; and the running one, as it stands, has
+-- four bytes in each of these. (Equal bytes have equal prefixes and opcodes where no reference stands on these.)
 abbrev pub AgreeAs : Candidate → Pair → Option Branch → Option Branch → Type 0
 AgreeAs c pair (Some pre) (Some run) =
     IsTrue (same_kind pre.kind run.kind)
@@ -54,7 +55,8 @@ AgreeAs c pair (Some pre) (Some run) =
     × (IsTrue (has_no_reference pair.pre) → StandForOne c (target_of pair.pre) (target_of pair.run))
 AgreeAs c pair None None =
     (opcode_bytes pair.pre ≡ opcode_bytes pair.run)
-    × (blanked pair.pre.references pair.pre.place pair.run.bytes ≡ pair.pre.bytes)
+    × (blanked_form pair ≡ form_bytes pair.pre)
+    × All (λ r. IsTrue (is_full pair.pre pair.run r)) pair.pre.references
 AgreeAs c pair (Some pre) None = ⊥
 AgreeAs c pair None (Some run) = ⊥
 

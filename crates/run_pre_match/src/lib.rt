@@ -8,6 +8,7 @@ mod candidate;
 mod code;
 mod comparing;
 mod finding;
+mod forms;
 mod goals;
 mod judging;
 mod laws;
@@ -17,6 +18,7 @@ mod pair;
 mod stating;
 mod types;
 mod values;
+mod widening;
 
 pub use bodies::Body;
 pub use borrowed::{BorrowedSpot, BorrowedUnknown, UnknownKind};

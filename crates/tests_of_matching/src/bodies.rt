@@ -105,6 +105,30 @@ const INWARD: Section = Section {
     references: &[(1, ABSOLUTE, ".text.f")],
 };
 
+/// `add $-128,%eax; ret`, with the number in one byte.
+const SHORT: Section = Section {
+    name: ".text.f",
+    kind: Kind::Global("f"),
+    bytes: b"\x83\xc0\x80\xc3",
+    references: &[],
+};
+
+/// `movl $x,8(%ebp); ret`, with the displacement in four bytes.
+const STORES: Section = Section {
+    name: ".text.f",
+    kind: Kind::Global("f"),
+    bytes: b"\xc7\x85\x08\0\0\0\0\0\0\0\xc3",
+    references: &[(6, ABSOLUTE, ".data.x")],
+};
+
+/// `add $x,%eax; ret`
+const ADDS: Section = Section {
+    name: ".text.f",
+    kind: Kind::Global("f"),
+    bytes: b"\x81\xc0\0\0\0\0\xc3",
+    references: &[(2, ABSOLUTE, ".data.x")],
+};
+
 /// An object, of which `.text.f` with the home [`HOME`] is compared; the memory, and where the function begins in it;
 /// and what comes of it.
 type Row = (
@@ -115,7 +139,7 @@ type Row = (
 );
 
 /// What is reported of a match, beside a symbol `ext`.
-static TOLD: [Row; 9] = [
+static TOLD: [Row; 13] = [
     (
         &[L, X],
         &[(CODE, HOME, b"\x8d\xb6\0\0\x20\0\xc3")],
@@ -172,6 +196,32 @@ static TOLD: [Row; 9] = [
         &[(CODE, NEWER, b"\xb8\x05\0\x10\0\xc3")],
         NEWER,
         "refused 15 mismatch .text.f index 0 pre 0x0 run 0x00800000 value\n",
+    ),
+    // a number at full width, with its sign and without
+    (
+        &[SHORT],
+        &[(CODE, HOME, b"\x81\xc0\x80\xff\xff\xff\xc3")],
+        HOME,
+        "length 7\ncode .text.f 0x00100000 at .text.f+0x0\n",
+    ),
+    (
+        &[SHORT],
+        &[(CODE, HOME, b"\x81\xc0\x80\0\0\0\xc3")],
+        HOME,
+        "refused 15 mismatch .text.f index 0 pre 0x0 run 0x00100000 operand\n",
+    ),
+    // a field behind a displacement of one byte, and one of one byte itself
+    (
+        &[STORES, X],
+        &[(CODE, HOME, b"\xc7\x45\x08\0\0\x20\0\xc3")],
+        HOME,
+        "length 8\ncode .text.f 0x00100000 at .text.f+0x0\ndata .data.x 0x00200000 at .text.f+0x6\n",
+    ),
+    (
+        &[ADDS, X],
+        &[(CODE, HOME, b"\x83\xc0\x08\xc3")],
+        HOME,
+        "refused 15 mismatch .text.f index 0 pre 0x0 run 0x00100000 operand\n",
     ),
 ];
 
