@@ -1,6 +1,6 @@
 """Rows of what lies around a command: the words, the files and standard output (docs/output.md)."""
 from .encode import obj, sec
-from .files import F_FIRST_TO_SECOND, OLD_RUNS, PROGRAM, f_alone, f_and_main
+from .files import F_FIRST_TO_SECOND, FIRST_TO_SECOND, NEW_RUNS, OLD_RUNS, PROGRAM, f_alone, f_and_main
 from .rows import FOLDER, call, diff, match, run
 
 # words after a command that has two
@@ -11,6 +11,11 @@ NO_NUMBERS = {"nothing": "", "an-empty-word": "''", "two-numbers": "1 2", "too-l
               "a-hexadecimal-number": "0x10", "a-word": "one", "a-number-and-a-blank": "'1 '"}
 # f, by another name
 BELL = obj(sec(".text.f", "B8 01 00 00 00 C3", functions={"\x07": 0}))
+
+# a session in which an update is made and taken back, and a line is refused; and the length of its replies
+LONG_SESSION = [*OLD_RUNS, *NEW_RUNS, ("list", "update u1 1", "updates 1"), ("undo", "undone u1"),
+                ("peek 0x00100000 6", "0x00100000: b8 01 00 00 00 c3"), ("undo", "refused 27 nothing applied")]
+LONG_OUTPUT = sum(len(said) + 1 for _, *reply in LONG_SESSION for said in reply)
 
 
 def usage(name, words, files=None):
@@ -88,6 +93,10 @@ ROWS = [
         [*OLD_RUNS, ("apply u1 pre.o post.o", "file pre.o failed"), ("spawn main 0",)],
         {"pre.o": FOLDER, "post.o": f_and_main(2)}, remark="a folder stands where a file is named"),
 
+    # an output that takes so many bytes and no more, for each number of bytes of the replies
+    *(run(f"output-with-room-for-{n}-bytes", PROGRAM, LONG_SESSION, FIRST_TO_SECOND, room=n)
+      for n in range(LONG_OUTPUT + 1)),
+    run("output-that-takes-nothing-of-a-session", PROGRAM, LONG_SESSION, FIRST_TO_SECOND, status=5, sink="/dev/full"),
     diff("output-that-takes-nothing", f_alone(1), f_alone(2), status=5, sink="/dev/full"),
     call("output-that-takes-nothing-of-a-file-line", "diff x.o post.o", {"post.o": f_alone(1)}, status=5,
          sink="/dev/full", remark="the sink counts and not the file, whose line can't be written"),

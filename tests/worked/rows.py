@@ -11,7 +11,7 @@ STATUSES = {"usage: ": 2, "file ": 4, "refused 28 ": 7, "refused 29 ": 7, "refus
 
 class Row(NamedTuple):
     """A call of the program. A file is bytes, or FOLDER. Where there is a sink, standard output goes there and isn't
-    compared."""
+    compared. Where there is room for so many bytes, standard output is a file that takes no more."""
 
     name: str
     words: list
@@ -20,14 +20,18 @@ class Row(NamedTuple):
     status: int
     remark: str
     sink: str | None
+    room: int | None
 
 
-def call(name, words, files, *output, status=None, remark="", sink=None):
-    """A row by the words and the lines of the output."""
+def call(name, words, files, *output, status=None, remark="", sink=None, room=None):
+    """A row by the words and the lines of the output, of which there is only what there is room for."""
     if status is None:
         fitting = (STATUSES[front] for front in STATUSES if any(line.startswith(front) for line in output))
         status = next(fitting, 0)
-    return Row(name, shlex.split(words), files, script(*output), status, remark, sink)
+    whole = script(*output)
+    if room is not None and room < len(whole):
+        whole, status = whole[:room], 5
+    return Row(name, shlex.split(words), files, whole, status, remark, sink, room)
 
 
 def diff(name, pre, post, *output, **more):

@@ -1,21 +1,66 @@
 //! The outside as the operating system gives it: its files, and standard output. What a file holds, and what a reader
 //! of the output sees, isn't given in advance; the counts are kept as the traits ask.
-ghost use Rattle.std.specs.Prelude.{◌≡◌, ◌≢◌, ◌≤◌, ◌<◌, ◌↔◌, [], length, take, IfOk, IfSome, OnOk, IsErrOf};
+ghost use Rattle.std.specs.Prelude.{◌≡◌, ◌≢◌, ◌≤◌, ◌<◌, ◌↔◌, [], length, take, true, IfOk, IfErr, IfSome, OnOk, OnErr};
+ghost use Rattle.std.specs.Prelude.{IsErrOf};
+ghost use Rattle.std.specs.Result.{is_ok};
 ghost use Rattle.std.specs.IoError.{error_kind};
 ghost use Rattle.std.specs.Io.KnownBytes.{Appends};
-ghost use Rattle.ks_io.specs.Outside.{no_counts};
+ghost use Rattle.ks_io.specs.Outside.{no_counts, Rose, NeverFall};
+ghost use Rattle.ks_io.specs.Answered.{ShowsIn};
 
 use ks_io::{FileFault, Files, Sink, SinkFault};
 use std::io::{Error, ErrorKind, Read, Write};
+use std::marker::Model;
 use std::{fs, io, rt};
+
+/// How often a file was missing, was too long, and could not be read.
+#[derive(Drop)]
+struct FileCounts {
+    absences: u64,
+    excesses: u64,
+    faults: u64,
+}
+
+impl Model for FileCounts {
+    ghost use Rattle.ks_io.specs.Outside.{Counts};
+
+    ghost Value = { Counts };
+
+    ghost view = { λ c. record { absences = c.absences; excesses = c.excesses; faults = c.faults } };
+}
+
+impl FileCounts {
+    /// None of it.
+    fn none() -> Self
+        ensures { result ≡ no_counts }
+    {
+        FileCounts {
+            absences: 0,
+            excesses: 0,
+            faults: 0,
+        }
+    }
+
+    /// Counts a fault. Want of memory is none of a file's.
+    fn add(&mut self, fault: FileFault)
+        ensures never_fall { NeverFall self.old self.new }
+        ensures shown { ShowsIn fault self.old self.new }
+        ensures memory { fault ≡ FileFault.Memory → self.new ≡ self.old }
+    {
+        match fault {
+            FileFault::Missing => self.absences = self.absences.saturating_add(1),
+            FileFault::TooLong => self.excesses = self.excesses.saturating_add(1),
+            FileFault::Failed => self.faults = self.faults.saturating_add(1),
+            FileFault::Memory => {}
+        }
+    }
+}
 
 /// The files of the operating system, by their paths.
 #[derive(Drop)]
 pub struct RealFiles<'a, R: rt::Files> {
     rt: &'a R,
-    absences: u64,
-    excesses: u64,
-    faults: u64,
+    counts: FileCounts,
 }
 
 impl<'a, R: rt::Files> RealFiles<'a, R> {
@@ -25,53 +70,74 @@ impl<'a, R: rt::Files> RealFiles<'a, R> {
     {
         RealFiles {
             rt,
-            absences: 0,
-            excesses: 0,
-            faults: 0,
+            counts: FileCounts::none(),
         }
     }
 }
 
 impl<R: rt::Files> Files for RealFiles<'_, R> {
     ghost use Rattle.std.specs.Prelude.{None};
-    ghost use Rattle.ks_io.specs.Outside.{Counts};
 
     ghost told = { λ _. None };
 
-    ghost counts = { λ files. record { absences = files.absences; excesses = files.excesses; faults = files.faults } };
+    ghost counts = { λ files. files.counts };
 
     ghost quiet = { λ _. ⊥ };
 
     fn load(&mut self, name: &str, limit: u32, into: &mut Vec<u8>) -> Result<(), FileFault> {
-        into.clear();
-        match read_file(self.rt, name, limit, into) {
-            Ok(()) => Ok(()),
-            Err(fault) => {
-                into.clear();
-                match fault {
-                    FileFault::Missing => self.absences = self.absences.saturating_add(1),
-                    FileFault::TooLong => self.excesses = self.excesses.saturating_add(1),
-                    FileFault::Failed => self.faults = self.faults.saturating_add(1),
-                    FileFault::Memory => {}
-                }
-                Err(fault)
-            }
+        load_opened(fs::open(self.rt, name), limit, into, &mut self.counts)
+    }
+}
+
+/// Loads all of a file, once opening it came to this, into `into`, whose bytes before the call are lost; and counts the
+/// fault for which it isn't loaded.
+fn load_opened<S: Read + Drop>(
+    opened: io::Result<S>,
+    limit: u32,
+    into: &mut Vec<u8>,
+    counts: &mut FileCounts,
+) -> Result<(), FileFault>
+    ensures at_most { OnOk result (length into.new.items ≤ limit) }
+    ensures whole { OnOk result (IfOk opened
+        (λ source. IfSome (S.remaining source) (λ left. into.new.items ≡ left))) }
+    ensures open { OnOk result (is_ok opened ≡ true) }
+    ensures missing { IfErr opened (λ error.
+        IsErrOf result FileFault.Missing ↔ (error_kind error ≡ ErrorKind.NotFound)) }
+    ensures never_fall { NeverFall counts.old counts.new }
+    ensures shown { IfErr result (λ fault. ShowsIn fault counts.old counts.new) }
+    ensures steady { OnOk result (counts.new ≡ counts.old) }
+    ensures memory { IsErrOf result FileFault.Memory → counts.new ≡ counts.old }
+    ensures emptied { OnErr result (into.new.items ≡ []) }
+{
+    into.clear();
+    match read_opened(opened, limit, into) {
+        Ok(()) => Ok(()),
+        Err(fault) => {
+            into.clear();
+            counts.add(fault);
+            Err(fault)
         }
     }
 }
 
-/// Opens a file and reads it whole.
-fn read_file<R: rt::Files>(
-    rt: &R,
-    name: &str,
+/// Reads all of a file, once opening it came to this.
+fn read_opened<S: Read + Drop>(
+    opened: io::Result<S>,
     limit: u32,
     into: &mut Vec<u8>,
 ) -> Result<(), FileFault>
     requires { into.old.items ≡ [] }
-    ensures { OnOk result (length into.new.items ≤ limit) }
+    ensures at_most { OnOk result (length into.new.items ≤ limit) }
+    ensures whole { OnOk result (IfOk opened
+        (λ source. IfSome (S.remaining source) (λ left. into.new.items ≡ left))) }
+    ensures open { OnOk result (is_ok opened ≡ true) }
+    ensures missing { IfErr opened (λ error.
+        IsErrOf result FileFault.Missing ↔ (error_kind error ≡ ErrorKind.NotFound)) }
 {
-    let file = fs::open(rt, name).map_err(|error| fault_of(&error))?;
-    read_at_most(file, limit, into)
+    match opened {
+        Ok(source) => read_at_most(source, limit, into),
+        Err(error) => Err(fault_of(&error)),
+    }
 }
 
 /// Reads all that a reader has left, where that is no more than `limit` bytes: it is never cut. Of a longer one `limit`
@@ -129,12 +195,30 @@ impl<R: Print> Sink for RealSink<'_, R> {
     ghost quiet = { λ _. ⊥ };
 
     fn write(&mut self, piece: &[u8]) -> Result<usize, SinkFault> {
-        match write_through(&mut io::writer(self.rt), piece) {
-            Ok(count) if count > 0 || piece.is_empty() => Ok(count),
-            _ => {
-                self.faults = self.faults.saturating_add(1);
-                Err(SinkFault::SinkFailed)
-            }
+        write_counted(&mut io::writer(self.rt), piece, &mut self.faults)
+    }
+}
+
+/// Writes a prefix of the piece, and answers how many bytes that is. A write that fails, or takes nothing of a piece
+/// that isn't empty, is a fault, which is counted.
+fn write_counted<W: Write>(
+    output: &mut W,
+    piece: &[u8],
+    faults: &mut u64,
+) -> Result<usize, SinkFault>
+    ensures within { IfOk result (λ count. count ≤ length piece.now) }
+    ensures front { IfOk result
+        (λ count. Appends (W.contents output.old) (W.contents output.new) (take count piece.now)) }
+    ensures some { result ≡ Ok 0 → piece.now ≡ [] }
+    ensures steady { OnOk result (faults.new ≡ faults.old) }
+    ensures failed { OnErr result (IsErrOf result SinkFault.SinkFailed × Rose faults.old faults.new) }
+    ensures never_falls { faults.old ≤ faults.new }
+{
+    match write_through(output, piece) {
+        Ok(count) if count > 0 || piece.is_empty() => Ok(count),
+        _ => {
+            *faults = faults.saturating_add(1);
+            Err(SinkFault::SinkFailed)
         }
     }
 }

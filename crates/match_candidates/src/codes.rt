@@ -37,7 +37,7 @@ fn code_at<'n, 'a>(
         }
         Err(MatchFault::Memory) => Err(Refusal::Memory),
         // The section's own code is never said to differ.
-        Err(MatchFault::Differs(_)) => Err(Refusal::Memory),
+        Err(MatchFault::Differs(_)) => unreachable!(),
     }
 }
 

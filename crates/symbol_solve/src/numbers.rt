@@ -1,5 +1,5 @@
 //! Numbers of what candidates claim and refer to.
-ghost use Rattle.std.specs.Prelude.{◌≡◌, ◌<◌, All, length, IfOk, OnOk};
+ghost use Rattle.std.specs.Prelude.{◌≡◌, ◌^◌, ◌≤◌, ◌<◌, All, length, IfOk, OnOk, OnErr};
 ghost use Rattle.run_pre_match.specs.Candidate.{Candidate};
 ghost use Rattle.run_pre_match.specs.Matched.{outcome};
 ghost use Rattle.match_candidates.specs.Candidates.{code_sections, candidates};
@@ -183,9 +183,10 @@ impl Numbers {
     }
 }
 
-/// A number of items as 32 bits; there is no memory for more.
+/// A number of items as 32 bits. `Err` comes only for 2^32 and more: there is no memory for so many.
 pub(crate) fn word(number: usize) -> Result<u32, AllocError>
-    ensures { IfOk result (λ word. word ≡ number) }
+    ensures value { IfOk result (λ word. word ≡ number) }
+    ensures many { OnErr result (2 ^ 32 ≤ number) }
 {
     if number > u32::MAX as usize {
         return Err(AllocError);

@@ -3,6 +3,7 @@ pub mod ApplyLaws
 pub mod BesideLaws
 pub mod BuiltLaws
 pub mod CarryLaws
+pub mod CodeLaws
 pub mod FirstLaws
 pub mod FreshLaws
 pub mod HoldsLaws

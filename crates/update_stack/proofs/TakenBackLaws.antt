@@ -159,7 +159,7 @@ bases_stay start bytes (piece ∷ pieces) = by_kind (is_text piece) (bases_stay 
     by_kind false rest = ap (λ (bases : List ℕ). piece.base ∷ bases) rest
 
 -- the text of pieces that bytes were written in, and of those with jumps
-text_of_written : (start : ℕ) (bytes : List ℕ) (pieces : List Piece)
+pub text_of_written : (start : ℕ) (bytes : List ℕ) (pieces : List Piece)
     → filter is_text (written start bytes pieces) ≡ written start bytes (filter is_text pieces)
 text_of_written start bytes [] = refl
 text_of_written start bytes (piece ∷ pieces) = by_kind (is_text piece) (text_of_written start bytes pieces)

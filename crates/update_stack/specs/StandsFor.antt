@@ -36,3 +36,12 @@ seen_of k = record { contents = patched k; symbols = k.symbols; stacks = k.stack
 -- updates, are the system's own: the machine that it is seen as has them from it.
 abbrev pub StandsFor : Program → AbstractMachine → Type 0
 StandsFor program k = seen program ≡ seen_of k
+
+-- Nothing that a program's threads could meet has changed: its memory, with the jumps, is as before, piece by piece and
+-- retired range by retired range, and so are the symbols, the stacks and the threads.
+pub record IsUntouched (before after : AbstractMachine) : Type 0 where
+  pub pieces : (patched after).pieces ≡ (patched before).pieces
+  pub fences : (patched after).fences ≡ (patched before).fences
+  pub symbols : after.symbols ≡ before.symbols
+  pub stacks : after.stacks ≡ before.stacks
+  pub threads : after.threads ≡ before.threads

@@ -84,9 +84,10 @@ fn reserve<S: Space>(machine: &mut Machine<S>, plan: &Plan) -> Result<(), AllocE
     machine.symbols_mut().reserve(symbols)
 }
 
-/// A number of items as 32 bits; there is no room for more.
+/// A number of items as 32 bits. `Err` comes only for 2^32 and more: there is no room for so many.
 fn counted(count: usize) -> Result<u32, AllocError>
-    ensures { IfOk result (λ n. n ≡ count) }
+    ensures value { IfOk result (λ n. n ≡ count) }
+    ensures many { OnErr result (2 ^ 32 ≤ count) }
 {
     match u32::try_from(count) {
         Ok(n) => Ok(n),

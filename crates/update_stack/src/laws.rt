@@ -5,19 +5,21 @@ ghost use Rattle.ks_base.specs.declared.reports.Report.{Report};
 ghost use Rattle.image_memory.specs.Fetch.{HasCode};
 ghost use Rattle.image_memory.specs.declared.types.Piece.{Piece};
 ghost use Rattle.image_threads.specs.Program.{IsStackRange};
+ghost use Rattle.ia32_step.specs.Code.{KeepsCode};
 ghost use Rattle.ia32_step.specs.declared.types.Thread.{Thread};
 ghost use Rattle.update_plan.specs.declared.types.Plan.{Plan};
 ghost use Rattle.update_plan.specs.Sound.{CanBeMade};
 ghost use Rattle.update_stack.specs.AbstractMachine.{AbstractMachine, contents_of};
 ghost use Rattle.update_stack.specs.Apply.{planned_in, committed, applied};
-ghost use Rattle.update_stack.specs.Events.{Event, Happened, answered};
+ghost use Rattle.update_stack.specs.Events.{Event, Step, Happened, answered, after_event};
 ghost use Rattle.update_stack.specs.Jumps.{CanJump, StepsStand};
 ghost use Rattle.update_stack.specs.Reached.{LeadsTo, AreReached};
 ghost use Rattle.update_stack.specs.Stacked.{IsBuilt};
+ghost use Rattle.update_stack.specs.StandsFor.{patched};
 ghost use Rattle.update_stack.specs.Stays.{IsNewest, LeavesAloneBy, NewCodeStaysReached};
 
 use ia32_decode::jumps_decode;
-use ia32_step::code_bytes_have_no_say;
+use ia32_step::{code_bytes_have_no_say, steps_leave_code};
 use image_memory::pieces_stay_placed;
 use link_post::gaps_are_free;
 use splice_jump::{
@@ -41,6 +43,18 @@ pub fn steps_stand()
     data_are_written_past_jumps();
     code_stays_code();
     homes_stay_spliced();
+}
+
+/// Whatever a thread does, its step leaves each piece of code, and each byte in it, as they were: those of the machine's
+/// text, and those of the memory that stands for it, with the jumps.
+pub fn threads_leave_code()
+    ensures text { (k : AbstractMachine) (number : ℕ) → IsBuilt k →
+        KeepsCode k.pieces (after_event k (Step number)).pieces }
+    ensures memory { (k : AbstractMachine) (number : ℕ) → IsBuilt k →
+        KeepsCode (patched k).pieces (patched (after_event k (Step number))).pieces }
+{
+    // Nothing is done here: the law says that whatever an instruction may do leaves code as it was.
+    steps_leave_code();
 }
 
 /// On a machine whose updates lie each on what was there without it, an update that is planned can be made; and where

@@ -11,7 +11,8 @@ mod updates;
 mod withdrawing;
 
 pub use crate::laws::{
-    accepted_code_is_reached, reached_code_stays, steps_stand, updates_can_be_made,
+    accepted_code_is_reached, reached_code_stays, steps_stand, threads_leave_code,
+    updates_can_be_made,
 };
 pub use crate::taking_back::{machines_are_built, undo_restores};
 pub use system::System;

@@ -3,6 +3,7 @@ ghost use Rattle.std.specs.Prelude.{◌≡◌, ◌≢◌, [], map, IfOk, IsSomeA
 ghost use Rattle.std.specs.Prelude.{is_some};
 ghost use Rattle.std.specs.Result.{is_ok, result_err};
 ghost use Rattle.ks_base.specs.declared.refusals.Refusal.TheVariants.{Memory};
+ghost use Rattle.ia32_step.specs.Code.{KeepsCode};
 ghost use Rattle.ia32_step.specs.Step.{store_fault, after_store, stored, fetched_count};
 ghost use Rattle.image_threads.specs.Program.{running_at};
 ghost use Rattle.image_threads.specs.Spawning.{AreStacks};
@@ -17,13 +18,13 @@ ghost use Rattle.update_stack.specs.Apply.{committed, gaps_of, planned_in, retir
 ghost use Rattle.update_stack.specs.Events.{Apply, Spawn, Step, Undo, Applied, Spawned, Stepped, Undone, happened};
 ghost use Rattle.update_stack.specs.Events.{answered, after_event};
 ghost use Rattle.update_stack.specs.Stacked.{IsBuilt};
-ghost use Rattle.update_stack.specs.StandsFor.{StandsFor, patched};
+ghost use Rattle.update_stack.specs.StandsFor.{StandsFor, patched, IsUntouched};
 ghost use Rattle.update_stack.specs.Undo.{newest_update};
 ghost use Rattle.update_stack.specs.inside.Stepping.{ComesOfStep};
 ghost use Rattle.update_stack.specs.inside.TakingBack.{undo_refusal, ComesOfUndo};
 
 use crate::carrying::{change, plans_are_carried_out, prepare, push_both};
-use crate::laws::steps_stand;
+use crate::laws::{steps_stand, threads_leave_code};
 use crate::live::{bodies_of, is_taken, retired_by};
 use crate::updates::{KeptList, Updates};
 use crate::withdrawing::{pop_both, take_back, updates_are_taken_back};
@@ -131,6 +132,8 @@ impl<S: Space> System<S> {
 
     /// Steps the running thread of a number, and answers what the step came to. [`Refusal::NoThread`] comes exactly
     /// where no running thread has the number; all is then as before. It takes no memory.
+    ///
+    /// Whatever the thread does, each piece of code and each byte in it stay as they are, the bytes of jumps among them.
     pub fn step(&mut self, thread: u32) -> Result<Outcome, Refusal>
         ensures answered { MatchResult result
             (λ outcome. answered self.old (Step thread) ≡ Ok (happened self.new (Stepped outcome)))
@@ -138,6 +141,8 @@ impl<S: Space> System<S> {
         ensures refused { OnErr result (self.new ≡ self.old) }
         ensures after { self.new ≡ after_event self.old (Step thread) }
         ensures runs { is_ok result ≡ is_some (running_at self.old.threads thread) }
+        ensures code_stays { KeepsCode (patched self.old).pieces (patched self.new).pieces }
+        ensures text_stays { KeepsCode self.old.pieces self.new.pieces }
     {
         Ok(self.step_traced(thread)?.outcome)
     }
@@ -160,7 +165,12 @@ impl<S: Space> System<S> {
         ensures refused { OnErr result (self.new ≡ self.old) }
         ensures after { self.new ≡ after_event self.old (Step thread) }
         ensures runs { is_ok result ≡ is_some (running_at self.old.threads thread) }
+        ensures code_stays { KeepsCode (patched self.old).pieces (patched self.new).pieces }
+        ensures text_stays { KeepsCode self.old.pieces self.new.pieces }
     {
+        // The law says that a step leaves code as it is where the machine is built, and the program stands for such a one.
+        threads_leave_code();
+        let _program = self.machine();
         self.step_program(thread)
     }
 
@@ -197,12 +207,14 @@ impl<S: Space> System<S> {
     /// - a running thread stands in what would be retired, or its ESP is outside its stack ([`Refusal::Busy`],
     ///   [`Refusal::StackOut`]).
     ///
-    /// [`Refusal::Memory`] may come in place of any answer, but only if memory runs out; all is then as before.
+    /// [`Refusal::Memory`] may come in place of any answer, but only if memory runs out; all is then as before: the memory
+    /// piece by piece, with the jumps that stand in it, its retired ranges and the symbols.
     pub fn apply(&mut self, name: &Name, pre: &[u8], post: &[u8]) -> Result<Report, Refusal>
         ensures answered { MatchResult result
             (λ report. answered self.old (Apply name.now pre.now post.now) ≡ Ok (happened self.new (Applied report)))
             (λ refusal. refusal ≢ Memory → answered self.old (Apply name.now pre.now post.now) ≡ Err refusal) }
         ensures refused { OnErr result (self.new ≡ self.old) }
+        ensures untouched { OnErr result (IsUntouched self.old self.new) }
     {
         let plan = self.plan(name, pre, post)?;
         self.check_threads(&plan)?;

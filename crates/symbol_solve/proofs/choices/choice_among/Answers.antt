@@ -13,7 +13,7 @@ returns-then-not-matches g c = λ d tried runs at.
     no_choice_of c.args.naming.now.object.now c.args.naming.now.numbers.now
     c.args.codes.now d c.index-codes-tried.result c.args.tried.now c.no_choice.result c.in_ok-word.field-0
     c.requires c.index-codes-tried.is tried
-    (sym c.matches.ensures ∙ c.if-not-matches.true) (c.in_ok-word.ensures ∙ c.place.ensures) c.no_choice.ensures
+    (sym c.matches.ensures ∙ c.if-not-matches.true) (c.in_ok-word.ensures.value ∙ c.place.ensures) c.no_choice.ensures
 
 pub returns : goal.returns
 returns g c = λ d tried runs at.

@@ -10,4 +10,4 @@ returns c =
     (Some c.in-Some.point) c.get_index_of.result c.in_ok-word.field-0 c.in-Some.ensures refl
     (c.get_index_of.ensures.index ∙ point_position c.self.inside.points.keys c.in-Some.point
     ∙ ap (λ (n : Numbers). position (same_point c.in-Some.point) n.points) c.self.view_is)
-    (c.in_ok-word.ensures ∙ c.unwrap_or-number.ensures)
+    (c.in_ok-word.ensures.value ∙ c.unwrap_or-number.ensures)
