@@ -5,6 +5,7 @@ pub mod BuiltLaws
 pub mod CarryLaws
 pub mod FirstLaws
 pub mod FreshLaws
+pub mod GapLaws
 pub mod HoldsLaws
 pub mod KeptLaws
 pub mod LastLaws

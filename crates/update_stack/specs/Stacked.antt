@@ -9,6 +9,7 @@ use Rattle.image_memory.specs.Ranges.{are_same}
 use Rattle.image_memory.specs.Changes.{HasPiece}
 use Rattle.splice_jump.specs.Jumps.{jumped, olds_at}
 use Rattle.update_memory.specs.Rows.{rows_of, olds_of}
+use Rattle.link_post.specs.Places.{unless_empty}
 use Rattle.image_threads.specs.Spawning.{AreStacks}
 use Rattle.update_plan.specs.Sound.{IsCode}
 use Rattle.update_stack.specs.declared.updates.Kept.{Kept}
@@ -54,12 +55,10 @@ pub record IsKept (k : AbstractMachine) (update : Update) (one : Kept) : Type 0 
   pub ranges : IsPermutation one.ranges (ranges_in k update)
   pub count : one.symbol_count ≡ length update.symbols
 
--- What is kept of each live update, the newest last, and what is free of the arena; with each update is kept what was
--- free before it.
-pub data AreKept : AbstractMachine → List Kept → List Range → Type 0 where
-  NoneKept : (k : AbstractMachine) (kept : List Kept) (gaps : List Range) → k.updates ≡ [] → kept ≡ []
-      → gaps ≡ gaps_of k
-      → AreKept k kept gaps
-  OneKept : (k : AbstractMachine) (update : Update) (earlier kept : List Kept) (one : Kept) (gaps : List Range)
-      → newest_update k ≡ Some update → kept ≡ earlier ++ one ∷ [] → IsKept k update one → gaps ≡ gaps_of k
-      → AreKept (withdrawn k update) earlier one.gaps → AreKept k kept gaps
+-- What is kept of each live update, the newest last, over a machine of whose arena no piece takes anything.
+pub data AreKept : AbstractMachine → List Kept → Type 0 where
+  NoneKept : (k : AbstractMachine) (kept : List Kept) → k.updates ≡ [] → kept ≡ [] → gaps_of k ≡ unless_empty k.arena
+      → AreKept k kept
+  OneKept : (k : AbstractMachine) (update : Update) (earlier kept : List Kept) (one : Kept)
+      → newest_update k ≡ Some update → kept ≡ earlier ++ one ∷ [] → IsKept k update one
+      → AreKept (withdrawn k update) earlier → AreKept k kept

@@ -24,13 +24,13 @@ ghost use Rattle.update_stack.specs.inside.TakingBack.{undo_refusal, ComesOfUndo
 
 use crate::carrying::{change, plans_are_carried_out, prepare, push_both};
 use crate::laws::steps_stand;
-use crate::live::{bodies_of, is_taken, retired_by};
+use crate::live::{bodies_of, gaps_left, is_taken, kept_ranges_leave_the_gaps, retired_by};
 use crate::updates::{KeptList, Updates};
 use crate::withdrawing::{pop_both, take_back, updates_are_taken_back};
 use ia32_step::{Outcome, Traced};
 use image_memory::{Space, sorted};
 use image_threads::Machine;
-use ks_base::{Name, Range, Ranges, Refusal, Report};
+use ks_base::{Name, Range, Refusal, Report};
 use link_post::gaps_are_free;
 use splice_jump::{
     code_stays_code, data_are_written_past_jumps, homes_stay_spliced,
@@ -53,8 +53,6 @@ pub struct System<S: Space> {
     alloc: Global,
     machine: Machine<S>,
     arena: Range,
-    /// What is free of the arena.
-    gaps: Ranges,
     updates: Updates,
     kept: KeptList,
 }
@@ -67,7 +65,7 @@ impl<S: Space> Model for System<S> {
 
     ghost view = { λ s. machine_of s.machine s.arena s.updates s.kept };
 
-    ghost invariant = { λ s. Holds s.machine s.arena s.gaps s.updates s.kept };
+    ghost invariant = { λ s. Holds s.machine s.arena s.updates s.kept };
 }
 
 impl<S: Space> System<S> {
@@ -82,12 +80,10 @@ impl<S: Space> System<S> {
     {
         // It runs over a memory.
         let _space = machine.space();
-        let gaps = gaps_in(alloc, arena)?;
         Ok(System {
             alloc,
             machine,
             arena,
-            gaps,
             updates: Updates::new(alloc),
             kept: KeptList::new(alloc),
         })
@@ -249,7 +245,7 @@ impl<S: Space> System<S> {
         let Some((update, one)) = pop_both(&mut self.updates, &mut self.kept) else {
             return Err(Refusal::NothingApplied);
         };
-        self.gaps = take_back(&mut self.machine, one);
+        take_back(&mut self.machine, &one);
         Ok(update.name)
     }
 
@@ -281,12 +277,14 @@ impl<S: Space> System<S> {
         jumps_change_their_bytes_alone();
         homes_stay_spliced();
         gaps_are_free();
+        kept_ranges_leave_the_gaps();
         let bodies = bodies_of(self.alloc, self.updates.as_slice())?;
         let retired = retired_by(self.alloc, self.kept.as_slice())?;
+        let gaps = gaps_left(self.alloc, self.arena, self.kept.as_slice())?;
         let symbols = self.machine.symbols();
         let space = self.machine.space();
         plan(
-            self.alloc, space, &bodies, symbols, &retired, &self.gaps, pre, post,
+            self.alloc, space, &bodies, symbols, &retired, &gaps, pre, post,
         )
     }
 
@@ -319,10 +317,8 @@ impl<S: Space> System<S> {
     {
         // The laws say that the plan fits, and what comes of it.
         plans_are_carried_out();
-        gaps_are_free();
-        let made = prepare(self.alloc, &mut self.machine, &self.gaps, name, &plan)?;
+        let made = prepare(self.alloc, &mut self.machine, name, &plan)?;
         push_both(&mut self.updates, &mut self.kept, made.update, made.kept)?;
-        self.gaps = made.gaps;
         let Plan {
             report,
             pieces,
@@ -339,15 +335,4 @@ impl<S: Space> System<S> {
         );
         Ok(report)
     }
-}
-
-/// What is free of an arena in which nothing was placed.
-fn gaps_in(alloc: Global, arena: Range) -> Result<Ranges, AllocError>
-    ensures { IfOk result (λ gaps. gaps ≡ gaps_in arena) }
-{
-    let mut gaps = Ranges::new(alloc);
-    if arena.low < arena.high {
-        gaps.push(arena)?;
-    }
-    Ok(gaps)
 }
