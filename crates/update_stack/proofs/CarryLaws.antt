@@ -1,5 +1,5 @@
 -- What comes of a plan that is carried out.
-use Rattle.std.proofs.Common.{◌≡◌, ℕ, ◌+◌, ◌^◌, ◌<◌, ◌≤◌, List, [], ◌∷◌, ◌++◌, map, length, get_or}
+use Rattle.std.proofs.Common.{◌≡◌, ℕ, ◌+◌, ◌^◌, ◌<◌, ◌≤◌, false, List, [], ◌∷◌, ◌++◌, map, length, get_or}
 use Rattle.std.proofs.Common.{Some}
 use Rattle.std.proofs.Common.{refl, sym, ◌∙◌, ap, arith, subst}
 use Rattle.std.specs.List.{All, fold, list_any}
@@ -33,7 +33,7 @@ use Rattle.update_stack.specs.declared.updates.Kept.{Kept}
 use Rattle.update_stack.specs.AbstractMachine.{AbstractMachine, Row, Update, bodies_in, with_replaced, contents_of}
 use Rattle.update_stack.specs.AbstractMachine.{jump_row, jump_rows}
 use Rattle.update_stack.specs.StandsFor.{Seen, seen, seen_of, patched}
-use Rattle.update_stack.specs.Apply.{with_new_piece, update_as, committed}
+use Rattle.update_stack.specs.Apply.{has_name, with_new_piece, update_as, committed}
 use Rattle.update_stack.specs.Undo.{withdrawn, ranges_in, newest_update}
 use Rattle.update_stack.specs.Systems.{text_of, HasJumpCode, Holds, live_update, live_updates, machine_of}
 use Rattle.update_stack.specs.Stacked.{IsBuilt, AreKept, OneKept}
@@ -257,7 +257,7 @@ module _ (laws : Laws) (before : Program) (arena : Range) (updates : List Shown)
         (subst (All (λ (row : ℕ × ℕ). HasCode full.pieces row.0 5)) (sym are) code_full);
   }
 
-  module _ (name : List ℕ) where
+  module _ (name : List ℕ) (new : list_any (has_name name) k.updates ≡ false) where
     abbrev after_it : AbstractMachine
     after_it = committed k name plan
 
@@ -265,10 +265,10 @@ module _ (laws : Laws) (before : Program) (arena : Range) (updates : List Shown)
     update = update_as name plan
 
     built_after : IsBuilt after_it
-    built_after = built_commit laws.memory k name plan holds.built can
+    built_after = built_commit laws.memory k name plan holds.built can new
 
     back : withdrawn after_it update ≡ k
-    back = committed_back laws.memory k name plan holds.built can
+    back = committed_back laws.memory k name plan holds.built can new
 
     -- the machine's memory after it
     abbrev text : Contents

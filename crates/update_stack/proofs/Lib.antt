@@ -12,6 +12,7 @@ pub mod LastLaws
 pub mod LiveLaws
 pub mod LockStep
 pub mod MovingLaws
+pub mod PlaceLaws
 pub mod PlanLaws
 pub mod ReachedLaws
 pub mod SeenLaws

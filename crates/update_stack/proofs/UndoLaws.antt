@@ -34,6 +34,7 @@ use Rattle.update_stack.proofs.LastLaws.{last_more, without_more, text_more, tab
 use Rattle.update_stack.proofs.TableLaws.{JumpsAdded, JumpsReplaced, first_table, table_stays, table_back, spliced_new}
 use Rattle.update_stack.proofs.TableLaws.{jumps_stacked}
 use Rattle.update_stack.proofs.BuiltLaws.{machine_is}
+use Rattle.update_stack.proofs.PlaceLaws.{without_newest, withdrawn_newest}
 use Rattle.update_stack.proofs.KeptLaws.{HasKept, kept_newest, CodeWasThere, withdrawn_pieces}
 
 -- the laws of other crates that are used here
@@ -309,16 +310,14 @@ module _ (laws : Laws) (program : Program) (arena : Range) (updates : List Shown
     unfolding withdrawn_memory
     fences_now = ap (λ (s : Seen). s.contents.fences) is
 
-    table_now : table_of updates ≡ before.table
-    unfolding withdrawn
+    table_now : table_of updates ≡ (without_newest k live).table
     table_now =
         sym (table_back (table_of updates) replaced (table_stays [] (replaced_by updates) first_table) has.top.once)
         ∙ ap (λ (t : List Row). fold without_base t replaced) (sym (table_more updates update))
 
     pub same : now ≡ before
-    unfolding withdrawn
     same =
-        machine_is now before
+        machine_is now (without_newest k live)
         (ap (text_of kept) pieces_now
         ∙ text_dropped laws.past_olds one.pieces kept (unjumped (olds_of one.jumps) program.contents.pieces)
         ∙ ap (without_pieces one.pieces) (sym (text_more kept one program.contents.pieces)))
@@ -331,6 +330,7 @@ module _ (laws : Laws) (program : Program) (arena : Range) (updates : List Shown
         (ap (λ (s : Seen). s.threads) is)
         (sym (without_more (live_updates updates kept) (live ∷ []))
         ∙ ap (without_last 1) (sym (live_more updates update kept one paired)))
+        ∙ sym (withdrawn_newest k live newest has.top.name)
 
     stands : seen after ≡ seen_of now
     stands =

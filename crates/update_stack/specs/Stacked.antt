@@ -1,7 +1,7 @@
 -- What holds of the machine at every moment, and of what a system keeps of its live updates: each of these lies on
 -- what was before it.
 use Rattle.std.specs.Prelude.{◌≡◌, ◌≢◌, ℕ, ◌≤◌, ◌<◌, false, List, [], ◌∷◌, ◌++◌, length, Some}
-use Rattle.std.specs.List.{fold, All, AllPairs, Contains}
+use Rattle.std.specs.List.{fold, list_any, All, AllPairs, Contains}
 use Rattle.std.specs.List.Sorted.{IsPermutation}
 use Rattle.ks_base.specs.declared.places.Range.{Range}
 use Rattle.ks_base.specs.declared.reports.Replaced.{Replaced}
@@ -15,9 +15,9 @@ use Rattle.update_plan.specs.Sound.{IsCode}
 use Rattle.update_stack.specs.declared.updates.Kept.{Kept}
 use Rattle.update_stack.specs.AbstractMachine.{AbstractMachine, Update, is_home, bodies_in, contents_of, jump_rows}
 use Rattle.update_stack.specs.AbstractMachine.{with_replaced}
-use Rattle.update_stack.specs.Apply.{gaps_of}
+use Rattle.update_stack.specs.Apply.{has_name, gaps_of}
 use Rattle.update_stack.specs.Jumps.{CanJump}
-use Rattle.update_stack.specs.Undo.{withdrawn, ranges_in, newest_update}
+use Rattle.update_stack.specs.Undo.{without_last, withdrawn, ranges_in, newest_update}
 
 -- The jumps of a machine can stand in its memory, each stack is a piece of that, its arena ends where code may, and what
 -- is retired is code.
@@ -28,7 +28,7 @@ pub record IsSound (k : AbstractMachine) : Type 0 where
   pub retired : All (IsCode k.pieces) k.retired
 
 -- An update on what is there without it: its rows end with its bases, no other retired range is one of its homes',
--- and what it added and retired is there, each once.
+-- and what it added and retired is there, each once. No update before it has its name.
 pub record IsOnTop (k : AbstractMachine) (update : Update) : Type 0 where
   pub table : k.table ≡ fold with_replaced (withdrawn k update).table update.report.replaced
   pub once : AllPairs (λ (a b : Replaced). a.home ≢ b.home) update.report.replaced
@@ -39,6 +39,7 @@ pub record IsOnTop (k : AbstractMachine) (update : Update) : Type 0 where
   pub retired : All (Contains k.retired) update.retired
   pub ranges : AllPairs (λ a b. are_same a b ≡ false) update.retired
   pub symbols : length update.symbols ≤ length k.symbols
+  pub name : list_any (has_name update.name) (without_last 1 k.updates) ≡ false
 
 -- a machine without updates, or with one on a machine of which this holds
 pub data IsBuilt : AbstractMachine → Type 0 where

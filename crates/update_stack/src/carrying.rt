@@ -1,6 +1,6 @@
 //! What carrying out a plan takes and does, piece by piece.
-ghost use Rattle.std.specs.Prelude.{◌≡◌, ℕ, List, ◌≤◌, ◌<◌, ◌+◌, ◌^◌, ◌++◌, [], ◌∷◌, length, map, IfOk, OnOk, OnErr};
-ghost use Rattle.std.specs.List.{All};
+ghost use Rattle.std.specs.Prelude.{◌≡◌, ℕ, false, List, ◌≤◌, ◌<◌, ◌+◌, ◌^◌, ◌++◌, [], ◌∷◌, length, map, IfOk, OnOk, OnErr};
+ghost use Rattle.std.specs.List.{list_any, All};
 ghost use Rattle.std.specs.List.Sorted.{IsPermutation};
 ghost use Rattle.image_memory.specs.Contents.{piece_range, fence_range};
 ghost use Rattle.image_memory.specs.Changes.{ArePlaceable};
@@ -11,6 +11,7 @@ ghost use Rattle.update_memory.specs.Rows.{olds_of, rows_of};
 ghost use Rattle.update_stack.specs.StandsFor.{seen};
 ghost use Rattle.update_stack.specs.AbstractMachine.{contents_of, jump_rows};
 ghost use Rattle.update_stack.specs.declared.updates.Update.{Update as Shown};
+ghost use Rattle.update_stack.specs.Apply.{has_name};
 ghost use Rattle.update_stack.specs.Systems.{Holds, machine_of};
 ghost use Rattle.update_stack.specs.inside.Carrying.{bare_jump, base_of_piece, EndsLow, FitsIn, HasHomeCode};
 ghost use Rattle.update_stack.specs.inside.Carrying.{HoldsAfter, IsCarriedOut, IsKeptOf, IsPrepared};
@@ -279,6 +280,7 @@ pub(crate) fn plans_are_carried_out()
     ensures holds { (before after : Program) (arena : RangeOf) (updates : List Shown)
         (kept : List KeptOf) (name : List ℕ) (plan : Planned) (jumps : List Jumped) (one : KeptOf)
         → Holds before arena updates kept → CanBeMade (contents_of (machine_of before arena updates kept)) plan
+        → list_any (has_name name) (machine_of before arena updates kept).updates ≡ false
         → IsCarriedOut before after plan jumps → IsKeptOf plan jumps one
         → HoldsAfter before after arena updates kept name plan one }
 {

@@ -1,6 +1,7 @@
 //! A running program with its updates.
 ghost use Rattle.std.specs.Prelude.{◌≡◌, ◌≢◌, [], map, IfOk, IsSomeAnd, OnOk, OnErr, MatchResult, None, Ok, Err};
-ghost use Rattle.std.specs.Prelude.{is_some};
+ghost use Rattle.std.specs.Prelude.{false, is_some};
+ghost use Rattle.std.specs.List.{list_any};
 ghost use Rattle.std.specs.Result.{is_ok, result_err};
 ghost use Rattle.ks_base.specs.declared.refusals.Refusal.TheVariants.{Memory};
 ghost use Rattle.ia32_step.specs.Step.{store_fault, after_store, stored, fetched_count};
@@ -13,7 +14,7 @@ ghost use Rattle.i386_reloc.specs.Rule.{Finds};
 ghost use Rattle.stack_scan.specs.Standing.{thread_refusal};
 ghost use Rattle.update_plan.specs.Plan.{planned};
 ghost use Rattle.update_plan.specs.Sound.{AreGaps, CanBeMade};
-ghost use Rattle.update_stack.specs.Apply.{committed, gaps_of, planned_in, retired_of, running_of};
+ghost use Rattle.update_stack.specs.Apply.{committed, gaps_of, has_name, planned_in, retired_of, running_of};
 ghost use Rattle.update_stack.specs.Events.{Apply, Spawn, Step, Undo, Applied, Spawned, Stepped, Undone, happened};
 ghost use Rattle.update_stack.specs.Events.{answered, after_event};
 ghost use Rattle.update_stack.specs.Stacked.{IsBuilt};
@@ -310,7 +311,8 @@ impl<S: Space> System<S> {
 
     /// Carries a plan out, and answers its report. `Err` comes only if memory runs out, and all is then as before.
     fn carry_out(&mut self, name: &Name, plan: Plan) -> Result<Report, AllocError>
-        requires { CanBeMade (contents_of self.old) plan }
+        requires can { CanBeMade (contents_of self.old) plan }
+        requires new { list_any (has_name name.now) self.old.updates ≡ false }
         ensures report { IfOk result (λ report. report ≡ plan.report) }
         ensures committed { OnOk result (self.new ≡ committed self.old name.now plan) }
         ensures refused { OnErr result (self.new ≡ self.old) }

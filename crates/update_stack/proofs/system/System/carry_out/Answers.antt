@@ -1,5 +1,5 @@
-use Rattle.std.proofs.Common.{◌≡◌, List, [], ◌∷◌, ◌++◌, sym, ◌∙◌, ap, subst}
-use Rattle.std.specs.List.{All}
+use Rattle.std.proofs.Common.{◌≡◌, false, List, [], ◌∷◌, ◌++◌, sym, ◌∙◌, ap, subst}
+use Rattle.std.specs.List.{list_any, All}
 use Rattle.image_memory.specs.declared.types.Fence.{Fence}
 use Rattle.image_memory.specs.Contents.{Contents}
 use Rattle.update_memory.specs.declared.types.Jump.{Jump}
@@ -10,7 +10,7 @@ use Rattle.update_stack.specs.AbstractMachine.{AbstractMachine, contents_of}
 use Rattle.update_stack.specs.Systems.{machine_of, Holds}
 use Rattle.update_stack.specs.declared.updates.Update.{Update as Shown}
 use Rattle.update_stack.specs.StandsFor.{Seen}
-use Rattle.update_stack.specs.Apply.{committed}
+use Rattle.update_stack.specs.Apply.{has_name, committed}
 use Rattle.update_stack.specs.inside.Carrying.{shown_as, FitsIn, HasHomeCode, IsCarriedOut}
 use Rattle.update_stack.specs.inside.Carrying.{HoldsAfter, IsPrepared}
 use Rattle.update_stack.proofs.CarryLaws.{seen_carried}
@@ -21,7 +21,7 @@ prepare-requires-clause-ends g c =
     let inside = c.self.inside in
     let k = machine_of inside.machine inside.arena inside.updates inside.kept in
     let can : CanBeMade (contents_of k) c.args.plan =
-    subst (λ (m : AbstractMachine). CanBeMade (contents_of m) c.args.plan) (sym c.self.view_is) c.requires in
+    subst (λ (m : AbstractMachine). CanBeMade (contents_of m) c.args.plan) (sym c.self.view_is) c.requires.can in
     c.plans_are_carried_out.ensures.ends inside.machine inside.arena inside.updates inside.kept c.args.plan
     c.self.invariant can
 
@@ -32,7 +32,7 @@ change-requires-clause-addable g c =
     let made = c.in_ok-made.made in
     let k = machine_of inside.machine inside.arena inside.updates inside.kept in
     let can : CanBeMade (contents_of k) plan =
-    subst (λ (m : AbstractMachine). CanBeMade (contents_of m) plan) (sym c.self.view_is) c.requires in
+    subst (λ (m : AbstractMachine). CanBeMade (contents_of m) plan) (sym c.self.view_is) c.requires.can in
     let fits : FitsIn inside.machine.contents plan made.jumps =
     c.plans_are_carried_out.ensures.fits inside.machine inside.arena inside.updates inside.kept plan
     made.jumps c.self.invariant can c.in_ok-made.ensures.prepared.rows in
@@ -46,7 +46,7 @@ change-requires-clause-retirable g c =
     let made = c.in_ok-made.made in
     let k = machine_of inside.machine inside.arena inside.updates inside.kept in
     let can : CanBeMade (contents_of k) plan =
-    subst (λ (m : AbstractMachine). CanBeMade (contents_of m) plan) (sym c.self.view_is) c.requires in
+    subst (λ (m : AbstractMachine). CanBeMade (contents_of m) plan) (sym c.self.view_is) c.requires.can in
     let fits : FitsIn inside.machine.contents plan made.jumps =
     c.plans_are_carried_out.ensures.fits inside.machine inside.arena inside.updates inside.kept plan
     made.jumps c.self.invariant can c.in_ok-made.ensures.prepared.rows in
@@ -61,7 +61,7 @@ change-requires-clause-code g c =
     let made = c.in_ok-made.made in
     let k = machine_of inside.machine inside.arena inside.updates inside.kept in
     let can : CanBeMade (contents_of k) plan =
-    subst (λ (m : AbstractMachine). CanBeMade (contents_of m) plan) (sym c.self.view_is) c.requires in
+    subst (λ (m : AbstractMachine). CanBeMade (contents_of m) plan) (sym c.self.view_is) c.requires.can in
     let fits : FitsIn inside.machine.contents plan made.jumps =
     c.plans_are_carried_out.ensures.fits inside.machine inside.arena inside.updates inside.kept plan
     made.jumps c.self.invariant can c.in_ok-made.ensures.prepared.rows in
@@ -82,7 +82,7 @@ invariant_of-self-2 g c =
     let made = c.in_ok-made.made in
     let k = machine_of inside.machine inside.arena inside.updates inside.kept in
     let can : CanBeMade (contents_of k) plan =
-    subst (λ (m : AbstractMachine). CanBeMade (contents_of m) plan) (sym c.self.view_is) c.requires in
+    subst (λ (m : AbstractMachine). CanBeMade (contents_of m) plan) (sym c.self.view_is) c.requires.can in
     let is : IsPrepared inside.machine.contents c.args.name.now plan made = c.in_ok-made.ensures.prepared in
     let carried : IsCarriedOut inside.machine c.change.new.machine plan made.jumps = record {
       seen_after =
@@ -95,7 +95,9 @@ invariant_of-self-2 g c =
     let after : HoldsAfter inside.machine c.change.new.machine inside.arena inside.updates inside.kept
     c.args.name.now plan made.kept =
     c.plans_are_carried_out.ensures.holds inside.machine c.change.new.machine inside.arena inside.updates
-    inside.kept c.args.name.now plan made.jumps made.kept c.self.invariant can carried is.kept_of_plan in
+    inside.kept c.args.name.now plan made.jumps made.kept c.self.invariant can
+    (subst (λ (m : AbstractMachine). list_any (has_name c.args.name.now) m.updates ≡ false) (sym c.self.view_is)
+    c.requires.new) carried is.kept_of_plan in
     let updates : c.push_both.new.updates ≡ inside.updates ++ shown ∷ [] =
     c.in_ok-push_both.ensures.updates ∙ ap (λ (u : Shown). inside.updates ++ u ∷ []) is.shown in
     subst (λ (us : List Shown). Holds c.change.new.machine inside.arena us c.push_both.new.kept) (sym updates)
@@ -109,7 +111,7 @@ returns-clause-committed g c =
     let made = c.in_ok-made.made in
     let k = machine_of inside.machine inside.arena inside.updates inside.kept in
     let can : CanBeMade (contents_of k) plan =
-    subst (λ (m : AbstractMachine). CanBeMade (contents_of m) plan) (sym c.self.view_is) c.requires in
+    subst (λ (m : AbstractMachine). CanBeMade (contents_of m) plan) (sym c.self.view_is) c.requires.can in
     let is : IsPrepared inside.machine.contents c.args.name.now plan made = c.in_ok-made.ensures.prepared in
     let carried : IsCarriedOut inside.machine c.change.new.machine plan made.jumps = record {
       seen_after =
@@ -122,7 +124,9 @@ returns-clause-committed g c =
     let after : HoldsAfter inside.machine c.change.new.machine inside.arena inside.updates inside.kept
     c.args.name.now plan made.kept =
     c.plans_are_carried_out.ensures.holds inside.machine c.change.new.machine inside.arena inside.updates
-    inside.kept c.args.name.now plan made.jumps made.kept c.self.invariant can carried is.kept_of_plan in
+    inside.kept c.args.name.now plan made.jumps made.kept c.self.invariant can
+    (subst (λ (m : AbstractMachine). list_any (has_name c.args.name.now) m.updates ≡ false) (sym c.self.view_is)
+    c.requires.new) carried is.kept_of_plan in
     let updates : c.push_both.new.updates ≡ inside.updates ++ shown ∷ [] =
     c.in_ok-push_both.ensures.updates ∙ ap (λ (u : Shown). inside.updates ++ u ∷ []) is.shown in
     ap (λ (us : List Shown). machine_of c.change.new.machine inside.arena us c.push_both.new.kept) updates
