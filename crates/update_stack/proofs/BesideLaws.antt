@@ -173,24 +173,24 @@ free_wrote : (k : AbstractMachine) (start : ℕ) (bytes : List ℕ) (threads : L
 free_wrote k start bytes threads =
     ap (fold without (unless_empty k.arena)) (sym (ranges_stay start bytes k.pieces))
 
-pub kept_write : CodeWasThere → (k : AbstractMachine) (kept : List Kept) (gaps : List Range) (start : ℕ)
+pub kept_write : CodeWasThere → (k : AbstractMachine) (kept : List Kept) (start : ℕ)
     (bytes : List ℕ) (threads : List Thread) → AvoidsCode start (length bytes) k.pieces → IsBuilt k
-    → AreKept k kept gaps → AreKept (wrote start bytes threads k) kept gaps
-kept_write there k kept gaps start bytes threads avoids built (NoneKept _ _ _ none nothing free) =
-    NoneKept (wrote start bytes threads k) kept gaps none nothing (free ∙ free_wrote k start bytes threads)
-kept_write there k kept gaps start bytes threads avoids built
-    (OneKept _ update earlier _ one _ newest ends is free before) =
+    → AreKept k kept → AreKept (wrote start bytes threads k) kept
+kept_write there k kept start bytes threads avoids built (NoneKept _ _ none nothing free) =
+    NoneKept (wrote start bytes threads k) kept none nothing (sym (free_wrote k start bytes threads) ∙ free)
+kept_write there k kept start bytes threads avoids built
+    (OneKept _ update earlier _ one newest ends is before) =
     let has = built_newest k update built newest in
     let below = withdrawn k update in
     let later : AreSpliced (contents_of k) (jump_rows update.report.replaced) =
     spliced_new (contents_of k) below.table update.report.replaced has.top.once
     (subst (λ (t : List Row). AreSpliced (contents_of k) (bodies_in t)) has.top.table has.sound.jumps.spliced) in
-    let rest : AreKept (wrote start bytes threads below) earlier one.gaps =
-    kept_write there below earlier one.gaps start bytes threads
+    let rest : AreKept (wrote start bytes threads below) earlier =
+    kept_write there below earlier start bytes threads
     (λ a low high code. avoids a low high (there (contents_of k) update.pieces a 1 has.sound.jumps.valid
     (subst (λ (ps : List Piece). HasCode ps a 1) (withdrawn_pieces k update) code)))
     has.below before in
-    OneKept (wrote start bytes threads k) update earlier kept one gaps newest ends
+    OneKept (wrote start bytes threads k) update earlier kept one newest ends
     (record {
       rows = is.rows;
       olds =
@@ -205,6 +205,5 @@ kept_write there k kept gaps start bytes threads avoids built
           ∙ ranges_stay start bytes (filter (is_based_at update.pieces) k.pieces))) is.ranges;
       count = is.count;
     })
-    (free ∙ free_wrote k start bytes threads)
-    (subst (λ (m : AbstractMachine). AreKept m earlier one.gaps) (sym (withdrawn_wrote k update start bytes threads))
+    (subst (λ (m : AbstractMachine). AreKept m earlier) (sym (withdrawn_wrote k update start bytes threads))
     rest)

@@ -3,7 +3,7 @@ use Rattle.std.proofs.Common.{◌≡◌, ◌≢◌, ℕ, suc, ◌^◌, ◌<◌, 
 use Rattle.std.proofs.Common.{List, [], ◌∷◌, ◌++◌, map, length, get_or, Some, None, refl, sym, ◌∙◌, ap, arith, subst}
 use Rattle.std.proofs.Common.{IsTrue, ne_eqb}
 use Rattle.std.proofs.Common.{length-append, ◌⊎◌, inl, inr}
-use Rattle.std.specs.List.{All, Any, Contains, fold, last_or, flat_map}
+use Rattle.std.specs.List.{All, Any, Contains, fold, flat_map, list_any}
 use Rattle.std.proofs.lemmas.List.{length-map, get_or-map}
 use Rattle.std.proofs.lemmas.List.Elements.{All-head, All-tail, All-cons, All-map, All-contains, Contains-get_or}
 use Rattle.std.proofs.lemmas.List.Elements.{Contains-append_cases, Contains-append_left, Contains-append_right}
@@ -33,7 +33,7 @@ use Rattle.update_plan.specs.Sound.{IsCode, IsJumpTo, is_replaced_at, CanBeMade}
 use Rattle.update_stack.specs.AbstractMachine.{AbstractMachine, Row, Update, is_home, bodies_in, fence_in}
 use Rattle.update_stack.specs.AbstractMachine.{with_replaced}
 use Rattle.update_stack.specs.AbstractMachine.{contents_of}
-use Rattle.update_stack.specs.Apply.{with_new_piece, update_as, committed, retired_of}
+use Rattle.update_stack.specs.Apply.{has_name, with_new_piece, update_as, committed, retired_of}
 use Rattle.update_stack.specs.Undo.{without_last, withdrawn, newest_update}
 use Rattle.update_stack.specs.Stacked.{IsSound, IsOnTop, IsBuilt, Untouched, Updated}
 use Rattle.update_stack.specs.laws.StackedLaws.{built_sound, last_more}
@@ -41,6 +41,7 @@ use Rattle.update_stack.specs.laws.TableLaws.{homes_after, homes_spliced}
 use Rattle.update_stack.specs.laws.ViewLaws.{ranges_back}
 use Rattle.update_stack.proofs.TableLaws.{IsTable, first_table, table_stays, table_back, last_back}
 use Rattle.update_stack.proofs.TableLaws.{pairs_map, all_homes_more, bases_after, table_spliced}
+use Rattle.update_stack.proofs.PlaceLaws.{last_parted, without_newest, withdrawn_newest, updates_left}
 
 -- the laws of changes of memory that are used here
 abbrev pub PiecesValid : Type 0
@@ -244,14 +245,28 @@ plain_fit contents plan can = record {
   clear = All-map (λ range. MeetsNone fence_range range contents.fences) fence_range plan.fences can.in_use;
 }
 
--- an update that was made is taken back
+-- an update that was made under a new name is the newest, and the only one of its name
+newest_made : (k : AbstractMachine) (name : List ℕ) (plan : Plan)
+    → newest_update (committed k name plan) ≡ Some (update_as name plan)
+unfolding committed
+newest_made k name plan = last_more None k.updates (update_as name plan)
+
+name_made : (k : AbstractMachine) (name : List ℕ) (plan : Plan) → list_any (has_name name) k.updates ≡ false
+    → list_any (has_name name) (without_last 1 (committed k name plan).updates) ≡ false
+unfolding committed
+name_made k name plan new =
+    ap (list_any (has_name name)) (last_back k.updates (update_as name plan ∷ [])) ∙ new
+
+-- and it is taken back
 pub committed_back : MemoryLaws → (k : AbstractMachine) (name : List ℕ) (plan : Plan) → IsBuilt k
-    → CanBeMade (contents_of k) plan → withdrawn (committed k name plan) (update_as name plan) ≡ k
-unfolding committed withdrawn
-committed_back laws k name plan built can =
+    → CanBeMade (contents_of k) plan → list_any (has_name name) k.updates ≡ false
+    → withdrawn (committed k name plan) (update_as name plan) ≡ k
+unfolding committed
+committed_back laws k name plan built can new =
     let contents = contents_of k in
     let valid = (built_sound k built).jumps.valid in
-    machine_is (withdrawn (committed k name plan) (update_as name plan)) k
+    withdrawn_newest (committed k name plan) (update_as name plan) (newest_made k name plan) (name_made k name plan new)
+    ∙ machine_is (without_newest (committed k name plan) (update_as name plan)) k
     (ap (without_pieces (map (λ (p : Piece). p.base) plan.pieces)) (sym (pieces_made contents plan.pieces))
     ∙ laws.pieces_back contents plan.pieces valid can.placeable (pieces_fit contents plan can))
     (table_back k.table plan.report.replaced (built_table k built) can.once)
@@ -532,10 +547,10 @@ module _ (laws : MemoryLaws) (k : AbstractMachine) (name : List ℕ) (plan : Pla
       subst (λ (ranges : List Range). Contains ranges fence.range) ranges_after
       (contains_mapped fence_range text_after.fences fence (laws.ranges_given added plan.fences fence there))
 
-  on_top : IsOnTop (committed k name plan) (update_as name plan)
+  on_top : list_any (has_name name) k.updates ≡ false → IsOnTop (committed k name plan) (update_as name plan)
   unfolding committed
-  on_top =
-      let back = committed_back laws k name plan built can in record {
+  on_top new =
+      let back = committed_back laws k name plan built can new in record {
         table = ap (λ (m : AbstractMachine). fold with_replaced m.table replaced) (sym back);
         once = can.once;
         marked =
@@ -564,17 +579,14 @@ module _ (laws : MemoryLaws) (k : AbstractMachine) (name : List ℕ) (plan : Pla
             are_other (get_or plan.fences i d).range (get_or plan.fences j d).range
             (can.retired_apart i j d less within) (can.full i d (omega arith)) (can.full j d within));
         symbols = omega (arith, length-append k.symbols plan.symbols);
+        name = name_made k name plan new;
       }
 
-  newest_after_it : newest_update (committed k name plan) ≡ Some (update_as name plan)
-  unfolding committed
-  newest_after_it = last_more None k.updates (update_as name plan)
-
   -- what holds of a machine at every moment holds after an update
-  pub built_commit : IsBuilt (committed k name plan)
-  built_commit =
-      Updated (committed k name plan) (update_as name plan) sound_after newest_after_it on_top
-      (subst IsBuilt (sym (committed_back laws k name plan built can)) built)
+  pub built_commit : list_any (has_name name) k.updates ≡ false → IsBuilt (committed k name plan)
+  built_commit new =
+      Updated (committed k name plan) (update_as name plan) sound_after (newest_made k name plan) (on_top new)
+      (subst IsBuilt (sym (committed_back laws k name plan built can new)) built)
 
 -- the machine after some bytes were written and its threads went on
 abbrev pub wrote : ℕ → List ℕ → List Thread → AbstractMachine → AbstractMachine
@@ -660,6 +672,7 @@ on_top_written k update start bytes threads is = record {
   retired = is.retired;
   ranges = is.ranges;
   symbols = is.symbols;
+  name = is.name;
 }
 
 -- what holds of a machine at every moment holds after any write, and when threads went on
@@ -672,25 +685,6 @@ built_write _ start bytes threads (Updated k update sound newest above built) =
     (on_top_written k update start bytes threads above)
     (subst IsBuilt (sym (withdrawn_wrote k update start bytes threads))
     (built_write (withdrawn k update) start bytes threads built))
-
--- a list by its last item and those before
-pub last_parted : {X : Type 0} (xs : List X) (x : X) → last_or None xs ≡ Some x → xs ≡ without_last 1 xs ++ x ∷ []
-last_parted [] x is = absurd (cc)
-last_parted {X} (first ∷ more) x is = parted first more is
-  where
-    later : (before : List X) (y : X) → without_last 1 (before ++ y ∷ []) ++ y ∷ [] ≡ before ++ y ∷ []
-    later before y = ap (λ (xs : List X). xs ++ y ∷ []) (last_back before (y ∷ []))
-
-    found : (y : X) (ys : List X) → last_or (Some y) ys ≡ Some x → (before : List X) × (y ∷ ys ≡ before ++ x ∷ [])
-    found y [] is = ([], ap (λ (z : X). z ∷ []) (cc))
-    found y (z ∷ zs) is =
-        let rest = found z zs is in
-        (y ∷ rest.0, ap (λ (xs : List X). y ∷ xs) rest.1)
-
-    parted : (y : X) (ys : List X) → last_or (Some y) ys ≡ Some x → y ∷ ys ≡ without_last 1 (y ∷ ys) ++ x ∷ []
-    parted y ys is =
-        let split = found y ys is in
-        split.1 ∙ sym (later split.0 x) ∙ ap (λ (xs : List X). without_last 1 xs ++ x ∷ []) (sym split.1)
 
 -- a range of a list is one of some or is kept when these are taken away
 same_ends : (a b : Range) → are_same a b ≡ true → a ≡ b
@@ -768,7 +762,8 @@ retired_listed _ (Updated k update sound newest above built) range there =
           (Contains-append_left update.retired [] range new)
       | inr old ↦
           Contains-append_left (flat_map retired (without_last 1 k.updates)) (update.retired ++ []) range
-          (earlier old)
+          (subst (λ (us : List Update). Contains (flat_map retired us) range)
+          (updates_left k update newest above.name) (earlier old))
     ])
 
 -- the ranges of the machine's memory among them

@@ -1,5 +1,5 @@
 -- What comes of a plan that is carried out.
-use Rattle.std.proofs.Common.{◌≡◌, ℕ, ◌+◌, ◌^◌, ◌<◌, ◌≤◌, List, [], ◌∷◌, ◌++◌, map, length, get_or}
+use Rattle.std.proofs.Common.{◌≡◌, ℕ, ◌+◌, ◌^◌, ◌<◌, ◌≤◌, false, List, [], ◌∷◌, ◌++◌, map, length, get_or}
 use Rattle.std.proofs.Common.{Some}
 use Rattle.std.proofs.Common.{refl, sym, ◌∙◌, ap, arith, subst}
 use Rattle.std.specs.List.{All, fold, list_any}
@@ -18,7 +18,6 @@ use Rattle.image_memory.specs.Changes.{ArePlaceable, after_fence}
 use Rattle.image_memory.specs.Fetch.{HasCode}
 use Rattle.image_memory.specs.laws.RangeLaws.{list_any-map}
 use Rattle.symbol_table.specs.declared.symbols.Symbol.{Symbol}
-use Rattle.link_post.specs.Places.{unless_empty, without}
 use Rattle.splice_jump.specs.Jump.{five_at}
 use Rattle.splice_jump.specs.Jumps.{jumped, jumped_memory, olds_at, unjumped, AreSpliced}
 use Rattle.update_memory.specs.declared.types.Jump.{Jump}
@@ -34,19 +33,19 @@ use Rattle.update_stack.specs.declared.updates.Kept.{Kept}
 use Rattle.update_stack.specs.AbstractMachine.{AbstractMachine, Row, Update, bodies_in, with_replaced, contents_of}
 use Rattle.update_stack.specs.AbstractMachine.{jump_row, jump_rows}
 use Rattle.update_stack.specs.StandsFor.{Seen, seen, seen_of, patched}
-use Rattle.update_stack.specs.Apply.{with_new_piece, update_as, committed, gaps_of}
+use Rattle.update_stack.specs.Apply.{has_name, with_new_piece, update_as, committed}
 use Rattle.update_stack.specs.Undo.{withdrawn, ranges_in, newest_update}
 use Rattle.update_stack.specs.Systems.{text_of, HasJumpCode, Holds, live_update, live_updates, machine_of}
 use Rattle.update_stack.specs.Stacked.{IsBuilt, AreKept, OneKept}
 use Rattle.update_stack.specs.inside.Carrying.{bare_jump, shown_as, EndsLow, FitsIn, IsKeptOf}
-use Rattle.update_stack.specs.inside.Carrying.{IsCarriedOut, gaps_after, HoldsAfter}
+use Rattle.update_stack.specs.inside.Carrying.{IsCarriedOut, HoldsAfter}
 use Rattle.update_stack.specs.laws.StackedLaws.{built_sound}
 use Rattle.update_stack.specs.laws.ViewLaws.{ranges_back}
 use Rattle.update_stack.proofs.LastLaws.{last_more, text_more, table_more, live_more}
 use Rattle.update_stack.proofs.TableLaws.{JumpsAdded, JumpsReplaced, spliced_new, jumps_stacked}
 use Rattle.update_stack.proofs.BuiltLaws.{MemoryLaws, machine_is, pieces_made, pieces_fit, ranges_fit}
 use Rattle.update_stack.proofs.BuiltLaws.{committed_back, contents_after, built_commit}
-use Rattle.update_stack.proofs.KeptLaws.{CodeWasThere, kept_free}
+use Rattle.update_stack.proofs.KeptLaws.{CodeWasThere}
 use Rattle.update_stack.proofs.BesideLaws.{ranges_stay}
 use Rattle.update_stack.proofs.TextLaws.{HasOldCode, placed_stays, kept_by_text}
 use Rattle.update_stack.proofs.UndoLaws.{ValidJumped, StaySpliced, TakenBack, CodeStays, PlacesStay, jump_code}
@@ -80,11 +79,6 @@ JumpedAdded = (contents : Contents) (pieces : List Piece) (rows : List (ℕ × �
     → ArePlaceable pieces → AreAddable contents pieces → AreSpliced contents rows
     → (with_pieces (jumped_memory rows contents) pieces).pieces ≡ jumped rows (with_pieces contents pieces).pieces
 
-abbrev pub GapsOfPieces : Type 0
-GapsOfPieces = (free : List Range) (pieces more : List Piece)
-    → fold without free (map piece_range (fold with_new_piece pieces more))
-    ≡ fold without (fold without free (map piece_range pieces)) (map piece_range more)
-
 pub record Laws : Type 0 where
   pub memory : MemoryLaws
   pub added : JumpsAdded
@@ -98,7 +92,6 @@ pub record Laws : Type 0 where
   pub past_olds : OldsAdded
   pub past_jumps : JumpedAdded
   pub was_there : CodeWasThere
-  pub gaps : GapsOfPieces
 
 -- a range meets none of pieces that have the ranges of others of which it meets none
 meets_by_ranges : (own : Range) (ps qs : List Piece) → map piece_range ps ≡ map piece_range qs
@@ -169,9 +162,9 @@ text_added past stays contents pieces (one ∷ later) valid placeable addable co
     later contents.pieces (All-head Each one later code))))
 
 -- what is kept of an update is what the machine has of it
-update_is : (name : List ℕ) (plan : Plan) (jumps : List Jump) (gaps : List Range) (kept : Kept)
-    → IsKeptOf plan jumps gaps kept → live_update (shown_as name plan.report) kept ≡ update_as name plan
-update_is name plan jumps gaps kept is = λ i. record {
+update_is : (name : List ℕ) (plan : Plan) (jumps : List Jump) (kept : Kept)
+    → IsKeptOf plan jumps kept → live_update (shown_as name plan.report) kept ≡ update_as name plan
+update_is name plan jumps kept is = λ i. record {
   name = name;
   report = plan.report;
   pieces = is.pieces i;
@@ -180,8 +173,8 @@ update_is name plan jumps gaps kept is = λ i. record {
 }
 
 -- a system, and a plan that can be made on its machine
-module _ (laws : Laws) (before : Program) (arena : Range) (gaps : List Range) (updates : List Shown) (kept : List Kept)
-    (holds : Holds before arena gaps updates kept) (plan : Plan)
+module _ (laws : Laws) (before : Program) (arena : Range) (updates : List Shown) (kept : List Kept)
+    (holds : Holds before arena updates kept) (plan : Plan)
     (can : CanBeMade (contents_of (machine_of before arena updates kept)) plan) where
   abbrev k : AbstractMachine
   k = machine_of before arena updates kept
@@ -264,7 +257,7 @@ module _ (laws : Laws) (before : Program) (arena : Range) (gaps : List Range) (u
         (subst (All (λ (row : ℕ × ℕ). HasCode full.pieces row.0 5)) (sym are) code_full);
   }
 
-  module _ (name : List ℕ) where
+  module _ (name : List ℕ) (new : list_any (has_name name) k.updates ≡ false) where
     abbrev after_it : AbstractMachine
     after_it = committed k name plan
 
@@ -272,10 +265,10 @@ module _ (laws : Laws) (before : Program) (arena : Range) (gaps : List Range) (u
     update = update_as name plan
 
     built_after : IsBuilt after_it
-    built_after = built_commit laws.memory k name plan holds.built can
+    built_after = built_commit laws.memory k name plan holds.built can new
 
     back : withdrawn after_it update ≡ k
-    back = committed_back laws.memory k name plan holds.built can
+    back = committed_back laws.memory k name plan holds.built can new
 
     -- the machine's memory after it
     abbrev text : Contents
@@ -347,7 +340,7 @@ module _ (laws : Laws) (before : Program) (arena : Range) (gaps : List Range) (u
         ∙ ap (λ (ps : List Piece). five_at ps (get_or replaced i d).home) (sym full_pieces)))
 
     module _ (after : Program) (jumps : List Jump) (one : Kept) (is : IsCarriedOut before after plan jumps)
-        (has : IsKeptOf plan jumps gaps one) where
+        (has : IsKeptOf plan jumps one) where
       abbrev shown : Shown
       shown = shown_as name plan.report
 
@@ -392,7 +385,7 @@ module _ (laws : Laws) (before : Program) (arena : Range) (gaps : List Range) (u
           (ap (λ (s : Seen). s.symbols) is.seen_after) (ap (λ (s : Seen). s.stacks) is.seen_after) refl
           (ap (λ (s : Seen). s.threads) is.seen_after)
           (live_more updates shown kept one holds.paired
-          ∙ ap (λ (u : Update). live_updates updates kept ++ u ∷ []) (update_is name plan jumps gaps one has))
+          ∙ ap (λ (u : Update). live_updates updates kept ++ u ∷ []) (update_is name plan jumps one has))
 
       stands : seen after ≡ seen_of now
       stands =
@@ -423,32 +416,23 @@ module _ (laws : Laws) (before : Program) (arena : Range) (gaps : List Range) (u
           (IsPermutation-sym (map piece_range plan.pieces) one.ranges has.ranges)
           (added_ranges k.pieces plan.pieces left)
 
-      free_now : gaps_after gaps plan ≡ gaps_of after_it
-      unfolding committed
-      free_now =
-          ap (λ (free : List Range). fold without free (map piece_range plan.pieces))
-          (kept_free k kept gaps holds.are_kept)
-          ∙ sym (laws.gaps (unless_empty arena) k.pieces plan.pieces)
-
-      kept_after : AreKept after_it (kept ++ one ∷ []) (gaps_after gaps plan)
+      kept_after : AreKept after_it (kept ++ one ∷ [])
       kept_after =
-          OneKept after_it update kept (kept ++ one ∷ []) one (gaps_after gaps plan) newest refl
+          OneKept after_it update kept (kept ++ one ∷ []) one newest refl
           (record {
             rows = ap rows_of has.jumps_kept ∙ is.rows;
             olds = olds_kept;
             ranges = ranges_kept;
             count = has.count;
           })
-          free_now
-          (subst (λ (m : AbstractMachine). AreKept m kept one.gaps) (sym back)
-          (subst (AreKept k kept) (sym has.gaps_kept) holds.are_kept))
+          (subst (λ (m : AbstractMachine). AreKept m kept) (sym back) holds.are_kept)
 
       built_now : IsBuilt now
       built_now = subst IsBuilt (sym same_now) built_after
 
-      kept_now : AreKept now (kept ++ one ∷ []) (gaps_after gaps plan)
+      kept_now : AreKept now (kept ++ one ∷ [])
       kept_now =
-          subst (λ (m : AbstractMachine). AreKept m (kept ++ one ∷ []) (gaps_after gaps plan)) (sym same_now) kept_after
+          subst (λ (m : AbstractMachine). AreKept m (kept ++ one ∷ [])) (sym same_now) kept_after
 
       code_now : HasOldCode (kept ++ one ∷ []) after.contents.pieces
       unfolding patched
@@ -459,9 +443,9 @@ module _ (laws : Laws) (before : Program) (arena : Range) (gaps : List Range) (u
           (λ jump there. subst (λ (s : Seen). HasCode s.contents.pieces jump.home (length jump.old)) (sym stands)
           (code_jumped laws.stays (bodies_in now.table) now.pieces jump.home (length jump.old) there))
           o.jumps all) (kept ++ one ∷ [])
-          (kept_code laws.was_there now (kept ++ one ∷ []) (gaps_after gaps plan) built_now kept_now)
+          (kept_code laws.was_there now (kept ++ one ∷ []) built_now kept_now)
 
-      pub holds_after : HoldsAfter before after arena gaps updates kept name plan one
+      pub holds_after : HoldsAfter before after arena updates kept name plan one
       holds_after = record {
         holds = record {
           stands = stands;

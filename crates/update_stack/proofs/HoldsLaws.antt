@@ -60,29 +60,29 @@ pub record Sound (updates : List Shown) (kept : List Kept) (contents : Contents)
   pub code : HasOldCode kept contents.pieces
 
 -- what holds of the machine and of what is kept of its updates
-pub record IsKeptOver (kept : List Kept) (gaps : List Range) (k : AbstractMachine) : Type 0 where
+pub record IsKeptOver (kept : List Kept) (k : AbstractMachine) : Type 0 where
   pub built : IsBuilt k
-  pub are_kept : AreKept k kept gaps
+  pub are_kept : AreKept k kept
 
 -- and holds again after data were written beside its code
-pub over_wrote : Laws → (k : AbstractMachine) (kept : List Kept) (gaps : List Range) (start : ℕ) (bytes : List ℕ)
-    (threads : List Thread) → AvoidsCode start (length bytes) k.pieces → IsKeptOver kept gaps k
-    → IsKeptOver kept gaps (wrote start bytes threads k)
-over_wrote laws k kept gaps start bytes threads avoids over = record {
+pub over_wrote : Laws → (k : AbstractMachine) (kept : List Kept) (start : ℕ) (bytes : List ℕ)
+    (threads : List Thread) → AvoidsCode start (length bytes) k.pieces → IsKeptOver kept k
+    → IsKeptOver kept (wrote start bytes threads k)
+over_wrote laws k kept start bytes threads avoids over = record {
   built = built_write k start bytes threads over.built;
-  are_kept = kept_write laws.there k kept gaps start bytes threads avoids over.built over.are_kept;
+  are_kept = kept_write laws.there k kept start bytes threads avoids over.built over.are_kept;
 }
 
-over_threads : Laws → (k : AbstractMachine) (kept : List Kept) (gaps : List Range) (threads : List Thread)
-    → IsKeptOver kept gaps k → IsKeptOver kept gaps (record k { threads = threads })
-over_threads laws k kept gaps threads over =
-    subst (λ (ps : List Piece). IsKeptOver kept gaps (record k { pieces = ps; threads = threads }))
-    (written_nothing k.pieces) (over_wrote laws k kept gaps 0 [] threads (none_avoids k.pieces) over)
+over_threads : Laws → (k : AbstractMachine) (kept : List Kept) (threads : List Thread)
+    → IsKeptOver kept k → IsKeptOver kept (record k { threads = threads })
+over_threads laws k kept threads over =
+    subst (λ (ps : List Piece). IsKeptOver kept (record k { pieces = ps; threads = threads }))
+    (written_nothing k.pieces) (over_wrote laws k kept 0 [] threads (none_avoids k.pieces) over)
 
-pub sound_of : (program : Program) (arena : Range) (gaps : List Range) (updates : List Shown) (kept : List Kept)
-    → Holds program arena gaps updates kept → Sound updates kept program.contents
+pub sound_of : (program : Program) (arena : Range) (updates : List Shown) (kept : List Kept)
+    → Holds program arena updates kept → Sound updates kept program.contents
 unfolding patched
-sound_of program arena gaps updates kept holds =
+sound_of program arena updates kept holds =
     let jumps = (built_sound (machine_of program arena updates kept) holds.built).jumps in
     record {
       stands = ap (λ (s : Seen). s.contents) holds.stands;
@@ -91,9 +91,9 @@ sound_of program arena gaps updates kept holds =
       code = holds.code;
     }
 
-pub over_of : (program : Program) (arena : Range) (gaps : List Range) (updates : List Shown) (kept : List Kept)
-    → Holds program arena gaps updates kept → IsKeptOver kept gaps (machine_of program arena updates kept)
-over_of program arena gaps updates kept holds = record { built = holds.built; are_kept = holds.are_kept }
+pub over_of : (program : Program) (arena : Range) (updates : List Shown) (kept : List Kept)
+    → Holds program arena updates kept → IsKeptOver kept (machine_of program arena updates kept)
+over_of program arena updates kept holds = record { built = holds.built; are_kept = holds.are_kept }
 
 stands_by : (program : Program) (arena : Range) (updates : List Shown) (kept : List Kept)
     → program.contents ≡ jumped_memory (rows_in updates) (machine_memory updates kept program.contents)
@@ -108,10 +108,10 @@ stands_by program arena updates kept same =
     } in s) same
 
 -- a program with memory of which it holds
-pub holds_again : (program : Program) (arena : Range) (gaps : List Range) (updates : List Shown) (kept : List Kept)
+pub holds_again : (program : Program) (arena : Range) (updates : List Shown) (kept : List Kept)
     → length kept ≡ length updates → Sound updates kept program.contents
-    → IsKeptOver kept gaps (machine_of program arena updates kept) → Holds program arena gaps updates kept
-holds_again program arena gaps updates kept paired sound over = record {
+    → IsKeptOver kept (machine_of program arena updates kept) → Holds program arena updates kept
+holds_again program arena updates kept paired sound over = record {
   stands = stands_by program arena updates kept sound.stands;
   built = over.built;
   are_kept = over.are_kept;
@@ -166,32 +166,32 @@ writes_beside laws updates kept contents start bytes sound clear =
 -- Memory of the machine that follows from that which other memory stands for: with the jumps it is sound, and what is
 -- seen of it is this. What is kept of the machine stays with it.
 pub record Follows
-    (updates : List Shown) (kept : List Kept) (gaps : List Range) (k : AbstractMachine) (before machine : Contents)
+    (updates : List Shown) (kept : List Kept) (k : AbstractMachine) (before machine : Contents)
     : Type 0 where
   pub sound : Sound updates kept (jumped_memory (rows_in updates) machine)
   pub text : machine_memory updates kept (jumped_memory (rows_in updates) machine) ≡ machine
   pub fences : machine.fences ≡ before.fences
-  pub over : (threads : List Thread) → IsKeptOver kept gaps (record k { pieces = machine.pieces; threads = threads })
+  pub over : (threads : List Thread) → IsKeptOver kept (record k { pieces = machine.pieces; threads = threads })
 
-pub follows_itself : Laws → (updates : List Shown) (kept : List Kept) (gaps : List Range) (k : AbstractMachine)
-    (contents : Contents) → Sound updates kept contents → IsKeptOver kept gaps k
+pub follows_itself : Laws → (updates : List Shown) (kept : List Kept) (k : AbstractMachine)
+    (contents : Contents) → Sound updates kept contents → IsKeptOver kept k
     → k.pieces ≡ text_of kept contents.pieces
-    → Follows updates kept gaps k contents (machine_memory updates kept contents)
-follows_itself laws updates kept gaps k contents sound over pieces = record {
+    → Follows updates kept k contents (machine_memory updates kept contents)
+follows_itself laws updates kept k contents sound over pieces = record {
   sound = subst (Sound updates kept) sound.stands sound;
   text = ap (machine_memory updates kept) (sym sound.stands);
   fences = sym (ap (λ (c : Contents). c.fences) sound.stands);
   over =
-      λ threads. subst (λ (ps : List Piece). IsKeptOver kept gaps (record k { pieces = ps; threads = threads })) pieces
-      (over_threads laws k kept gaps threads over);
+      λ threads. subst (λ (ps : List Piece). IsKeptOver kept (record k { pieces = ps; threads = threads })) pieces
+      (over_threads laws k kept threads over);
 }
 
-pub follows_write : Laws → (updates : List Shown) (kept : List Kept) (gaps : List Range) (k : AbstractMachine)
-    (contents : Contents) → Sound updates kept contents → IsKeptOver kept gaps k
+pub follows_write : Laws → (updates : List Shown) (kept : List Kept) (k : AbstractMachine)
+    (contents : Contents) → Sound updates kept contents → IsKeptOver kept k
     → k.pieces ≡ text_of kept contents.pieces → (start : ℕ) (bytes : List ℕ)
     → IsClear start (length bytes) (text_of kept contents.pieces)
-    → Follows updates kept gaps k contents (after_write (machine_memory updates kept contents) start bytes)
-follows_write laws updates kept gaps k contents sound over pieces start bytes clear =
+    → Follows updates kept k contents (after_write (machine_memory updates kept contents) start bytes)
+follows_write laws updates kept k contents sound over pieces start bytes clear =
     let rows = rows_in updates in
     let machine = machine_memory updates kept contents in
     let after = after_write contents start bytes in
@@ -206,9 +206,9 @@ follows_write laws updates kept gaps k contents sound over pieces start bytes cl
       text = ap (machine_memory updates kept) (sym same) ∙ beside.text;
       fences = sym (ap (λ (c : Contents). c.fences) sound.stands);
       over = λ threads. subst
-          (λ (ps : List Piece). IsKeptOver kept gaps (record k { pieces = written start bytes ps; threads = threads }))
+          (λ (ps : List Piece). IsKeptOver kept (record k { pieces = written start bytes ps; threads = threads }))
           pieces
-          (over_wrote laws k kept gaps start bytes threads
+          (over_wrote laws k kept start bytes threads
           (subst (AvoidsCode start (length bytes)) (sym pieces) avoids) over);
     }
 
@@ -250,7 +250,7 @@ full_arena arena limit low full =
 
 pub holds_at_first : (program : Program) (arena : Range) → IsValid program.contents → program.contents.fences ≡ []
     → AreStacks program.contents.pieces program.stacks → AreGaps program.contents (gaps_in arena)
-    → Holds program arena (gaps_in arena) [] []
+    → Holds program arena [] []
 unfolding jumped
 holds_at_first program arena valid none stacks gaps =
     let same : program.contents ≡ machine_memory [] [] program.contents =
@@ -272,7 +272,7 @@ holds_at_first program arena valid none stacks gaps =
                 subst (All (IsCode program.contents.pieces)) (sym (ap (map fence_range) none))
                 (λ i d below. absurd (omega arith));
           }) refl refl (ap (map fence_range) none);
-      are_kept = NoneKept k [] (gaps_in arena) refl refl (sym (arena_free program.contents arena gaps));
+      are_kept = NoneKept k [] refl refl (arena_free program.contents arena gaps);
       code = λ i d below. absurd (omega arith);
       paired = refl;
     }

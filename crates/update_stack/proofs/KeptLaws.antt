@@ -1,13 +1,11 @@
 -- What holds of the newest update of a machine, and of what is kept of it.
 use Rattle.std.proofs.Common.{◌≡◌, ℕ, List, [], ◌∷◌, ◌++◌, Some, None, refl, sym, subst, ap, ◌∙◌}
 use Rattle.std.specs.List.{last_or}
-use Rattle.ks_base.specs.declared.places.Range.{Range}
 use Rattle.image_memory.specs.Contents.{Contents, IsValid}
 use Rattle.image_memory.specs.Fetch.{HasCode}
 use Rattle.update_memory.specs.Withdrawn.{without_pieces}
 use Rattle.update_stack.specs.declared.updates.Kept.{Kept}
 use Rattle.update_stack.specs.AbstractMachine.{AbstractMachine, Update}
-use Rattle.update_stack.specs.Apply.{gaps_of}
 use Rattle.update_stack.specs.Undo.{withdrawn, newest_update}
 use Rattle.update_stack.specs.Stacked.{IsKept, AreKept, NoneKept}
 use Rattle.update_stack.specs.Stacked.{OneKept}
@@ -44,28 +42,22 @@ front_same {X} (a ∷ xs) (b ∷ ys) x y same =
     cc
 
 -- and of what is kept: that of the newest update, and of those before it
-pub record HasKept
-    (k : AbstractMachine) (update : Update) (earlier : List Kept) (one : Kept) (gaps : List Range) : Type 0 where
+pub record HasKept (k : AbstractMachine) (update : Update) (earlier : List Kept) (one : Kept) : Type 0 where
   pub is_kept : IsKept k update one
-  pub free : gaps ≡ gaps_of k
-  pub before : AreKept (withdrawn k update) earlier one.gaps
+  pub before : AreKept (withdrawn k update) earlier
 
-pub kept_newest : (k : AbstractMachine) (update : Update) (earlier kept : List Kept) (one : Kept) (gaps : List Range)
-    → AreKept k kept gaps
-    → newest_update k ≡ Some update → kept ≡ earlier ++ one ∷ [] → HasKept k update earlier one gaps
-kept_newest k update earlier kept one gaps (NoneKept _ _ _ none nothing free) is ends =
+pub kept_newest : (k : AbstractMachine) (update : Update) (earlier kept : List Kept) (one : Kept)
+    → AreKept k kept
+    → newest_update k ≡ Some update → kept ≡ earlier ++ one ∷ [] → HasKept k update earlier one
+kept_newest k update earlier kept one (NoneKept _ _ none nothing free) is ends =
     let none_newest : newest_update k ≡ None = ap (last_or None) none in
     absurd (cc)
-kept_newest k update earlier kept one gaps (OneKept _ other front _ last _ newest has kept_one free before) is ends =
+kept_newest k update earlier kept one (OneKept _ other front _ last newest has kept_one before) is ends =
     let same : other ≡ update = cc in
     let joined : front ++ last ∷ [] ≡ earlier ++ one ∷ [] = sym has ∙ ends in
     let last_is : last ≡ one = last_same front earlier last one joined in
     let front_is : front ≡ earlier = front_same front earlier last one joined in
-    subst (λ (u : Update). HasKept k u earlier one gaps) same
-    (subst (λ (ks : List Kept). HasKept k other ks one gaps) front_is
-    (subst (λ (o : Kept). HasKept k other front o gaps) last_is
-    (record { is_kept = kept_one; free = free; before = before })))
-
-pub kept_free : (k : AbstractMachine) (kept : List Kept) (gaps : List Range) → AreKept k kept gaps → gaps ≡ gaps_of k
-kept_free k kept gaps (NoneKept _ _ _ none nothing free) = free
-kept_free k kept gaps (OneKept _ update front _ last _ newest has kept_one free before) = free
+    subst (λ (u : Update). HasKept k u earlier one) same
+    (subst (λ (ks : List Kept). HasKept k other ks one) front_is
+    (subst (λ (o : Kept). HasKept k other front o) last_is
+    (record { is_kept = kept_one; before = before })))

@@ -32,7 +32,7 @@ pub fold_more : {X Y : Type 0} (f : Y → X → Y) (y : Y) (xs more : List X)
 fold_more f y [] more = refl
 fold_more f y (x ∷ xs) more = fold_more f (f y x) xs more
 
-flat_more : {X Y : Type 0} (f : X → List Y) (xs : List X) (x : X) → flat_map f (xs ++ x ∷ []) ≡ flat_map f xs ++ f x
+pub flat_more : {X Y : Type 0} (f : X → List Y) (xs : List X) (x : X) → flat_map f (xs ++ x ∷ []) ≡ flat_map f xs ++ f x
 flat_more f [] x = append-nil (f x)
 flat_more {X} {Y} f (y ∷ ys) x =
     ap (λ (zs : List Y). f y ++ zs) (flat_more f ys x) ∙ sym (append_assoc (f y) (flat_map f ys) (f x))

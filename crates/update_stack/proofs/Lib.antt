@@ -6,12 +6,14 @@ pub mod CarryLaws
 pub mod CodeLaws
 pub mod FirstLaws
 pub mod FreshLaws
+pub mod GapLaws
 pub mod HoldsLaws
 pub mod KeptLaws
 pub mod LastLaws
 pub mod LiveLaws
 pub mod LockStep
 pub mod MovingLaws
+pub mod PlaceLaws
 pub mod PlanLaws
 pub mod ReachedLaws
 pub mod SeenLaws

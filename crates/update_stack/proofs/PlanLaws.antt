@@ -141,7 +141,7 @@ pub one_splice : (k : AbstractMachine) (contents : Contents) (address : ℕ)
 one_splice k contents address is = ap (λ (c : Contents). spliced_at c.fences address) is
 
 -- what is free of the arena
-arena_ascends : (arena : Range) → Ascends (λ (range : Range). range) 0 (unless_empty arena)
+pub arena_ascends : (arena : Range) → Ascends (λ (range : Range). range) 0 (unless_empty arena)
 arena_ascends arena = by_size (nat_lt arena.low arena.high) refl
   where
     by_size : (b : Bool) → nat_lt arena.low arena.high ≡ b

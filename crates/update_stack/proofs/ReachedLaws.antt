@@ -50,6 +50,7 @@ use Rattle.update_stack.specs.laws.TableLaws.{homes_after, homes_spliced}
 use Rattle.update_stack.specs.laws.ViewLaws.{home_row}
 use Rattle.update_stack.proofs.TableLaws.{all_homes_more, base_over, newest_after}
 use Rattle.update_stack.proofs.BuiltLaws.{MemoryLaws, built_commit, pieces_made}
+use Rattle.update_stack.proofs.PlaceLaws.{name_is_new}
 use Rattle.update_stack.proofs.PlanLaws.{PlansCanBeMade, GapsAscend, GapsBelow, GapsApart, gaps_ascend, planned_can}
 
 -- what is said of plans
@@ -375,7 +376,8 @@ reached_by laws codes ascend k name pre_file post_file plan built can is =
     let brings = brought codes ascend k name pre_file post_file plan is in
     let steps = brings.steps in
     let now = committed k name plan in
-    let sound = built_sound now (built_commit laws k name plan built can) in
+    let new = name_is_new k name pre_file post_file plan is in
+    let sound = built_sound now (built_commit laws k name plan built can new) in
     record {
       steps = brings.steps;
       each = λ i d less.

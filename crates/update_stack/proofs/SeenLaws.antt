@@ -60,8 +60,8 @@ abbrev pub PlacesStay : Type 0
 PlacesStay = (rows : List (ℕ × ℕ)) (pieces : List Piece)
     → map piece_range (jumped rows pieces) ≡ map piece_range pieces
 
-module _ (program : Program) (arena : Range) (gaps : List Range) (updates : List Shown) (kept : List Kept)
-    (holds : Holds program arena gaps updates kept) where
+module _ (program : Program) (arena : Range) (updates : List Shown) (kept : List Kept)
+    (holds : Holds program arena updates kept) where
   abbrev k : AbstractMachine
   k = machine_of program arena updates kept
 
@@ -83,11 +83,11 @@ module _ (program : Program) (arena : Range) (gaps : List Range) (updates : List
       program.threads (all_have_stacks k.pieces program.stacks program.threads sound.stacks placed)
 
 -- where nothing is kept there is no update, and the last that is kept is of the newest
-kept_none : (k : AbstractMachine) (kept : List Kept) (gaps : List Range) → AreKept k kept gaps
+kept_none : (k : AbstractMachine) (kept : List Kept) → AreKept k kept
     → last_or None kept ≡ None
     → newest_update k ≡ None
-kept_none k kept gaps (NoneKept _ _ _ none nothing free) last = ap (last_or None) none
-kept_none k kept gaps (OneKept _ update earlier _ one _ newest ends is free before) last =
+kept_none k kept (NoneKept _ _ none nothing free) last = ap (last_or None) none
+kept_none k kept (OneKept _ update earlier _ one newest ends is before) last =
     let some : last_or None kept ≡ Some one = ap (last_or None) ends ∙ last_more earlier one in
     absurd (cc)
 
@@ -96,32 +96,32 @@ pub record HasLast (k : AbstractMachine) (one : Kept) : Type 0 where
   pub newest : newest_update k ≡ Some update
   pub is : IsKept k update one
 
-kept_last : (k : AbstractMachine) (kept : List Kept) (gaps : List Range) (one : Kept) → AreKept k kept gaps
+kept_last : (k : AbstractMachine) (kept : List Kept) (one : Kept) → AreKept k kept
     → last_or None kept ≡ Some one → HasLast k one
-kept_last k kept gaps one (NoneKept _ _ _ none nothing free) last =
+kept_last k kept one (NoneKept _ _ none nothing free) last =
     let no : last_or None kept ≡ None = ap (last_or None) nothing in
     absurd (cc)
-kept_last k kept gaps one (OneKept _ update earlier _ other _ newest ends is free before) last =
+kept_last k kept one (OneKept _ update earlier _ other newest ends is before) last =
     let some : last_or None kept ≡ Some other = ap (last_or None) ends ∙ last_more earlier other in
     let same : other ≡ one = cc in
     subst (HasLast k) same (record { update = update; newest = newest; is = is })
 
-pub none_refused : (k : AbstractMachine) (kept : List Kept) (gaps : List Range) → AreKept k kept gaps
+pub none_refused : (k : AbstractMachine) (kept : List Kept) → AreKept k kept
     → last_or None kept ≡ None → Some NothingApplied ≡ undo_refusal k
 unfolding undo_refusal
-none_refused k kept gaps are last = sym (ap (refusal_of k) (kept_none k kept gaps are last))
+none_refused k kept are last = sym (ap (refusal_of k) (kept_none k kept are last))
 
 -- a law of another crate: the order of ranges doesn't matter
 abbrev pub OrderHasNoSay : Type 0
 OrderHasNoSay = (pieces : List Piece) (ranges others : List Range) (threads : List Thread) → IsPermutation ranges others
     → thread_refusal pieces ranges threads ≡ thread_refusal pieces others threads
 
-pub last_refused : OrderHasNoSay → (k : AbstractMachine) (kept : List Kept) (gaps : List Range) (one : Kept)
-    → AreKept k kept gaps → last_or None kept ≡ Some one
+pub last_refused : OrderHasNoSay → (k : AbstractMachine) (kept : List Kept) (one : Kept)
+    → AreKept k kept → last_or None kept ≡ Some one
     → thread_refusal k.pieces one.ranges k.threads ≡ undo_refusal k
 unfolding undo_refusal
-last_refused order k kept gaps one are last =
-    let has = kept_last k kept gaps one are last in
+last_refused order k kept one are last =
+    let has = kept_last k kept one are last in
     order k.pieces one.ranges (ranges_in k has.update) k.threads has.is.ranges
     ∙ sym (ap (refusal_of k) has.newest)
 

@@ -37,7 +37,7 @@ stack_clear contents stacks stack argument valid bounds are listed =
     (All-contains (λ (range : Range). IsTrue (is_stack contents.pieces range)) stacks stack are listed)
     (length-first_bytes stack argument (omega arith))
 
-module _ (arena : Range) (gaps : List Range) (updates : List Shown) (kept : List Kept) where
+module _ (arena : Range) (updates : List Shown) (kept : List Kept) where
   -- a program as the machine
   abbrev machine : Program → AbstractMachine
   machine program = machine_of program arena updates kept
@@ -46,9 +46,9 @@ module _ (arena : Range) (gaps : List Range) (updates : List Shown) (kept : List
   abbrev pub Starts : Result Program Refusal → Result AbstractMachine Refusal → Type 0
   Starts (Err refusal) now = now ≡ Err refusal
   Starts (Ok new) now =
-      (now ≡ Ok (machine new)) × Sound updates kept new.contents × IsKeptOver kept gaps (machine new)
+      (now ≡ Ok (machine new)) × Sound updates kept new.contents × IsKeptOver kept (machine new)
 
-  starts_on : Laws → (old : Program) (pc argument : ℕ) → Holds old arena gaps updates kept → All IsStackRange old.stacks
+  starts_on : Laws → (old : Program) (pc argument : ℕ) → Holds old arena updates kept → All IsStackRange old.stacks
       → (o : Option Range) → IfSome o (Contains old.stacks)
       → Starts (with_started old (started_on old.contents.pieces old.threads pc argument o))
       (after_start (machine old)
@@ -56,8 +56,8 @@ module _ (arena : Range) (gaps : List Range) (updates : List Shown) (kept : List
   starts_on laws old pc argument holds bounds None listed = refl
   starts_on laws old pc argument holds bounds (Some stack) listed =
       let k = machine old in
-      let sound = sound_of old arena gaps updates kept holds in
-      let over = over_of old arena gaps updates kept holds in
+      let sound = sound_of old arena updates kept holds in
+      let over = over_of old arena updates kept holds in
       let holds_k = built_sound k holds.built in
       let bytes = first_bytes stack argument in
       let threads = old.threads ++ first_thread (length old.threads) stack pc ∷ [] in
@@ -71,11 +71,11 @@ module _ (arena : Range) (gaps : List Range) (updates : List Shown) (kept : List
       sym (ap (λ (c : Contents). c.pieces) beside.text) in (
         ap (λ (ps : List Piece). let r : Result AbstractMachine Refusal = Ok (by ps) in r) text,
         beside.sound,
-        subst (λ (ps : List Piece). IsKeptOver kept gaps (by ps)) text
-            (over_wrote laws k kept gaps stack.low bytes threads avoids over),
+        subst (λ (ps : List Piece). IsKeptOver kept (by ps)) text
+            (over_wrote laws k kept stack.low bytes threads avoids over),
       )
 
-  starts_at : Laws → (old : Program) (argument : ℕ) → Holds old arena gaps updates kept → All IsStackRange old.stacks
+  starts_at : Laws → (old : Program) (argument : ℕ) → Holds old arena updates kept → All IsStackRange old.stacks
       → (pc : Result ℕ Refusal)
       → Starts (with_started old (started_at old.contents.pieces old.stacks old.threads argument pc))
       (after_start (machine old)
@@ -94,7 +94,7 @@ module _ (arena : Range) (gaps : List Range) (updates : List Shown) (kept : List
           starts_on laws old pc argument holds bounds (free_stack old.stacks old.threads)
           (stack_listed old.stacks old.threads (free_stack old.stacks old.threads) refl)
 
-  starts : Laws → (old : Program) (name : List ℕ) (argument : ℕ) → Holds old arena gaps updates kept
+  starts : Laws → (old : Program) (name : List ℕ) (argument : ℕ) → Holds old arena updates kept
       → All IsStackRange old.stacks
       → Starts (program_spawned old name argument) (spawned (machine old) name argument)
   unfolding program_spawned spawned started
@@ -108,23 +108,23 @@ module _ (arena : Range) (gaps : List Range) (updates : List Shown) (kept : List
       (λ refusal. refusal ≢ Memory → program_spawned old name argument ≡ Err refusal)
 
   spawn_goes : Laws → (old : Program) (name : List ℕ) (argument : ℕ) (given : Result Program Refusal)
-      → Holds old arena gaps updates kept → All IsStackRange old.stacks → program_spawned old name argument ≡ given
+      → Holds old arena updates kept → All IsStackRange old.stacks → program_spawned old name argument ≡ given
       → Starts given (spawned (machine old) name argument)
   spawn_goes laws old name argument given holds bounds is =
       subst (λ (r : Result Program Refusal). Starts r (spawned (machine old) name argument)) is
       (starts laws old name argument holds bounds)
 
   pub spawn_holds : Laws → (old new : Program) (name : List ℕ) (argument : ℕ) (result : Result ℕ Refusal)
-      → Holds old arena gaps updates kept → All IsStackRange old.stacks → HasSpawned old new name argument result
-      → OnErr result (new ≡ old) → Holds new arena gaps updates kept
+      → Holds old arena updates kept → All IsStackRange old.stacks → HasSpawned old new name argument result
+      → OnErr result (new ≡ old) → Holds new arena updates kept
   spawn_holds laws old new name argument (Ok number) holds bounds is same =
       let goes = spawn_goes laws old name argument (Ok new) holds bounds is in
-      holds_again new arena gaps updates kept holds.paired goes.1 goes.2
+      holds_again new arena updates kept holds.paired goes.1 goes.2
   spawn_holds laws old new name argument (Err refusal) holds bounds is same =
-      subst (λ (p : Program). Holds p arena gaps updates kept) (sym same) holds
+      subst (λ (p : Program). Holds p arena updates kept) (sym same) holds
 
   pub spawn_seen : Laws → (old new : Program) (name : List ℕ) (argument : ℕ) (result : Result ℕ Refusal)
-      → Holds old arena gaps updates kept → All IsStackRange old.stacks → HasSpawned old new name argument result
+      → Holds old arena updates kept → All IsStackRange old.stacks → HasSpawned old new name argument result
       → MatchResult result (λ number. number ≡ length old.threads) (λ _. Unit {0})
       → MatchResult result
       (λ number. answered (machine old) (Spawn name argument)

@@ -51,7 +51,8 @@ use Rattle.update_stack.specs.laws.StackedLaws.{HasNewest, built_newest, built_s
 use Rattle.update_stack.specs.laws.TableLaws.{homes_after}
 use Rattle.update_stack.specs.laws.ViewLaws.{ranges_back}
 use Rattle.update_stack.proofs.TableLaws.{last_back, newest_after}
-use Rattle.update_stack.proofs.BuiltLaws.{MemoryLaws, contains_first, contains_later, contains_mapped, last_parted, wrote}
+use Rattle.update_stack.proofs.BuiltLaws.{MemoryLaws, contains_first, contains_later, contains_mapped, wrote}
+use Rattle.update_stack.proofs.PlaceLaws.{name_is_new, last_parted, updates_left}
 use Rattle.update_stack.proofs.PlanLaws.{GapsAscend}
 use Rattle.update_stack.proofs.MovingLaws.{moved_leaves, spawned_leaves}
 use Rattle.update_stack.proofs.ReachedLaws.{CodeIsBrought, IsAt, accepted, all_false, all_ranges, at_by, at_commit}
@@ -276,7 +277,10 @@ live_pieces _ (Updated k update sound newest above built) one there =
     let earlier = live_pieces (withdrawn k update) built one in
     elim (Contains-push_cases (without_last 1 k.updates) update one
     (subst (λ (updates : List Update). Contains updates one) (last_parted k.updates update newest) there)) [
-      | inl before ↦ λ i d less. still_there update.pieces k.pieces (get_or one.pieces i d) (earlier before i d less)
+      | inl before ↦ λ i d less.
+          still_there update.pieces k.pieces (get_or one.pieces i d)
+          (earlier (subst (λ (us : List Update). Contains us one) (sym (updates_left k update newest above.name)) before)
+          i d less)
       | inr same ↦ subst (λ (u : Update). All (HasPiece (contents_of k)) u.pieces) same above.pieces
     ]
 
@@ -312,7 +316,8 @@ module _ (k : AbstractMachine) (update : Update) (built : IsBuilt k) (last : new
     update = had.update;
     later = front;
     parts =
-        ap (without_last 1) (had.parts ∙ ap (λ (us : List Update). had.earlier ++ had.update ∷ us) is
+        updates_left k update last below.top.name
+        ∙ ap (without_last 1) (had.parts ∙ ap (λ (us : List Update). had.earlier ++ had.update ∷ us) is
         ∙ sym (append_assoc had.earlier (had.update ∷ front) (newer ∷ [])))
         ∙ last_back (had.earlier ++ had.update ∷ front) (newer ∷ []);
     replaced = had.replaced;
@@ -532,7 +537,8 @@ stay_by laws codes ascend plans free earlier k moment name pre_file post_file pl
             here = at_commit laws k name plan moment.built can piece text.stands i d less refl refl;
           } in
           let later = events_stay laws plans free (earlier ++ k ∷ []) (committed k name plan) events
-          (committed_moment earlier k moment laws name plan can) one.home piece stays alone in
+          (committed_moment earlier k moment laws name plan can (name_is_new k name pre_file post_file plan is)) one.home
+          piece stays alone in
           let after = after_events (committed k name plan) events in
           record {
             code = code_in_others (running_of k) (gaps_of k) pre_file post_file brings.steps plan.pieces after.pieces one

@@ -30,7 +30,7 @@ use Rattle.update_stack.proofs.HoldsLaws.{follows_itself, follows_write, holds_a
 abbrev pub AllSteps : Type 0
 AllSteps = (k : AbstractMachine) (thread : Thread) → CanJump k → StepsStand k thread
 
-module _ (arena : Range) (gaps : List Range) (updates : List Shown) (kept : List Kept) where
+module _ (arena : Range) (updates : List Shown) (kept : List Kept) where
   -- a program as the machine
   abbrev machine : Program → AbstractMachine
   machine program = machine_of program arena updates kept
@@ -38,11 +38,11 @@ module _ (arena : Range) (gaps : List Range) (updates : List Shown) (kept : List
   -- what the program leaves and answers, and what the machine does
   abbrev pub Goes : Program → Outcome → Result (AbstractMachine × Outcome) Refusal → Type 0
   Goes new outcome now =
-      (now ≡ Ok (machine new, outcome)) × Sound updates kept new.contents × IsKeptOver kept gaps (machine new)
+      (now ≡ Ok (machine new, outcome)) × Sound updates kept new.contents × IsKeptOver kept (machine new)
 
   -- the memory after a step of the machine, with the jumps
   goes_beside : (old : Program) (n : ℕ) (left : Left)
-      → Follows updates kept gaps (machine old) old.contents left.contents
+      → Follows updates kept (machine old) old.contents left.contents
       → Goes (continued old n (jumped_left (rows_in updates) left)) left.outcome
       (Ok (after_step (machine old) n left, left.outcome))
   goes_beside old n left follows =
@@ -55,10 +55,10 @@ module _ (arena : Range) (gaps : List Range) (updates : List Shown) (kept : List
         ap (λ (k : AbstractMachine). let r : Result (AbstractMachine × Outcome) Refusal = Ok (k, left.outcome) in r)
             same,
         follows.sound,
-        subst (IsKeptOver kept gaps) same (follows.over (set old.threads n left.thread)),
+        subst (IsKeptOver kept) same (follows.over (set old.threads n left.thread)),
       )
 
-  step_goes : Laws → AllSteps → (old : Program) (n : ℕ) (thread : Thread) → Holds old arena gaps updates kept
+  step_goes : Laws → AllSteps → (old : Program) (n : ℕ) (thread : Thread) → Holds old arena updates kept
       → Goes (continued old n (stepped old.contents thread)) (stepped old.contents thread).outcome
       (Ok (
         after_step (machine old) n (step_in (machine old) thread),
@@ -67,20 +67,20 @@ module _ (arena : Range) (gaps : List Range) (updates : List Shown) (kept : List
   unfolding patched
   step_goes laws steps old n thread holds =
       let k = machine old in
-      let sound = sound_of old arena gaps updates kept holds in
-      let over = over_of old arena gaps updates kept holds in
+      let sound = sound_of old arena updates kept holds in
+      let over = over_of old arena updates kept holds in
       let left = step_in k thread in
       let same : stepped old.contents thread ≡ jumped_left (rows_in updates) left =
       ap (λ (c : Contents). stepped c thread) sound.stands ∙ steps k thread (built_sound k holds.built).jumps in
-      let follows : Follows updates kept gaps k old.contents left.contents =
-      by_step (Follows updates kept gaps k old.contents) k
-      (follows_itself laws updates kept gaps k old.contents sound over refl)
-      (follows_write laws updates kept gaps k old.contents sound over refl) thread in
+      let follows : Follows updates kept k old.contents left.contents =
+      by_step (Follows updates kept k old.contents) k
+      (follows_itself laws updates kept k old.contents sound over refl)
+      (follows_write laws updates kept k old.contents sound over refl) thread in
       let P : Left → Type 0 =
       λ after. Goes (continued old n after) after.outcome (Ok (after_step k n left, left.outcome)) in
       subst P (sym same) (goes_beside old n left follows)
 
-  moved_goes : Laws → AllSteps → (old new : Program) (n : ℕ) (outcome : Outcome) → Holds old arena gaps updates kept
+  moved_goes : Laws → AllSteps → (old new : Program) (n : ℕ) (outcome : Outcome) → Holds old arena updates kept
       → program_moved old n ≡ Ok (new, outcome) → Goes new outcome (moved (machine old) n)
   unfolding moved program_moved
   moved_goes laws steps old new n outcome holds is = by_thread (running_at old.threads n) is
@@ -112,16 +112,16 @@ module _ (arena : Range) (gaps : List Range) (updates : List Shown) (kept : List
       (λ refusal. program_moved old n ≡ Err refusal)
 
   pub step_holds : Laws → AllSteps → (old new : Program) (n : ℕ) (result : Result Outcome Refusal)
-      → Holds old arena gaps updates kept → HasMoved old new n result → OnErr result (new ≡ old)
-      → Holds new arena gaps updates kept
+      → Holds old arena updates kept → HasMoved old new n result → OnErr result (new ≡ old)
+      → Holds new arena updates kept
   step_holds laws steps old new n (Ok outcome) holds is same =
       let goes = moved_goes laws steps old new n outcome holds is in
-      holds_again new arena gaps updates kept holds.paired goes.1 goes.2
+      holds_again new arena updates kept holds.paired goes.1 goes.2
   step_holds laws steps old new n (Err refusal) holds is same =
-      subst (λ (p : Program). Holds p arena gaps updates kept) (sym same) holds
+      subst (λ (p : Program). Holds p arena updates kept) (sym same) holds
 
   pub step_seen : Laws → AllSteps → (old new : Program) (n : ℕ) (result : Result Outcome Refusal)
-      → Holds old arena gaps updates kept → HasMoved old new n result
+      → Holds old arena updates kept → HasMoved old new n result
       → MatchResult result
       (λ outcome. answered (machine old) (Step n)
       ≡ Ok (happened (machine new) (Stepped outcome)))
@@ -132,7 +132,7 @@ module _ (arena : Range) (gaps : List Range) (updates : List Shown) (kept : List
   step_seen laws steps old new n (Err refusal) holds is = ap step_answered (not_moved old n refusal is)
 
   pub stepped_after : Laws → AllSteps → (old new : Program) (n : ℕ) (result : Result Outcome Refusal)
-      → Holds old arena gaps updates kept → HasMoved old new n result → OnErr result (new ≡ old)
+      → Holds old arena updates kept → HasMoved old new n result → OnErr result (new ≡ old)
       → machine new ≡ after_event (machine old) (Step n)
   unfolding after_event
   stepped_after laws steps old new n (Ok outcome) holds is same =

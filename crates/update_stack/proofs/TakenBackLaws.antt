@@ -4,7 +4,7 @@ use Rattle.std.proofs.Common.{List, [], ◌∷◌, ◌++◌, map, length, get_or
 use Rattle.std.proofs.Common.{Contains}
 use Rattle.std.proofs.Common.{refl, sym, ◌∙◌, ap, arith, subst, ◌⊎◌, inl, inr}
 use Rattle.std.specs.Option.{option_map}
-use Rattle.std.specs.List.{All, filter, fold, last_or}
+use Rattle.std.specs.List.{All, filter, fold, last_or, list_any}
 use Rattle.std.proofs.lemmas.List.Elements.{All-head, All-tail, All-cons, All-filter}
 use Rattle.std.proofs.lemmas.Bool.Decides.{nat_tests}
 use Rattle.ks_base.specs.declared.places.Range.{Range}
@@ -36,7 +36,7 @@ use Rattle.update_stack.specs.AbstractMachine.{AbstractMachine, Update, bodies_i
 use Rattle.update_stack.specs.StandsFor.{patched}
 use Rattle.update_stack.specs.Steps.{moved, spawned}
 use Rattle.update_stack.specs.Apply.{name_refusal, running_of, retired_of, gaps_of, planned_in, applied, committed}
-use Rattle.update_stack.specs.Apply.{update_as}
+use Rattle.update_stack.specs.Apply.{has_name, update_as}
 use Rattle.update_stack.specs.Undo.{without_last, withdrawn, ranges_in, newest_update, undone_by, undone}
 use Rattle.update_stack.specs.Events.{Event, Spawn, Step, Apply, Undo, Happened, spawn_answered, step_answered}
 use Rattle.update_stack.specs.Events.{apply_answered, undo_answered, answered, machine_after, after_event, after_events}
@@ -46,6 +46,7 @@ use Rattle.update_stack.specs.Stacked.{IsSound, IsBuilt, Untouched, Updated}
 use Rattle.update_stack.specs.laws.StackedLaws.{last_more, built_sound}
 use Rattle.update_stack.proofs.TableLaws.{last_back}
 use Rattle.update_stack.proofs.BuiltLaws.{MemoryLaws, built_write, built_commit, committed_back, wrote}
+use Rattle.update_stack.proofs.PlaceLaws.{name_is_new}
 use Rattle.update_stack.proofs.BuiltLaws.{withdrawn_wrote, fences_listed}
 use Rattle.update_stack.proofs.MovingLaws.{moved_leaves, spawned_leaves}
 
@@ -294,12 +295,12 @@ module _ (earlier : List AbstractMachine) (k : AbstractMachine) (moment : IsMome
           (built_sound k moment.built).jumps.spliced (fences_listed k moment.built) (gaps_free free) is
 
   pub committed_moment : MemoryLaws → (name : List ℕ) (plan : Plan) → CanBeMade (contents_of k) plan
-      → IsMoment (earlier ++ k ∷ []) (committed k name plan)
+      → list_any (has_name name) k.updates ≡ false → IsMoment (earlier ++ k ∷ []) (committed k name plan)
   unfolding committed
-  committed_moment laws name plan can =
-      let back = committed_back laws k name plan moment.built can in
+  committed_moment laws name plan can new =
+      let back = committed_back laws k name plan moment.built can new in
       record {
-        built = built_commit laws k name plan moment.built can;
+        built = built_commit laws k name plan moment.built can new;
         are_earlier =
             OneEarlier (earlier ++ k ∷ []) earlier k (committed k name plan) (update_as name plan)
             (last_more None k.updates (update_as name plan)) refl (ap lasting (sym back))
@@ -316,10 +317,10 @@ module _ (earlier : List AbstractMachine) (k : AbstractMachine) (moment : IsMome
       after name plan = (committed k name plan, plan.report)
 
       by_threads : (plan : Plan) (o : Option Refusal) → CanBeMade (contents_of k) plan
-          → Leaves (apply_answered (unless o plan >>= λ (clear : Plan).
+          → list_any (has_name name) k.updates ≡ false → Leaves (apply_answered (unless o plan >>= λ (clear : Plan).
           let r : Result (AbstractMachine × Report) Refusal = Ok (committed k name clear, clear.report) in r))
-      by_threads plan (Some refusal) can = moment
-      by_threads plan None can = committed_moment laws name plan can
+      by_threads plan (Some refusal) can new = moment
+      by_threads plan None can new = committed_moment laws name plan can new
 
       by_plan : (r : Result Plan Refusal) → planned_in k name pre post ≡ r
           → Leaves (apply_answered (r >>= λ (plan : Plan). unless (thread_refusal k.pieces plan.guarded k.threads) plan
@@ -328,7 +329,7 @@ module _ (earlier : List AbstractMachine) (k : AbstractMachine) (moment : IsMome
       by_plan (Err refusal) is = moment
       by_plan (Ok plan) is =
           by_threads plan (thread_refusal k.pieces plan.guarded k.threads)
-          (can_be_made plans free name pre post plan is)
+          (can_be_made plans free name pre post plan is) (name_is_new k name pre post plan is)
 
   -- the machine without its newest update
   built_below : (update : Update) → newest_update k ≡ Some update → IsBuilt (withdrawn k update)

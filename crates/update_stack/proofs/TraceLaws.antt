@@ -32,18 +32,18 @@ use Rattle.update_stack.proofs.StepLaws.{AllSteps, step_holds, step_seen, steppe
 use Rattle.update_stack.proofs.TextLaws.{clear_text}
 
 -- what a step wrote, it wrote to the machine's memory too
-store_seen : Laws → (arena : Range) (gaps : List Range) (updates : List Shown) (kept : List Kept)
-    → (old new : Program) (store : Option Store) → Holds old arena gaps updates kept
+store_seen : Laws → (arena : Range) (updates : List Shown) (kept : List Kept)
+    → (old new : Program) (store : Option Store) → Holds old arena updates kept
     → new.contents ≡ after_store old.contents store → store_fault old.contents store ≡ None
     → (machine_of new arena updates kept).pieces
     ≡ (after_store (contents_of (machine_of old arena updates kept)) store).pieces
-store_seen laws arena gaps updates kept old new None holds is clear =
+store_seen laws arena updates kept old new None holds is clear =
     ap (λ (c : Contents). text_of kept c.pieces) is
-store_seen laws arena gaps updates kept old new (Some s) holds is clear =
+store_seen laws arena updates kept old new (Some s) holds is clear =
     ap (λ (c : Contents). text_of kept c.pieces) is
     ∙ ap (λ (memory : Contents). memory.pieces)
     (writes_beside laws updates kept old.contents s.address (spelled s.width s.value)
-    (sound_of old arena gaps updates kept holds)
+    (sound_of old arena updates kept holds)
     (ap (first_fault (write_fault old.contents.pieces) s.address) (length-spelled s.width s.value) ∙ clear)).text
 
 -- and there it can be written
@@ -106,7 +106,7 @@ retold : (X : Type 0) (told : X) (f g : Thread → X) → ((thread : Thread) →
 retold X told f g same None is = is
 retold X told f g same (Some running) is = is ∙ same running
 
-module _ (laws : Laws) (steps : AllSteps) (arena : Range) (gaps : List Range) (updates : List Shown)
+module _ (laws : Laws) (steps : AllSteps) (arena : Range) (updates : List Shown)
     (kept : List Kept) where
   -- a program as the machine
   abbrev machine : Program → AbstractMachine
@@ -117,16 +117,16 @@ module _ (laws : Laws) (steps : AllSteps) (arena : Range) (gaps : List Range) (u
   HasMoved old new n result =
       MatchResult result (λ traced. moved old n ≡ Ok (new, traced.outcome)) (λ refusal. moved old n ≡ Err refusal)
 
-  pub step_keeps : (old new : Program) (n : ℕ) (result : Result Traced Refusal) → Holds old arena gaps updates kept
-      → HasMoved old new n result → OnErr result (new ≡ old) → Holds new arena gaps updates kept
+  pub step_keeps : (old new : Program) (n : ℕ) (result : Result Traced Refusal) → Holds old arena updates kept
+      → HasMoved old new n result → OnErr result (new ≡ old) → Holds new arena updates kept
   step_keeps old new n (Ok traced) holds is same =
-      step_holds arena gaps updates kept laws steps old new n (Ok traced.outcome) holds is same
+      step_holds arena updates kept laws steps old new n (Ok traced.outcome) holds is same
   step_keeps old new n (Err refusal) holds is same =
-      step_holds arena gaps updates kept laws steps old new n (Err refusal) holds is same
+      step_holds arena updates kept laws steps old new n (Err refusal) holds is same
 
   -- and what was reported of it, so of the system
   pub step_comes : LeavesViews → LeavesHomes → (old new : Program) (n : ℕ) (result : Result Traced Refusal)
-      → Holds old arena gaps updates kept → HasMoved old new n result
+      → Holds old arena updates kept → HasMoved old new n result
       → IfOk result (λ traced. new.contents ≡ after_store old.contents traced.store)
       → IfOk result (λ traced. store_fault old.contents traced.store ≡ None)
       → IfOk result (λ traced. IsSomeAnd (running_at old.threads n)
@@ -140,8 +140,8 @@ module _ (laws : Laws) (steps : AllSteps) (arena : Range) (gaps : List Range) (u
       let patched_count = retold ℕ traced.fetched (fetched_count old.contents) (fetched_count (patched k))
       (λ thread. ap (λ (c : Contents). fetched_count c thread) stands) (running_at old.threads n) count in
       record {
-        event = step_seen arena gaps updates kept laws steps old new n (Ok traced.outcome) holds is;
-        written = store_seen laws arena gaps updates kept old new traced.store holds wrote clear;
+        event = step_seen arena updates kept laws steps old new n (Ok traced.outcome) holds is;
+        written = store_seen laws arena updates kept old new traced.store holds wrote clear;
         clear = store_clear arena updates kept old traced.store clear;
         store = retold (Option Store) traced.store (stored old.contents) (stored (patched k))
             (λ thread. ap (λ (c : Contents). stored c thread) stands) (running_at old.threads n) told;
@@ -150,17 +150,17 @@ module _ (laws : Laws) (steps : AllSteps) (arena : Range) (gaps : List Range) (u
             (λ thread. counts_beside views homes k thread (built_sound k holds.built).jumps) (running_at old.threads n)
             patched_count;
         refused = same;
-        after = stepped_after arena gaps updates kept laws steps old new n (Ok traced.outcome) holds is same;
+        after = stepped_after arena updates kept laws steps old new n (Ok traced.outcome) holds is same;
         runs = step_runs old new n (Ok traced.outcome) is;
       }
   step_comes views homes old new n (Err refusal) holds is wrote clear told count same = record {
-    event = step_seen arena gaps updates kept laws steps old new n (Err refusal) holds is;
+    event = step_seen arena updates kept laws steps old new n (Err refusal) holds is;
     written = wrote;
     clear = clear;
     store = told;
     fetched = count;
     text = count;
     refused = ap (λ (p : Program). machine p) same;
-    after = stepped_after arena gaps updates kept laws steps old new n (Err refusal) holds is same;
+    after = stepped_after arena updates kept laws steps old new n (Err refusal) holds is same;
     runs = step_runs old new n (Err refusal) is;
   }

@@ -34,6 +34,7 @@ use Rattle.update_stack.proofs.LastLaws.{last_more, without_more, text_more, tab
 use Rattle.update_stack.proofs.TableLaws.{JumpsAdded, JumpsReplaced, first_table, table_stays, table_back, spliced_new}
 use Rattle.update_stack.proofs.TableLaws.{jumps_stacked}
 use Rattle.update_stack.proofs.BuiltLaws.{machine_is}
+use Rattle.update_stack.proofs.PlaceLaws.{without_newest, withdrawn_newest}
 use Rattle.update_stack.proofs.KeptLaws.{HasKept, kept_newest, CodeWasThere, withdrawn_pieces}
 
 -- the laws of other crates that are used here
@@ -129,12 +130,12 @@ newest_code k update one has rows =
     (subst (All (CodeAt k.pieces)) (sym rows) (λ i d l. (later.each i d l).code))
 
 -- and so are those of the updates before it
-pub kept_code : CodeWasThere → (k : AbstractMachine) (kept : List Kept) (gaps : List Range)
-    → IsBuilt k → AreKept k kept gaps
+pub kept_code : CodeWasThere → (k : AbstractMachine) (kept : List Kept)
+    → IsBuilt k → AreKept k kept
     → All (λ (one : Kept). All (HasJumpCode k.pieces) one.jumps) kept
-kept_code there k kept gaps built (NoneKept _ _ _ none nothing free) =
+kept_code there k kept built (NoneKept _ _ none nothing free) =
     subst (All (λ (one : Kept). All (HasJumpCode k.pieces) one.jumps)) (sym nothing) (λ i d l. absurd (omega arith))
-kept_code there k kept gaps built (OneKept _ update earlier _ one _ newest ends is free before) =
+kept_code there k kept built (OneKept _ update earlier _ one newest ends is before) =
     let has = built_newest k update built newest in
     let here : All (HasJumpCode k.pieces) one.jumps =
     λ i d l. subst (λ (n : ℕ). HasCode k.pieces (get_or one.jumps i d).home n)
@@ -142,7 +143,7 @@ kept_code there k kept gaps built (OneKept _ update earlier _ one _ newest ends 
     one.jumps is.olds i d l))
     (newest_code k update one has is.rows i d l) in
     let below : All (λ (o : Kept). All (HasJumpCode (withdrawn k update).pieces) o.jumps) earlier =
-    kept_code there (withdrawn k update) earlier one.gaps has.below before in
+    kept_code there (withdrawn k update) earlier has.below before in
     subst (All (λ (o : Kept). All (HasJumpCode k.pieces) o.jumps)) (sym ends)
     (All-push (λ (o : Kept). All (HasJumpCode k.pieces) o.jumps) earlier one
     (All-weaker (λ (o : Kept). All (HasJumpCode (withdrawn k update).pieces) o.jumps)
@@ -205,8 +206,8 @@ text_dropped past bases (one ∷ later) pieces =
     ap (unjumped (olds_of one.jumps)) (text_dropped past bases later pieces)
     ∙ sym (past bases (olds_of one.jumps) (text_of later pieces))
 
-module _ (laws : Laws) (program : Program) (arena : Range) (gaps : List Range) (updates : List Shown) (kept : List Kept)
-    (update : Shown) (one : Kept) (holds : Holds program arena gaps (updates ++ update ∷ []) (kept ++ one ∷ [])) where
+module _ (laws : Laws) (program : Program) (arena : Range) (updates : List Shown) (kept : List Kept)
+    (update : Shown) (one : Kept) (holds : Holds program arena (updates ++ update ∷ []) (kept ++ one ∷ [])) where
   -- the machine, its newest update, and the machine without it
   abbrev k : AbstractMachine
   k = machine_of program arena (updates ++ update ∷ []) (kept ++ one ∷ [])
@@ -232,8 +233,8 @@ module _ (laws : Laws) (program : Program) (arena : Range) (gaps : List Range) (
   has : HasNewest k live
   has = built_newest k live holds.built newest
 
-  keeps : HasKept k live kept one gaps
-  keeps = kept_newest k live kept (kept ++ one ∷ []) one gaps holds.are_kept newest refl
+  keeps : HasKept k live kept one
+  keeps = kept_newest k live kept (kept ++ one ∷ []) one holds.are_kept newest refl
 
   memory : program.contents ≡ jumped_memory (bodies_in k.table) (contents_of k)
   unfolding patched
@@ -309,16 +310,14 @@ module _ (laws : Laws) (program : Program) (arena : Range) (gaps : List Range) (
     unfolding withdrawn_memory
     fences_now = ap (λ (s : Seen). s.contents.fences) is
 
-    table_now : table_of updates ≡ before.table
-    unfolding withdrawn
+    table_now : table_of updates ≡ (without_newest k live).table
     table_now =
         sym (table_back (table_of updates) replaced (table_stays [] (replaced_by updates) first_table) has.top.once)
         ∙ ap (λ (t : List Row). fold without_base t replaced) (sym (table_more updates update))
 
     pub same : now ≡ before
-    unfolding withdrawn
     same =
-        machine_is now before
+        machine_is now (without_newest k live)
         (ap (text_of kept) pieces_now
         ∙ text_dropped laws.past_olds one.pieces kept (unjumped (olds_of one.jumps) program.contents.pieces)
         ∙ ap (without_pieces one.pieces) (sym (text_more kept one program.contents.pieces)))
@@ -331,6 +330,7 @@ module _ (laws : Laws) (program : Program) (arena : Range) (gaps : List Range) (
         (ap (λ (s : Seen). s.threads) is)
         (sym (without_more (live_updates updates kept) (live ∷ []))
         ∙ ap (without_last 1) (sym (live_more updates update kept one paired)))
+        ∙ sym (withdrawn_newest k live newest has.top.name)
 
     stands : seen after ≡ seen_of now
     stands =
@@ -340,8 +340,8 @@ module _ (laws : Laws) (program : Program) (arena : Range) (gaps : List Range) (
     built : IsBuilt now
     built = subst IsBuilt (sym same) has.below
 
-    are_kept : AreKept now kept one.gaps
-    are_kept = subst (λ (m : AbstractMachine). AreKept m kept one.gaps) (sym same) keeps.before
+    are_kept : AreKept now kept
+    are_kept = subst (λ (m : AbstractMachine). AreKept m kept) (sym same) keeps.before
 
     code : All (λ (o : Kept). All (HasJumpCode after.contents.pieces) o.jumps) kept
     unfolding patched
@@ -351,7 +351,7 @@ module _ (laws : Laws) (program : Program) (arena : Range) (gaps : List Range) (
         (λ o all. All-weaker (HasJumpCode now.pieces) (HasJumpCode after.contents.pieces)
         (λ jump there. subst (λ (s : Seen). HasCode s.contents.pieces jump.home (length jump.old)) (sym stands)
         (code_jumped laws.stays (bodies_in now.table) now.pieces jump.home (length jump.old) there))
-        o.jumps all) kept (kept_code laws.was_there now kept one.gaps built are_kept)
+        o.jumps all) kept (kept_code laws.was_there now kept built are_kept)
 
     pub held_before : IsHeldBefore program after arena updates kept update one
     held_before = record {

@@ -1,7 +1,7 @@
 -- What holds of the machine at every moment, and of what a system keeps of its live updates: each of these lies on
 -- what was before it.
 use Rattle.std.specs.Prelude.{◌≡◌, ◌≢◌, ℕ, ◌≤◌, ◌<◌, false, List, [], ◌∷◌, ◌++◌, length, Some}
-use Rattle.std.specs.List.{fold, All, AllPairs, Contains}
+use Rattle.std.specs.List.{fold, list_any, All, AllPairs, Contains}
 use Rattle.std.specs.List.Sorted.{IsPermutation}
 use Rattle.ks_base.specs.declared.places.Range.{Range}
 use Rattle.ks_base.specs.declared.reports.Replaced.{Replaced}
@@ -9,14 +9,15 @@ use Rattle.image_memory.specs.Ranges.{are_same}
 use Rattle.image_memory.specs.Changes.{HasPiece}
 use Rattle.splice_jump.specs.Jumps.{jumped, olds_at}
 use Rattle.update_memory.specs.Rows.{rows_of, olds_of}
+use Rattle.link_post.specs.Places.{unless_empty}
 use Rattle.image_threads.specs.Spawning.{AreStacks}
 use Rattle.update_plan.specs.Sound.{IsCode}
 use Rattle.update_stack.specs.declared.updates.Kept.{Kept}
 use Rattle.update_stack.specs.AbstractMachine.{AbstractMachine, Update, is_home, bodies_in, contents_of, jump_rows}
 use Rattle.update_stack.specs.AbstractMachine.{with_replaced}
-use Rattle.update_stack.specs.Apply.{gaps_of}
+use Rattle.update_stack.specs.Apply.{has_name, gaps_of}
 use Rattle.update_stack.specs.Jumps.{CanJump}
-use Rattle.update_stack.specs.Undo.{withdrawn, ranges_in, newest_update}
+use Rattle.update_stack.specs.Undo.{without_last, withdrawn, ranges_in, newest_update}
 
 -- The jumps of a machine can stand in its memory, each stack is a piece of that, its arena ends where code may, and what
 -- is retired is code.
@@ -27,7 +28,7 @@ pub record IsSound (k : AbstractMachine) : Type 0 where
   pub retired : All (IsCode k.pieces) k.retired
 
 -- An update on what is there without it: its rows end with its bases, no other retired range is one of its homes',
--- and what it added and retired is there, each once.
+-- and what it added and retired is there, each once. No update before it has its name.
 pub record IsOnTop (k : AbstractMachine) (update : Update) : Type 0 where
   pub table : k.table ≡ fold with_replaced (withdrawn k update).table update.report.replaced
   pub once : AllPairs (λ (a b : Replaced). a.home ≢ b.home) update.report.replaced
@@ -38,6 +39,7 @@ pub record IsOnTop (k : AbstractMachine) (update : Update) : Type 0 where
   pub retired : All (Contains k.retired) update.retired
   pub ranges : AllPairs (λ a b. are_same a b ≡ false) update.retired
   pub symbols : length update.symbols ≤ length k.symbols
+  pub name : list_any (has_name update.name) (without_last 1 k.updates) ≡ false
 
 -- a machine without updates, or with one on a machine of which this holds
 pub data IsBuilt : AbstractMachine → Type 0 where
@@ -54,12 +56,10 @@ pub record IsKept (k : AbstractMachine) (update : Update) (one : Kept) : Type 0 
   pub ranges : IsPermutation one.ranges (ranges_in k update)
   pub count : one.symbol_count ≡ length update.symbols
 
--- What is kept of each live update, the newest last, and what is free of the arena; with each update is kept what was
--- free before it.
-pub data AreKept : AbstractMachine → List Kept → List Range → Type 0 where
-  NoneKept : (k : AbstractMachine) (kept : List Kept) (gaps : List Range) → k.updates ≡ [] → kept ≡ []
-      → gaps ≡ gaps_of k
-      → AreKept k kept gaps
-  OneKept : (k : AbstractMachine) (update : Update) (earlier kept : List Kept) (one : Kept) (gaps : List Range)
-      → newest_update k ≡ Some update → kept ≡ earlier ++ one ∷ [] → IsKept k update one → gaps ≡ gaps_of k
-      → AreKept (withdrawn k update) earlier one.gaps → AreKept k kept gaps
+-- What is kept of each live update, the newest last, over a machine of whose arena no piece takes anything.
+pub data AreKept : AbstractMachine → List Kept → Type 0 where
+  NoneKept : (k : AbstractMachine) (kept : List Kept) → k.updates ≡ [] → kept ≡ [] → gaps_of k ≡ unless_empty k.arena
+      → AreKept k kept
+  OneKept : (k : AbstractMachine) (update : Update) (earlier kept : List Kept) (one : Kept)
+      → newest_update k ≡ Some update → kept ≡ earlier ++ one ∷ [] → IsKept k update one
+      → AreKept (withdrawn k update) earlier → AreKept k kept

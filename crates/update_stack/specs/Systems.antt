@@ -10,7 +10,7 @@ use Rattle.image_memory.specs.Fetch.{HasCode}
 use Rattle.splice_jump.specs.Jumps.{unjumped}
 use Rattle.update_memory.specs.declared.types.Jump.{Jump}
 use Rattle.update_memory.specs.Rows.{olds_of}
-use Rattle.link_post.specs.Places.{unless_empty}
+use Rattle.link_post.specs.Places.{unless_empty, without}
 use Rattle.image_threads.specs.Program.{Program}
 use Rattle.update_stack.specs.declared.updates.Update.{Update as Shown}
 use Rattle.update_stack.specs.declared.updates.Kept.{Kept}
@@ -60,9 +60,12 @@ machine_of program arena updates kept =
       updates = live_updates updates kept;
     }
 
--- what is free of an arena in which nothing was placed
+-- what is free of an arena in which nothing was placed, and what the pieces of live updates leave of it
 abbrev pub gaps_in : Range → List Range
 gaps_in arena = unless_empty arena
+
+abbrev pub gaps_left : Range → List Kept → List Range
+gaps_left arena kept = fold without (gaps_in arena) (flat_map (λ one. one.ranges) kept)
 
 -- the old bytes of a jump have their place in one piece of code
 abbrev pub HasJumpCode : List Piece → Jump → Type 0
@@ -70,10 +73,9 @@ HasJumpCode pieces jump = HasCode pieces jump.home (length jump.old)
 
 -- What holds of a system at every moment: its program stands for the machine, whose updates lie one upon the other;
 -- with each is kept what taking it back needs; and the bytes that were kept have their place in code.
-pub record Holds
-    (program : Program) (arena : Range) (gaps : List Range) (updates : List Shown) (kept : List Kept) : Type 0 where
+pub record Holds (program : Program) (arena : Range) (updates : List Shown) (kept : List Kept) : Type 0 where
   pub stands : StandsFor program (machine_of program arena updates kept)
   pub built : IsBuilt (machine_of program arena updates kept)
-  pub are_kept : AreKept (machine_of program arena updates kept) kept gaps
+  pub are_kept : AreKept (machine_of program arena updates kept) kept
   pub code : All (λ one. All (HasJumpCode program.contents.pieces) one.jumps) kept
   pub paired : length kept ≡ length updates

@@ -1,8 +1,7 @@
 //! What carrying out a plan takes and does, piece by piece.
-ghost use Rattle.std.specs.Prelude.{◌≡◌, ℕ, List, ◌≤◌, ◌<◌, ◌+◌, ◌^◌, ◌++◌, [], ◌∷◌, length, map, IfOk, OnOk, OnErr};
-ghost use Rattle.std.specs.List.{All};
+ghost use Rattle.std.specs.Prelude.{◌≡◌, ℕ, false, List, ◌≤◌, ◌<◌, ◌+◌, ◌^◌, ◌++◌, [], ◌∷◌, length, map, IfOk, OnOk, OnErr};
+ghost use Rattle.std.specs.List.{list_any, All};
 ghost use Rattle.std.specs.List.Sorted.{IsPermutation};
-ghost use Rattle.image_memory.specs.Ranges.{Ascends};
 ghost use Rattle.image_memory.specs.Contents.{piece_range, fence_range};
 ghost use Rattle.image_memory.specs.Changes.{ArePlaceable};
 ghost use Rattle.splice_jump.specs.Jumps.{jumped_memory, olds_at};
@@ -12,10 +11,11 @@ ghost use Rattle.update_memory.specs.Rows.{olds_of, rows_of};
 ghost use Rattle.update_stack.specs.StandsFor.{seen};
 ghost use Rattle.update_stack.specs.AbstractMachine.{contents_of, jump_rows};
 ghost use Rattle.update_stack.specs.declared.updates.Update.{Update as Shown};
+ghost use Rattle.update_stack.specs.Apply.{has_name};
 ghost use Rattle.update_stack.specs.Systems.{Holds, machine_of};
 ghost use Rattle.update_stack.specs.inside.Carrying.{bare_jump, base_of_piece, EndsLow, FitsIn, HasHomeCode};
 ghost use Rattle.update_stack.specs.inside.Carrying.{HoldsAfter, IsCarriedOut, IsKeptOf, IsPrepared};
-ghost use Rattle.update_stack.specs.inside.Carrying.{gaps_after, shown_as};
+ghost use Rattle.update_stack.specs.inside.Carrying.{shown_as};
 ghost use Rattle.update_stack.specs.declared.updates.Kept.{Kept as KeptOf};
 ghost use Rattle.ks_base.specs.declared.places.Range.{Range as RangeOf};
 ghost use Rattle.image_threads.specs.Program.{Program};
@@ -27,7 +27,6 @@ use crate::updates::{Kept, KeptList, Prepared, Update, Updates};
 use image_memory::{Fence, Piece, Pieces, Space, ranges_of, sorted};
 use image_threads::Machine;
 use ks_base::{Name, Ranges, Replaced, Report};
-use link_post::{gaps_of_pieces, without_all};
 use splice_jump::{
     code_stays_code, homes_stay_spliced, jumps_are_added_and_replaced, jumps_are_taken_back,
     jumps_change_their_bytes_alone,
@@ -41,19 +40,17 @@ use update_memory::{
 use update_pieces::NewSymbols;
 use update_plan::Plan;
 
-/// Makes all that carrying a plan out takes memory for: what is put into the system's lists, the places that are free
-/// then, and room in the program. What is seen of the program stays.
+/// Makes all that carrying a plan out takes memory for: what is put into the system's lists, and room in the program.
+/// What is seen of the program stays.
 pub(crate) fn prepare<S: Space>(
     alloc: Global,
     machine: &mut Machine<S>,
-    gaps: &Ranges,
     name: &Name,
     plan: &Plan,
 ) -> Result<Prepared, AllocError>
     requires pieces { ArePlaceable plan.now.pieces }
     requires ends { All EndsLow plan.now.report.replaced }
-    requires gaps { Ascends (λ range. range) 0 gaps.now }
-    ensures prepared { IfOk result (IsPrepared machine.old.contents gaps.now name.now plan.now) }
+    ensures prepared { IfOk result (IsPrepared machine.old.contents name.now plan.now) }
     ensures seen { seen machine.new ≡ seen machine.old }
     ensures ranges { OnOk result (machine.new.room.ranges ≡ map piece_range plan.now.pieces) }
     ensures fences { OnOk result (length plan.now.fences ≤ machine.new.room.fences) }
@@ -61,10 +58,9 @@ pub(crate) fn prepare<S: Space>(
 {
     reserve(machine, plan)?;
     let jumps = jumps_of(alloc, machine.space(), plan.report.replaced.as_slice())?;
-    let kept = kept_of(alloc, plan, &jumps, gaps)?;
+    let kept = kept_of(alloc, plan, &jumps)?;
     Ok(Prepared {
         update: shown_as(alloc, name, &plan.report)?,
-        gaps: gaps_after(alloc, plan, gaps)?,
         kept,
         jumps,
     })
@@ -175,15 +171,15 @@ fn bare_jump(one: &Replaced) -> Jump
     }
 }
 
-/// What is kept of a plan that is carried out with these jumps, where this was free.
-fn kept_of(alloc: Global, plan: &Plan, jumps: &Jumps, gaps: &Ranges) -> Result<Kept, AllocError>
+/// What is kept of a plan that is carried out with these jumps.
+fn kept_of(alloc: Global, plan: &Plan, jumps: &Jumps) -> Result<Kept, AllocError>
     requires { ArePlaceable plan.now.pieces }
-    ensures { IfOk result (λ kept. IsKeptOf plan.now jumps.now gaps.now kept) }
+    ensures { IfOk result (λ kept. IsKeptOf plan.now jumps.now kept) }
 {
     let symbol_count = counted(plan.symbols.len())?;
     let retired = retired_of(alloc, plan.fences.as_slice())?;
     let (pieces, ranges) = places_of(alloc, plan.pieces.as_slice())?;
-    let (symbols, jumps, gaps) = copies_of(&plan.symbols, jumps, gaps)?;
+    let (symbols, jumps) = copies_of(&plan.symbols, jumps)?;
     Ok(Kept {
         pieces,
         ranges,
@@ -191,21 +187,15 @@ fn kept_of(alloc: Global, plan: &Plan, jumps: &Jumps, gaps: &Ranges) -> Result<K
         symbols,
         symbol_count,
         jumps,
-        gaps,
     })
 }
 
-/// Copies of symbols, jumps and ranges.
-fn copies_of(
-    symbols: &NewSymbols,
-    jumps: &Jumps,
-    ranges: &Ranges,
-) -> Result<(NewSymbols, Jumps, Ranges), AllocError>
+/// Copies of symbols and jumps.
+fn copies_of(symbols: &NewSymbols, jumps: &Jumps) -> Result<(NewSymbols, Jumps), AllocError>
     ensures symbols { IfOk result (λ copies. copies.0 ≡ symbols.now) }
     ensures jumps { IfOk result (λ copies. copies.1 ≡ jumps.now) }
-    ensures ranges { IfOk result (λ copies. copies.2 ≡ ranges.now) }
 {
-    Ok((symbols.clone()?, jumps.clone()?, ranges.clone()?))
+    Ok((symbols.clone()?, jumps.clone()?))
 }
 
 /// Where pieces begin, and their ranges in ascending order.
@@ -246,16 +236,6 @@ fn retired_of(alloc: Global, fences: &[Fence]) -> Result<Ranges, AllocError>
     Ok(ranges)
 }
 
-/// What is free after a plan was carried out, where this was free before.
-fn gaps_after(alloc: Global, plan: &Plan, gaps: &Ranges) -> Result<Ranges, AllocError>
-    requires pieces { ArePlaceable plan.now.pieces }
-    requires gaps { Ascends (λ range. range) 0 gaps.now }
-    ensures { IfOk result (λ left. left ≡ gaps_after gaps.now plan.now) }
-{
-    let taken = ranges_of(alloc, plan.pieces.as_slice())?;
-    without_all(alloc, gaps, taken.as_slice())
-}
-
 /// The update of a name, as it is shown.
 fn shown_as(alloc: Global, name: &Name, report: &Report) -> Result<Update, AllocError>
     ensures { IfOk result (λ update. update ≡ shown_as name.now report.now) }
@@ -290,22 +270,22 @@ pub(crate) fn push_both(
 /// and when it is carried out, the system holds, as the machine after the update.
 pub(crate) fn plans_are_carried_out()
     ensures fits { (program : Program)
-        (arena : RangeOf) (gaps : List RangeOf) (updates : List Shown) (kept : List KeptOf)
-        (plan : Planned) (jumps : List Jumped) → Holds program arena gaps updates kept
+        (arena : RangeOf) (updates : List Shown) (kept : List KeptOf)
+        (plan : Planned) (jumps : List Jumped) → Holds program arena updates kept
         → CanBeMade (contents_of (machine_of program arena updates kept)) plan
         → rows_of jumps ≡ jump_rows plan.report.replaced → FitsIn program.contents plan jumps }
     ensures ends { (program : Program)
-        (arena : RangeOf) (gaps : List RangeOf) (updates : List Shown) (kept : List KeptOf)
-        (plan : Planned) → Holds program arena gaps updates kept
+        (arena : RangeOf) (updates : List Shown) (kept : List KeptOf)
+        (plan : Planned) → Holds program arena updates kept
         → CanBeMade (contents_of (machine_of program arena updates kept)) plan → All EndsLow plan.report.replaced }
-    ensures holds { (before after : Program) (arena : RangeOf) (gaps : List RangeOf) (updates : List Shown)
+    ensures holds { (before after : Program) (arena : RangeOf) (updates : List Shown)
         (kept : List KeptOf) (name : List ℕ) (plan : Planned) (jumps : List Jumped) (one : KeptOf)
-        → Holds before arena gaps updates kept → CanBeMade (contents_of (machine_of before arena updates kept)) plan
-        → IsCarriedOut before after plan jumps → IsKeptOf plan jumps gaps one
-        → HoldsAfter before after arena gaps updates kept name plan one }
+        → Holds before arena updates kept → CanBeMade (contents_of (machine_of before arena updates kept)) plan
+        → list_any (has_name name) (machine_of before arena updates kept).updates ≡ false
+        → IsCarriedOut before after plan jumps → IsKeptOf plan jumps one
+        → HoldsAfter before after arena updates kept name plan one }
 {
-    // Nothing is done here: the laws say what each change of the memory leaves, what taking it back restores, and what
-    // is free of the arena then.
+    // Nothing is done here: the laws say what each change of the memory leaves, and what taking it back restores.
     pieces_are_added();
     ranges_are_retired();
     changes_are_withdrawn();
@@ -316,5 +296,4 @@ pub(crate) fn plans_are_carried_out()
     jumps_change_their_bytes_alone();
     homes_stay_spliced();
     code_stays_code();
-    gaps_of_pieces();
 }

@@ -1,16 +1,21 @@
-//! What live updates come to: the newest base of each home, the ranges that they retired, and their names.
-ghost use Rattle.std.specs.Prelude.{◌≡◌, ℕ, ◌++◌, IfOk, OnOk, nat_eq};
+//! What live updates come to: the newest base of each home, the ranges that they retired, what their pieces leave of
+//! the arena, and their names.
+ghost use Rattle.std.specs.Prelude.{◌≡◌, ℕ, List, ◌++◌, IfOk, OnOk, nat_eq};
 ghost use Rattle.std.specs.List.{flat_map, list_any};
 ghost use Rattle.std.specs.List.Sorted.{IsPermutation};
 ghost use Rattle.indexmap.specs.IndexMap.{insert_all};
 ghost use Rattle.i386_reloc.specs.Normal.{same_bytes};
 ghost use Rattle.symbol_table.specs.Bodies.{newest};
-ghost use Rattle.update_stack.specs.AbstractMachine.{bodies_in, jump_rows};
-ghost use Rattle.update_stack.specs.Systems.{table_of};
+ghost use Rattle.update_stack.specs.AbstractMachine.{AbstractMachine, bodies_in, jump_rows};
+ghost use Rattle.update_stack.specs.Apply.{gaps_of};
+ghost use Rattle.update_stack.specs.Stacked.{AreKept};
+ghost use Rattle.update_stack.specs.Systems.{gaps_in, gaps_left, table_of};
+ghost use Rattle.update_stack.specs.declared.updates.Kept.{Kept as KeptOf};
 
 use crate::updates::{Kept, Update};
 use indexmap::IndexMap;
 use ks_base::{Name, Range, Ranges, Replaced};
+use link_post::{order_has_no_say, without_all};
 use std::alloc::{AllocError, Global};
 use symbol_table::Bodies;
 
@@ -79,6 +84,45 @@ fn put_ranges(ranges: &mut Ranges, more: &[Range]) -> Result<(), AllocError>
         ranges.push(*range)?;
     }
     Ok(())
+}
+
+/// What the pieces of live updates leave of an arena.
+pub(crate) fn gaps_left(alloc: Global, arena: Range, kept: &[Kept]) -> Result<Ranges, AllocError>
+    ensures { IfOk result (λ gaps. gaps ≡ gaps_left arena kept.now) }
+{
+    let gaps = gaps_in(alloc, arena)?;
+    let taken = taken_by(alloc, kept)?;
+    without_all(alloc, &gaps, taken.as_slice())
+}
+
+/// What is free of an arena in which nothing was placed.
+fn gaps_in(alloc: Global, arena: Range) -> Result<Ranges, AllocError>
+    ensures { IfOk result (λ gaps. gaps ≡ gaps_in arena) }
+{
+    let mut gaps = Ranges::new(alloc);
+    if arena.low < arena.high {
+        gaps.push(arena)?;
+    }
+    Ok(gaps)
+}
+
+/// The ranges of the pieces of live updates, those of the oldest first.
+fn taken_by(alloc: Global, kept: &[Kept]) -> Result<Ranges, AllocError>
+    ensures { IfOk result (λ ranges. ranges ≡ flat_map (λ one. one.ranges) kept.now) }
+{
+    let mut ranges = Ranges::new(alloc);
+    for one in kept {
+        put_ranges(&mut ranges, one.ranges.as_slice())?;
+    }
+    Ok(ranges)
+}
+
+/// What the ranges leave that are kept of live updates is what is free of the arena.
+pub(crate) fn kept_ranges_leave_the_gaps()
+    ensures { (k : AbstractMachine) (kept : List KeptOf) → AreKept k kept → gaps_left k.arena kept ≡ gaps_of k }
+{
+    // Nothing is done here: the law says that the same is left in whichever order ranges are taken.
+    order_has_no_say();
 }
 
 /// Whether a live update has a name.

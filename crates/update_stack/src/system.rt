@@ -1,6 +1,7 @@
 //! A running program with its updates.
 ghost use Rattle.std.specs.Prelude.{◌≡◌, ◌≢◌, [], map, IfOk, IsSomeAnd, OnOk, OnErr, MatchResult, None, Ok, Err};
-ghost use Rattle.std.specs.Prelude.{is_some};
+ghost use Rattle.std.specs.Prelude.{false, is_some};
+ghost use Rattle.std.specs.List.{list_any};
 ghost use Rattle.std.specs.Result.{is_ok, result_err};
 ghost use Rattle.ks_base.specs.declared.refusals.Refusal.TheVariants.{Memory};
 ghost use Rattle.ia32_step.specs.Code.{KeepsCode};
@@ -14,7 +15,7 @@ ghost use Rattle.i386_reloc.specs.Rule.{Finds};
 ghost use Rattle.stack_scan.specs.Standing.{thread_refusal};
 ghost use Rattle.update_plan.specs.Plan.{planned};
 ghost use Rattle.update_plan.specs.Sound.{AreGaps, CanBeMade};
-ghost use Rattle.update_stack.specs.Apply.{committed, gaps_of, planned_in, retired_of, running_of};
+ghost use Rattle.update_stack.specs.Apply.{committed, gaps_of, has_name, planned_in, retired_of, running_of};
 ghost use Rattle.update_stack.specs.Events.{Apply, Spawn, Step, Undo, Applied, Spawned, Stepped, Undone, happened};
 ghost use Rattle.update_stack.specs.Events.{answered, after_event};
 ghost use Rattle.update_stack.specs.Stacked.{IsBuilt};
@@ -25,13 +26,13 @@ ghost use Rattle.update_stack.specs.inside.TakingBack.{undo_refusal, ComesOfUndo
 
 use crate::carrying::{change, plans_are_carried_out, prepare, push_both};
 use crate::laws::{steps_stand, threads_leave_code};
-use crate::live::{bodies_of, is_taken, retired_by};
+use crate::live::{bodies_of, gaps_left, is_taken, kept_ranges_leave_the_gaps, retired_by};
 use crate::updates::{KeptList, Updates};
 use crate::withdrawing::{pop_both, take_back, updates_are_taken_back};
 use ia32_step::{Outcome, Traced};
 use image_memory::{Space, sorted};
 use image_threads::Machine;
-use ks_base::{Name, Range, Ranges, Refusal, Report};
+use ks_base::{Name, Range, Refusal, Report};
 use link_post::gaps_are_free;
 use splice_jump::{
     code_stays_code, data_are_written_past_jumps, homes_stay_spliced,
@@ -54,8 +55,6 @@ pub struct System<S: Space> {
     alloc: Global,
     machine: Machine<S>,
     arena: Range,
-    /// What is free of the arena.
-    gaps: Ranges,
     updates: Updates,
     kept: KeptList,
 }
@@ -68,7 +67,7 @@ impl<S: Space> Model for System<S> {
 
     ghost view = { λ s. machine_of s.machine s.arena s.updates s.kept };
 
-    ghost invariant = { λ s. Holds s.machine s.arena s.gaps s.updates s.kept };
+    ghost invariant = { λ s. Holds s.machine s.arena s.updates s.kept };
 }
 
 impl<S: Space> System<S> {
@@ -83,12 +82,10 @@ impl<S: Space> System<S> {
     {
         // It runs over a memory.
         let _space = machine.space();
-        let gaps = gaps_in(alloc, arena)?;
         Ok(System {
             alloc,
             machine,
             arena,
-            gaps,
             updates: Updates::new(alloc),
             kept: KeptList::new(alloc),
         })
@@ -261,7 +258,7 @@ impl<S: Space> System<S> {
         let Some((update, one)) = pop_both(&mut self.updates, &mut self.kept) else {
             return Err(Refusal::NothingApplied);
         };
-        self.gaps = take_back(&mut self.machine, one);
+        take_back(&mut self.machine, &one);
         Ok(update.name)
     }
 
@@ -293,12 +290,14 @@ impl<S: Space> System<S> {
         jumps_change_their_bytes_alone();
         homes_stay_spliced();
         gaps_are_free();
+        kept_ranges_leave_the_gaps();
         let bodies = bodies_of(self.alloc, self.updates.as_slice())?;
         let retired = retired_by(self.alloc, self.kept.as_slice())?;
+        let gaps = gaps_left(self.alloc, self.arena, self.kept.as_slice())?;
         let symbols = self.machine.symbols();
         let space = self.machine.space();
         plan(
-            self.alloc, space, &bodies, symbols, &retired, &self.gaps, pre, post,
+            self.alloc, space, &bodies, symbols, &retired, &gaps, pre, post,
         )
     }
 
@@ -324,17 +323,16 @@ impl<S: Space> System<S> {
 
     /// Carries a plan out, and answers its report. `Err` comes only if memory runs out, and all is then as before.
     fn carry_out(&mut self, name: &Name, plan: Plan) -> Result<Report, AllocError>
-        requires { CanBeMade (contents_of self.old) plan }
+        requires can { CanBeMade (contents_of self.old) plan }
+        requires new { list_any (has_name name.now) self.old.updates ≡ false }
         ensures report { IfOk result (λ report. report ≡ plan.report) }
         ensures committed { OnOk result (self.new ≡ committed self.old name.now plan) }
         ensures refused { OnErr result (self.new ≡ self.old) }
     {
         // The laws say that the plan fits, and what comes of it.
         plans_are_carried_out();
-        gaps_are_free();
-        let made = prepare(self.alloc, &mut self.machine, &self.gaps, name, &plan)?;
+        let made = prepare(self.alloc, &mut self.machine, name, &plan)?;
         push_both(&mut self.updates, &mut self.kept, made.update, made.kept)?;
-        self.gaps = made.gaps;
         let Plan {
             report,
             pieces,
@@ -351,15 +349,4 @@ impl<S: Space> System<S> {
         );
         Ok(report)
     }
-}
-
-/// What is free of an arena in which nothing was placed.
-fn gaps_in(alloc: Global, arena: Range) -> Result<Ranges, AllocError>
-    ensures { IfOk result (λ gaps. gaps ≡ gaps_in arena) }
-{
-    let mut gaps = Ranges::new(alloc);
-    if arena.low < arena.high {
-        gaps.push(arena)?;
-    }
-    Ok(gaps)
 }

@@ -31,8 +31,6 @@ pub(crate) struct Kept {
     pub(crate) symbol_count: u32,
     /// The jumps that it wrote, with the code that stood there before.
     pub(crate) jumps: Jumps,
-    /// What was free of the arena before it.
-    pub(crate) gaps: Ranges,
 }
 
 /// What is kept of updates in order.
@@ -47,6 +45,4 @@ pub(crate) struct Prepared {
     pub(crate) kept: Kept,
     /// The jumps to write, with the code that stands there before.
     pub(crate) jumps: Jumps,
-    /// What is free of the arena after it.
-    pub(crate) gaps: Ranges,
 }

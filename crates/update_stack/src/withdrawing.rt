@@ -12,7 +12,6 @@ ghost use Rattle.update_stack.specs.inside.TakingBack.{CanBeTaken, after_taking,
 use crate::updates::{Kept, KeptList, Update, Updates};
 use image_memory::Space;
 use image_threads::Machine;
-use ks_base::Ranges;
 use splice_jump::{
     code_stays_code, homes_stay_spliced, jumps_are_added_and_replaced, jumps_are_taken_back,
     jumps_change_their_bytes_alone,
@@ -37,18 +36,15 @@ pub(crate) fn pop_both(updates: &mut Updates, kept: &mut KeptList) -> Option<(Up
     Some((update, one))
 }
 
-/// Takes away what an update changed: its jumps, its retired ranges, its pieces and its symbols. Answers what was free
-/// of the arena before it. It takes no memory.
-pub(crate) fn take_back<S: Space>(machine: &mut Machine<S>, one: Kept) -> Ranges
-    requires { CanBeTaken machine.old one }
-    ensures seen { seen machine.new ≡ after_taking one (seen machine.old) }
-    ensures gaps { result ≡ one.gaps }
+/// Takes away what an update changed: its jumps, its retired ranges, its pieces and its symbols. It takes no memory.
+pub(crate) fn take_back<S: Space>(machine: &mut Machine<S>, one: &Kept)
+    requires { CanBeTaken machine.old one.now }
+    ensures { seen machine.new ≡ after_taking one.now (seen machine.old) }
 {
     let pieces = one.pieces.as_slice();
     let retired = one.retired.as_slice();
     withdraw(machine.space_mut(), pieces, retired, one.jumps.as_slice());
     remove_last(machine.symbols_mut(), one.symbol_count);
-    one.gaps
 }
 
 /// Takes the last `n` symbols away. It takes no memory.
@@ -64,12 +60,12 @@ fn remove_last(table: &mut SymbolTable, n: u32)
 /// What is kept of the newest update can be taken away, and the system holds then, as the machine without that update.
 pub(crate) fn updates_are_taken_back()
     ensures can { (program : Program)
-        (arena : RangeOf) (gaps : List RangeOf) (updates : List Shown) (kept : List KeptOf)
+        (arena : RangeOf) (updates : List Shown) (kept : List KeptOf)
         (update : Shown) (one : KeptOf)
-        → Holds program arena gaps (updates ++ update ∷ []) (kept ++ one ∷ []) → CanBeTaken program one }
-    ensures held { (before after : Program) (arena : RangeOf) (gaps : List RangeOf) (updates : List Shown)
+        → Holds program arena (updates ++ update ∷ []) (kept ++ one ∷ []) → CanBeTaken program one }
+    ensures held { (before after : Program) (arena : RangeOf) (updates : List Shown)
         (kept : List KeptOf) (update : Shown) (one : KeptOf)
-        → Holds before arena gaps (updates ++ update ∷ []) (kept ++ one ∷ [])
+        → Holds before arena (updates ++ update ∷ []) (kept ++ one ∷ [])
         → seen after ≡ after_taking one (seen before) → IsHeldBefore before after arena updates kept update one }
 {
     // Nothing is done here: the laws say what jumps and the other changes of memory leave, and what taking them back

@@ -1,6 +1,6 @@
 -- What is kept of a plan that is carried out.
 use Rattle.std.specs.Prelude.{◌≡◌, ℕ, ◌+◌, ◌≤◌, ◌^◌, List, [], ◌∷◌, ◌++◌, map, length, replicate}
-use Rattle.std.specs.List.{All, fold}
+use Rattle.std.specs.List.{All}
 use Rattle.std.specs.List.Sorted.{IsPermutation}
 use Rattle.ks_base.specs.declared.places.Range.{Range}
 use Rattle.ks_base.specs.declared.reports.Replaced.{Replaced}
@@ -13,7 +13,6 @@ use Rattle.update_memory.specs.declared.types.Jump.{Jump}
 use Rattle.update_memory.specs.Added.{AreAddable, with_pieces}
 use Rattle.update_memory.specs.Retired.{AreRetirable, with_fences}
 use Rattle.update_memory.specs.Rows.{rows_of, olds_of}
-use Rattle.link_post.specs.Places.{without}
 use Rattle.image_threads.specs.Program.{Program}
 use Rattle.update_plan.specs.declared.types.Plan.{Plan}
 use Rattle.update_stack.specs.declared.updates.Update.{Update as Shown}
@@ -36,14 +35,13 @@ bare_jump one = record { home = one.home; base = one.base; old = replicate 5 0 }
 abbrev pub EndsLow : Replaced → Type 0
 EndsLow one = one.home + 5 ≤ 2 ^ 32
 
-pub record IsKeptOf (plan : Plan) (jumps : List Jump) (gaps : List Range) (kept : Kept) : Type 0 where
+pub record IsKeptOf (plan : Plan) (jumps : List Jump) (kept : Kept) : Type 0 where
   pub pieces : kept.pieces ≡ map base_of_piece plan.pieces
   pub retired : kept.retired ≡ map fence_range plan.fences
   pub symbols : kept.symbols ≡ plan.symbols
   pub jumps_kept : kept.jumps ≡ jumps
   pub ranges : IsPermutation (map piece_range plan.pieces) kept.ranges
   pub count : kept.symbol_count ≡ length plan.symbols
-  pub gaps_kept : kept.gaps ≡ gaps
 
 -- A program after a plan was carried out: its pieces were added, its ranges retired, its jumps written, each over the
 -- code that was noted, and its symbols added.
@@ -69,23 +67,17 @@ pub record FitsIn (contents : Contents) (plan : Plan) (jumps : List Jump) : Type
 abbrev pub shown_as : List ℕ → Report → Shown
 shown_as name report = record { name = name; report = report }
 
--- what is free after a plan was carried out
-abbrev pub gaps_after : List Range → Plan → List Range
-gaps_after gaps plan = fold without gaps (map piece_range plan.pieces)
-
--- what is made of a plan before it is carried out, in a memory and where this is free
-pub record IsPrepared
-    (contents : Contents) (gaps : List Range) (name : List ℕ) (plan : Plan) (prepared : Prepared) : Type 0 where
+-- what is made of a plan before it is carried out, in a memory
+pub record IsPrepared (contents : Contents) (name : List ℕ) (plan : Plan) (prepared : Prepared) : Type 0 where
   pub shown : prepared.update ≡ shown_as name plan.report
-  pub kept_of_plan : IsKeptOf plan prepared.jumps gaps prepared.kept
+  pub kept_of_plan : IsKeptOf plan prepared.jumps prepared.kept
   pub rows : rows_of prepared.jumps ≡ jump_rows plan.report.replaced
   pub olds : olds_of prepared.jumps ≡ olds_at contents.pieces (jump_rows plan.report.replaced)
-  pub left : prepared.gaps ≡ gaps_after gaps plan
 
 -- what comes of a plan that is carried out: the system holds, as the machine after the update
 pub record HoldsAfter
-    (before after : Program) (arena : Range) (gaps : List Range) (updates : List Shown) (kept : List Kept)
+    (before after : Program) (arena : Range) (updates : List Shown) (kept : List Kept)
     (name : List ℕ) (plan : Plan) (one : Kept) : Type 0 where
-  pub holds : Holds after arena (gaps_after gaps plan) (updates ++ shown_as name plan.report ∷ []) (kept ++ one ∷ [])
+  pub holds : Holds after arena (updates ++ shown_as name plan.report ∷ []) (kept ++ one ∷ [])
   pub same : machine_of after arena (updates ++ shown_as name plan.report ∷ []) (kept ++ one ∷ [])
       ≡ committed (machine_of before arena updates kept) name plan

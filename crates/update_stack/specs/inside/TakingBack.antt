@@ -55,6 +55,6 @@ pub record IsHeldBefore
     : Type 0 where
   pub newest : newest_update (machine_of before arena (updates ++ update ∷ []) (kept ++ one ∷ []))
       ≡ Some (live_update update one)
-  pub holds : Holds after arena one.gaps updates kept
+  pub holds : Holds after arena updates kept
   pub same : machine_of after arena updates kept
       ≡ withdrawn (machine_of before arena (updates ++ update ∷ []) (kept ++ one ∷ [])) (live_update update one)

@@ -5,7 +5,7 @@ use Rattle.update_stack.proofs.CarryLaws.{Laws, plan_fits, homes_end, holds_afte
 use Rattle.update_stack.proofs.carrying.plans_are_carried_out.Goals as goal
 
 pub returns-clause-fits : goal.returns-clause-fits
-returns-clause-fits c program arena gaps updates kept plan jumps holds can rows =
+returns-clause-fits c program arena updates kept plan jumps holds can rows =
     let laws : Laws = record {
       memory = record {
         pieces_valid = c.pieces_are_added.ensures.valid;
@@ -32,17 +32,16 @@ returns-clause-fits c program arena gaps updates kept plan jumps holds can rows 
       past_olds = c.pieces_are_added_past_code.ensures.old;
       past_jumps = c.pieces_are_added_past_code.ensures.jumps;
       was_there = c.code_that_stays.ensures.code;
-      gaps = c.gaps_of_pieces.ensures;
     } in
-    plan_fits laws program arena gaps updates kept holds plan can jumps rows
+    plan_fits laws program arena updates kept holds plan can jumps rows
 
 pub returns-clause-ends : goal.returns-clause-ends
-returns-clause-ends c program arena gaps updates kept plan holds can =
+returns-clause-ends c program arena updates kept plan holds can =
     let k = machine_of program arena updates kept in
     homes_end c.code_stays_code.ensures.ends (contents_of k) plan (built_sound k holds.built).jumps.valid can
 
 pub returns-clause-holds : goal.returns-clause-holds
-returns-clause-holds c before after arena gaps updates kept name plan jumps one holds can is has =
+returns-clause-holds c before after arena updates kept name plan jumps one holds can new is has =
     let laws : Laws = record {
       memory = record {
         pieces_valid = c.pieces_are_added.ensures.valid;
@@ -69,6 +68,5 @@ returns-clause-holds c before after arena gaps updates kept name plan jumps one 
       past_olds = c.pieces_are_added_past_code.ensures.old;
       past_jumps = c.pieces_are_added_past_code.ensures.jumps;
       was_there = c.code_that_stays.ensures.code;
-      gaps = c.gaps_of_pieces.ensures;
     } in
-    holds_after laws before arena gaps updates kept holds plan can name after jumps one is has
+    holds_after laws before arena updates kept holds plan can name new after jumps one is has

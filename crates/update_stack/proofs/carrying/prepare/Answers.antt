@@ -23,5 +23,4 @@ returns-clause-prepared g c =
           ∙ ap (λ (m : Contents). olds_at m.pieces (jump_rows c.as_slice.result.now))
           (c.space.ensures.contents ∙ ap (λ (s : Seen). s.contents) c.reserve.ensures.seen)
           ∙ ap (λ (rs : List Replaced). olds_at c.args.machine.now.contents.pieces (jump_rows rs)) c.as_slice.ensures;
-      left = c.in_ok-gaps_after.ensures;
     }

@@ -2,7 +2,7 @@ use Rattle.update_stack.proofs.UndoLaws.{Laws, can_be_taken, held_before}
 use Rattle.update_stack.proofs.withdrawing.updates_are_taken_back.Goals as goal
 
 pub returns-clause-can : goal.returns-clause-can
-returns-clause-can c program arena gaps updates kept update one holds =
+returns-clause-can c program arena updates kept update one holds =
     let laws : Laws = record {
       added = c.jumps_are_added_and_replaced.ensures.added;
       over = c.jumps_are_added_and_replaced.ensures.replaced;
@@ -16,10 +16,10 @@ returns-clause-can c program arena gaps updates kept update one holds =
       was_there = c.code_that_stays.ensures.code;
       ranges = c.changes_are_withdrawn.ensures.bare;
     } in
-    can_be_taken laws program arena gaps updates kept update one holds
+    can_be_taken laws program arena updates kept update one holds
 
 pub returns-clause-held : goal.returns-clause-held
-returns-clause-held c before after arena gaps updates kept update one holds is =
+returns-clause-held c before after arena updates kept update one holds is =
     let laws : Laws = record {
       added = c.jumps_are_added_and_replaced.ensures.added;
       over = c.jumps_are_added_and_replaced.ensures.replaced;
@@ -33,4 +33,4 @@ returns-clause-held c before after arena gaps updates kept update one holds is =
       was_there = c.code_that_stays.ensures.code;
       ranges = c.changes_are_withdrawn.ensures.bare;
     } in
-    held_before laws before arena gaps updates kept update one holds after is
+    held_before laws before arena updates kept update one holds after is

@@ -5,7 +5,13 @@ use Rattle.ks_base.specs.declared.reports.Report.{Report}
 use Rattle.update_stack.specs.AbstractMachine.{AbstractMachine}
 use Rattle.update_stack.specs.Events.{Applied, Happened, happened}
 use Rattle.update_stack.proofs.ApplyLaws.{plan_refused, thread_refused, plan_made}
+use Rattle.update_stack.proofs.PlaceLaws.{name_is_new}
 use Rattle.update_stack.proofs.system.System.apply.Goals as goal
+
+pub carry_out-requires-clause-new : goal.carry_out-requires-clause-new
+carry_out-requires-clause-new g c =
+    name_is_new c.args.self.now c.args.name.now c.args.pre.now c.args.post.now c.in_ok-plan.plan
+    c.in_ok-plan.ensures.planned
 
 pub returns-in_err-plan-clause-answered : goal.returns-in_err-plan-clause-answered
 returns-in_err-plan-clause-answered g c =

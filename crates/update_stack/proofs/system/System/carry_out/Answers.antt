@@ -1,7 +1,5 @@
-use Rattle.std.proofs.Common.{◌≡◌, List, [], ◌∷◌, ◌++◌, sym, ◌∙◌, ap, subst}
-use Rattle.std.specs.List.{All}
-use Rattle.ks_base.specs.declared.places.Range.{Range}
-use Rattle.image_memory.specs.Ranges.{Ascends}
+use Rattle.std.proofs.Common.{◌≡◌, false, List, [], ◌∷◌, ◌++◌, sym, ◌∙◌, ap, subst}
+use Rattle.std.specs.List.{list_any, All}
 use Rattle.image_memory.specs.declared.types.Fence.{Fence}
 use Rattle.image_memory.specs.Contents.{Contents}
 use Rattle.update_memory.specs.declared.types.Jump.{Jump}
@@ -11,14 +9,11 @@ use Rattle.update_plan.specs.Sound.{CanBeMade}
 use Rattle.update_stack.specs.AbstractMachine.{AbstractMachine, contents_of}
 use Rattle.update_stack.specs.Systems.{machine_of, Holds}
 use Rattle.update_stack.specs.declared.updates.Update.{Update as Shown}
-use Rattle.update_stack.specs.declared.updates.Kept.{Kept}
 use Rattle.update_stack.specs.StandsFor.{Seen}
-use Rattle.update_stack.specs.Apply.{committed}
-use Rattle.update_stack.specs.inside.Carrying.{shown_as, EndsLow, FitsIn, HasHomeCode, IsCarriedOut, gaps_after}
+use Rattle.update_stack.specs.Apply.{has_name, committed}
+use Rattle.update_stack.specs.inside.Carrying.{shown_as, FitsIn, HasHomeCode, IsCarriedOut}
 use Rattle.update_stack.specs.inside.Carrying.{HoldsAfter, IsPrepared}
 use Rattle.update_stack.proofs.CarryLaws.{seen_carried}
-use Rattle.update_stack.proofs.KeptLaws.{kept_free}
-use Rattle.update_stack.proofs.PlanLaws.{gaps_ascend}
 use Rattle.update_stack.proofs.system.System.carry_out.Goals as goal
 
 pub prepare-requires-clause-ends : goal.prepare-requires-clause-ends
@@ -26,17 +21,9 @@ prepare-requires-clause-ends g c =
     let inside = c.self.inside in
     let k = machine_of inside.machine inside.arena inside.updates inside.kept in
     let can : CanBeMade (contents_of k) c.args.plan =
-    subst (λ (m : AbstractMachine). CanBeMade (contents_of m) c.args.plan) (sym c.self.view_is) c.requires in
-    c.plans_are_carried_out.ensures.ends inside.machine inside.arena inside.gaps inside.updates inside.kept c.args.plan
+    subst (λ (m : AbstractMachine). CanBeMade (contents_of m) c.args.plan) (sym c.self.view_is) c.requires.can in
+    c.plans_are_carried_out.ensures.ends inside.machine inside.arena inside.updates inside.kept c.args.plan
     c.self.invariant can
-
-pub prepare-requires-clause-gaps : goal.prepare-requires-clause-gaps
-prepare-requires-clause-gaps g c =
-    let inside = c.self.inside in
-    let k = machine_of inside.machine inside.arena inside.updates inside.kept in
-    subst (λ (gaps : List Range). Ascends (λ (range : Range). range) 0 gaps)
-    (sym (kept_free k inside.kept inside.gaps c.self.invariant.are_kept))
-    (gaps_ascend c.gaps_are_free.ensures.ascend k)
 
 pub change-requires-clause-addable : goal.change-requires-clause-addable
 change-requires-clause-addable g c =
@@ -45,9 +32,9 @@ change-requires-clause-addable g c =
     let made = c.in_ok-made.made in
     let k = machine_of inside.machine inside.arena inside.updates inside.kept in
     let can : CanBeMade (contents_of k) plan =
-    subst (λ (m : AbstractMachine). CanBeMade (contents_of m) plan) (sym c.self.view_is) c.requires in
+    subst (λ (m : AbstractMachine). CanBeMade (contents_of m) plan) (sym c.self.view_is) c.requires.can in
     let fits : FitsIn inside.machine.contents plan made.jumps =
-    c.plans_are_carried_out.ensures.fits inside.machine inside.arena inside.gaps inside.updates inside.kept plan
+    c.plans_are_carried_out.ensures.fits inside.machine inside.arena inside.updates inside.kept plan
     made.jumps c.self.invariant can c.in_ok-made.ensures.prepared.rows in
     subst (λ (m : Contents). AreAddable m plan.pieces)
     (sym (ap (λ (s : Seen). s.contents) c.prepare.ensures.seen)) fits.addable
@@ -59,9 +46,9 @@ change-requires-clause-retirable g c =
     let made = c.in_ok-made.made in
     let k = machine_of inside.machine inside.arena inside.updates inside.kept in
     let can : CanBeMade (contents_of k) plan =
-    subst (λ (m : AbstractMachine). CanBeMade (contents_of m) plan) (sym c.self.view_is) c.requires in
+    subst (λ (m : AbstractMachine). CanBeMade (contents_of m) plan) (sym c.self.view_is) c.requires.can in
     let fits : FitsIn inside.machine.contents plan made.jumps =
-    c.plans_are_carried_out.ensures.fits inside.machine inside.arena inside.gaps inside.updates inside.kept plan
+    c.plans_are_carried_out.ensures.fits inside.machine inside.arena inside.updates inside.kept plan
     made.jumps c.self.invariant can c.in_ok-made.ensures.prepared.rows in
     subst (λ (m : Contents). AreRetirable (with_pieces m plan.pieces) c.as_slice.result.now)
     (sym (ap (λ (s : Seen). s.contents) c.prepare.ensures.seen))
@@ -74,9 +61,9 @@ change-requires-clause-code g c =
     let made = c.in_ok-made.made in
     let k = machine_of inside.machine inside.arena inside.updates inside.kept in
     let can : CanBeMade (contents_of k) plan =
-    subst (λ (m : AbstractMachine). CanBeMade (contents_of m) plan) (sym c.self.view_is) c.requires in
+    subst (λ (m : AbstractMachine). CanBeMade (contents_of m) plan) (sym c.self.view_is) c.requires.can in
     let fits : FitsIn inside.machine.contents plan made.jumps =
-    c.plans_are_carried_out.ensures.fits inside.machine inside.arena inside.gaps inside.updates inside.kept plan
+    c.plans_are_carried_out.ensures.fits inside.machine inside.arena inside.updates inside.kept plan
     made.jumps c.self.invariant can c.in_ok-made.ensures.prepared.rows in
     subst (λ (m : Contents). All (HasHomeCode
     (with_fences (with_pieces m plan.pieces) c.as_slice.result.now).pieces) c.as_slice-2.result.now)
@@ -95,9 +82,8 @@ invariant_of-self-2 g c =
     let made = c.in_ok-made.made in
     let k = machine_of inside.machine inside.arena inside.updates inside.kept in
     let can : CanBeMade (contents_of k) plan =
-    subst (λ (m : AbstractMachine). CanBeMade (contents_of m) plan) (sym c.self.view_is) c.requires in
-    let is : IsPrepared inside.machine.contents inside.gaps c.args.name.now plan made =
-    c.in_ok-made.ensures.prepared in
+    subst (λ (m : AbstractMachine). CanBeMade (contents_of m) plan) (sym c.self.view_is) c.requires.can in
+    let is : IsPrepared inside.machine.contents c.args.name.now plan made = c.in_ok-made.ensures.prepared in
     let carried : IsCarriedOut inside.machine c.change.new.machine plan made.jumps = record {
       seen_after =
           seen_carried inside.machine c.prepare.new.machine c.change.new.machine plan c.as_slice.result.now made.jumps
@@ -106,18 +92,17 @@ invariant_of-self-2 g c =
       olds = is.olds;
     } in
     let shown = shown_as c.args.name.now plan.report in
-    let after : HoldsAfter inside.machine c.change.new.machine inside.arena inside.gaps inside.updates inside.kept
+    let after : HoldsAfter inside.machine c.change.new.machine inside.arena inside.updates inside.kept
     c.args.name.now plan made.kept =
-    c.plans_are_carried_out.ensures.holds inside.machine c.change.new.machine inside.arena inside.gaps inside.updates
-    inside.kept c.args.name.now plan made.jumps made.kept c.self.invariant can carried is.kept_of_plan in
+    c.plans_are_carried_out.ensures.holds inside.machine c.change.new.machine inside.arena inside.updates
+    inside.kept c.args.name.now plan made.jumps made.kept c.self.invariant can
+    (subst (λ (m : AbstractMachine). list_any (has_name c.args.name.now) m.updates ≡ false) (sym c.self.view_is)
+    c.requires.new) carried is.kept_of_plan in
     let updates : c.push_both.new.updates ≡ inside.updates ++ shown ∷ [] =
     c.in_ok-push_both.ensures.updates ∙ ap (λ (u : Shown). inside.updates ++ u ∷ []) is.shown in
-    let P : List Range → List Shown → List Kept → Type 0 = λ gaps us ks.
-    Holds c.change.new.machine inside.arena gaps us ks in
-    subst (λ (gaps : List Range). P gaps c.push_both.new.updates c.push_both.new.kept) (sym is.left)
-    (subst (λ (us : List Shown). P (gaps_after inside.gaps plan) us c.push_both.new.kept) (sym updates)
-    (subst (P (gaps_after inside.gaps plan) (inside.updates ++ shown ∷ [])) (sym c.in_ok-push_both.ensures.kept)
-    after.holds))
+    subst (λ (us : List Shown). Holds c.change.new.machine inside.arena us c.push_both.new.kept) (sym updates)
+    (subst (Holds c.change.new.machine inside.arena (inside.updates ++ shown ∷ [])) (sym c.in_ok-push_both.ensures.kept)
+    after.holds)
 
 pub returns-clause-committed : goal.returns-clause-committed
 returns-clause-committed g c =
@@ -126,9 +111,8 @@ returns-clause-committed g c =
     let made = c.in_ok-made.made in
     let k = machine_of inside.machine inside.arena inside.updates inside.kept in
     let can : CanBeMade (contents_of k) plan =
-    subst (λ (m : AbstractMachine). CanBeMade (contents_of m) plan) (sym c.self.view_is) c.requires in
-    let is : IsPrepared inside.machine.contents inside.gaps c.args.name.now plan made =
-    c.in_ok-made.ensures.prepared in
+    subst (λ (m : AbstractMachine). CanBeMade (contents_of m) plan) (sym c.self.view_is) c.requires.can in
+    let is : IsPrepared inside.machine.contents c.args.name.now plan made = c.in_ok-made.ensures.prepared in
     let carried : IsCarriedOut inside.machine c.change.new.machine plan made.jumps = record {
       seen_after =
           seen_carried inside.machine c.prepare.new.machine c.change.new.machine plan c.as_slice.result.now made.jumps
@@ -137,10 +121,12 @@ returns-clause-committed g c =
       olds = is.olds;
     } in
     let shown = shown_as c.args.name.now plan.report in
-    let after : HoldsAfter inside.machine c.change.new.machine inside.arena inside.gaps inside.updates inside.kept
+    let after : HoldsAfter inside.machine c.change.new.machine inside.arena inside.updates inside.kept
     c.args.name.now plan made.kept =
-    c.plans_are_carried_out.ensures.holds inside.machine c.change.new.machine inside.arena inside.gaps inside.updates
-    inside.kept c.args.name.now plan made.jumps made.kept c.self.invariant can carried is.kept_of_plan in
+    c.plans_are_carried_out.ensures.holds inside.machine c.change.new.machine inside.arena inside.updates
+    inside.kept c.args.name.now plan made.jumps made.kept c.self.invariant can
+    (subst (λ (m : AbstractMachine). list_any (has_name c.args.name.now) m.updates ≡ false) (sym c.self.view_is)
+    c.requires.new) carried is.kept_of_plan in
     let updates : c.push_both.new.updates ≡ inside.updates ++ shown ∷ [] =
     c.in_ok-push_both.ensures.updates ∙ ap (λ (u : Shown). inside.updates ++ u ∷ []) is.shown in
     ap (λ (us : List Shown). machine_of c.change.new.machine inside.arena us c.push_both.new.kept) updates

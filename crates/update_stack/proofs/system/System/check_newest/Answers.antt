@@ -17,7 +17,7 @@ returns-in-None g c =
     sym (last_is inside.kept)
     ∙ ap (λ (ks : List Kept). slice_get ks (length ks - 1)) (sym c.as_slice.ensures)
     ∙ sym c.last.ensures.value ∙ ap option_copied c.in-None.is in
-    none_refused (machine_of inside.machine inside.arena inside.updates inside.kept) inside.kept inside.gaps
+    none_refused (machine_of inside.machine inside.arena inside.updates inside.kept) inside.kept
     c.self.invariant.are_kept last
     ∙ ap undo_refusal c.self.view_is
 
@@ -34,6 +34,6 @@ returns-in-Some g c =
     c.as_slice-in-Some.ensures
     ∙ ap (λ (k : AbstractMachine). thread_refusal k.pieces one.ranges k.threads) (sym c.self.view_is)
     ∙ last_refused c.order_has_no_say.ensures.threads
-    (machine_of inside.machine inside.arena inside.updates inside.kept) inside.kept inside.gaps one
+    (machine_of inside.machine inside.arena inside.updates inside.kept) inside.kept one
     c.self.invariant.are_kept last
     ∙ ap undo_refusal c.self.view_is

@@ -15,7 +15,7 @@ check_threads-requires g c =
     subst (λ (m : Contents). All (HasStack m.pieces) c.as_slice-threads.result.now) (sym c.space.ensures.contents)
     (subst (All (HasStack machine.contents.pieces)) (sym (c.as_slice-threads.ensures ∙ c.threads.ensures.threads))
     (all_have_stacks machine.contents.pieces machine.stacks machine.threads
-    (program_stacks machine inside.arena inside.gaps inside.updates inside.kept c.self.invariant
+    (program_stacks machine inside.arena inside.updates inside.kept c.self.invariant
     c.jumps_change_their_bytes_alone.ensures.kinds c.jumps_change_their_bytes_alone.ensures.ranges)
     c.threads.ensures.placed))
 
@@ -28,6 +28,6 @@ returns g c =
     ∙ ap (λ (m : Contents). thread_refusal m.pieces ranges c.as_slice-threads.result.now) c.space.ensures.contents
     ∙ ap (λ (ts : List Thread). thread_refusal machine.contents.pieces ranges ts)
     (c.as_slice-threads.ensures ∙ c.threads.ensures.threads)
-    ∙ refusal_seen machine inside.arena inside.gaps inside.updates inside.kept c.self.invariant
+    ∙ refusal_seen machine inside.arena inside.updates inside.kept c.self.invariant
     c.jumps_change_their_bytes_alone.ensures.data_bytes ranges c.threads.ensures.placed
     ∙ ap (λ (k : AbstractMachine). thread_refusal k.pieces ranges k.threads) c.self.view_is

@@ -14,9 +14,8 @@ use Rattle.update_stack.specs.declared.updates.Update.{Update as Shown}
 use Rattle.update_stack.specs.declared.updates.Kept.{Kept}
 use Rattle.update_stack.specs.AbstractMachine.{AbstractMachine, bodies_in, contents_of}
 use Rattle.update_stack.specs.Apply.{running_of, retired_of, gaps_of}
-use Rattle.update_stack.specs.Systems.{machine_of, table_of}
+use Rattle.update_stack.specs.Systems.{gaps_left, machine_of, table_of}
 use Rattle.update_stack.specs.laws.StackedLaws.{built_sound}
-use Rattle.update_stack.proofs.KeptLaws.{kept_free}
 use Rattle.update_stack.proofs.LiveLaws.{retired_live}
 use Rattle.update_stack.proofs.PlanLaws.{gaps_ascend, memory_of, bodies_spliced, IsBeside, PlanLaws, plan_beside}
 use Rattle.update_stack.proofs.PlanLaws.{plan_sound}
@@ -38,7 +37,9 @@ plan-requires-clause-gaps g c =
     let inside = c.self.inside in
     let k = machine_of inside.machine inside.arena inside.updates inside.kept in
     subst (λ (gaps : List Range). Ascends (λ (range : Range). range) 0 gaps)
-    (sym (kept_free k inside.kept inside.gaps c.self.invariant.are_kept))
+    (sym (c.in_ok-gaps.ensures
+    ∙ ap (gaps_left inside.arena) c.as_slice-3.ensures
+    ∙ c.kept_ranges_leave_the_gaps.ensures k inside.kept c.self.invariant.are_kept))
     (gaps_ascend c.gaps_are_free.ensures.ascend k)
 
 pub returns-clause-planned : goal.returns-clause-planned
@@ -58,7 +59,7 @@ returns-clause-planned g c =
       places = c.jumps_change_their_bytes_alone.ensures.ranges;
       one_plan = c.alike_programs_have_one_plan.ensures;
     } in
-    let beside : IsBeside k contents symbols bodies retired inside.gaps = record {
+    let beside : IsBeside k contents symbols bodies retired c.in_ok-gaps.gaps = record {
       built = c.self.invariant.built;
       memory = c.space-space.ensures.contents ∙ memory_of machine k c.self.invariant.stands;
       symbols_are = ap (λ (t : Table). t.symbols) c.symbols-symbols.ensures;
@@ -69,12 +70,15 @@ returns-clause-planned g c =
           c.in_ok-retired.ensures
           ∙ ap (λ (ks : List Kept). flat_map (λ (one : Kept). one.retired) ks) c.as_slice-2.ensures
           ∙ retired_live inside.updates inside.kept c.self.invariant.paired;
-      gaps_are = kept_free k inside.kept inside.gaps c.self.invariant.are_kept;
+      gaps_are =
+          c.in_ok-gaps.ensures
+          ∙ ap (gaps_left inside.arena) c.as_slice-3.ensures
+          ∙ c.kept_ranges_leave_the_gaps.ensures k inside.kept c.self.invariant.are_kept;
     } in
     let given : Gives (λ (plan : Plan). plan) c.plan.result
     (planned (running_of k) (retired_of k) (gaps_of k) c.args.pre.now c.args.post.now) =
     subst (λ (r : Result Plan Refusal). Gives (λ (plan : Plan). plan) c.plan.result r)
-    (plan_beside laws k contents symbols bodies retired inside.gaps c.args.pre.now c.args.post.now beside)
+    (plan_beside laws k contents symbols bodies retired c.in_ok-gaps.gaps c.args.pre.now c.args.post.now beside)
     c.plan.ensures in
     subst (λ (m : AbstractMachine). Gives (λ (plan : Plan). plan) c.plan.result
     (planned (running_of m) (retired_of m) (gaps_of m) c.args.pre.now c.args.post.now)) c.self.view_is given
@@ -96,7 +100,7 @@ returns-clause-sound g c =
       places = c.jumps_change_their_bytes_alone.ensures.ranges;
       one_plan = c.alike_programs_have_one_plan.ensures;
     } in
-    let beside : IsBeside k contents symbols bodies retired inside.gaps = record {
+    let beside : IsBeside k contents symbols bodies retired c.in_ok-gaps.gaps = record {
       built = c.self.invariant.built;
       memory = c.space-space.ensures.contents ∙ memory_of machine k c.self.invariant.stands;
       symbols_are = ap (λ (t : Table). t.symbols) c.symbols-symbols.ensures;
@@ -107,12 +111,15 @@ returns-clause-sound g c =
           c.in_ok-retired.ensures
           ∙ ap (λ (ks : List Kept). flat_map (λ (one : Kept). one.retired) ks) c.as_slice-2.ensures
           ∙ retired_live inside.updates inside.kept c.self.invariant.paired;
-      gaps_are = kept_free k inside.kept inside.gaps c.self.invariant.are_kept;
+      gaps_are =
+          c.in_ok-gaps.ensures
+          ∙ ap (gaps_left inside.arena) c.as_slice-3.ensures
+          ∙ c.kept_ranges_leave_the_gaps.ensures k inside.kept c.self.invariant.are_kept;
     } in
     let given : Gives (λ (plan : Plan). plan) c.plan.result
     (planned (running_of k) (retired_of k) (gaps_of k) c.args.pre.now c.args.post.now) =
     subst (λ (r : Result Plan Refusal). Gives (λ (plan : Plan). plan) c.plan.result r)
-    (plan_beside laws k contents symbols bodies retired inside.gaps c.args.pre.now c.args.post.now beside)
+    (plan_beside laws k contents symbols bodies retired c.in_ok-gaps.gaps c.args.pre.now c.args.post.now beside)
     c.plan.ensures in
     subst (λ (m : AbstractMachine). IfOk c.plan.result (λ (plan : Plan). CanBeMade (contents_of m) plan)) c.self.view_is
     (plan_sound c.plans_can_be_made.ensures c.gaps_are_free.ensures.ascend c.gaps_are_free.ensures.below

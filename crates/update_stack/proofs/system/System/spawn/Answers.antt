@@ -19,7 +19,7 @@ invariant_of-self g c =
       there = c.code_that_stays.ensures.code;
     } in
     let inside = c.self.inside in
-    spawn_holds inside.arena inside.gaps inside.updates inside.kept laws inside.machine c.spawn.new.self c.args.name.now
+    spawn_holds inside.arena inside.updates inside.kept laws inside.machine c.spawn.new.self c.args.name.now
     c.args.argument c.spawn.result c.self.invariant c.threads-threads.ensures.placed.bounds c.spawn.ensures.started
     c.spawn.ensures.refused
 
@@ -39,12 +39,12 @@ returns-clause-answered g c =
     ≡ Ok (happened (machine_of c.spawn.new.self inside.arena inside.updates inside.kept) (Spawned number)))
     (λ refusal. refusal ≢ Memory → answered k (Spawn c.args.name.now c.args.argument) ≡ Err refusal) in
     subst P c.self.view_is
-    (spawn_seen inside.arena inside.gaps inside.updates inside.kept laws inside.machine c.spawn.new.self c.args.name.now
+    (spawn_seen inside.arena inside.updates inside.kept laws inside.machine c.spawn.new.self c.args.name.now
     c.args.argument c.spawn.result c.self.invariant c.threads-threads.ensures.placed.bounds c.spawn.ensures.started
     c.spawn.ensures.number)
 
 pub spawn-requires : goal.spawn-requires
 spawn-requires g c =
     let inside = c.self.inside in
-    program_stacks inside.machine inside.arena inside.gaps inside.updates inside.kept c.self.invariant
+    program_stacks inside.machine inside.arena inside.updates inside.kept c.self.invariant
     c.jumps_change_their_bytes_alone.ensures.kinds c.jumps_change_their_bytes_alone.ensures.ranges

@@ -18,7 +18,7 @@ invariant_of-self g c =
     } in
     let inside = c.self.inside in
     let came = c.step_traced.ensures in
-    step_keeps laws c.steps_stand.ensures inside.arena inside.gaps inside.updates inside.kept inside.machine
+    step_keeps laws c.steps_stand.ensures inside.arena inside.updates inside.kept inside.machine
     c.step_traced.new.self c.args.thread c.step_traced.result c.self.invariant came.moved came.refused
 
 pub returns : goal.returns
@@ -36,6 +36,6 @@ returns g c =
     let now = machine_of c.step_traced.new.self inside.arena inside.updates inside.kept in
     let Comes : AbstractMachine → Type 0 = λ k. ComesOfStep k now c.args.thread c.step_traced.result in
     subst Comes c.self.view_is
-    (step_comes laws c.steps_stand.ensures inside.arena inside.gaps inside.updates inside.kept
+    (step_comes laws c.steps_stand.ensures inside.arena inside.updates inside.kept
     c.jumps_leave_views.ensures c.homes_stay_spliced.ensures.jumped inside.machine c.step_traced.new.self c.args.thread
     c.step_traced.result c.self.invariant came.moved came.written came.clear came.store came.fetched came.refused)

@@ -1,5 +1,4 @@
 use Rattle.std.proofs.Common.{ℕ, List, [], ◌∷◌, ◌++◌, Option, Result, Ok, refl, sym, subst}
-use Rattle.ks_base.specs.declared.places.Range.{Range}
 use Rattle.ks_base.specs.declared.refusals.Refusal.{Refusal}
 use Rattle.update_stack.specs.declared.updates.Update.{Update as Shown}
 use Rattle.update_stack.specs.declared.updates.Kept.{Kept}
@@ -16,12 +15,12 @@ take_back-requires g c =
     let kept = c.pop_both.new.kept in
     let update = c.in-Some.update in
     let one = c.in-Some.one in
-    let holds : Holds inside.machine inside.arena inside.gaps (updates ++ update ∷ []) (kept ++ one ∷ []) =
-    subst (λ (us : List Shown). Holds inside.machine inside.arena inside.gaps us (kept ++ one ∷ []))
+    let holds : Holds inside.machine inside.arena (updates ++ update ∷ []) (kept ++ one ∷ []) =
+    subst (λ (us : List Shown). Holds inside.machine inside.arena us (kept ++ one ∷ []))
     c.in-Some.ensures.updates
-    (subst (λ (ks : List Kept). Holds inside.machine inside.arena inside.gaps inside.updates ks)
+    (subst (λ (ks : List Kept). Holds inside.machine inside.arena inside.updates ks)
     c.in-Some.ensures.kept c.self.invariant) in
-    c.updates_are_taken_back.ensures.can inside.machine inside.arena inside.gaps updates kept update one holds
+    c.updates_are_taken_back.ensures.can inside.machine inside.arena updates kept update one holds
 
 pub invariant_of-self-2 : goal.invariant_of-self-2
 invariant_of-self-2 g c =
@@ -30,16 +29,15 @@ invariant_of-self-2 g c =
     let kept = c.pop_both.new.kept in
     let update = c.in-Some.update in
     let one = c.in-Some.one in
-    let holds : Holds inside.machine inside.arena inside.gaps (updates ++ update ∷ []) (kept ++ one ∷ []) =
-    subst (λ (us : List Shown). Holds inside.machine inside.arena inside.gaps us (kept ++ one ∷ []))
+    let holds : Holds inside.machine inside.arena (updates ++ update ∷ []) (kept ++ one ∷ []) =
+    subst (λ (us : List Shown). Holds inside.machine inside.arena us (kept ++ one ∷ []))
     c.in-Some.ensures.updates
-    (subst (λ (ks : List Kept). Holds inside.machine inside.arena inside.gaps inside.updates ks)
+    (subst (λ (ks : List Kept). Holds inside.machine inside.arena inside.updates ks)
     c.in-Some.ensures.kept c.self.invariant) in
     let held : IsHeldBefore inside.machine c.take_back.new.machine inside.arena updates kept update one =
-    c.updates_are_taken_back.ensures.held inside.machine c.take_back.new.machine inside.arena inside.gaps updates kept
-    update one holds c.take_back.ensures.seen in
-    subst (λ (gaps : List Range). Holds c.take_back.new.machine inside.arena gaps updates kept)
-    (sym c.take_back.ensures.gaps) held.holds
+    c.updates_are_taken_back.ensures.held inside.machine c.take_back.new.machine inside.arena updates kept
+    update one holds c.take_back.ensures in
+    held.holds
 
 pub returns : goal.returns
 returns g c =
@@ -48,14 +46,14 @@ returns g c =
     let kept = c.pop_both.new.kept in
     let update = c.in-Some.update in
     let one = c.in-Some.one in
-    let holds : Holds inside.machine inside.arena inside.gaps (updates ++ update ∷ []) (kept ++ one ∷ []) =
-    subst (λ (us : List Shown). Holds inside.machine inside.arena inside.gaps us (kept ++ one ∷ []))
+    let holds : Holds inside.machine inside.arena (updates ++ update ∷ []) (kept ++ one ∷ []) =
+    subst (λ (us : List Shown). Holds inside.machine inside.arena us (kept ++ one ∷ []))
     c.in-Some.ensures.updates
-    (subst (λ (ks : List Kept). Holds inside.machine inside.arena inside.gaps inside.updates ks)
+    (subst (λ (ks : List Kept). Holds inside.machine inside.arena inside.updates ks)
     c.in-Some.ensures.kept c.self.invariant) in
     let held : IsHeldBefore inside.machine c.take_back.new.machine inside.arena updates kept update one =
-    c.updates_are_taken_back.ensures.held inside.machine c.take_back.new.machine inside.arena inside.gaps updates kept
-    update one holds c.take_back.ensures.seen in
+    c.updates_are_taken_back.ensures.held inside.machine c.take_back.new.machine inside.arena updates kept
+    update one holds c.take_back.ensures in
     let now = machine_of c.take_back.new.machine inside.arena updates kept in
     let result : Result (List ℕ) Refusal = Ok update.name in
     let Comes : AbstractMachine → Type 0 = λ k. ComesOfUndo (newest_update k) k now result in

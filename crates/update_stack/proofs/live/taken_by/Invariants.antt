@@ -1,0 +1,7 @@
+use Rattle.std.proofs.Common.{◌≡◌, take}
+use Rattle.std.specs.List.{flat_map}
+use Rattle.update_stack.specs.declared.updates.Kept.{Kept}
+use Rattle.update_stack.proofs.live.taken_by.Given as goal
+
+abbrev pub invariant-loop-one : goal.invariant-loop-one
+invariant-loop-one l = l.ranges ≡ flat_map (λ (one : Kept). one.ranges) (take l.one-index l.kept)
