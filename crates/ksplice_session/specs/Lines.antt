@@ -26,7 +26,7 @@ spawned_line symbols thread =
 unfoldable pub stepped_line : List Symbol → Thread → ℕ → List ℕ
 stepped_line symbols thread steps =
     codes "stepped " ++ number_text thread.number ++ codes " " ++ number_text steps
-    ++ codes " " ++ state_text symbols thread ++ 10 ∷ []
+    ++ state_text symbols thread ++ 10 ∷ []
 
 -- the threads made so many steps in turn
 unfoldable pub turns_line : ℕ → List ℕ
@@ -35,7 +35,7 @@ turns_line steps = codes "rr " ++ number_text steps ++ 10 ∷ []
 -- a thread's number and state
 unfoldable pub thread_line : List Symbol → Thread → List ℕ
 thread_line symbols thread =
-    codes "thread " ++ number_text thread.number ++ codes " " ++ state_text symbols thread ++ 10 ∷ []
+    codes "thread " ++ number_text thread.number ++ state_text symbols thread ++ 10 ∷ []
 
 -- how many threads there are
 unfoldable pub count_line : ℕ → List ℕ

@@ -18,10 +18,10 @@ unfoldable pub place_text : List Symbol → ℕ → List ℕ
 place_text symbols address = hex_text address ++ named_text (name_below symbols address)
 
 abbrev pub state_at : List Symbol → ℕ → State → List ℕ
-state_at symbols pc Running = codes "running " ++ place_text symbols pc
-state_at symbols pc (Exited value) = codes "exited " ++ hex_text value
-state_at symbols pc (Stopped fault) = codes "stopped " ++ fault_word fault ++ codes " " ++ place_text symbols pc
+state_at symbols pc Running = codes " running " ++ place_text symbols pc
+state_at symbols pc (Exited value) = codes " exited " ++ hex_text value
+state_at symbols pc (Stopped fault) = codes " stopped " ++ fault_word fault ++ codes " " ++ place_text symbols pc
 
--- whether a thread runs, and where; with what it exited; or why and where it stopped
+-- a space, and then: whether a thread runs, and where; with what it exited; or why and where it stopped
 unfoldable pub state_text : List Symbol → Thread → List ℕ
 state_text symbols thread = state_at symbols thread.pc thread.state

@@ -47,7 +47,6 @@ pub fn put_stepped(
     line.put_number(u64::from(thread.number))?;
     line.put_text(" ")?;
     line.put_number(u64::from(steps))?;
-    line.put_text(" ")?;
     put_state(line, symbols, thread)?;
     line.put_text("\n")
 }
@@ -68,7 +67,6 @@ fn put_thread(line: &mut Line, symbols: &SymbolTable, thread: &Thread) -> Result
 {
     line.put_text("thread ")?;
     line.put_number(u64::from(thread.number))?;
-    line.put_text(" ")?;
     put_state(line, symbols, thread)?;
     line.put_text("\n")
 }

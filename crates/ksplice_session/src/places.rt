@@ -33,7 +33,7 @@ pub(crate) fn put_place(
     put_named(line, symbols.name_at(address))
 }
 
-/// The state of a thread.
+/// A space, and the state of a thread.
 #[tactic(auto, unfolding(crate::specs::Places::state_text))]
 pub(crate) fn put_state(
     line: &mut Line,
@@ -44,15 +44,15 @@ pub(crate) fn put_state(
 {
     match thread.state {
         State::Running => {
-            line.put_text("running ")?;
+            line.put_text(" running ")?;
             put_place(line, symbols, thread.pc)
         }
         State::Exited(value) => {
-            line.put_text("exited ")?;
+            line.put_text(" exited ")?;
             line.put_hex(value)
         }
         State::Stopped(fault) => {
-            line.put_text("stopped ")?;
+            line.put_text(" stopped ")?;
             line.put_text(fault.word())?;
             line.put_text(" ")?;
             put_place(line, symbols, thread.pc)
