@@ -22,6 +22,35 @@ rr 3
 0x00100000: b8 01
 ";
 
+// A script in which `main` runs, `f` is replaced, `main` runs again, and the update is taken back; and its replies.
+const UPDATE: &str = "\
+spawn main 0
+step 0 100
+apply u1 pre.o post.o
+spawn main 0
+step 1 100
+peek 0x00100000 6
+list
+undo
+peek 0x00100000 6
+undo
+";
+
+const UPDATED: &str = "\
+spawned 0 0x00100010 main+0x0
+stepped 0 5 exited 0x00000001
+applied u1 tries 1
+ replaced f 0x00100000 0x00800000 6
+spawned 1 0x00100010 main+0x0
+stepped 1 6 exited 0x00000002
+0x00100000: e9 fb ff 6f 00 c3
+update u1 1
+updates 1
+undone u1
+0x00100000: b8 01 00 00 00 c3
+refused 27 nothing applied
+";
+
 // What `match pair start` prints: the call tells which `tw` it is.
 const START_VALUES: &str = "\
 code start 0x00100040
@@ -50,6 +79,7 @@ fn files_of(alloc: Global, loads: &[u64]) -> Result<MemoryFiles, AllocError> {
     files.put("program", &PROGRAM)?;
     files.put("pair", &PAIR)?;
     files.put("script", SCRIPT.as_bytes())?;
+    files.put("update", UPDATE.as_bytes())?;
     Ok(files)
 }
 
@@ -111,7 +141,7 @@ fn end_of(alloc: Global, call: &Call) -> Result<End, AllocError> {
     })
 }
 
-static FAULTS: [Call; 22] = [
+static FAULTS: [Call; 25] = [
     (&["diff", "one"], &[], &[], 7, USAGE, 2),
     (
         &["diff", "one", "two"],
@@ -188,6 +218,16 @@ static FAULTS: [Call; 22] = [
         5,
     ),
     (&["run", "program", "script"], &[], &[3], 5, "spawned 0 ", 5),
+    (
+        &["run", "program", "update"],
+        &[3],
+        &[],
+        100,
+        "spawned 0 0x00100010 main+0x0\nstepped 0 5 exited 0x00000001\nfile pre.o failed\n",
+        4,
+    ),
+    (&["run", "program", "update"], &[], &[], 1, UPDATED, 3),
+    (&["run", "program", "update"], &[], &[], 0, "", 5),
     (&["gen", "0"], &[1], &[], 1, SUMMARY, 0),
     (&["gen", "0"], &[], &[2], 5, "gen 0", 5),
 ];

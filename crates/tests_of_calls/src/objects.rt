@@ -84,6 +84,14 @@ const X: Section = Section {
     references: &[],
 };
 
+/// Calls `f`, and `ret`.
+const MAIN: Section = Section {
+    name: ".text.main",
+    kind: Global("main"),
+    bytes: b"\xe8\xfc\xff\xff\xff\xc3",
+    references: &[(1, RELATIVE, ".text.f")],
+};
+
 /// `xor eax, eax` and `ret`.
 const TW: Section = Section {
     name: ".text.tw",
@@ -100,9 +108,11 @@ const START: Section = Section {
     references: &[(1, RELATIVE, ".text.tw"), (6, RELATIVE, "ext")],
 };
 
-pub(crate) const OBJECTS: [(&str, &[Section]); 8] = [
+pub(crate) const OBJECTS: [(&str, &[Section]); 10] = [
     ("one", &[F]),
     ("two", &[F_CHANGED]),
+    ("pre.o", &[F, MAIN]),
+    ("post.o", &[F_CHANGED, MAIN]),
     ("p and q", &[X, P, Q]),
     ("start", &[START, TW]),
     ("text a", &[TEXT_AT_0, A]),
