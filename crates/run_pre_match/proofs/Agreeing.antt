@@ -1,5 +1,5 @@
 -- Pairs agree exactly where they don't differ but in what references say.
-use Rattle.std.proofs.Common.{◌≡◌, ℕ, Bool, true, false, not, ◌||◌, List, All}
+use Rattle.std.proofs.Common.{◌≡◌, ℕ, Bool, true, false, not, List, All}
 use Rattle.std.proofs.Common.{Option, Some, None, IsTrue, refl, ap}
 use Rattle.std.specs.List.{list_any}
 use Rattle.std.specs.Cmp.Lexicographic.{bytes_decides}
@@ -20,6 +20,7 @@ use Rattle.run_pre_match.specs.Match.{AgreeAs, Agree}
 use Rattle.run_pre_match.proofs.MetLaws.{IsWhole, stand_for_one, one_number}
 use Rattle.run_pre_match.proofs.MetLaws.{and_not_then, and_not_none}
 use Rattle.run_pre_match.proofs.Claims.{none_pass}
+use Rattle.run_pre_match.proofs.FormLaws.{equal_lists, neither}
 
 -- a pair differs in nothing but what references say
 pub record Alike (c : Candidate) (pair : Pair) (p r : Option Branch) : Type 0 where
@@ -34,10 +35,7 @@ not_not false e = absurd cc
 same_lists : (xs ys : List ℕ) → not (same_bytes xs ys) ≡ false → xs ≡ ys
 same_lists xs ys e = (bytes_decides xs ys).0 (not_not (same_bytes xs ys) e)
 
-no_other : (xs ys : List ℕ) → xs ≡ ys → not (same_bytes xs ys) ≡ false
-no_other xs ys e = ap not ((bytes_decides xs ys).1 e)
-
--- each referenced field of the running instruction is full, or one is cut
+-- where no field at a reference is cut, each is full
 all_full : (pair : Pair) (refs : List Ref) → list_any (is_cut pair.pre pair.run) refs ≡ false →
     All (λ r. IsTrue (is_full pair.pre pair.run r)) refs
 all_full pair refs none =
@@ -50,10 +48,6 @@ none_cut : (pair : Pair) (refs : List Ref) → All (λ r. IsTrue (is_full pair.p
 none_cut pair refs full = list_any_none (is_cut pair.pre pair.run) refs
     (All-weaker (λ (r : Ref). IsTrue (is_full pair.pre pair.run r)) (λ (r : Ref). is_cut pair.pre pair.run r ≡ false)
     (λ r is. ap not is) refs full)
-
-neither : (a b : Bool) → a ≡ false → b ≡ false → (a || b) ≡ false
-neither true b is_false other = absurd (let no : true ≡ false = is_false in cc)
-neither false b is_false other = other
 
 alike_agree : (c : Candidate) (pair : Pair) (p r : Option Branch) → IsWhole c → Alike c pair p r → AgreeAs c pair p r
 alike_agree c pair (Some a) (Some b) whole alike =
@@ -88,10 +82,10 @@ agree_alike c pair (Some a) (Some b) (kind, prefix, landing) = record {
       (λ none. one_number c (target_of pair.pre) (target_of pair.run) (landing none));
 }
 agree_alike c pair None None (opcode, operand, full) = record {
-  opcode = no_other (opcode_bytes pair.pre) (opcode_bytes pair.run) opcode;
+  opcode = equal_lists (opcode_bytes pair.pre) (opcode_bytes pair.run) opcode;
   operand = neither (not (same_bytes (blanked_form pair) (form_bytes pair.pre)))
       (list_any (is_cut pair.pre pair.run) pair.pre.references)
-      (no_other (blanked_form pair) (form_bytes pair.pre) operand) (none_cut pair pair.pre.references full);
+      (equal_lists (blanked_form pair) (form_bytes pair.pre) operand) (none_cut pair pair.pre.references full);
   landing = refl;
 }
 agree_alike c pair (Some a) None never = absurd never

@@ -1,48 +1,32 @@
 -- Wide forms: those of equal instructions are equal, and what is kept of one says where it stands.
-use Rattle.std.proofs.Common.{◌≡◌, ℕ, suc, Bool, true, false, not, ◌||◌, List, [], ◌∷◌, ◌++◌, map, length, take, Option}
-use Rattle.std.proofs.Common.{Some, None, refl, sym, ◌∙◌, ap}
+use Rattle.std.proofs.Common.{◌≡◌, ℕ, suc, Bool, true, false, not, ◌||◌, List, [], ◌∷◌, map, None, refl, sym}
+use Rattle.std.proofs.Common.{◌∙◌, ap}
 use Rattle.std.specs.List.{list_any}
 use Rattle.std.specs.Cmp.Lexicographic.{bytes_decides}
 use Rattle.i386_reloc.specs.declared.types.Ref.{Ref}
 use Rattle.i386_reloc.specs.Normal.{same_bytes}
 use Rattle.ia32_decode.specs.declared.types.Decoded.{Decoded}
 use Rattle.ia32_decode.specs.declared.types.Fields.{Fields}
-use Rattle.ia32_decode.specs.Decode.{decoded_from}
 use Rattle.ia32_decode.specs.Wide.{wide_bytes}
 use Rattle.match_instructions.specs.Instructions.{Instruction}
-use Rattle.run_pre_match.specs.Candidate.{Pair}
 use Rattle.match_constants.specs.Constants.{covers}
+use Rattle.run_pre_match.specs.Candidate.{Pair}
 use Rattle.run_pre_match.specs.WideForms.{form_bytes, form_fields, moved, moved_references, is_cut}
-use Rattle.run_pre_match.specs.Differences.{opcode_bytes, blanked, blanked_form, differs_in_opcode, differs_in_operand}
+use Rattle.run_pre_match.specs.Differences.{blanked, blanked_form, differs_in_operand}
 use Rattle.run_pre_match.specs.inside.Forms.{covers_in}
-
--- one list of bytes spells one instruction
-pub spelt_once : (bytes other : List ℕ) (one two : Decoded) → bytes ≡ other → decoded_from bytes ≡ Some one →
-    decoded_from other ≡ Some two → one ≡ two
-spelt_once bytes other one two same first second =
-    let both : Some one ≡ Some two = sym first ∙ ap decoded_from same ∙ second in cc
 
 -- instructions with the same bytes, which spell the same
 pub record AreEqual (one two : Instruction) : Type 0 where
   pub bytes : one.bytes ≡ two.bytes
   pub decoded : one.decoded ≡ two.decoded
 
-equal_opcodes : (one two : Instruction) → AreEqual one two → opcode_bytes one ≡ opcode_bytes two
-equal_opcodes one two same =
-    ap (λ (bytes : List ℕ). take one.decoded.fields.opcode_end (wide_bytes bytes one.decoded)) same.bytes
-    ∙ ap (λ (d : Decoded). take d.fields.opcode_end (wide_bytes two.bytes d)) same.decoded
-
 equal_forms : (one two : Instruction) → AreEqual one two → form_bytes one ≡ form_bytes two
 equal_forms one two same =
     ap (λ (bytes : List ℕ). wide_bytes bytes one.decoded) same.bytes
     ∙ ap (λ (d : Decoded). wide_bytes two.bytes d) same.decoded
 
-equal_lists : (xs ys : List ℕ) → xs ≡ ys → not (same_bytes xs ys) ≡ false
+pub equal_lists : (xs ys : List ℕ) → xs ≡ ys → not (same_bytes xs ys) ≡ false
 equal_lists xs ys same = ap not ((bytes_decides xs ys).1 same)
-
-pub same_opcode : (pair : Pair) → AreEqual pair.pre pair.run → false ≡ differs_in_opcode None None pair
-same_opcode pair same = sym (equal_lists (opcode_bytes pair.pre) (opcode_bytes pair.run)
-    (equal_opcodes pair.pre pair.run same))
 
 blanked_none : (place : ℕ) (bytes : List ℕ) → blanked [] place bytes ≡ bytes
 unfolding blanked
@@ -57,18 +41,18 @@ nothing_blanked pair none =
     ap (λ (rs : List Ref). blanked (map (moved pair.pre) rs) pair.pre.place (form_bytes pair.run)) none
     ∙ blanked_none pair.pre.place (form_bytes pair.run)
 
-either_false : (a b : Bool) → a ≡ false → b ≡ false → false ≡ (a || b)
-either_false true b is_false other = absurd (let no : true ≡ false = is_false in cc)
-either_false false b is_false other = sym other
+pub neither : (a b : Bool) → a ≡ false → b ≡ false → (a || b) ≡ false
+neither true b is_false other = absurd (let no : true ≡ false = is_false in cc)
+neither false b is_false other = other
 
 pub same_operand : (pair : Pair) → pair.pre.references ≡ [] → AreEqual pair.pre pair.run →
     false ≡ differs_in_operand None None pair
 same_operand pair none same =
-    either_false (not (same_bytes (blanked_form pair) (form_bytes pair.pre)))
+    sym (neither (not (same_bytes (blanked_form pair) (form_bytes pair.pre)))
     (list_any (is_cut pair.pre pair.run) pair.pre.references)
     (equal_lists (blanked_form pair) (form_bytes pair.pre)
     (nothing_blanked pair none ∙ sym (equal_forms pair.pre pair.run same)))
-    (nothing_cut pair pair.pre.references none)
+    (nothing_cut pair pair.pre.references none))
 
 -- what some elements are made into passes a test exactly where they pass it so
 pub any_made : {X Y : Type 0} (p : Y → Bool) (f : X → Y) (xs : List X) →

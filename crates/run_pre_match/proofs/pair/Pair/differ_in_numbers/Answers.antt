@@ -1,4 +1,4 @@
-use Rattle.std.proofs.Common.{◌≡◌, length, [], rules}
+use Rattle.std.proofs.Common.{◌≡◌, length, rules}
 use Rattle.std.proofs.lemmas.List.{nil_from_length}
 use Rattle.run_pre_match.proofs.FormLaws.{same_operand}
 use Rattle.run_pre_match.proofs.pair.Pair.differ_in_numbers.Goals as goal
