@@ -11,10 +11,14 @@
 //! - `match OBJECT IMAGE SECTION ADDRESS` compares the code of a section of an object file once with what stands at an
 //!   address of an image file, the home and the base of the function, and prints `ok` with the length of the running
 //!   body and how many claims and interiors it has, or what was refused.
+//! - `again IMAGE SCRIPT PRE POST` makes an update of the program of an image from one object file to another, after
+//!   the lines of a script without `apply`, and prints the reply to it. Where memory runs out it tries the update once
+//!   more on the system as it is, so that this is its second try.
 //!
 //! Numbers and addresses are decimal.
 #![tactic(auto)]
 
+mod applying;
 mod comparing;
 mod counting;
 mod placing;
@@ -22,6 +26,7 @@ mod searching;
 mod stacks;
 mod standing;
 
+use crate::applying::line_of_update;
 use crate::comparing::line_of;
 use crate::counting::{Tally, count_times};
 use crate::placing::sum_of_places;
@@ -55,6 +60,13 @@ enum Asked<'w> {
         image: &'w str,
         section: &'w str,
         address: u32,
+    },
+    /// To make an update after a script, once more where memory ran out.
+    Again {
+        image: &'w str,
+        script: &'w str,
+        pre: &'w str,
+        post: &'w str,
     },
 }
 
@@ -90,6 +102,12 @@ fn read_words(words: &[String]) -> Option<Asked<'_>> {
             image: image.as_str(),
             section: section.as_str(),
             address: address.parse::<u32>().ok()?,
+        }),
+        [word, image, script, pre, post] if word.as_str() == "again" => Some(Asked::Again {
+            image: image.as_str(),
+            script: script.as_str(),
+            pre: pre.as_str(),
+            post: post.as_str(),
         }),
         _ => None,
     }
@@ -139,6 +157,27 @@ fn print_match(
     print!(rt; "{}", std::str::from_utf8(line.bytes()).unwrap_or(""))
 }
 
+/// Makes an update of the program of an image file after the lines of a script file, and prints what comes of it.
+fn print_again(
+    rt: &HostRuntime,
+    image: &str,
+    script: &str,
+    pre: &str,
+    post: &str,
+) -> io::Result<()> {
+    let image = fs::read(rt, image)?;
+    let script = fs::read(rt, script)?;
+    let objects = [fs::read(rt, pre)?, fs::read(rt, post)?];
+    let line = line_of_update(
+        rt.alloc(),
+        image.as_slice(),
+        script.as_slice(),
+        objects[0].as_slice(),
+        objects[1].as_slice(),
+    )?;
+    print!(rt; "{}", std::str::from_utf8(line.bytes()).unwrap_or(""))
+}
+
 /// Carries out what is asked for, and prints what comes of it.
 fn carry_out(rt: &HostRuntime, asked: Asked<'_>) -> io::Result<()> {
     match asked {
@@ -154,6 +193,12 @@ fn carry_out(rt: &HostRuntime, asked: Asked<'_>) -> io::Result<()> {
             section,
             address,
         } => print_match(rt, object, image, section, address),
+        Asked::Again {
+            image,
+            script,
+            pre,
+            post,
+        } => print_again(rt, image, script, pre, post),
     }
 }
 
@@ -164,7 +209,7 @@ fn main(rt: HostRuntime) -> io::Result<ExitCode> {
     }
     let Some(asked) = read_words(words.as_slice()) else {
         println!(rt;
-            "usage: bench_parts decode FILE TIMES | place SECTIONS GAPS | stands DWORDS RANGES FIRST LAST TIMES | search DWORDS RANGES FIRST LAST TIMES | match OBJECT IMAGE SECTION ADDRESS"
+            "usage: bench_parts decode FILE TIMES | place SECTIONS GAPS | stands DWORDS RANGES FIRST LAST TIMES | search DWORDS RANGES FIRST LAST TIMES | match OBJECT IMAGE SECTION ADDRESS | again IMAGE SCRIPT PRE POST"
         )?;
         return Ok(ExitCode::from(2));
     };
