@@ -32,7 +32,7 @@ BAD = {
     "apply-up-to-gap": "apply a b c tries 2 gap", "apply-with-a-word-behind": "apply a b c tries 2 gap 3 4",
     "apply-with-gap-before-tries": "apply a b c gap 3 tries 2",
     "apply-with-a-capital-in-tries": "apply a b c Tries 2 gap 3",
-    "apply-with-gap-in-upper-case": "apply a b c tries 2 GAP 3", "undo-with-a-sharp-behind": "undo #",
+    "apply-with-gap-in-upper-case": "apply a b c tries 2 GAP 3", "undo-with-two-words": "undo u1 #",
     "undo-with-a-capital": "Undo", "list-with-a-word": "list x", "list-with-a-letter-too-many": "lists",
     "watch-with-a-word": "watch x", "watch-with-letters-too-many": "watches",
     # numbers
@@ -95,7 +95,7 @@ ROWS = [
     bad("line-in-upper-case", "THREADS"),
     bad("line-with-a-word-too-many", "threads 1"),
     bad("line-with-a-word-too-few", "spawn main"),
-    bad("undo-takes-no-name", "undo u1", files=FIRST_TO_SECOND),
+    bad("undo-takes-one-name", "undo u1 u2", files=FIRST_TO_SECOND),
     bad("poke-is-no-line", "poke u1 pre.o post.o", files=FIRST_TO_SECOND),
     bad("tail-is-no-line", "tail", files=FIRST_TO_SECOND),
     bad("seal-is-no-line", "seal", files=FIRST_TO_SECOND),
@@ -146,7 +146,8 @@ ROWS = [
          *applied_as("apply fix pre.o post.o tries 1 gap 16777216", "fix"),
          *applied_as("apply fix pre.o post.o  tries 0x3E8  gap 16777", "fix"),
          *applied_as("apply tries gap tries tries 512 gap 0x8000 ", "tries"),
-         ("  undo  ", "refused 27 nothing applied"), ("  list  ", "updates 0"), (" watch", "watch disciplined")],
+         ("  undo  ", "refused 27 nothing applied"), ("  undo  #  ", "refused 39 no update #"),
+         ("  list  ", "updates 0"), (" watch", "watch disciplined")],
         {**FIRST_TO_SECOND, "0x1": f_and_main(1), "apply": f_and_main(2), "gap": f_and_main(1),
          "tries": f_and_main(2)}),
 

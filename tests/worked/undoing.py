@@ -1,7 +1,7 @@
-"""Rows of updates upon updates, and of the lines `undo` and `list` (docs/updates.md)."""
+"""Rows of updates upon updates, and of the lines `undo`, `undo NAME` and `list` (docs/updates.md)."""
 from .encode import at, four_stacks, image, obj, relative, sec, word
 from .files import (APPLIED, COLD, COLD_FILES, DROPPED_COLD, FIRST_TO_SECOND, LONGER_COLD_UNIT, MAIN_SECTION, NEW_RUNS,
-                    OLD_RUNS, PROGRAM, REPLACED, SPIN, f_and_main, f_calling, f_reading)
+                    OLD_RUNS, PROGRAM, REPLACED, SPIN, f_alone, f_and_main, f_calling, f_reading, program)
 from .rows import run
 
 THREE = {f"o{number}.o": f_and_main(number) for number in (1, 2, 3)}
@@ -18,6 +18,21 @@ IN_SPIN = [
 # the new f reads a new variable
 READS_N = {"pre.o": f_and_main(1),
            "post.o": obj(f_reading(".data.n"), MAIN_SECTION, sec(".data.n", "2A 00 00 00", variable="n"))}
+
+# a function g beside f, which answers 5
+WITH_G = program(at(0x00100020, "g", "B8 05 00 00 00 C3 90*10"))
+
+
+def g_alone(number):
+    return obj(sec(".text.g", f"B8 {number:02X} 00 00 00 C3"))
+
+
+F_AND_G = {**{f"f{number}.o": f_alone(number) for number in (1, 2, 3)},
+           **{f"g{number}.o": g_alone(number) for number in (5, 6)}}
+
+# the new f calls a new function h, and the new g calls that one, too
+CALLS_H = {"f1.o": f_alone(1), "fh.o": obj(f_calling(".text.h"), sec(".text.h", "C3")),
+           "g5.o": g_alone(5), "gh.o": obj(sec(".text.g", "E8 00 00 00 00 C3", relative(1, "h")))}
 
 
 def as_many_as_may_be():
@@ -98,6 +113,23 @@ ROWS = [
          ("undo", "undone u1"),
          ("peek 0x00100000 5", "0x00100000: b8 01 00 00 00"),
          ("undo", "refused 27 nothing applied")], THREE),
+    run("older-update-is-undone-first", WITH_G,
+        [("apply u1 f1.o f2.o", "applied u1 tries 1", REPLACED),
+         ("apply u2 g5.o g6.o", "applied u2 tries 1", " replaced g 0x00100020 0x00800010 6"),
+         ("undo u1", "undone u1"),
+         ("peek 0x00100000 5", "0x00100000: b8 01 00 00 00"),
+         ("peek 0x00100020 5", "0x00100020: e9 eb ff 6f 00"),
+         ("apply u3 f1.o f2.o", "applied u3 tries 1", REPLACED),
+         ("list", "update u2 1", "update u3 1", "updates 2"),
+         ("apply u4 f2.o f3.o", "applied u4 tries 1", " replaced f 0x00100000 0x00800020 6"),
+         ("undo u3", "refused 33 covered u4"),
+         ("undo u9", "refused 39 no update u9")], F_AND_G),
+    run("needed-update-is-undone-after-the-one-that-needs-it", WITH_G,
+        [("apply u1 f1.o fh.o", "applied u1 tries 1", REPLACED, " added h 0x00800010"),
+         ("apply u2 g5.o gh.o", "applied u2 tries 1", " replaced g 0x00100020 0x00800020 6"),
+         ("undo u1", "refused 34 needed u2 .text.g+0x1"),
+         ("undo u2", "undone u2"),
+         ("undo u1", "undone u1")], CALLS_H),
     run("name-of-a-live-update-is-taken", PROGRAM,
         [("apply u1 o1.o o2.o", "applied u1 tries 1", REPLACED),
          ("apply u1 o2.o o3.o", "refused 38 name taken u1")], THREE),

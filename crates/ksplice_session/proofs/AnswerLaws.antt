@@ -7,13 +7,14 @@ use Rattle.ks_base.specs.declared.refusals.Refusal.TheVariants.{NoThread, Memory
 use Rattle.ks_base.specs.Refusals.{refusal_line}
 use Rattle.image_threads.specs.Program.{running_at}
 use Rattle.script_lines.specs.declared.types.Command.TheVariants.{Spawn, Step, RoundRobin, Threads}
-use Rattle.script_lines.specs.declared.types.Command.TheVariants.{Peek, Undo, ListUpdates, Watch}
+use Rattle.script_lines.specs.declared.types.Command.TheVariants.{Peek, Undo, UndoNamed, ListUpdates, Watch}
 use Rattle.update_stack.specs.AbstractMachine.{AbstractMachine, shown_update}
-use Rattle.update_stack.specs.Events.{Event, Spawn as SpawnEvent, Undo as UndoEvent, Spawned, Undone}
+use Rattle.update_stack.specs.Events.{Event, Spawn as SpawnEvent, Undo as UndoEvent}
+use Rattle.update_stack.specs.Events.{UndoNamed as UndoNamedEvent, Spawned, Undone}
 use Rattle.update_stack.specs.Events.{Happened, happened, spawn_answered, undo_answered, answered}
 use Rattle.update_stack.specs.Events.{machine_after, after_event, after_events}
 use Rattle.update_stack.specs.Steps.{spawned}
-use Rattle.update_stack.specs.Undo.{undone}
+use Rattle.update_stack.specs.Undo.{undone, undone_named}
 use Rattle.update_stack.specs.StandsFor.{patched}
 use Rattle.ksplice_session.specs.declared.types.Answer.{Answer}
 use Rattle.ksplice_session.specs.Watching.{Watched, watched_by, watched_after, watched_after_all}
@@ -188,29 +189,43 @@ pub told_peek : (s : Watched) (address count : ℕ)
 unfolding told_of
 told_peek s address count = refl
 
+-- what a line tells that takes an update back, by what the machine answers
+tells_undone : (event : Event) (r : Result (AbstractMachine × List ℕ) Refusal) (now : AbstractMachine) (name : List ℕ)
+    → undo_answered r ≡ Ok (happened now (Undone name)) → undo_told event r ≡ replied (event ∷ []) (undone_line name)
+tells_undone event (Ok left) now name is =
+    let answer : Undone left.1 ≡ Undone name = ap (λ (h : Happened). h.answer) (same_Ok _ _ is) in
+    let same : left.1 ≡ name = cc in
+    ap (λ (n : List ℕ). replied (event ∷ []) (undone_line n)) same
+tells_undone event (Err refusal) now name is = cc
+
+tells_refused : (event : Event) (r : Result (AbstractMachine × List ℕ) Refusal) (refusal : Refusal)
+    → undo_answered r ≡ Err refusal → undo_told event r ≡ refused_after [] refusal
+tells_refused event (Ok left) refusal is = cc
+tells_refused event (Err other) refusal is = cc
+
 pub told_undone : (s : Watched) (now : AbstractMachine) (name : List ℕ)
     → answered s.machine UndoEvent ≡ Ok (happened now (Undone name))
     → told_of s Undo [] ≡ replied (UndoEvent ∷ []) (undone_line name)
 unfolding told_of answered
-told_undone s now name is = by (undone s.machine) is
-  where
-    by : (r : Result (AbstractMachine × List ℕ) Refusal) → undo_answered r ≡ Ok (happened now (Undone name))
-        → undo_told r ≡ replied (UndoEvent ∷ []) (undone_line name)
-    by (Ok left) is =
-        let answer : Undone left.1 ≡ Undone name = ap (λ (h : Happened). h.answer) (same_Ok _ _ is) in
-        let same : left.1 ≡ name = cc in
-        ap (λ (n : List ℕ). replied (UndoEvent ∷ []) (undone_line n)) same
-    by (Err refusal) is = cc
+told_undone s now name is = tells_undone UndoEvent (undone s.machine) now name is
 
 pub told_undo_refused : (s : Watched) (refusal : Refusal) → answered s.machine UndoEvent ≡ Err refusal
     → told_of s Undo [] ≡ refused_after [] refusal
 unfolding told_of answered
-told_undo_refused s refusal is = by (undone s.machine) is
-  where
-    by : (r : Result (AbstractMachine × List ℕ) Refusal) → undo_answered r ≡ Err refusal
-        → undo_told r ≡ refused_after [] refusal
-    by (Ok left) is = cc
-    by (Err other) is = cc
+told_undo_refused s refusal is = tells_refused UndoEvent (undone s.machine) refusal is
+
+pub told_undone_named : (s : Watched) (now : AbstractMachine) (name : List ℕ)
+    → answered s.machine (UndoNamedEvent name) ≡ Ok (happened now (Undone name))
+    → told_of s (UndoNamed name) [] ≡ replied (UndoNamedEvent name ∷ []) (undone_line name)
+unfolding told_of answered
+told_undone_named s now name is = tells_undone (UndoNamedEvent name) (undone_named s.machine name) now name is
+
+pub told_undo_named_refused : (s : Watched) (name : List ℕ) (refusal : Refusal)
+    → answered s.machine (UndoNamedEvent name) ≡ Err refusal
+    → told_of s (UndoNamed name) [] ≡ refused_after [] refusal
+unfolding told_of answered
+told_undo_named_refused s name refusal is =
+    tells_refused (UndoNamedEvent name) (undone_named s.machine name) refusal is
 
 pub told_list : (s : Watched) → told_of s ListUpdates [] ≡ replied [] (list_lines (map shown_update s.machine.updates))
 unfolding told_of

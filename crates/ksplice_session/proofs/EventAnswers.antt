@@ -6,7 +6,7 @@ use Rattle.std.proofs.lemmas.Option.{none-some, same_Some}
 use Rattle.ks_base.specs.declared.places.Range.{Range}
 use Rattle.ks_base.specs.declared.refusals.Fault.{Fault}
 use Rattle.ks_base.specs.declared.refusals.Refusal.{Refusal}
-use Rattle.ks_base.specs.declared.refusals.Refusal.TheVariants.{TooManyThreads, NoThread}
+use Rattle.ks_base.specs.declared.refusals.Refusal.TheVariants.{TooManyThreads, NoThread, NothingApplied, NoUpdate}
 use Rattle.ks_base.specs.declared.reports.Report.{Report}
 use Rattle.image_file.specs.Fields.{◌>>=◌}
 use Rattle.image_memory.specs.Access.{written}
@@ -27,10 +27,11 @@ use Rattle.update_stack.specs.Plan.{unless}
 use Rattle.update_stack.specs.AbstractMachine.{AbstractMachine, Update, contents_of, view_in, base_of}
 use Rattle.update_stack.specs.Steps.{step_at, step_in, after_step, moved_by, moved, after_start, spawned}
 use Rattle.update_stack.specs.Apply.{planned_in, committed, applied}
-use Rattle.update_stack.specs.Undo.{withdrawn, ranges_in, newest_update, undone_by, undone}
-use Rattle.update_stack.specs.Events.{Event, Spawn, Step, Apply, Undo, Spawned, Stepped}
+use Rattle.update_stack.specs.Undo.{withdrawn, withdrawal_refusal, newest_update, named}
+use Rattle.update_stack.specs.Undo.{taken_back, undone_by, undone, undone_named}
+use Rattle.update_stack.specs.Events.{Event, Spawn, Step, Apply, Undo, UndoNamed, Spawned, Stepped}
 use Rattle.update_stack.specs.Events.{Happened, happened, spawn_answered, step_answered, apply_answered}
-use Rattle.update_stack.specs.Events.{undo_answered, answered}
+use Rattle.update_stack.specs.Events.{undo_answered, answered, update_taken}
 use Rattle.frame_watch.specs.Frames.{Watching}
 use Rattle.frame_watch.specs.Discipline.{counted}
 use Rattle.ksplice_session.specs.Watching.{seen}
@@ -196,18 +197,36 @@ apply_gives k name pre post now is = by_plan (planned_in k name pre post) is
     by_plan (Err refusal) is = absurd (cc)
     by_plan (Ok plan) is = by_threads plan (thread_refusal k.pieces plan.guarded k.threads) is
 
-pub undo_gives : (k : AbstractMachine) (now : Happened) → answered k Undo ≡ Ok now → IsUpdated k now
-unfolding answered undone withdrawn
-undo_gives k now is = by_update (newest_update k) is
+-- an update is taken back by an event
+pub record IsUndone (k : AbstractMachine) (event : Event) (now : Happened) : Type 0 where
+  pub update : Update
+  pub taken : update_taken k event ≡ Some update
+  pub left : IsUpdated k now
+
+taken_gives : (k : AbstractMachine) (event : Event) (missing : Refusal) (now : Happened)
+    → undo_answered (undone_by k missing (update_taken k event)) ≡ Ok now → IsUndone k event now
+unfolding taken_back withdrawn
+taken_gives k event missing now is = by_update (update_taken k event) refl is
   where
-    by_threads : (update : Update) (o : Option Refusal)
+    by_refusal : (update : Update) (o : Option Refusal)
         → undo_answered (unless o update >>= λ (clear : Update).
         let r : Result (AbstractMachine × List ℕ) Refusal = Ok (withdrawn k clear, clear.name) in r) ≡ Ok now
         → IsUpdated k now
-    by_threads update (Some refusal) is = absurd (cc)
-    by_threads update None is =
+    by_refusal update (Some refusal) is = absurd (cc)
+    by_refusal update None is =
         subst (IsUpdated k) (same_Ok _ now is) (record { threads = refl; stacks = refl; seen = λ event w. refl })
 
-    by_update : (o : Option Update) → undo_answered (undone_by k o) ≡ Ok now → IsUpdated k now
-    by_update None is = absurd (cc)
-    by_update (Some update) is = by_threads update (thread_refusal k.pieces (ranges_in k update) k.threads) is
+    by_update : (o : Option Update) → update_taken k event ≡ o → undo_answered (undone_by k missing o) ≡ Ok now
+        → IsUndone k event now
+    by_update None taken is = absurd (cc)
+    by_update (Some update) taken is =
+        record { update = update; taken = taken; left = by_refusal update (withdrawal_refusal k update) is }
+
+pub undo_gives : (k : AbstractMachine) (now : Happened) → answered k Undo ≡ Ok now → IsUndone k Undo now
+unfolding answered undone
+undo_gives k now is = taken_gives k Undo NothingApplied now is
+
+pub undo_named_gives : (k : AbstractMachine) (name : List ℕ) (now : Happened) → answered k (UndoNamed name) ≡ Ok now
+    → IsUndone k (UndoNamed name) now
+unfolding answered undone_named
+undo_named_gives k name now is = taken_gives k (UndoNamed name) (NoUpdate name) now is

@@ -12,7 +12,7 @@ use Rattle.ia32_step.specs.declared.types.Flow.TheVariants.{Call, Return}
 use Rattle.ia32_step.specs.declared.types.Outcome.TheVariants.{Moved}
 use Rattle.ia32_step.specs.declared.types.Thread.{Thread}
 use Rattle.image_threads.specs.Program.{running_at}
-use Rattle.update_stack.specs.Events.{Event, Spawn, Step, Apply, Undo}
+use Rattle.update_stack.specs.Events.{Event, Spawn, Step, Apply, Undo, UndoNamed}
 use Rattle.update_safety.specs.Windows.{window_in}
 use Rattle.frame_watch.specs.Frames.{frame}
 use Rattle.ksplice_session.specs.Watching.{Watched, first_watched, watched_after, watched_after_all, IsDisciplined}
@@ -77,6 +77,7 @@ no_step : (n : ℕ) (event : Event) → (event ≡ Step n → ⊥) → IsFalse (
 no_step n (Spawn name argument) other = refl
 no_step n (Apply name pre post) other = refl
 no_step n Undo other = refl
+no_step n (UndoNamed name) other = refl
 no_step n (Step m) other = by_test (n == m) refl
   where
     by_test : (b : Bool) → (n == m) ≡ b → b ≡ false

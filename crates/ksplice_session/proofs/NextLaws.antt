@@ -9,11 +9,12 @@ use Rattle.image_threads.specs.Program.{running_at}
 use Rattle.image_threads.specs.Spawning.{is_taken, first_thread}
 use Rattle.update_stack.specs.AbstractMachine.{AbstractMachine}
 use Rattle.update_stack.specs.Steps.{step_in}
-use Rattle.update_stack.specs.Events.{Event, Spawn, Step, Apply, Undo, Answer, Spawned, Stepped, Applied, Undone}
-use Rattle.update_stack.specs.Events.{Happened, happened}
+use Rattle.update_stack.specs.Events.{Event, Spawn, Step, Apply, Undo, UndoNamed, Answer, Spawned, Stepped}
+use Rattle.update_stack.specs.Events.{Applied, Undone, Happened, happened}
 use Rattle.update_stack.specs.Events.{answered}
 use Rattle.update_stack.specs.Stacked.{IsBuilt}
-use Rattle.update_safety.specs.Clear.{newest_retired, newest_pieces}
+use Rattle.update_stack.specs.Undo.{ranges_in}
+use Rattle.update_safety.specs.Clear.{newest_retired}
 use Rattle.frame_watch.specs.declared.types.Verdict.TheVariants.{Disciplined}
 use Rattle.frame_watch.specs.Frames.{Watching}
 use Rattle.frame_watch.specs.Discipline.{spawn_noted, step_noted, counted}
@@ -23,7 +24,7 @@ use Rattle.ksplice_session.specs.Safety.{frames_of, outcome_in, outcome_by, step
 use Rattle.ksplice_session.proofs.Lookups.{set_here, read_last, found_at}
 use Rattle.ksplice_session.proofs.RuleLaws.{start_was_unbroken, step_was_unbroken}
 use Rattle.ksplice_session.proofs.EventAnswers.{running_is, left_thread, step_gives, step_refused}
-use Rattle.ksplice_session.proofs.EventAnswers.{spawn_gives, apply_gives, undo_gives}
+use Rattle.ksplice_session.proofs.EventAnswers.{spawn_gives, apply_gives, IsUndone, undo_gives, undo_named_gives}
 use Rattle.ksplice_session.proofs.MomentLaws.{Premises, IsMoment, keep_slots}
 use Rattle.ksplice_session.proofs.EventLaws.{Next, refused_next, update_next, start_next}
 use Rattle.ksplice_session.proofs.ThreadSteps.{IsStep, step_next}
@@ -118,23 +119,33 @@ module _ (laws : Premises) (s : Watched) (moment : IsMoment s) (built : IsBuilt 
       laws.accepted s.machine name pre post now n thread (frames_of s n) is runs (keep_slots s moment n thread runs))
       (λ n steps. absurd (cc)))
 
-  undo_leaves : (result : Result Happened Refusal) → Leaves Undo result
-  undo_leaves (Err refusal) is later unbroken = refused_next s Undo moment (λ n steps. absurd (cc))
-  undo_leaves (Ok now) is later unbroken =
-      let gives = undo_gives s.machine now is in
-      let same = gives.seen Undo s.watch in
-      subst (λ (w : Watching). Next s Undo (watched now.machine w)) (sym same)
-      (update_next s Undo moment now.machine (newest_pieces s.machine) (counted s.watch) gives.threads gives.stacks
-      refl refl (laws.undo_slots s.machine now built later is) (laws.undos s.machine now built is)
+  -- an event that takes an update back
+  undo_leaves : (event : Event) → ((n : ℕ) → event ≡ Step n → ⊥)
+      → ((now : Happened) → answered s.machine event ≡ Ok now → IsUndone s.machine event now)
+      → (result : Result Happened Refusal) → Leaves event result
+  undo_leaves event other gives (Err refusal) is later unbroken =
+      refused_next s event moment (λ n steps. absurd (other n steps))
+  undo_leaves event other gives (Ok now) is later unbroken =
+      let undone = gives now is in
+      let update = undone.update in
+      let left = undone.left in
+      let same = left.seen event s.watch in
+      subst (λ (w : Watching). Next s event (watched now.machine w)) (sym same)
+      (update_next s event moment now.machine (ranges_in s.machine update) (counted s.watch) left.threads left.stacks
+      refl refl (laws.undo_slots s.machine event update now built later undone.taken is)
+      (laws.undos s.machine event update now built undone.taken is)
       (λ n thread runs.
-      laws.taken_back s.machine now n thread (frames_of s n) is runs (keep_slots s moment n thread runs))
-      (λ n steps. absurd (cc)))
+      laws.taken_back s.machine event update now n thread (frames_of s n) undone.taken is runs
+      (keep_slots s moment n thread runs))
+      (λ n steps. absurd (other n steps)))
 
   leaves : (event : Event) (result : Result Happened Refusal) → Leaves event result
   leaves (Spawn name argument) result = start_leaves name argument result
   leaves (Step n) result = step_leaves n result
   leaves (Apply name pre post) result = apply_leaves name pre post result
-  leaves Undo result = undo_leaves result
+  leaves Undo result = undo_leaves Undo (λ n steps. absurd (cc)) (undo_gives s.machine) result
+  leaves (UndoNamed name) result =
+      undo_leaves (UndoNamed name) (λ n steps. absurd (cc)) (undo_named_gives s.machine name) result
 
   pub next : (event : Event) → IsBuilt (watched_after s event).machine
       → (watched_after s event).watch.verdict ≡ Disciplined → Next s event (watched_after s event)

@@ -6,7 +6,7 @@ use Rattle.image_threads.specs.Program.{WellPlaced}
 use Rattle.ia32_step.specs.Frames.{keeps_slot}
 use Rattle.ia32_step.specs.declared.types.Thread.{Thread}
 use Rattle.update_stack.specs.AbstractMachine.{AbstractMachine}
-use Rattle.update_stack.specs.Events.{Apply, Undo, Applied, Undone, happened, answered}
+use Rattle.update_stack.specs.Events.{Event, Apply, Applied, Undone, happened, answered}
 use Rattle.update_safety.specs.Slots.{KeepsSlots, SameThreads}
 use Rattle.frame_watch.specs.Discipline.{update_noted}
 use Rattle.frame_watch.specs.Frames.{Watching, keeps_slots}
@@ -38,8 +38,8 @@ unfolding watched_after
 apply_watched s now v name pre post report is noted =
     ap (watched now) noted ∙ sym (ap (watched_by s (Apply name pre post)) is)
 
-pub undo_watched : (s : Watched) (now : AbstractMachine) (v : Watching) (name : List ℕ)
-    → answered s.machine Undo ≡ Ok (happened now (Undone name))
-    → v ≡ update_noted s.watch → watched now v ≡ watched_after s Undo
+pub undo_watched : (s : Watched) (event : Event) (now : AbstractMachine) (v : Watching) (name : List ℕ)
+    → answered s.machine event ≡ Ok (happened now (Undone name))
+    → v ≡ update_noted s.watch → watched now v ≡ watched_after s event
 unfolding watched_after
-undo_watched s now v name is noted = ap (watched now) noted ∙ sym (ap (watched_by s Undo) is)
+undo_watched s event now v name is noted = ap (watched now) noted ∙ sym (ap (watched_by s event) is)

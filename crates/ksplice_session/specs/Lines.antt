@@ -85,7 +85,7 @@ applied_lines name tries report =
     ++ flat_map added_line report.added
     ++ flat_map dropped_line report.dropped
 
--- the newest update was taken back
+-- an update was taken back
 unfoldable pub undone_line : List ℕ → List ℕ
 undone_line name = codes "undone " ++ shown_name name ++ 10 ∷ []
 

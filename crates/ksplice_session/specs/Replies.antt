@@ -12,13 +12,13 @@ use Rattle.ia32_step.specs.declared.types.Thread.{Thread}
 use Rattle.image_threads.specs.Program.{running_at}
 use Rattle.script_lines.specs.declared.types.Command.{Command}
 use Rattle.script_lines.specs.declared.types.Command.TheVariants.{Spawn, Step, RoundRobin, Threads, Peek}
-use Rattle.script_lines.specs.declared.types.Command.TheVariants.{Apply, Undo, ListUpdates, Watch}
+use Rattle.script_lines.specs.declared.types.Command.TheVariants.{Apply, Undo, UndoNamed, ListUpdates, Watch}
 use Rattle.update_stack.specs.AbstractMachine.{AbstractMachine, shown_update}
 use Rattle.update_stack.specs.Events.{Event, Spawn as SpawnEvent, Apply as ApplyEvent, Undo as UndoEvent}
-use Rattle.update_stack.specs.Events.{after_events}
+use Rattle.update_stack.specs.Events.{UndoNamed as UndoNamedEvent, after_events}
 use Rattle.update_stack.specs.Steps.{spawned}
 use Rattle.update_stack.specs.Apply.{applied}
-use Rattle.update_stack.specs.Undo.{undone}
+use Rattle.update_stack.specs.Undo.{undone, undone_named}
 use Rattle.update_stack.specs.StandsFor.{patched}
 use Rattle.frame_watch.specs.declared.types.Verdict.{Verdict}
 use Rattle.ksplice_session.specs.Watching.{Watched}
@@ -52,10 +52,10 @@ abbrev pub spawn_told : Event → (number : ℕ) → Result AbstractMachine Refu
 spawn_told event number (Err refusal) = refused_after [] refusal
 spawn_told event number (Ok now) = replied (event ∷ []) (shown now number spawned_line)
 
--- a line that takes the newest update back, by what that comes to
-abbrev pub undo_told : Result (AbstractMachine × List ℕ) Refusal → Told
-undo_told (Err refusal) = refused_after [] refusal
-undo_told (Ok left) = replied (UndoEvent ∷ []) (undone_line left.1)
+-- a line that takes an update back, by what that comes to
+abbrev pub undo_told : Event → Result (AbstractMachine × List ℕ) Refusal → Told
+undo_told event (Err refusal) = refused_after [] refusal
+undo_told event (Ok left) = replied (event ∷ []) (undone_line left.1)
 
 abbrev pub stepped_line_of : ℕ → List Symbol → Thread → List ℕ
 stepped_line_of made symbols thread = stepped_line symbols thread made
@@ -122,7 +122,8 @@ line_told k verdict (RoundRobin quantum n) held = turns_told (round_robin k quan
 line_told k verdict Threads held = replied [] (threads_lines k.symbols k.threads)
 line_told k verdict (Peek address count) held = replied [] (peek_line (patched k).pieces address count)
 line_told k verdict (Apply name pre post tries gap) held = apply_told k name tries gap held
-line_told k verdict Undo held = undo_told (undone k)
+line_told k verdict Undo held = undo_told UndoEvent (undone k)
+line_told k verdict (UndoNamed name) held = undo_told (UndoNamedEvent name) (undone_named k name)
 line_told k verdict ListUpdates held = replied [] (list_lines (map shown_update k.updates))
 line_told k verdict Watch held = replied [] (watch_line verdict)
 
@@ -145,5 +146,6 @@ files_of Threads = []
 files_of (Peek address count) = []
 files_of (Apply name pre post tries gap) = object_file pre ∷ object_file post ∷ []
 files_of Undo = []
+files_of (UndoNamed name) = []
 files_of ListUpdates = []
 files_of Watch = []

@@ -4,7 +4,7 @@ ghost use Rattle.std.specs.Prelude.{Ok, Err, true, false, IfOk};
 ghost use Rattle.ks_base.specs.declared.refusals.Refusal.TheVariants.{Memory};
 ghost use Rattle.ks_base.specs.Refusals.{refusal_line};
 ghost use Rattle.script_lines.specs.declared.types.Command.TheVariants.{Spawn, Step, RoundRobin, Threads, Peek};
-ghost use Rattle.script_lines.specs.declared.types.Command.TheVariants.{Undo, ListUpdates, Watch};
+ghost use Rattle.script_lines.specs.declared.types.Command.TheVariants.{Undo, UndoNamed, ListUpdates, Watch};
 ghost use Rattle.update_stack.specs.AbstractMachine.{shown_update};
 ghost use Rattle.script_lines.specs.Allowed.{IsAllowed};
 ghost use Rattle.update_stack.specs.StandsFor.{patched};
@@ -51,6 +51,7 @@ pub fn answer(
             ..
         } => answer_apply(alloc, session, name, *tries, *gap, held),
         Command::Undo => answer_undo(alloc, session),
+        Command::UndoNamed { name } => answer_undo_named(alloc, session, name),
         Command::ListUpdates => answer_list(alloc, session),
         Command::Watch => answer_watch(alloc, session),
     }
@@ -121,6 +122,19 @@ fn answer_undo(alloc: Global, session: &mut Session) -> Result<Answer, AllocErro
 {
     match session.undo() {
         Ok(name) => told(undone_reply(alloc, &name)),
+        Err(refusal) => refused(alloc, &refusal),
+    }
+}
+
+fn answer_undo_named(
+    alloc: Global,
+    session: &mut Session,
+    name: &Name,
+) -> Result<Answer, AllocError>
+    ensures { Answers session.old (told_of session.old (UndoNamed name.now) []) session.new result }
+{
+    match session.undo_named(name) {
+        Ok(()) => told(undone_reply(alloc, name)),
         Err(refusal) => refused(alloc, &refusal),
     }
 }

@@ -40,6 +40,7 @@ pub(crate) fn files_of(command: &Command) -> Loads<'_>
         | Command::Threads
         | Command::Peek { .. }
         | Command::Undo
+        | Command::UndoNamed { .. }
         | Command::ListUpdates
         | Command::Watch => no_files(),
         Command::Apply { pre, post, .. } => object_files(pre, post),

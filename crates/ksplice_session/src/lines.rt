@@ -251,7 +251,7 @@ pub fn put_applied(
     put_each_dropped(line, report.dropped.as_slice())
 }
 
-/// The newest update was taken back: `undone` and its name.
+/// An update was taken back: `undone` and its name.
 #[tactic(auto, unfolding(crate::specs::Lines::undone_line))]
 pub fn put_undone(line: &mut Line, name: &Name) -> Result<(), AllocError>
     ensures { OnOk result (line.new ≡ line.old ++ undone_line name.now) }

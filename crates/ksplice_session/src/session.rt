@@ -5,7 +5,8 @@ ghost use Rattle.ks_base.specs.declared.refusals.Refusal.TheVariants.{Memory};
 ghost use Rattle.image_file.specs.Seen.{contents_of};
 ghost use Rattle.image_threads.specs.Program.{running_at};
 ghost use Rattle.update_stack.specs.AbstractMachine.{shown_update};
-ghost use Rattle.update_stack.specs.Events.{Apply, Applied, Spawn, Spawned, Undo, Undone, happened, answered};
+ghost use Rattle.update_stack.specs.Events.{Apply, Applied, Spawn, Spawned, Undo, UndoNamed, Undone};
+ghost use Rattle.update_stack.specs.Events.{happened, answered};
 ghost use Rattle.ksplice_session.specs.Watching.{first_watched, watched_after};
 ghost use Rattle.ksplice_session.specs.Answers.{MadeFront};
 
@@ -145,6 +146,24 @@ impl Session {
         let _machine = self.system.machine();
         self.watch.note_update();
         Ok(name)
+    }
+
+    /// Takes the update of a name back, as the system does.
+    pub(crate) fn undo_named(&mut self, name: &Name) -> Result<(), Refusal>
+        ensures answered { MatchResult result
+            (λ _. answered self.old.machine (UndoNamed name.now) ≡ Ok (happened self.new.machine (Undone name.now)))
+            (λ refusal. refusal ≢ Memory → answered self.old.machine (UndoNamed name.now) ≡ Err refusal) }
+        ensures noted { OnOk result (self.new ≡ watched_after self.old (UndoNamed name.now)) }
+        ensures refused { OnErr result (self.new ≡ self.old) }
+    {
+        // Each thread has a stack of its own, and its slots keep what they hold.
+        updates_keep_slots();
+        let _threads = self.system.machine().threads();
+        self.system.undo_named(name)?;
+        // After it each of the machine's updates lies on what was there without it.
+        let _machine = self.system.machine();
+        self.watch.note_update();
+        Ok(())
     }
 
     /// The live updates, the oldest first.

@@ -5,14 +5,15 @@ use Rattle.i386_reloc.specs.declared.types.Ref.{Ref}
 use Rattle.i386_reloc.specs.declared.types.NormalSection.{NormalSection}
 use Rattle.link_post.specs.declared.types.Placed.{Placed}
 use Rattle.link_post.specs.declared.types.Need.{Need}
+use Rattle.link_post.specs.declared.types.Needs.{Needs}
 use Rattle.link_post.specs.Values.{ValueList, references_of}
 use Rattle.link_post.specs.Linked.{address_of}
 
 -- the field of a reference, and the `S` with which it is filled
-abbrev pub need_of : List NormalSection → List Placed → ValueList → List ℕ → Ref → Need
-need_of post placement values name r =
-    record { section = name; offset = r.offset; s = address_of post placement values r }
+abbrev pub need_of : List NormalSection → List Placed → ValueList → Ref → Need
+need_of post placement values r = record { offset = r.offset; s = address_of post placement values r }
 
--- the needs of the section of a name, by offset
-unfoldable pub needs : List NormalSection → List Placed → ValueList → List ℕ → List Need
-needs post placement values name = map (need_of post placement values name) (references_of post name)
+-- the needs of the section of a name: its fields, by offset
+unfoldable pub needs : List NormalSection → List Placed → ValueList → List ℕ → Needs
+needs post placement values name =
+    record { section = name; fields = map (need_of post placement values) (references_of post name) }

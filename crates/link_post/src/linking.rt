@@ -11,7 +11,7 @@ ghost use Rattle.link_post.specs.Needs.{need_of, needs};
 use crate::lookups::{base_in, value_in};
 use crate::types::{Need, Needs, Placed, Placement};
 use i386_reloc::{Class, Normal, NormalSection, Ref, Target, field_value};
-use ks_base::{Bytes, Name};
+use ks_base::{Bytes, ListOf, Name};
 use std::alloc::{AllocError, Global};
 use symbol_table::{Unknown, Values};
 
@@ -58,8 +58,7 @@ pub fn linked(
 
 /// The needs of the section of a name, by offset: for each of its fields the `S` with which [`linked`] fills it from the
 /// same places and values. There are none where `post` has no such section. It takes time in proportion to the
-/// references, and each name is found by halving or a map. Each need holds the section's name, so the answer takes
-/// memory for as many copies of the name as there are references.
+/// references, and each name is found by halving or a map.
 #[tactic(auto, unfolding(crate::specs::Needs::needs))]
 pub fn needs(
     alloc: Global,
@@ -71,15 +70,21 @@ pub fn needs(
     requires { AreInOrder post.now placement.now }
     ensures { IfOk result (λ found. found ≡ needs post.now placement.now values.now.entries section.now) }
 {
-    let Some(normal) = post.find(section.as_slice()) else {
-        return Ok(Needs::new(alloc));
+    let fields = match post.find(section.as_slice()) {
+        None => ListOf::new(alloc),
+        Some(normal) => {
+            let linking = Linking {
+                post,
+                placement: placement.as_slice(),
+                values,
+            };
+            linking.needs_of(alloc, normal.refs.as_slice())?
+        }
     };
-    let linking = Linking {
-        post,
-        placement: placement.as_slice(),
-        values,
-    };
-    linking.needs_of(alloc, section, normal.refs.as_slice())
+    Ok(Needs {
+        section: section.clone()?,
+        fields,
+    })
 }
 
 /// What the fields of new sections are filled from.
@@ -111,30 +116,20 @@ impl<'a, 'b> Linking<'a, 'b> {
         Ok(bytes)
     }
 
-    /// The needs of references that stand in the section of a name.
-    fn needs_of(&self, alloc: Global, section: &Name, refs: &[Ref<'_>]) -> Result<Needs, AllocError>
+    /// The needs of references.
+    fn needs_of(&self, alloc: Global, refs: &[Ref<'_>]) -> Result<ListOf<Need>, AllocError>
         requires { AreInOrder self.now.post.now self.now.placement.now }
-        ensures { IfOk result (λ found. found ≡ map
-            (need_of self.now.post.now self.now.placement.now self.now.values.now.entries section.now) refs.now) }
+        ensures { IfOk result (λ fields. fields ≡ map
+            (need_of self.now.post.now self.now.placement.now self.now.values.now.entries) refs.now) }
     {
-        let mut found = Needs::new(alloc);
+        let mut fields = ListOf::new(alloc);
         for r in refs {
-            found.push(self.need_of(alloc, section, r)?)?;
+            fields.push(Need {
+                offset: r.offset,
+                s: self.address_of(alloc, r)?,
+            })?;
         }
-        Ok(found)
-    }
-
-    /// The need of a reference that stands in the section of a name.
-    fn need_of(&self, alloc: Global, section: &Name, r: &Ref<'_>) -> Result<Need, AllocError>
-        requires { AreInOrder self.now.post.now self.now.placement.now }
-        ensures { IfOk result (λ need. need
-            ≡ need_of self.now.post.now self.now.placement.now self.now.values.now.entries section.now r.now) }
-    {
-        Ok(Need {
-            section: section.clone()?,
-            offset: r.offset,
-            s: self.address_of(alloc, r)?,
-        })
+        Ok(fields)
     }
 
     /// Fills the field of a reference.

@@ -25,15 +25,19 @@ pub struct Placed {
 pub type Placement = ListOf<Placed>;
 
 /// What a field of new code needs of the running program.
-#[derive(Clone, PartialEq, Eq, Drop)]
+#[derive(Clone, Copy, PartialEq, Eq)]
 pub struct Need {
-    /// The name of the section in which the field stands.
-    pub section: Name,
-    /// Where the field begins in that section, in bytes.
+    /// Where the field begins in its section, in bytes.
     pub offset: u32,
     /// The address of what the field's reference goes to.
     pub s: u32,
 }
 
-/// Needs, by section and offset.
-pub type Needs = ListOf<Need>;
+/// What the fields of one section need.
+#[derive(Drop)]
+pub struct Needs {
+    /// The section's name.
+    pub section: Name,
+    /// Its fields, by offset.
+    pub fields: ListOf<Need>,
+}

@@ -8,12 +8,12 @@ use Rattle.std.proofs.lemmas.Bool.Decides.{nat_tests}
 use Rattle.std.proofs.lemmas.List.Elements.{All-nil, All-cons, All-append, All-same}
 use Rattle.ks_base.specs.declared.refusals.Refusal.TheVariants.{BadLine}
 use Rattle.script_lines.specs.declared.types.Command.{Command}
-use Rattle.script_lines.specs.declared.types.Command.TheVariants.{Threads, Peek, Undo, ListUpdates, Watch}
+use Rattle.script_lines.specs.declared.types.Command.TheVariants.{Threads, Peek, ListUpdates, Watch}
 use Rattle.script_lines.specs.Lines.{words_of, is_plain, lines_of, IsPrintable}
 use Rattle.script_lines.specs.Numbers.{when, number_of}
 use Rattle.script_lines.specs.Forms.{◌>>=◌, number_within, only, two, first_three, alone, spawn_of}
 use Rattle.script_lines.specs.Forms.{step_of, round_robin_of, peek_of, are_tries_words, tries_of}
-use Rattle.script_lines.specs.Forms.{tries_or_one, apply_of, command_of, is_comment, asked_by, asked_in}
+use Rattle.script_lines.specs.Forms.{tries_or_one, apply_of, undo_of, command_of, is_comment, asked_by, asked_in}
 use Rattle.script_lines.specs.Script.{commands_of, lines_before_bad, script_of}
 use Rattle.script_lines.specs.Allowed.{IsAllowed}
 use Rattle.script_lines.proofs.Words.{Each, words_printable}
@@ -116,6 +116,11 @@ apply_allowed words each =
     (λ given printable. made AreBounded IsAllowed (tries_or_one given.3) _ (tries_or_one_bounded given.3)
     (λ tries bounded. (printable.0, printable.1, printable.2, bounded.0, bounded.1, bounded.2)))
 
+undo_allowed : (words : List (List ℕ)) → Each IsPrintable words → IfSome (undo_of words) IsAllowed
+undo_allowed [] each = tt
+undo_allowed (name ∷ []) each = each.0
+undo_allowed (name ∷ more ∷ words) each = tt
+
 command_allowed : (word : List ℕ) (words : List (List ℕ)) → Each IsPrintable words
     → IfSome (command_of word words) IsAllowed
 command_allowed word words each =
@@ -125,7 +130,7 @@ command_allowed word words each =
     (chosen IsAllowed (bytes_eq word (codes "threads")) _ _ (alone_allowed Threads words tt)
     (chosen IsAllowed (bytes_eq word (codes "peek")) _ _ (peek_allowed words)
     (chosen IsAllowed (bytes_eq word (codes "apply")) _ _ (apply_allowed words each)
-    (chosen IsAllowed (bytes_eq word (codes "undo")) _ _ (alone_allowed Undo words tt)
+    (chosen IsAllowed (bytes_eq word (codes "undo")) _ _ (undo_allowed words each)
     (chosen IsAllowed (bytes_eq word (codes "list")) _ _ (alone_allowed ListUpdates words tt)
     (chosen IsAllowed (bytes_eq word (codes "watch")) _ _ (alone_allowed Watch words tt) tt))))))))
 

@@ -1,6 +1,6 @@
 -- Each word of a line that is plain is printable, and each printable word is ASCII.
-use Rattle.std.proofs.Common.{◌≡◌, refl, sym, ℕ, suc, ◌≤◌, ◌<◌, Bool, true, false}
-use Rattle.std.proofs.Common.{not, ◌&&◌, cond, List, [], ◌∷◌, length, arith}
+use Rattle.std.proofs.Common.{◌≡◌, refl, sym, ℕ, suc, ◌≤◌, ◌<◌, true, false}
+use Rattle.std.proofs.Common.{not, cond, List, [], ◌∷◌, length, arith}
 use Rattle.std.specs.Prelude.{filter, nat_le}
 use Rattle.std.specs.List.{slice_split, onto_first, list_all}
 use Rattle.std.proofs.lemmas.Bool.{and_parts, and_from, false≢true, leb-true}

@@ -2,7 +2,7 @@
 ghost use Rattle.std.specs.Prelude.{◌≡◌, IfOk, option_map, bytes_eq};
 ghost use Rattle.script_lines.specs.Lines.{words_of};
 ghost use Rattle.script_lines.specs.Forms.{only, two, first_three, alone, spawn_of, step_of, round_robin_of, peek_of};
-ghost use Rattle.script_lines.specs.Forms.{tries_of, tries_or_one, apply_of, command_of, is_comment, asked_in};
+ghost use Rattle.script_lines.specs.Forms.{tries_of, tries_or_one, apply_of, undo_of, command_of, is_comment, asked_in};
 
 use crate::lines::{first_word, is_plain};
 use crate::numbers::{number_of, number_within};
@@ -72,7 +72,7 @@ fn command_of(alloc: Global, word: &[u8], text: &[u8]) -> Result<Option<Command>
         return apply_of(alloc, text);
     }
     if is(word, b"undo") {
-        return Ok(alone(Command::Undo, text));
+        return undo_of(alloc, text);
     }
     if is(word, b"list") {
         return Ok(alone(Command::ListUpdates, text));
@@ -166,6 +166,20 @@ fn apply_of(alloc: Global, text: &[u8]) -> Result<Option<Command>, AllocError>
         tries,
         gap,
     }))
+}
+
+/// `undo`, or `undo NAME`
+fn undo_of(alloc: Global, text: &[u8]) -> Result<Option<Command>, AllocError>
+    ensures { IfOk result (λ command. command ≡ undo_of (words_of text.now)) }
+{
+    let Some((name, rest)) = first_word(text) else {
+        return Ok(Some(Command::Undo));
+    };
+    if first_word(rest).is_some() {
+        return Ok(None);
+    }
+    let name = Name::from_slice(alloc, name)?;
+    Ok(Some(Command::UndoNamed { name }))
 }
 
 /// How often an update is tried, and how many steps are made between two tries: once where there are no words.

@@ -49,6 +49,11 @@ pub enum Command {
     },
     /// Take the newest update back.
     Undo,
+    /// Take the update of a name back.
+    UndoNamed {
+        /// The update's name.
+        name: Name,
+    },
     /// Show the live updates.
     ListUpdates,
     /// Show whether the run so far has kept the discipline.

@@ -15,6 +15,7 @@ peek 0x2000 4
 apply fix old.o new.o
 apply fix a b tries 0x3E8 gap 16777
 undo
+undo fix
 list
 watch";
 
@@ -28,12 +29,13 @@ fn numbers_of(command: &Command) -> (u32, u32, u32) {
         Command::Peek { address, count } => (5, *address, *count),
         Command::Apply { tries, gap, .. } => (6, *tries, *gap),
         Command::Undo => (7, 0, 0),
-        Command::ListUpdates => (8, 0, 0),
-        Command::Watch => (9, 0, 0),
+        Command::UndoNamed { .. } => (8, 0, 0),
+        Command::ListUpdates => (9, 0, 0),
+        Command::Watch => (10, 0, 0),
     }
 }
 
-const NUMBERS: [(u32, u32, u32); 10] = [
+const NUMBERS: [(u32, u32, u32); 11] = [
     (1, 16, 0),
     (4, 0, 0),
     (3, 2, 100),
@@ -44,6 +46,7 @@ const NUMBERS: [(u32, u32, u32); 10] = [
     (7, 0, 0),
     (8, 0, 0),
     (9, 0, 0),
+    (10, 0, 0),
 ];
 
 fn is_name(name: &Name, text: &str) -> bool {
@@ -60,6 +63,7 @@ fn has_names(command: &Command, others: (&str, &str)) -> bool {
             post,
             ..
         } => is_name(name, "fix") && is_name(pre, others.0) && is_name(post, others.1),
+        Command::UndoNamed { name } => is_name(name, "fix"),
         _ => true,
     }
 }
@@ -89,5 +93,6 @@ fn lines_of_a_script(rt: HostRuntime) -> Result<(), Fail> {
         .ok_or("refused")?;
     assert!(rt; are_wanted(script.as_slice()) && script.len() == NUMBERS.len());
     assert!(rt; bad_line(rt.alloc(), "threads\n\n\r\n# \t\n") == Some(3));
+    assert!(rt; bad_line(rt.alloc(), "undo u1\nundo u1 u2\n") == Some(2));
     Ok(())
 }

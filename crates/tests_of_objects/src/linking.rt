@@ -163,12 +163,10 @@ static NEEDS: [(&str, &[(u32, u32)]); 8] = [
 
 /// Whether these are the needs of the fields of a section.
 fn are_needs(found: &Needs, name: &str, fields: &[(u32, u32)]) -> bool {
-    found.len() == fields.len()
-        && found.as_slice().iter().zip(fields).all(|(need, field)| {
-            need.section.as_slice() == name.as_bytes()
-                && need.offset == field.0
-                && need.s == field.1
-        })
+    found.section.as_slice() == name.as_bytes()
+        && found.fields.len() == fields.len()
+        && found.fields.as_slice().iter().zip(fields).all(|(need, field)| need.offset == field.0
+            && need.s == field.1)
 }
 
 /// How many sections need what they have to.

@@ -22,3 +22,4 @@ pub mod SoundPieces
 pub mod SoundPlan
 pub mod SoundSteps
 pub mod Targets
+pub mod Versions

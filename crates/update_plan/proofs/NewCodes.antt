@@ -80,6 +80,25 @@ changed_code pre post extract name is among =
     let code = and_parts (is_in is_code_class pre section.name) (is_in is_code_class post section.name) both.1 in
     ap (is_in is_code_class post) (sym named) ∙ code.1
 
+-- a section at its place is the one of its name in the new object
+pub new_named : (post_file : List ℕ) (post : List NormalSection) → IsFile post_file post → (extract : Extract)
+    (placement : List Placed) (part : AtPlace) → Has (at_places (parts_of extract post) placement) part
+    → section_named post part.section.name ≡ Some part.section
+new_named post_file post file extract placement part has =
+    let (from, in_parts, same, role) = at_from (parts_of extract post) placement part has in
+    let (section, in_post, as_part) = part_is extract post from in_parts in
+    subst (λ (s : NormalSection). section_named post s.name ≡ Some s) (sym (same ∙ as_part.is))
+    (named_itself post_file post file section in_post)
+
+-- and is code where it is changed
+pub changed_part_code : (pre post : List NormalSection) (extract : Extract) (part : AtPlace)
+    → lists_of pre post ≡ extract → section_named post part.section.name ≡ Some part.section
+    → role_of extract part.section.name ≡ Some Changed → part.section.class ≡ Code
+changed_part_code pre post extract part is named role =
+    let name = part.section.name in
+    let in_code = changed_code pre post extract name is (changed_where extract name role) in
+    code_class part.section.class (sym (ap (has_class is_code_class) named) ∙ in_code)
+
 -- ---- an old function by the section that it is
 record IsOldAs (section : NormalSection) (told : Option Solved) (old : OldFunction) : Type 0 where
   named : old.section ≡ section.name
@@ -149,26 +168,17 @@ module _ (running : Running) (retired gaps : List Range) (pre_file post_file : L
       (placed_in_order keep it.post parts gaps (map size_of parts) (Ok it.placement) refl ascend
       (parts_in_order it.extract it.post (distinct_in post_file it.post post_is_file)) it.placement_is)
 
-  new_named : (part : AtPlace) → Has at_all part → section_named it.post part.section.name ≡ Some part.section
-  new_named part has =
-      let (from, in_parts, same, role) = at_from parts it.placement part has in
-      let (section, in_post, as_part) = part_is it.extract it.post from in_parts in
-      subst (λ (s : NormalSection). section_named it.post s.name ≡ Some s) (sym (same ∙ as_part.is))
-      (named_itself post_file it.post post_is_file section in_post)
-
   new_code : PlacesKeepOrder → PlacesAreFound → (one : Replaced)
       → HasNewText it.post parts it.placement it.values olds one
       → HasNewCode running gaps pre_file post_file steps pieces one
   new_code keep find one text =
       let name = text.part.section.name in
       let has = has_of at_all text.part text.listed in
-      let named = new_named text.part has in
+      let named = new_named post_file it.post post_is_file it.extract it.placement text.part has in
       let role : role_of it.extract name ≡ Some Changed =
       place_role it.extract it.post it.placement text.part has ∙ ap (λ r. Some r) text.changed in
-      let in_code = changed_code it.pre it.post it.extract name (lists_are it.pre it.post it.extract it.extract_is)
-      (changed_where it.extract name role) in
-      let code : text.part.section.class ≡ Code =
-      code_class text.part.section.class (sym (ap (has_class is_code_class) named) ∙ in_code) in
+      let code = changed_part_code it.pre it.post it.extract text.part
+      (lists_are it.pre it.post it.extract it.extract_is) named role in
       let first = found_has (λ (old : OldFunction). same_bytes old.section name) olds text.old text.named in
       let (section, in_pre, old) = old_from it.extract it.found it.pre text.old first.0 in
       let same : section.name ≡ name = sym old.named ∙ (bytes_decides text.old.section name).0 first.1 in

@@ -21,6 +21,7 @@ use Rattle.symbol_solve.specs.Solve.{solved}
 use Rattle.link_post.specs.declared.types.Placed.{Placed}
 use Rattle.link_post.specs.Values.{ValueList, resolved}
 use Rattle.link_post.specs.Places.{placed}
+use Rattle.link_post.specs.Needs.{needs}
 use Rattle.update_retired.specs.declared.types.OldFunction.{OldFunction}
 use Rattle.update_retired.specs.Room.{HaveOneShape, room}
 use Rattle.update_retired.specs.Retired.{guarded, takes_jump}
@@ -61,6 +62,7 @@ plan_by is_home post values olds parts placement =
       symbols = new_symbols parts placement;
       fences = fences_of olds;
       guarded = guarded is_home olds;
+      needs = map (needs post placement values) (names_of parts);
     }
 
 abbrev planned_by : List Symbol → Result ValueList Refusal → (List OldFunction → Option Refusal) → (ℕ → Bool)

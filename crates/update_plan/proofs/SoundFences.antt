@@ -34,6 +34,14 @@ low_by old false takes = refl
 pub low_is_base : (old : OldFunction) → (retired_range old).low ≡ old.base
 low_is_base old = low_by old (takes_jump old) refl
 
+-- and has some bytes, as the function has
+pub retired_full : (old : OldFunction) → 0 < old.length → (retired_range old).low < (retired_range old).high
+retired_full old some = by (takes_jump old)
+  where
+    by : (b : Bool) → (cond b (with_jump old) (body_range old)).low < (cond b (with_jump old) (body_range old)).high
+    by true = omega arith
+    by false = omega arith
+
 pub jump_is_fenced : (old : OldFunction) → takes_jump old ≡ true → IsFenced old.home (fence_of old)
 jump_is_fenced old takes =
     let is : retired_range old ≡ with_jump old = ap (λ b. cond b (with_jump old) (body_range old)) takes in

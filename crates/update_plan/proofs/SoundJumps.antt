@@ -62,7 +62,7 @@ changed_fate extract name is = by (is_among extract.changed name) (is_among extr
     by false true is = absurd cc
     by false false is = absurd cc
 
-replaced_is : (fate : Fate) → is_replaced fate ≡ true → is_retired fate ≡ true
+pub replaced_is : (fate : Fate) → is_replaced fate ≡ true → is_retired fate ≡ true
 replaced_is Kept is = absurd cc
 replaced_is WasReplaced is = refl
 replaced_is Dropped is = absurd cc
@@ -72,13 +72,13 @@ takes old is first =
     ap (λ b. b && is_first old) is ∙ eq-eqb old.base old.home first
 
 -- ---- the function that a section takes the place of
-record IsReplacing (olds : List OldFunction) (part : AtPlace) (one : Replaced) : Type 0 where
-  old : OldFunction
-  among : Has olds old
-  named : old.section ≡ part.section.name
-  changed : part.role ≡ Changed
-  home : one.home ≡ old.home
-  base : one.base ≡ part.base
+pub record IsReplacing (olds : List OldFunction) (part : AtPlace) (one : Replaced) : Type 0 where
+  pub old : OldFunction
+  pub among : Has olds old
+  pub named : old.section ≡ part.section.name
+  pub changed : part.role ≡ Changed
+  pub home : one.home ≡ old.home
+  pub base : one.base ≡ part.base
 
 abbrev named_as : List ℕ → OldFunction → Bool
 named_as name old = same_bytes old.section name
@@ -107,7 +107,7 @@ replacing olds x one Changed (Some old) at is made =
       base = ap (λ (r : Replaced). r.base) (sym same);
     }
 
-is_replacing : (olds : List OldFunction) (x : AtPlace) (one : Replaced) → replaced_of olds x ≡ Some one →
+pub is_replacing : (olds : List OldFunction) (x : AtPlace) (one : Replaced) → replaced_of olds x ≡ Some one →
     IsReplacing olds x one
 is_replacing olds x one made =
     replacing olds x one x.role (replaced_by x.role olds x.section.name) refl refl made
@@ -122,6 +122,15 @@ has_replaced olds x old role among named =
       ap (λ r. option_map (replaced_as x.base) (replaced_by r olds x.section.name)) role
           ∙ ap (option_map (replaced_as x.base)) is,
     )
+
+-- and that function goes
+pub replacing_goes : (bodies : List (ℕ × ℕ)) (extract : Extract) (olds : List OldFunction) (x : AtPlace)
+    (one : Replaced) (r : IsReplacing olds x one) → IsOldOf bodies extract r.old →
+    role_of extract x.section.name ≡ Some x.role → is_replaced r.old.fate ≡ true
+replacing_goes bodies extract olds x one r is_old listed =
+    let role : role_of extract x.section.name ≡ Some Changed = listed ∙ ap (λ y. Some y) r.changed in
+    let among = changed_where extract x.section.name role in
+    ap is_replaced (is_old.fate ∙ ap (fate_of extract) r.named ∙ fate_changed extract x.section.name among)
 
 -- ---- room for the jump
 no_less : (jump less : Bool) (why : Refusal) → jump ≡ true → refused_where (jump && less) why ≡ None → less ≡ false
@@ -161,11 +170,7 @@ module _ (contents : Contents) (bodies : List (ℕ × ℕ)) (retired : List Rang
     (listed : (x : AtPlace) → Has places x → role_of extract x.section.name ≡ Some x.role) where
   old_gone : (x : AtPlace) (one : Replaced) (r : IsReplacing olds x one) → Has places x →
       is_replaced r.old.fate ≡ true
-  old_gone x one r has =
-      let role : role_of extract x.section.name ≡ Some Changed = listed x has ∙ ap (λ y. Some y) r.changed in
-      let among = changed_where extract x.section.name role in
-      let fate = (is_old r.old r.among).fate in
-      ap is_replaced (fate ∙ ap (fate_of extract) r.named ∙ fate_changed extract x.section.name among)
+  old_gone x one r has = replacing_goes bodies extract olds x one r (is_old r.old r.among) (listed x has)
 
   first_or_later : (old : OldFunction) → Has olds old → (old.base ≡ old.home) ⊎ IsSpliced contents old.home
   first_or_later old has = first_or_spliced contents bodies old.home old.base spliced (is_old old has).base

@@ -4,12 +4,14 @@ use Rattle.std.specs.Prelude.{◌≡◌, ◌≢◌, ◌≤◌, ◌<◌, ℕ, ◌
 use Rattle.std.specs.List.{All, Any, AllPairs, Contains, list_any}
 use Rattle.ks_base.specs.declared.places.Range.{Range}
 use Rattle.ks_base.specs.declared.reports.Replaced.{Replaced}
+use Rattle.image_memory.specs.declared.types.Kind.TheVariants.{Code}
 use Rattle.image_memory.specs.declared.types.Fence.{Fence}
 use Rattle.image_memory.specs.declared.types.Piece.{Piece}
 use Rattle.image_memory.specs.Ranges.{Ascends, lies_in, meets, MeetsNone}
 use Rattle.image_memory.specs.Contents.{Contents, piece_range, fence_range}
 use Rattle.image_memory.specs.Changes.{ArePlaceable}
 use Rattle.image_memory.specs.Fetch.{HasCode}
+use Rattle.symbol_table.specs.Bodies.{newest}
 use Rattle.splice_jump.specs.Jumps.{IsFenced}
 use Rattle.update_plan.specs.declared.types.Plan.{Plan}
 
@@ -37,6 +39,25 @@ pub record IsJumpTo (contents : Contents) (fences : List Fence) (replaced : Repl
 -- whether a function is replaced that has its home at an address
 abbrev pub is_replaced_at : List Replaced → ℕ → Bool
 is_replaced_at replaced address = list_any (λ (one : Replaced). one.home == address) replaced
+
+-- a piece of code that begins at an address
+pub record IsVersion (base : ℕ) (piece : Piece) : Type 0 where
+  pub kind : piece.kind ≡ Code
+  pub begins : piece.base ≡ base
+
+-- a range that begins at an address and isn't empty
+pub record BeginsAt (address : ℕ) (range : Range) : Type 0 where
+  pub low : range.low ≡ address
+  pub full : range.low < range.high
+
+-- The new version of a replaced function is a piece of code of the plan, and what ran before it is retired: a range
+-- that begins where the newest version did.
+pub record ReplacesNewest (bodies : List (ℕ × ℕ)) (plan : Plan) (replaced : Replaced) : Type 0 where
+  pub version : Any (IsVersion replaced.base) plan.pieces
+  pub over : Any (λ (fence : Fence). BeginsAt (newest bodies replaced.home) fence.range) plan.fences
+
+abbrev pub AllReplaceNewest : List (ℕ × ℕ) → Plan → Type 0
+AllReplaceNewest bodies plan = All (ReplacesNewest bodies plan) plan.report.replaced
 
 pub record CanBeMade (contents : Contents) (plan : Plan) : Type 0 where
   -- the pieces have some bytes and don't end above 0xFFFF0000; no two meet, and none meets one that is there

@@ -20,7 +20,7 @@ ghost use Rattle.update_plan.specs.Olds.{olds_of};
 ghost use Rattle.update_plan.specs.Plan.{planned};
 ghost use Rattle.update_plan.specs.Addresses.{AreSteps, HasAddresses};
 ghost use Rattle.update_plan.specs.Placing.{parts_of};
-ghost use Rattle.update_plan.specs.Sound.{AreGaps, AreListed, CanBeMade, IsCode};
+ghost use Rattle.update_plan.specs.Sound.{AllReplaceNewest, AreGaps, AreListed, CanBeMade, IsCode};
 ghost use Rattle.update_plan.specs.NewCode.{BringsNewCode};
 
 use extract_post::placed_sections_bring_what_they_name;
@@ -81,6 +81,18 @@ pub fn plans_can_be_made()
     new_pieces_lie_apart();
     retired_code_lies_apart();
     room_is_code();
+}
+
+/// Each function that a plan replaces gets a version of its own, and what ran before it is retired: a piece of code of
+/// the plan begins at its base, and a range that is retired begins where the newest version of its home did.
+pub fn plans_replace_the_newest()
+    ensures { (running : Running) (retired gaps : List Range) (pre_file post_file : List ℕ) (plan : Plan)
+        → IsValid running.contents → planned running retired gaps pre_file post_file ≡ Ok plan
+        → AllReplaceNewest running.bodies plan }
+{
+    // Nothing is done here: the law says that each function of the old object was found as the newest version of its
+    // home.
+    answers_tell_each_body();
 }
 
 /// Each address that a plan retires is one of those that it guards.

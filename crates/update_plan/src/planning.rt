@@ -8,6 +8,7 @@ ghost use Rattle.splice_jump.specs.Jumps.{AreSpliced};
 ghost use Rattle.extract_post.specs.Extracted.{extracted};
 ghost use Rattle.symbol_solve.specs.Solve.{solved};
 ghost use Rattle.link_post.specs.Linked.{AreInOrder, AreNamesInOrder};
+ghost use Rattle.link_post.specs.Needs.{needs};
 ghost use Rattle.link_post.specs.Places.{placed};
 ghost use Rattle.link_post.specs.Values.{resolved};
 ghost use Rattle.update_pieces.specs.Parts.{size_of};
@@ -23,12 +24,12 @@ ghost use Rattle.update_plan.specs.inside.Rests.{planned_at, planned_between, pl
 use crate::laws::matched_bodies_are_in_use;
 use crate::olds::olds_of;
 use crate::parts::{names_of, parts_of};
-use crate::types::{Fences, Plan};
+use crate::types::{AllNeeds, Fences, Plan};
 use extract_post::{Extract, extract, extract_is_computed};
 use i386_reloc::{Normal, read_sections};
 use image_memory::{Fence, Pieces, Space};
-use ks_base::{Ranges, Refusal};
-use link_post::{Placement, place, places_keep_the_order, resolve_post};
+use ks_base::{Name, Ranges, Refusal};
+use link_post::{Placement, needs, place, places_keep_the_order, resolve_post};
 use std::alloc::{AllocError, Global};
 use symbol_solve::{answers_tell_each_body, solve};
 use symbol_table::{Bodies, SymbolTable, Values};
@@ -272,13 +273,35 @@ fn plan_of<S: Space>(
     let report = report_of(alloc, parts, placement, olds)?;
     let (pieces, symbols) = additions_of(alloc, post, values, parts, placement)?;
     let (fences, guarded) = ranges_of(alloc, space, olds)?;
+    let needs = needs_of(alloc, post, values, parts, placement)?;
     Ok(Plan {
         report,
         pieces,
         symbols,
         fences,
         guarded,
+        needs,
     })
+}
+
+/// What the fields of new sections at their places need, section by section.
+fn needs_of(
+    alloc: Global,
+    post: &Normal<'_>,
+    values: &Values,
+    parts: &[Part<'_, '_>],
+    placement: &Placement,
+) -> Result<AllNeeds, AllocError>
+    requires { AreInOrder post.now placement.now }
+    ensures { IfOk result
+        (λ all. all ≡ map (needs post.now placement.now values.now.entries) (names_of parts.now)) }
+{
+    let mut all = AllNeeds::new(alloc);
+    for part in parts {
+        let name = Name::from_slice(alloc, part.section().name.as_slice())?;
+        all.push(needs(alloc, post, &name, placement, values)?)?;
+    }
+    Ok(all)
 }
 
 /// The pieces and the symbols that new sections at their places come to.

@@ -1,10 +1,14 @@
 //! What an update would do.
 use image_memory::{Fence, Pieces};
 use ks_base::{ListOf, Ranges, Report};
+use link_post::Needs;
 use update_pieces::NewSymbols;
 
 /// Ranges that are to be retired, in order.
 pub type Fences = ListOf<Fence>;
+
+/// What the fields of new sections need, section by section.
+pub type AllNeeds = ListOf<Needs>;
 
 /// What an update would do to a running program.
 #[derive(Drop)]
@@ -20,4 +24,6 @@ pub struct Plan {
     /// The ranges in which no thread may stand: those that it retires, and the jump at the home of each function that
     /// it drops and that was replaced before.
     pub guarded: Ranges,
+    /// What the fields of its new sections need, in the order of the new object.
+    pub needs: AllNeeds,
 }

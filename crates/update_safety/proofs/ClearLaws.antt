@@ -37,11 +37,11 @@ use Rattle.update_plan.specs.Plan.{planned, unless}
 use Rattle.update_stack.specs.AbstractMachine.{AbstractMachine, Update}
 use Rattle.update_stack.specs.Apply.{name_refusal, running_of, retired_of, gaps_of, planned_in, applied, committed}
 use Rattle.update_stack.specs.Apply.{update_as}
-use Rattle.update_stack.specs.Undo.{withdrawn, ranges_in, newest_update, undone_by, undone}
-use Rattle.update_stack.specs.Events.{apply_answered, undo_answered, answered}
+use Rattle.update_stack.specs.Undo.{ranges_in}
+use Rattle.update_stack.specs.Events.{apply_answered, answered}
 use Rattle.update_stack.specs.laws.StackedLaws.{last_more}
-use Rattle.update_safety.specs.Clear.{newest_retired, newest_pieces, IsOutside, KeepSlots, AcceptedIsClear}
-use Rattle.update_safety.specs.Clear.{TakenBackIsClear}
+use Rattle.update_safety.specs.Clear.{newest_retired, IsOutside, KeepSlots, AcceptedIsClear, TakenBackIsClear}
+use Rattle.update_safety.proofs.TakenLaws.{was_taken}
 
 neither : {X : Type 0} (a b : Option X) → option_or a b ≡ None → (a ≡ None) × (b ≡ None)
 neither None b none = (refl, none)
@@ -228,25 +228,7 @@ accepted_clear law k name pre post now number thread frames is runs keeps =
 
 -- ---- the undo rule
 pub taken_back_clear : TakenBackIsClear
-unfolding answered undone
-taken_back_clear k now number thread frames is runs keeps = by_update (newest_update k) refl is
-  where
-    by_threads : (update : Update) (o : Option Refusal) → newest_update k ≡ Some update
-        → thread_refusal k.pieces (ranges_in k update) k.threads ≡ o
-        → undo_answered (unless o update >>= λ (clear : Update).
-        let r : Result (AbstractMachine × List ℕ) Refusal = Ok (withdrawn k clear, clear.name) in r) ≡ Ok now
-        → IsOutside (newest_pieces k) thread frames
-    by_threads update (Some refusal) newest stands is = absurd (cc)
-    by_threads update None newest none is =
-        let clear = thread_clear k.pieces (ranges_in k update) k.threads number thread frames none runs keeps in
-        let same : newest_pieces k ≡ ranges_in k update =
-        ap (λ (o : Option Update). flat_map (ranges_in k) (option_to_list o)) newest
-        ∙ append-nil (ranges_in k update) in
-        subst (λ (ranges : List Range). IsOutside ranges thread frames) (sym same)
-        record { addresses = clear.0; pc = clear.1 }
-
-    by_update : (o : Option Update) → newest_update k ≡ o → undo_answered (undone_by k o) ≡ Ok now
-        → IsOutside (newest_pieces k) thread frames
-    by_update None newest is = absurd (cc)
-    by_update (Some update) newest is =
-        by_threads update (thread_refusal k.pieces (ranges_in k update) k.threads) newest refl is
+taken_back_clear k event update now number thread frames takes is runs keeps =
+    let taken = was_taken k event update now takes is in
+    let clear = thread_clear k.pieces (ranges_in k update) k.threads number thread frames taken.clear runs keeps in
+    record { addresses = clear.0; pc = clear.1 }

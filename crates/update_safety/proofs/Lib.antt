@@ -1,5 +1,7 @@
 pub mod ClearLaws
 pub mod FetchLaws
+pub mod LiveLaws
 pub mod SlotLaws
+pub mod TakenLaws
 pub mod ViewLaws
 pub mod WindowLaws

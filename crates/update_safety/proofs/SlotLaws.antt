@@ -30,12 +30,13 @@ use Rattle.update_plan.specs.declared.types.Plan.{Plan}
 use Rattle.update_plan.specs.Plan.{unless}
 use Rattle.update_stack.specs.AbstractMachine.{AbstractMachine, Update}
 use Rattle.update_stack.specs.Apply.{planned_in, applied, committed, with_new_piece}
-use Rattle.update_stack.specs.Undo.{withdrawn, ranges_in, newest_update, undone_by, undone}
+use Rattle.update_stack.specs.Undo.{withdrawn}
 use Rattle.update_stack.specs.Stacked.{IsBuilt}
-use Rattle.update_stack.specs.Events.{Apply, Undo, Happened, apply_answered, undo_answered, answered}
+use Rattle.update_stack.specs.Events.{Apply, Happened, apply_answered, answered}
 use Rattle.update_stack.specs.laws.StackedLaws.{built_sound}
 use Rattle.update_safety.specs.Slots.{KeepsSlots, SameThreads, UpdatesKeepSlots, UndosKeepSlots, UpdatesKeepThreads}
 use Rattle.update_safety.specs.Slots.{UndosKeepThreads}
+use Rattle.update_safety.proofs.TakenLaws.{was_taken}
 use Rattle.update_safety.proofs.ViewLaws.{filter_contains}
 
 both : (a b : Bool) → (a && b) ≡ true → (a ≡ true) × (b ≡ true)
@@ -198,32 +199,15 @@ accepted_is k name pre post now is = by_plan (planned_in k name pre post) is
     by_plan (Err refusal) is = absurd (cc)
     by_plan (Ok plan) is = by_threads plan (thread_refusal k.pieces plan.guarded k.threads) is
 
-taken_back_is : (k : AbstractMachine) (now : Happened) → answered k Undo ≡ Ok now
-    → (update : Update) × (withdrawn k update ≡ now.machine)
-unfolding answered undone
-taken_back_is k now is = by_update (newest_update k) is
-  where
-    by_threads : (update : Update) (o : Option Refusal)
-        → undo_answered (unless o update >>= λ (clear : Update).
-        let r : Result (AbstractMachine × List ℕ) Refusal = Ok (withdrawn k clear, clear.name) in r) ≡ Ok now
-        → (update : Update) × (withdrawn k update ≡ now.machine)
-    by_threads update (Some refusal) is = absurd (cc)
-    by_threads update None is = (update, cc)
-
-    by_update : (o : Option Update) → undo_answered (undone_by k o) ≡ Ok now
-        → (update : Update) × (withdrawn k update ≡ now.machine)
-    by_update None is = absurd (cc)
-    by_update (Some update) is = by_threads update (thread_refusal k.pieces (ranges_in k update) k.threads) is
-
 pub updates_keep_slots : UpdatesKeepSlots
 updates_keep_slots k name pre post now built after is =
     let (plan, same) = accepted_is k name pre post now is in
     subst (λ (m : AbstractMachine). IsBuilt m → KeepsSlots k m) same (committed_keeps k name plan built) after
 
 pub undos_keep_slots : UndosKeepSlots
-undos_keep_slots k now built after is =
-    let (update, same) = taken_back_is k now is in
-    subst (λ (m : AbstractMachine). IsBuilt m → KeepsSlots k m) same (withdrawn_keeps k update built) after
+undos_keep_slots k event update now built after takes is =
+    subst (λ (m : AbstractMachine). IsBuilt m → KeepsSlots k m) (was_taken k event update now takes is).left
+    (withdrawn_keeps k update built) after
 
 pub updates_keep_threads : UpdatesKeepThreads
 updates_keep_threads k name pre post now is =
@@ -231,6 +215,6 @@ updates_keep_threads k name pre post now is =
     subst (λ (m : AbstractMachine). SameThreads k m) same (committed_threads k name plan)
 
 pub undos_keep_threads : UndosKeepThreads
-undos_keep_threads k now is =
-    let (update, same) = taken_back_is k now is in
-    subst (λ (m : AbstractMachine). SameThreads k m) same (withdrawn_threads k update)
+undos_keep_threads k event update now takes is =
+    subst (λ (m : AbstractMachine). SameThreads k m) (was_taken k event update now takes is).left
+    (withdrawn_threads k update)

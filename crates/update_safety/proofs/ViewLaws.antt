@@ -3,22 +3,22 @@ use Rattle.std.proofs.Common.{◌≡◌, ℕ, ◌-◌, ◌≤◌, Bool, true, fa
 use Rattle.std.proofs.Common.{if◌then◌else◌, List, [], ◌∷◌, map, length, get_or, drop, Option, Some, None, unwrap_or}
 use Rattle.std.proofs.Common.{Contains, refl, sym, ◌∙◌, ap, arith, subst}
 use Rattle.std.specs.List.{Any, filter, find}
+use Rattle.std.proofs.lemmas.Bool.Decides.{nat_tests}
 use Rattle.std.proofs.lemmas.List.{length-drop, length-map, get_or-map}
 use Rattle.std.proofs.lemmas.List.Elements.{All-contains, All-contains_itself, All-filter}
 use Rattle.std.proofs.lemmas.List.Folds.{Any-from_list_any, list_any_at}
 use Rattle.ks_base.specs.declared.places.Range.{Range}
 use Rattle.image_memory.specs.declared.types.Piece.{Piece}
 use Rattle.image_memory.specs.declared.types.Fence.{Fence}
-use Rattle.image_memory.specs.Ranges.{lies_in}
+use Rattle.image_memory.specs.Ranges.{are_same, lies_in}
 use Rattle.image_memory.specs.Contents.{Contents, IsValid, piece_range, fence_range, holding}
 use Rattle.image_memory.specs.Access.{overlaid_piece, written}
 use Rattle.image_memory.specs.Fetch.{AtHome, Stray, Bytes, is_code, code_in, HasCode, window_of, seen_in, view}
 use Rattle.image_memory.specs.Fetch.{has_window}
 use Rattle.image_memory.specs.laws.AccessLaws.{length-overlaid}
-use Rattle.image_memory.specs.laws.RangeLaws.{inside, within, found, found_here}
-use Rattle.splice_jump.specs.Jumps.{IsFenced}
+use Rattle.image_memory.specs.laws.RangeLaws.{inside, found, found_here}
 use Rattle.update_memory.specs.Retired.{with_range, with_ranges}
-use Rattle.update_memory.specs.Withdrawn.{is_based_at, without_pieces}
+use Rattle.update_memory.specs.Withdrawn.{is_based_at, is_one_of, without_pieces}
 use Rattle.stack_scan.specs.Standing.{in_one}
 
 -- whether a piece is one of code, and whether a code piece holds an address
@@ -197,6 +197,13 @@ in_one_of ranges range address (k, less, at) passes =
     list_any_at (lies_in address) ranges k range less
     (subst (λ (r : Range). lies_in address r ≡ true) (sym at) passes)
 
+-- a range of a list is one of it
+pub listed_one : (ranges : List Range) (range : Range) → Contains ranges range → is_one_of ranges range ≡ true
+listed_one ranges range (k, less, at) =
+    let itself : are_same range range ≡ true = grind (arith, nat_tests) in
+    list_any_at (are_same range) ranges k range less
+    (subst (λ (other : Range). are_same range other ≡ true) (sym at) itself)
+
 -- what a filtered list has, and a mapped one
 pub filter_contains : {X : Type 0} (p : X → Bool) (xs : List X) (x : X) → Contains (filter p xs) x → Contains xs x
 filter_contains p xs x there =
@@ -206,19 +213,16 @@ pub mapped_contains : {X Y : Type 0} (f : X → Y) (xs : List X) (x : X) → Con
 mapped_contains f xs x (k, less, at) =
     (k, rw (length-map xs f) less, get_or-map f xs k x (f x) less ∙ ap f at)
 
--- a retired range that holds a spliced home begins there
-pub begins_there : (contents : Contents) (fence : Fence) (home : ℕ) → IsValid contents
-    → Any (IsFenced home) contents.fences → Contains contents.fences fence → lies_in home fence.range ≡ true
-    → fence.range.low ≡ home
-begins_there contents fence home valid (j, other, less, at, fenced) (i, within_list, here) holds =
-    let low = fenced.low in
-    let long = fenced.long in
-    let p : Fence → Bool = λ f. lies_in home (fence_range f) in
+-- two retired ranges that hold one address are one
+pub one_there : (contents : Contents) (one other : Fence) (address : ℕ) → IsValid contents
+    → Contains contents.fences one → Contains contents.fences other → lies_in address one.range ≡ true
+    → lies_in address other.range ≡ true → one ≡ other
+one_there contents one other address valid (i, less, here) (j, within_list, there) first second =
+    let p : Fence → Bool = λ f. lies_in address (fence_range f) in
+    let of_one : find p contents.fences ≡ Some (get_or contents.fences i one) =
+    found_here fence_range 0 contents.fences address i one valid.fenced less
+    (subst (λ (f : Fence). p f ≡ true) (sym here) first) in
     let of_other : find p contents.fences ≡ Some (get_or contents.fences j other) =
-    found_here fence_range 0 contents.fences home j other valid.fenced less
-    (subst (λ (f : Fence). p f ≡ true) (sym at) (within home other.range (omega arith) (omega arith))) in
-    let of_fence : find p contents.fences ≡ Some (get_or contents.fences i fence) =
-    found_here fence_range 0 contents.fences home i fence valid.fenced within_list
-    (subst (λ (f : Fence). p f ≡ true) (sym here) holds) in
-    let same : fence ≡ other = cc in
-    ap (λ (f : Fence). f.range.low) same ∙ low
+    found_here fence_range 0 contents.fences address j other valid.fenced within_list
+    (subst (λ (f : Fence). p f ≡ true) (sym there) second) in
+    cc

@@ -1,24 +1,23 @@
 -- What events leave of the windows.
-use Rattle.std.proofs.Common.{◌≡◌, ℕ, ◌==◌, Bool, true, false, not, ◌||◌, if◌then◌else◌, List, [], ◌∷◌, ◌++◌, map}
+use Rattle.std.proofs.Common.{◌≡◌, ℕ, Bool, true, false, not, ◌||◌, if◌then◌else◌, List, [], ◌∷◌, ◌++◌, map}
 use Rattle.std.proofs.Common.{length, set, nat_le, Option, Some, None, Result, Ok, Err, Contains}
-use Rattle.std.proofs.Common.{refl, sym, ◌∙◌, ap, arith, subst}
+use Rattle.std.proofs.Common.{◌⊎◌, inl, inr, refl, sym, ◌∙◌, ap, arith, subst}
 use Rattle.std.specs.Option.{option_to_list}
 use Rattle.std.specs.List.{Any, flat_map}
-use Rattle.std.proofs.lemmas.Bool.{false≢true}
-use Rattle.std.proofs.lemmas.Bool.Decides.{nat_tests}
+use Rattle.std.proofs.lemmas.Bool.{false≢true, not-true}
 use Rattle.std.proofs.lemmas.List.{append-nil}
-use Rattle.std.proofs.lemmas.List.Elements.{All-contains}
-use Rattle.std.proofs.lemmas.List.Folds.{Any-from_list_any}
+use Rattle.std.proofs.lemmas.List.Elements.{All-contains, filter_passes}
 use Rattle.ks_base.specs.declared.places.Range.{Range}
 use Rattle.ks_base.specs.declared.refusals.Refusal.{Refusal}
 use Rattle.ks_base.specs.declared.refusals.Refusal.TheVariants.{TooManyThreads}
 use Rattle.ks_base.specs.declared.reports.Report.{Report}
 use Rattle.image_file.specs.Fields.{◌>>=◌}
 use Rattle.image_memory.specs.declared.types.Piece.{Piece}
-use Rattle.image_memory.specs.Contents.{fence_range}
+use Rattle.image_memory.specs.declared.types.Fence.{Fence}
+use Rattle.image_memory.specs.Contents.{IsValid, fence_range}
 use Rattle.image_memory.specs.Fetch.{HasCode}
+use Rattle.image_memory.specs.laws.RangeLaws.{within}
 use Rattle.symbol_table.specs.Symbols.{function_named}
-use Rattle.splice_jump.specs.Jumps.{IsFenced, IsSpliced}
 use Rattle.update_memory.specs.Withdrawn.{is_one_of}
 use Rattle.ia32_step.specs.declared.types.Thread.{Thread}
 use Rattle.image_threads.specs.Program.{running_at}
@@ -26,24 +25,27 @@ use Rattle.image_threads.specs.Spawning.{started, started_at, started_on, free_s
 use Rattle.stack_scan.specs.Standing.{in_one, thread_refusal}
 use Rattle.update_plan.specs.declared.types.Plan.{Plan}
 use Rattle.update_plan.specs.Plan.{unless}
-use Rattle.update_plan.specs.Sound.{is_replaced_at, CanBeMade}
-use Rattle.update_stack.specs.AbstractMachine.{AbstractMachine, Row, Update, is_home, view_in, fence_in, contents_of}
+use Rattle.update_plan.specs.Sound.{is_replaced_at, BeginsAt, CanBeMade}
+use Rattle.update_stack.specs.AbstractMachine.{AbstractMachine, Update, is_home, view_in, fence_in, contents_of}
 use Rattle.update_stack.specs.Steps.{step_in, moved_by, moved, after_start, spawned}
 use Rattle.update_stack.specs.Apply.{planned_in, applied, committed}
 use Rattle.update_stack.specs.Apply.{update_as}
-use Rattle.update_stack.specs.Undo.{withdrawn, ranges_in, newest_update, undone_by, undone}
+use Rattle.update_stack.specs.Undo.{withdrawn, ranges_in, newest_update}
 use Rattle.update_stack.specs.Events.{Happened, spawn_answered, step_answered}
-use Rattle.update_stack.specs.Events.{apply_answered, undo_answered, answered, machine_after}
+use Rattle.update_stack.specs.Events.{apply_answered, answered, machine_after}
 use Rattle.update_stack.specs.Stacked.{IsBuilt}
-use Rattle.update_stack.specs.laws.StackedLaws.{HasNewest, built_newest, last_more}
-use Rattle.update_stack.specs.laws.TableLaws.{homes_after, homes_spliced}
+use Rattle.update_stack.specs.Uncovered.{IsUncovered, UncoveredCanGo}
+use Rattle.update_stack.specs.laws.StackedLaws.{built_sound, last_more}
+use Rattle.update_stack.specs.laws.TableLaws.{homes_after}
 use Rattle.update_stack.specs.laws.StepLaws.{by_step}
-use Rattle.update_safety.specs.Clear.{newest_retired, newest_pieces}
+use Rattle.update_safety.specs.Clear.{newest_retired}
 use Rattle.update_safety.specs.Windows.{window_in, SameWindows, KeepsWindows, StartsKeepWindows, StepsKeepWindows}
 use Rattle.update_safety.specs.Windows.{UpdatesKeepWindows, UndosKeepWindows}
 use Rattle.update_safety.proofs.ViewLaws.{text_at, shows, window_by, shows_on, text_written, text_is_code, code_is_text}
-use Rattle.update_safety.proofs.ViewLaws.{one_more, text_left, held_in, in_one_of, filter_contains, begins_there}
-use Rattle.update_safety.proofs.ViewLaws.{mapped_contains}
+use Rattle.update_safety.proofs.ViewLaws.{one_more, text_left, IsHeld, held_in, in_one_of, listed_one, mapped_contains}
+use Rattle.update_safety.proofs.ViewLaws.{one_there}
+use Rattle.update_safety.proofs.LiveLaws.{IsReplaced, home_replaced, live_homes, range_was, stays_live}
+use Rattle.update_safety.proofs.TakenLaws.{was_taken, taken_uncovered}
 
 -- a window of a machine, by its text, its table and its retired ranges
 window_is : (k : AbstractMachine) (address : ℕ)
@@ -211,82 +213,79 @@ unfolding answered
 updates_keep_windows laws k name pre post now built is =
     subst (KeepsBut k) is (apply_windows laws k name pre post built)
 
--- A machine whose newest update is taken back: code stays outside its pieces, no more is retired, and at a home without
--- a row any longer nothing is.
-module _ (k : AbstractMachine) (update : Update) (has : HasNewest k update) where
+-- A machine from which an uncovered update is taken out: code stays outside its pieces, no more is retired, and at a
+-- home without a row any longer nothing is.
+module _ (k : AbstractMachine) (update : Update) (is : IsUncovered k update) (goes : UncoveredCanGo) where
   abbrev left : AbstractMachine
   left = withdrawn k update
+
+  valid : IsValid (contents_of k)
+  valid = (built_sound k is.built).jumps.valid
 
   code_left : (address : ℕ) → in_one (ranges_in k update) address ≡ false → text_at k.pieces address ≡ true
       → text_at left.pieces address ≡ true
   unfolding withdrawn
   code_left address out is = text_left update.pieces k.pieces address is out
 
-  range_was : (range : Range) → Contains left.retired range → Contains k.retired range
+  -- what is retired still is no range of the update's
+  not_own : (range : Range) → Contains left.retired range → Contains update.retired range → ⊥
   unfolding withdrawn
-  range_was range there = filter_contains (λ (r : Range). not (is_one_of update.retired r)) k.retired range there
+  not_own range there own =
+      let other : is_one_of update.retired range ≡ false =
+      not-true (is_one_of update.retired range)
+      (All-contains (λ (r : Range). not (is_one_of update.retired r) ≡ true) left.retired range
+      (filter_passes (λ (r : Range). not (is_one_of update.retired r)) k.retired) there) in
+      false≢true (sym other ∙ listed_one update.retired range own)
 
   stray_was : (address : ℕ) → in_one left.retired address ≡ true → in_one k.retired address ≡ true
   stray_was address stray =
       let held = held_in left.retired address stray in
-      in_one_of k.retired held.range address (range_was held.range held.there) held.holds
+      in_one_of k.retired held.range address (range_was k update held.range held.there) held.holds
 
-  -- the retired range of a home with a row
-  home_fenced : (address : ℕ) → is_home k.table address ≡ true → Any (IsFenced address) (contents_of k).fences
-  home_fenced address home = read (Any-from_list_any (λ (row : Row). row.home == address) k.table home)
-    where
-      read : Any (λ (row : Row). (row.home == address) ≡ true) k.table → Any (IsFenced address) (contents_of k).fences
-      read (j, row, less, at, passes) =
-          let spliced : IsSpliced (contents_of k) row.home =
-          All-contains (λ (r : Row). IsSpliced (contents_of k) r.home) k.table row
-          (homes_spliced (contents_of k) k.table has.sound.jumps.spliced) (j, less, at) in
-          let same : row.home ≡ address = grind (arith, nat_tests) in
-          subst (λ (a : ℕ). Any (IsFenced a) (contents_of k).fences) same spliced.fence
+  listed_fence : (range : Range) → Contains k.retired range → Contains (contents_of k).fences (fence_in k.table range)
+  listed_fence range there = mapped_contains (fence_in k.table) k.retired range there
 
+  -- The update that replaced such a home is live still, or is the one that goes: then it retired what began there.
   home_left : (address : ℕ) → is_home k.table address ≡ true → is_home left.table address ≡ false
       → in_one left.retired address ≡ true → ⊥
   home_left address home gone stray =
       let held = held_in left.retired address stray in
-      let there : Contains (contents_of k).fences (fence_in k.table held.range) =
-      mapped_contains (fence_in k.table) k.retired held.range (range_was held.range held.there) in
-      let low : held.range.low ≡ address =
-      begins_there (contents_of k) (fence_in k.table held.range) address has.sound.jumps.valid
-      (home_fenced address home) there held.holds in
-      let marked : is_home k.table held.range.low ≡ is_home left.table held.range.low =
-      All-contains (λ (range : Range). is_home k.table range.low ≡ is_home left.table range.low) left.retired held.range
-      has.top.marked held.there in
-      false≢true (sym gone ∙ sym (subst (λ (a : ℕ). is_home k.table a ≡ is_home left.table a) low marked) ∙ home)
+      let replaced = home_replaced k is.built address home in
+      by_update held replaced (retired_it held replaced replaced.over)
+      (stays_live k update replaced.update is.live replaced.live)
+    where
+      -- the range that is left there is the one that was retired with the home
+      retired_it : (held : IsHeld left.retired address) (replaced : IsReplaced k address)
+          → Any (BeginsAt address) replaced.update.retired → Contains replaced.update.retired held.range
+      retired_it held replaced (j, range, less, at, begins) =
+          let low = begins.low in
+          let full = begins.full in
+          let there : Contains k.retired range =
+          All-contains (Contains k.retired) replaced.update.retired range replaced.retired (j, less, at) in
+          let same : fence_in k.table range ≡ fence_in k.table held.range =
+          one_there (contents_of k) (fence_in k.table range) (fence_in k.table held.range) address valid
+          (listed_fence range there) (listed_fence held.range (range_was k update held.range held.there))
+          (within address range (omega arith) (omega arith)) held.holds in
+          subst (Contains replaced.update.retired) (ap (λ (fence : Fence). fence.range) same) (j, less, at)
 
-  undo_windows : newest_update k ≡ Some update → KeepsWindows (newest_pieces k) k left
-  undo_windows newest address out was =
+      by_update : (held : IsHeld left.retired address) (replaced : IsReplaced k address)
+          → Contains replaced.update.retired held.range
+          → (replaced.update ≡ update) ⊎ Contains left.updates replaced.update → ⊥
+      by_update held replaced its (inl same) =
+          not_own held.range held.there (subst (λ (u : Update). Contains u.retired held.range) same its)
+      by_update held replaced its (inr live) =
+          false≢true (sym gone ∙ live_homes left (goes k update is) replaced.update live address replaced.replaced)
+
+  undo_windows : KeepsWindows (ranges_in k update) k left
+  undo_windows address out was =
       window_is left address
       ∙ shows_on (text_at k.pieces address) (is_home k.table address) (in_one k.retired address)
       (text_at left.pieces address) (is_home left.table address) (in_one left.retired address)
-      (sym (window_is k address) ∙ was)
-      (code_left address
-      (ap (λ (ranges : List Range). in_one ranges address) (sym (newest_is (ranges_in k) k update newest)) ∙ out))
-      (home_left address)
+      (sym (window_is k address) ∙ was) (code_left address out) (home_left address)
       (λ free gone stray. false≢true (sym free ∙ stray_was address stray))
 
--- what taking back leaves of the windows, or a refusal
-abbrev LeavesBut : AbstractMachine → Result Happened Refusal → Type 0
-LeavesBut k result = KeepsWindows (newest_pieces k) k (machine_after k result)
-
-undone_windows : (k : AbstractMachine) → IsBuilt k → LeavesBut k (undo_answered (undone k))
-unfolding undone
-undone_windows k built = by_update (newest_update k) refl
-  where
-    by_threads : (update : Update) (o : Option Refusal) → newest_update k ≡ Some update
-        → LeavesBut k (undo_answered (unless o update >>= λ (clear : Update).
-        let r : Result (AbstractMachine × List ℕ) Refusal = Ok (withdrawn k clear, clear.name) in r))
-    by_threads update (Some refusal) newest = λ address out was. was
-    by_threads update None newest = undo_windows k update (built_newest k update built newest) newest
-
-    by_update : (o : Option Update) → newest_update k ≡ o → LeavesBut k (undo_answered (undone_by k o))
-    by_update None newest = λ address out was. was
-    by_update (Some update) newest =
-        by_threads update (thread_refusal k.pieces (ranges_in k update) k.threads) newest
-
-pub undos_keep_windows : UndosKeepWindows
-unfolding answered
-undos_keep_windows k now built is = subst (LeavesBut k) is (undone_windows k built)
+pub undos_keep_windows : UncoveredCanGo → UndosKeepWindows
+undos_keep_windows goes k event update now built takes is =
+    let uncovered = taken_uncovered k event update now built takes is in
+    subst (KeepsWindows (ranges_in k update) k) (was_taken k event update now takes is).left
+    (undo_windows k update uncovered goes)

@@ -9,16 +9,13 @@ use Rattle.ia32_step.specs.Frames.{keeps_slot}
 use Rattle.ia32_step.specs.Threads.{esp_of}
 use Rattle.image_threads.specs.Program.{running_at}
 use Rattle.stack_scan.specs.Standing.{in_one}
-use Rattle.update_stack.specs.AbstractMachine.{AbstractMachine}
+use Rattle.update_stack.specs.AbstractMachine.{AbstractMachine, Update}
 use Rattle.update_stack.specs.Undo.{ranges_in, newest_update}
-use Rattle.update_stack.specs.Events.{Apply, Undo, Happened, answered}
+use Rattle.update_stack.specs.Events.{Event, Apply, Happened, answered, update_taken}
 
--- the ranges that the newest update retired, and those of its pieces
+-- the ranges that the newest update retired
 abbrev pub newest_retired : AbstractMachine → List Range
 newest_retired k = flat_map (λ update. update.retired) (option_to_list (newest_update k))
-
-abbrev pub newest_pieces : AbstractMachine → List Range
-newest_pieces k = flat_map (ranges_in k) (option_to_list (newest_update k))
 
 -- A thread with some frames is outside ranges: no frame's address lies in one, nor does its pc.
 pub record IsOutside (ranges : List Range) (thread : Thread) (frames : List Frame) : Type 0 where
@@ -40,6 +37,7 @@ AcceptedIsClear =
 -- Where an update is taken back, it is outside the pieces that are then removed.
 abbrev pub TakenBackIsClear : Type 0
 TakenBackIsClear =
-    (k : AbstractMachine) (now : Happened) (number : ℕ) (thread : Thread) (frames : List Frame)
-    → answered k Undo ≡ Ok now → running_at k.threads number ≡ Some thread → KeepSlots k thread frames
-    → IsOutside (newest_pieces k) thread frames
+    (k : AbstractMachine) (event : Event) (update : Update) (now : Happened) (number : ℕ) (thread : Thread)
+    (frames : List Frame)
+    → update_taken k event ≡ Some update → answered k event ≡ Ok now → running_at k.threads number ≡ Some thread
+    → KeepSlots k thread frames → IsOutside (ranges_in k update) thread frames

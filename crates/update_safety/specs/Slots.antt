@@ -1,12 +1,12 @@
 -- What an update that is accepted, and one that is taken back, leaves of the stacks and the threads.
-use Rattle.std.specs.Prelude.{◌≡◌, ℕ, IsTrue, List, Ok}
+use Rattle.std.specs.Prelude.{◌≡◌, ℕ, IsTrue, List, Some, Ok}
 use Rattle.std.specs.List.{Contains}
 use Rattle.ks_base.specs.declared.places.Range.{Range}
 use Rattle.ia32_step.specs.declared.types.Frame.{Frame}
 use Rattle.ia32_step.specs.Frames.{keeps_slot}
-use Rattle.update_stack.specs.AbstractMachine.{AbstractMachine}
+use Rattle.update_stack.specs.AbstractMachine.{AbstractMachine, Update}
 use Rattle.update_stack.specs.Stacked.{IsBuilt}
-use Rattle.update_stack.specs.Events.{Apply, Undo, Happened, answered}
+use Rattle.update_stack.specs.Events.{Event, Apply, Happened, answered, update_taken}
 
 -- the slots in a machine's stacks keep what they hold
 abbrev pub KeepsSlots : (old new : AbstractMachine) → Type 0
@@ -27,8 +27,8 @@ UpdatesKeepSlots =
 
 abbrev pub UndosKeepSlots : Type 0
 UndosKeepSlots =
-    (k : AbstractMachine) (now : Happened) → IsBuilt k → IsBuilt now.machine
-    → answered k Undo ≡ Ok now → KeepsSlots k now.machine
+    (k : AbstractMachine) (event : Event) (update : Update) (now : Happened) → IsBuilt k → IsBuilt now.machine
+    → update_taken k event ≡ Some update → answered k event ≡ Ok now → KeepsSlots k now.machine
 
 -- And no thread and no stack changes.
 abbrev pub UpdatesKeepThreads : Type 0
@@ -37,4 +37,6 @@ UpdatesKeepThreads =
     → answered k (Apply name pre post) ≡ Ok now → SameThreads k now.machine
 
 abbrev pub UndosKeepThreads : Type 0
-UndosKeepThreads = (k : AbstractMachine) (now : Happened) → answered k Undo ≡ Ok now → SameThreads k now.machine
+UndosKeepThreads =
+    (k : AbstractMachine) (event : Event) (update : Update) (now : Happened)
+    → update_taken k event ≡ Some update → answered k event ≡ Ok now → SameThreads k now.machine

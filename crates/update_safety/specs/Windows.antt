@@ -1,14 +1,15 @@
 -- What events leave of the windows: the addresses at which a thread meets code, or a home.
-use Rattle.std.specs.Prelude.{◌≡◌, ℕ, ◌+◌, ◌≤◌, ◌<◌, Bool, IsTrue, IsFalse, List, Ok}
+use Rattle.std.specs.Prelude.{◌≡◌, ℕ, ◌+◌, ◌≤◌, ◌<◌, Bool, IsTrue, IsFalse, List, Some, Ok}
 use Rattle.ks_base.specs.declared.places.Range.{Range}
 use Rattle.image_memory.specs.Fetch.{has_window}
 use Rattle.stack_scan.specs.Standing.{in_one}
 use Rattle.ia32_step.specs.declared.types.Thread.{Thread}
 use Rattle.ia32_step.specs.Step.{fetched_count}
-use Rattle.update_stack.specs.AbstractMachine.{AbstractMachine, view_in, contents_of}
+use Rattle.update_stack.specs.AbstractMachine.{AbstractMachine, Update, view_in, contents_of}
 use Rattle.update_stack.specs.Stacked.{IsBuilt}
-use Rattle.update_stack.specs.Events.{Spawn, Step, Apply, Undo, Happened, answered}
-use Rattle.update_safety.specs.Clear.{newest_retired, newest_pieces}
+use Rattle.update_stack.specs.Undo.{ranges_in}
+use Rattle.update_stack.specs.Events.{Event, Spawn, Step, Apply, Happened, answered, update_taken}
+use Rattle.update_safety.specs.Clear.{newest_retired}
 
 abbrev pub window_in : AbstractMachine → ℕ → Bool
 window_in k address = has_window (view_in k address)
@@ -41,8 +42,9 @@ UpdatesKeepWindows =
 
 abbrev pub UndosKeepWindows : Type 0
 UndosKeepWindows =
-    (k : AbstractMachine) (now : Happened) → IsBuilt k
-    → answered k Undo ≡ Ok now → KeepsWindows (newest_pieces k) k now.machine
+    (k : AbstractMachine) (event : Event) (update : Update) (now : Happened) → IsBuilt k
+    → update_taken k event ≡ Some update → answered k event ≡ Ok now
+    → KeepsWindows (ranges_in k update) k now.machine
 
 -- Where a step fetches more than the five bytes of a jump, they are code: each of their addresses has a window.
 abbrev pub FetchedHaveWindows : Type 0

@@ -5,7 +5,7 @@ ghost use Rattle.update_safety.specs.Windows.{StartsKeepWindows, StepsKeepWindow
 ghost use Rattle.update_safety.specs.Windows.{UpdatesKeepWindows, UndosKeepWindows, FetchedHaveWindows};
 
 use update_plan::retired_code_is_guarded;
-use update_stack::updates_can_be_made;
+use update_stack::{uncovered_updates_can_go, updates_can_be_made};
 
 /// Where an update is accepted, no running thread, and no frame of it that keeps the slot rule, is in the code that is
 /// retired.
@@ -16,8 +16,8 @@ pub fn accepted_updates_are_clear()
     retired_code_is_guarded();
 }
 
-/// Where an update is taken back, no running thread, and no frame of it that keeps the slot rule, is in the update's
-/// pieces.
+/// Where an update is taken back, the newest or one that is named, no running thread, and no frame of it that keeps the
+/// slot rule, is in the update's pieces.
 pub fn undone_updates_are_clear()
     ensures { TakenBackIsClear }
 {}
@@ -28,13 +28,16 @@ pub fn threads_keep_windows()
     ensures steps { StepsKeepWindows }
 {}
 
-/// An update takes windows away in the ranges that it retires alone, and taking it back in its pieces alone.
+/// An update takes windows away in the ranges that it retires alone, and taking one back, the newest or one that is
+/// named, in its pieces alone.
 pub fn updates_keep_windows()
     ensures updates { UpdatesKeepWindows }
     ensures undos { UndosKeepWindows }
 {
-    // Nothing is done here: the law says that an update that is planned can be made, and that code stays code then.
+    // Nothing is done here: the laws say that an update that is planned can be made, and that code stays code then; and
+    // that without an update that no later one covers the others lie each on what was there without it.
     updates_can_be_made();
+    uncovered_updates_can_go();
 }
 
 /// Where a step fetches more bytes than the five of a jump, there is a window at each of them.

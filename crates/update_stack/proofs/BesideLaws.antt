@@ -28,7 +28,7 @@ use Rattle.update_memory.specs.Withdrawn.{is_based_at}
 use Rattle.update_stack.specs.declared.updates.Kept.{Kept}
 use Rattle.update_stack.specs.AbstractMachine.{AbstractMachine, Row, Update, bodies_in, contents_of, jump_rows}
 use Rattle.update_stack.specs.Apply.{gaps_of}
-use Rattle.update_stack.specs.Undo.{withdrawn}
+use Rattle.update_stack.specs.Undo.{withdrawn, is_code_of}
 use Rattle.update_stack.specs.Stacked.{IsBuilt, AreKept, NoneKept, OneKept}
 use Rattle.update_stack.specs.laws.StackedLaws.{built_newest}
 use Rattle.update_stack.proofs.TableLaws.{spliced_new}
@@ -115,7 +115,8 @@ five_stays contents start bytes rows home valid avoids code =
 abbrev CodeAt : List Piece → ℕ × ℕ → Type 0
 CodeAt pieces row = HasCode pieces row.0 5
 
-olds_stay : (contents : Contents) (start : ℕ) (bytes : List ℕ) (rows homes : List (ℕ × ℕ)) → IsValid contents
+-- so old bytes at homes stay, with the jumps
+pub olds_stay : (contents : Contents) (start : ℕ) (bytes : List ℕ) (rows homes : List (ℕ × ℕ)) → IsValid contents
     → AvoidsCode start (length bytes) contents.pieces → All (CodeAt contents.pieces) homes
     → olds_at (jumped rows contents.pieces) homes ≡ olds_at (jumped rows (written start bytes contents.pieces)) homes
 olds_stay contents start bytes rows [] valid avoids code = refl
@@ -136,18 +137,27 @@ ranges_stay start bytes (p ∷ ps) =
     r ∷ map piece_range (written start bytes ps)) (length-overlaid start bytes p.base p.bytes)
     ∙ ap (λ (rs : List Range). piece_range p ∷ rs) (ranges_stay start bytes ps)
 
-based_stay : (bases : List ℕ) (start : ℕ) (bytes : List ℕ) (pieces : List Piece)
-    → filter (is_based_at bases) (written start bytes pieces) ≡ written start bytes (filter (is_based_at bases) pieces)
-based_stay bases start bytes [] = refl
-based_stay bases start bytes (p ∷ ps) = by_base (is_based_at bases p) (based_stay bases start bytes ps)
+-- and so do those of the pieces that pass a test in which their bytes don't matter
+passed_stay : (p : Piece → Bool) (start : ℕ) (bytes : List ℕ)
+    → ((piece : Piece) → p (overlaid_piece start bytes piece) ≡ p piece) → (pieces : List Piece)
+    → filter p (written start bytes pieces) ≡ written start bytes (filter p pieces)
+passed_stay p start bytes same [] = refl
+passed_stay p start bytes same (x ∷ xs) =
+    ap (λ (b : Bool). cond b (overlaid_piece start bytes x ∷ filter p (written start bytes xs))
+    (filter p (written start bytes xs))) (same x)
+    ∙ by_test (p x) (passed_stay p start bytes same xs)
   where
-    by_base : (b : Bool)
-        → filter (is_based_at bases) (written start bytes ps) ≡ written start bytes (filter (is_based_at bases) ps)
-        → cond b (overlaid_piece start bytes p ∷ filter (is_based_at bases) (written start bytes ps))
-        (filter (is_based_at bases) (written start bytes ps))
-        ≡ written start bytes (cond b (p ∷ filter (is_based_at bases) ps) (filter (is_based_at bases) ps))
-    by_base true rest = ap (λ (qs : List Piece). overlaid_piece start bytes p ∷ qs) rest
-    by_base false rest = rest
+    by_test : (b : Bool) → filter p (written start bytes xs) ≡ written start bytes (filter p xs)
+        → cond b (overlaid_piece start bytes x ∷ filter p (written start bytes xs)) (filter p (written start bytes xs))
+        ≡ written start bytes (cond b (x ∷ filter p xs) (filter p xs))
+    by_test true rest = ap (λ (ps : List Piece). overlaid_piece start bytes x ∷ ps) rest
+    by_test false rest = rest
+
+passed_ranges : (p : Piece → Bool) (start : ℕ) (bytes : List ℕ)
+    → ((piece : Piece) → p (overlaid_piece start bytes piece) ≡ p piece) → (pieces : List Piece)
+    → map piece_range (filter p (written start bytes pieces)) ≡ map piece_range (filter p pieces)
+passed_ranges p start bytes same pieces =
+    ap (map piece_range) (passed_stay p start bytes same pieces) ∙ ranges_stay start bytes (filter p pieces)
 
 -- no byte is written
 none_overlaid : (a : ℕ) (bytes : List ℕ) → overlaid 0 [] a bytes ≡ bytes
@@ -201,8 +211,12 @@ kept_write there k kept start bytes threads avoids built
           (jump_rows update.report.replaced)) (sym (table_wrote k update start bytes threads));
       ranges =
           subst (IsPermutation one.ranges)
-          (sym (ap (map piece_range) (based_stay update.pieces start bytes k.pieces)
-          ∙ ranges_stay start bytes (filter (is_based_at update.pieces) k.pieces))) is.ranges;
+          (sym (passed_ranges (is_based_at update.pieces) start bytes (λ piece. refl) k.pieces)) is.ranges;
+      code_ranges =
+          subst (IsPermutation one.code_ranges)
+          (sym (passed_ranges (is_code_of update) start bytes (λ piece. refl) k.pieces)) is.code_ranges;
+      order = is.order;
+      code_order = is.code_order;
       count = is.count;
     })
     (subst (λ (m : AbstractMachine). AreKept m earlier) (sym (withdrawn_wrote k update start bytes threads))

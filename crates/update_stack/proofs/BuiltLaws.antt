@@ -29,13 +29,12 @@ use Rattle.update_memory.specs.Withdrawn.{is_based_at, without_pieces, is_one_of
 use Rattle.ia32_step.specs.declared.types.Thread.{Thread}
 use Rattle.image_threads.specs.Spawning.{is_writable, is_stack}
 use Rattle.update_plan.specs.declared.types.Plan.{Plan}
-use Rattle.update_plan.specs.Sound.{IsCode, IsJumpTo, is_replaced_at, CanBeMade}
-use Rattle.update_stack.specs.AbstractMachine.{AbstractMachine, Row, Update, is_home, bodies_in, fence_in}
-use Rattle.update_stack.specs.AbstractMachine.{with_replaced}
-use Rattle.update_stack.specs.AbstractMachine.{contents_of}
+use Rattle.update_plan.specs.Sound.{IsCode, IsJumpTo, is_replaced_at, IsVersion, BeginsAt, AllReplaceNewest, CanBeMade}
+use Rattle.update_stack.specs.AbstractMachine.{AbstractMachine, Row, Update, is_home, base_of, bodies_in, fence_in}
+use Rattle.update_stack.specs.AbstractMachine.{with_replaced, contents_of}
 use Rattle.update_stack.specs.Apply.{has_name, with_new_piece, update_as, committed, retired_of}
 use Rattle.update_stack.specs.Undo.{without_last, withdrawn, newest_update}
-use Rattle.update_stack.specs.Stacked.{IsSound, IsOnTop, IsBuilt, Untouched, Updated}
+use Rattle.update_stack.specs.Stacked.{IsSound, IsVersionOf, IsOnTop, IsBuilt, Untouched, Updated}
 use Rattle.update_stack.specs.laws.StackedLaws.{built_sound, last_more}
 use Rattle.update_stack.specs.laws.TableLaws.{homes_after, homes_spliced}
 use Rattle.update_stack.specs.laws.ViewLaws.{ranges_back}
@@ -144,6 +143,11 @@ or_none false = refl
 pub contains_mapped : {X Y : Type 0} (f : X → Y) (xs : List X) (x : X) → Contains xs x → Contains (map f xs) (f x)
 contains_mapped f xs x (k, less, at) =
     (k, rw (length-map xs f) less, get_or-map f xs k x (f x) less ∙ ap f at)
+
+any_mapped : {X Y : Type 0} (P : Y → Type 0) (f : X → Y) (xs : List X) → Any (λ x. P (f x)) xs → Any P (map f xs)
+any_mapped P f xs (k, x, less, at, is) =
+    let there = contains_mapped f xs x (k, less, at) in
+    (there.0, f x, there.1, there.2, is)
 
 ascends_full : {X : Type 0} (range : X → Range) (floor : ℕ) (xs : List X) → Ascends range floor xs
     → All (λ x. (range x).low < (range x).high) xs
@@ -535,21 +539,38 @@ module _ (laws : MemoryLaws) (k : AbstractMachine) (name : List ℕ) (plan : Pla
       (All-contains (λ (p : Piece). ((piece_range p).low < (piece_range p).high)
       × ((piece_range p).high ≤ 0xFFFF_0000)) plan.pieces piece can.placeable there).0
 
+  piece_given : (piece : Piece) → Contains plan.pieces piece → Contains (committed k name plan).pieces piece
+  piece_given piece there =
+      subst (λ (pieces : List Piece). Contains pieces piece) pieces_after
+      (subst (λ (pieces : List Piece). Contains pieces piece) (sym (laws.ranges_pieces added plan.fences))
+      (laws.pieces_given contents plan.pieces piece there))
+
   piece_there : (piece : Piece) → Contains plan.pieces piece → HasPiece (contents_of (committed k name plan)) piece.base
   piece_there piece there =
-      let at = subst (λ (pieces : List Piece). Contains pieces piece) pieces_after
-      (subst (λ (pieces : List Piece). Contains pieces piece) (sym (laws.ranges_pieces added plan.fences))
-      (laws.pieces_given contents plan.pieces piece there)) in
+      let at = piece_given piece there in
       (at.0, piece, at.1, at.2, refl)
+
+  -- a base of the update is where one of its pieces of code begins
+  version_there : (one : Replaced) → Any (IsVersion one.base) plan.pieces
+      → IsVersionOf (committed k name plan) (update_as name plan) one
+  version_there one (j, piece, less, stands, is) =
+      let at = piece_given piece (j, less, stands) in
+      record {
+        own =
+            subst (Contains (map (λ (p : Piece). p.base) plan.pieces)) is.begins
+            (contains_mapped (λ (p : Piece). p.base) plan.pieces piece (j, less, stands));
+        code = (at.0, piece, at.1, at.2, is);
+      }
 
   range_there : (fence : Fence) → Contains plan.fences fence → Contains (committed k name plan).retired fence.range
   range_there fence there =
       subst (λ (ranges : List Range). Contains ranges fence.range) ranges_after
       (contains_mapped fence_range text_after.fences fence (laws.ranges_given added plan.fences fence there))
 
-  on_top : list_any (has_name name) k.updates ≡ false → IsOnTop (committed k name plan) (update_as name plan)
+  on_top : list_any (has_name name) k.updates ≡ false → AllReplaceNewest (bodies_in k.table) plan
+      → IsOnTop (committed k name plan) (update_as name plan)
   unfolding committed
-  on_top new =
+  on_top new replace =
       let back = committed_back laws k name plan built can new in record {
         table = ap (λ (m : AbstractMachine). fold with_replaced m.table replaced) (sym back);
         once = can.once;
@@ -579,13 +600,20 @@ module _ (laws : MemoryLaws) (k : AbstractMachine) (name : List ℕ) (plan : Pla
             are_other (get_or plan.fences i d).range (get_or plan.fences j d).range
             (can.retired_apart i j d less within) (can.full i d (omega arith)) (can.full j d within));
         symbols = omega (arith, length-append k.symbols plan.symbols);
+        versions = λ i d l. version_there (get_or replaced i d) (replace i d l).version;
+        over =
+            subst (λ (m : AbstractMachine). All (λ (one : Replaced).
+            Any (BeginsAt (base_of m one.home)) (map fence_range plan.fences)) replaced) (sym back)
+            (λ i d l. any_mapped (BeginsAt (base_of k (get_or replaced i d).home)) fence_range plan.fences
+            (replace i d l).over);
         name = name_made k name plan new;
       }
 
   -- what holds of a machine at every moment holds after an update
-  pub built_commit : list_any (has_name name) k.updates ≡ false → IsBuilt (committed k name plan)
-  built_commit new =
-      Updated (committed k name plan) (update_as name plan) sound_after (newest_made k name plan) (on_top new)
+  pub built_commit : list_any (has_name name) k.updates ≡ false → AllReplaceNewest (bodies_in k.table) plan
+      → IsBuilt (committed k name plan)
+  built_commit new replace =
+      Updated (committed k name plan) (update_as name plan) sound_after (newest_made k name plan) (on_top new replace)
       (subst IsBuilt (sym (committed_back laws k name plan built can new)) built)
 
 -- the machine after some bytes were written and its threads went on
@@ -651,14 +679,14 @@ sound_written k start bytes threads sound = record {
 
 piece_written : (start : ℕ) (bytes : List ℕ) (pieces : List Piece) (base : ℕ) → Any (λ piece. piece.base ≡ base) pieces
     → Any (λ piece. piece.base ≡ base) (written start bytes pieces)
-piece_written start bytes pieces base (j, piece, less, at, is) = (
-  j,
-  overlaid_piece start bytes piece,
-  rw (length-map pieces (overlaid_piece start bytes)) less,
-  get_or-map (overlaid_piece start bytes) pieces j piece (overlaid_piece start bytes piece) less
-      ∙ ap (overlaid_piece start bytes) at,
-  is,
-)
+piece_written start bytes pieces base (j, piece, less, at, is) =
+    any_mapped (λ (p : Piece). p.base ≡ base) (overlaid_piece start bytes) pieces (j, piece, less, at, is)
+
+version_written : (start : ℕ) (bytes : List ℕ) (pieces : List Piece) (base : ℕ) → Any (IsVersion base) pieces
+    → Any (IsVersion base) (written start bytes pieces)
+version_written start bytes pieces base (j, piece, less, at, is) =
+    any_mapped (IsVersion base) (overlaid_piece start bytes) pieces
+    (j, piece, less, at, record { kind = is.kind; begins = is.begins })
 
 on_top_written : (k : AbstractMachine) (update : Update) (start : ℕ) (bytes : List ℕ) (threads : List Thread)
     → IsOnTop k update → IsOnTop (wrote start bytes threads k) update
@@ -672,6 +700,13 @@ on_top_written k update start bytes threads is = record {
   retired = is.retired;
   ranges = is.ranges;
   symbols = is.symbols;
+  versions = λ i d l.
+      let version = is.versions i d l in
+      record {
+        own = version.own;
+        code = version_written start bytes k.pieces (get_or update.report.replaced i d).base version.code;
+      };
+  over = is.over;
   name = is.name;
 }
 
@@ -687,7 +722,7 @@ built_write _ start bytes threads (Updated k update sound newest above built) =
     (built_write (withdrawn k update) start bytes threads built))
 
 -- a range of a list is one of some or is kept when these are taken away
-same_ends : (a b : Range) → are_same a b ≡ true → a ≡ b
+pub same_ends : (a b : Range) → are_same a b ≡ true → a ≡ b
 same_ends a b same = ends (a.low == b.low) (a.high == b.high) refl refl same
   where
     is : a.low ≡ b.low → a.high ≡ b.high → a ≡ b

@@ -2,7 +2,7 @@
 use Rattle.std.proofs.Common.{◌≡◌, ℕ, ◌+◌, ◌^◌, ◌<◌, ◌≤◌, false, List, [], ◌∷◌, ◌++◌, map, length, get_or}
 use Rattle.std.proofs.Common.{Some}
 use Rattle.std.proofs.Common.{refl, sym, ◌∙◌, ap, arith, subst}
-use Rattle.std.specs.List.{All, fold, list_any}
+use Rattle.std.specs.List.{All, filter, fold, list_any}
 use Rattle.std.specs.List.Sorted.{IsPermutation}
 use Rattle.std.proofs.lemmas.List.{length-append}
 use Rattle.std.proofs.lemmas.List.Elements.{All-head, All-tail, All-map, All-weaker}
@@ -27,14 +27,14 @@ use Rattle.update_memory.specs.Rows.{row_of, rows_of, old_of, olds_of}
 use Rattle.update_memory.specs.Withdrawn.{without_pieces}
 use Rattle.image_threads.specs.Program.{Program}
 use Rattle.update_plan.specs.declared.types.Plan.{Plan}
-use Rattle.update_plan.specs.Sound.{IsCode, IsJumpTo, CanBeMade}
+use Rattle.update_plan.specs.Sound.{IsCode, IsJumpTo, AllReplaceNewest, CanBeMade}
 use Rattle.update_stack.specs.declared.updates.Update.{Update as Shown}
 use Rattle.update_stack.specs.declared.updates.Kept.{Kept}
 use Rattle.update_stack.specs.AbstractMachine.{AbstractMachine, Row, Update, bodies_in, with_replaced, contents_of}
-use Rattle.update_stack.specs.AbstractMachine.{jump_row, jump_rows}
+use Rattle.update_stack.specs.AbstractMachine.{is_text, jump_row, jump_rows}
 use Rattle.update_stack.specs.StandsFor.{Seen, seen, seen_of, patched}
 use Rattle.update_stack.specs.Apply.{has_name, with_new_piece, update_as, committed}
-use Rattle.update_stack.specs.Undo.{withdrawn, ranges_in, newest_update}
+use Rattle.update_stack.specs.Undo.{withdrawn, ranges_in, code_ranges_in, newest_update}
 use Rattle.update_stack.specs.Systems.{text_of, HasJumpCode, Holds, live_update, live_updates, machine_of}
 use Rattle.update_stack.specs.Stacked.{IsBuilt, AreKept, OneKept}
 use Rattle.update_stack.specs.inside.Carrying.{bare_jump, shown_as, EndsLow, FitsIn, IsKeptOf}
@@ -50,7 +50,7 @@ use Rattle.update_stack.proofs.BesideLaws.{ranges_stay}
 use Rattle.update_stack.proofs.TextLaws.{HasOldCode, placed_stays, kept_by_text}
 use Rattle.update_stack.proofs.UndoLaws.{ValidJumped, StaySpliced, TakenBack, CodeStays, PlacesStay, jump_code}
 use Rattle.update_stack.proofs.UndoLaws.{code_jumped, kept_code}
-use Rattle.update_stack.proofs.AddedLaws.{added_ranges}
+use Rattle.update_stack.proofs.AddedLaws.{added_ranges, added_code_ranges}
 
 -- the rows of jumps before their code is noted
 pub rows_bare : (replaced : List Replaced) → map row_of (map bare_jump replaced) ≡ jump_rows replaced
@@ -170,6 +170,7 @@ update_is name plan jumps kept is = λ i. record {
   pieces = is.pieces i;
   retired = is.retired i;
   symbols = is.symbols i;
+  needs = is.needs i;
 }
 
 -- a system, and a plan that can be made on its machine
@@ -257,7 +258,8 @@ module _ (laws : Laws) (before : Program) (arena : Range) (updates : List Shown)
         (subst (All (λ (row : ℕ × ℕ). HasCode full.pieces row.0 5)) (sym are) code_full);
   }
 
-  module _ (name : List ℕ) (new : list_any (has_name name) k.updates ≡ false) where
+  module _ (name : List ℕ) (new : list_any (has_name name) k.updates ≡ false)
+      (replace : AllReplaceNewest (bodies_in k.table) plan) where
     abbrev after_it : AbstractMachine
     after_it = committed k name plan
 
@@ -265,7 +267,7 @@ module _ (laws : Laws) (before : Program) (arena : Range) (updates : List Shown)
     update = update_as name plan
 
     built_after : IsBuilt after_it
-    built_after = built_commit laws.memory k name plan holds.built can new
+    built_after = built_commit laws.memory k name plan holds.built can new replace
 
     back : withdrawn after_it update ≡ k
     back = committed_back laws.memory k name plan holds.built can new
@@ -416,6 +418,14 @@ module _ (laws : Laws) (before : Program) (arena : Range) (updates : List Shown)
           (IsPermutation-sym (map piece_range plan.pieces) one.ranges has.ranges)
           (added_ranges k.pieces plan.pieces left)
 
+      code_ranges_kept : IsPermutation one.code_ranges (code_ranges_in after_it update)
+      unfolding committed
+      code_ranges_kept =
+          IsPermutation-trans one.code_ranges (map piece_range (filter is_text plan.pieces))
+          (code_ranges_in after_it update)
+          (IsPermutation-sym (map piece_range (filter is_text plan.pieces)) one.code_ranges has.code_ranges)
+          (added_code_ranges k.pieces plan.pieces left)
+
       kept_after : AreKept after_it (kept ++ one ∷ [])
       kept_after =
           OneKept after_it update kept (kept ++ one ∷ []) one newest refl
@@ -423,6 +433,9 @@ module _ (laws : Laws) (before : Program) (arena : Range) (updates : List Shown)
             rows = ap rows_of has.jumps_kept ∙ is.rows;
             olds = olds_kept;
             ranges = ranges_kept;
+            code_ranges = code_ranges_kept;
+            order = has.order;
+            code_order = has.code_order;
             count = has.count;
           })
           (subst (λ (m : AbstractMachine). AreKept m kept) (sym back) holds.are_kept)
@@ -477,12 +490,15 @@ after_change pieces symbols fences jumps s = record s {
   symbols = s.symbols ++ symbols;
 }
 
-pub seen_carried : (before reserved after : Program) (plan : Plan) (fences : List Fence) (jumps jumps_given : List Jump)
-    → seen reserved ≡ seen before → fences ≡ plan.fences → jumps_given ≡ jumps
-    → seen after ≡ after_change plan.pieces plan.symbols fences jumps_given (seen reserved)
+-- and so by what is left of the plan when its needs were moved out of it
+pub seen_carried : (before reserved after : Program) (plan left : Plan) (fences : List Fence)
+    (jumps jumps_given : List Jump) → seen reserved ≡ seen before → left ≡ record plan { needs = left.needs }
+    → fences ≡ left.fences → jumps_given ≡ jumps
+    → seen after ≡ after_change left.pieces left.symbols fences jumps_given (seen reserved)
     → seen after ≡ after_change plan.pieces plan.symbols plan.fences jumps (seen before)
-seen_carried before reserved after plan fences jumps jumps_given same are_fences are_jumps changed =
+seen_carried before reserved after plan left fences jumps jumps_given same rest are_fences are_jumps changed =
     changed
-    ∙ ap (after_change plan.pieces plan.symbols fences jumps_given) same
-    ∙ ap (λ (fs : List Fence). after_change plan.pieces plan.symbols fs jumps_given (seen before)) are_fences
-    ∙ ap (λ (js : List Jump). after_change plan.pieces plan.symbols plan.fences js (seen before)) are_jumps
+    ∙ ap (after_change left.pieces left.symbols fences jumps_given) same
+    ∙ ap (λ (fs : List Fence). after_change left.pieces left.symbols fs jumps_given (seen before)) are_fences
+    ∙ ap (λ (js : List Jump). after_change left.pieces left.symbols left.fences js (seen before)) are_jumps
+    ∙ ap (λ (p : Plan). after_change p.pieces p.symbols p.fences jumps (seen before)) rest

@@ -20,7 +20,7 @@ use Rattle.update_stack.specs.AbstractMachine.{AbstractMachine, bodies_in, conte
 use Rattle.update_stack.specs.Steps.{step_at, step_in, moved_by, moved}
 use Rattle.update_stack.specs.StandsFor.{patched}
 use Rattle.update_stack.specs.Events.{Step, step_answered, answered, machine_after, after_event}
-use Rattle.update_stack.proofs.TakenBackLaws.{text_of_written}
+use Rattle.update_stack.proofs.LastingLaws.{text_of_written}
 
 -- code that is the same among two lists of pieces is the same with bytes written in both
 module _ (start : ℕ) (bytes : List ℕ) where

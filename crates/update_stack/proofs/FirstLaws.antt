@@ -1,7 +1,7 @@
 -- The machine at the start of an image that was read: the image's stacks fit among its regions.
 use Rattle.std.proofs.Common.{◌≡◌, ℕ, zero, suc, ◌+◌, ◌-◌, ◌%◌, ◌≤◌, ◌<◌, ◌&&◌, ◌||◌, nat_lt, nat_le, Bool, true, false}
-use Rattle.std.proofs.Common.{if◌then◌else◌, IsTrue}
-use Rattle.std.proofs.Common.{List, [], ◌∷◌, ◌++◌, length, replicate, Result, Ok, refl, sym, ◌∙◌, ap, subst, arith}
+use Rattle.std.proofs.Common.{if◌then◌else◌, IsTrue, List, [], ◌∷◌, ◌++◌, length, replicate, Result, Ok, refl, sym, ◌∙◌}
+use Rattle.std.proofs.Common.{ap, subst, arith}
 use Rattle.std.specs.List.{list_any, All}
 use Rattle.std.proofs.lemmas.Bool.Decides.{nat_tests}
 use Rattle.std.proofs.lemmas.List.{length-replicate}
@@ -26,7 +26,7 @@ use Rattle.image_threads.specs.Program.{IsStackRange}
 use Rattle.image_threads.specs.Spawning.{is_stack, AreStacks, is_writable}
 use Rattle.update_stack.specs.AbstractMachine.{stack_piece, all_pieces, first_machine}
 use Rattle.update_stack.specs.Stacked.{Untouched}
-use Rattle.update_stack.proofs.TakenBackLaws.{NoneEarlier, StartsWell}
+use Rattle.update_stack.proofs.MomentLaws.{StartsWell}
 
 -- a range that a stack among pieces may have, and such ranges in order
 pub record FitsAmong (pieces : List Piece) (stack : Range) : Type 0 where
@@ -429,6 +429,5 @@ starts_well law file image is =
             arena = read.arena;
             retired = λ i d l. absurd (omega arith);
           }) refl refl refl;
-      are_earlier = NoneEarlier [] (first_machine image) refl refl;
       stacks = read.stacks.bounds;
     }

@@ -1,8 +1,11 @@
 -- What the calls find of live updates is what the machine has of them.
 use Rattle.std.proofs.Common.{◌≡◌, ◌≢◌, ℕ, suc, ◌+◌, ◌<◌, ◌==◌, ◌||◌, Bool, true, false, cond, nat_eq, refl, sym, ◌∙◌}
 use Rattle.std.proofs.Common.{List, [], ◌∷◌, ◌++◌, map, length, take, get_or, Option, None, ap, arith, ne_eqb, subst}
+use Rattle.std.proofs.Common.{zero, ◌≤◌, nat_lt, slice_get, Some, MatchOption}
 use Rattle.std.specs.Option.{unwrap_or}
-use Rattle.std.specs.List.{All, AllPairs, fold, flat_map, list_any, IsDistinct, AllByRecursion}
+use Rattle.std.specs.List.{All, AllPairs, find, fold, flat_map, list_any, position, position_or_len, IsDistinct}
+use Rattle.std.specs.List.{AllByRecursion}
+use Rattle.std.proofs.lemmas.Option.{slice_get_past}
 use Rattle.std.proofs.lemmas.Bool.Decides.{nat_tests}
 use Rattle.std.proofs.lemmas.List.{take_more}
 use Rattle.indexmap.specs.IndexMap.{insert_entry, insert_all}
@@ -14,7 +17,8 @@ use Rattle.update_stack.specs.declared.updates.Update.{Update as Shown}
 use Rattle.update_stack.specs.declared.updates.Kept.{Kept}
 use Rattle.update_stack.specs.AbstractMachine.{Row, Update, newest_in, bodies_in, jump_rows, with_replaced}
 use Rattle.update_stack.specs.Apply.{has_name}
-use Rattle.update_stack.specs.Systems.{replaced_by, table_of, live_updates}
+use Rattle.update_stack.specs.Systems.{replaced_by, table_of, live_update, live_updates}
+use Rattle.update_stack.proofs.AtLaws.{length_live}
 use Rattle.update_stack.specs.laws.StackedLaws.{last_more}
 use Rattle.update_stack.proofs.LastLaws.{table_more}
 use Rattle.update_stack.proofs.TableLaws.{IsTable, pairs_map, first_table, table_stays}
@@ -107,3 +111,63 @@ named_live [] kept name paired = refl
 named_live (update ∷ updates) [] name paired = absurd (omega (arith, paired))
 named_live (update ∷ updates) (one ∷ kept) name paired =
     ap (λ (b : Bool). same_bytes update.name name || b) (named_live updates kept name (omega (arith, paired)))
+
+-- The place of the first live update of a name is that of the first that is shown with it.
+pub placed_first : (updates : List Shown) (kept : List Kept) (name : List ℕ) → length kept ≡ length updates
+    → slice_get (live_updates updates kept) (position_or_len (λ (update : Shown). same_bytes update.name name) updates)
+    ≡ find (has_name name) (live_updates updates kept)
+placed_first [] kept name paired = refl
+placed_first (update ∷ updates) [] name paired = absurd (omega (arith, paired))
+placed_first (update ∷ updates) (one ∷ kept) name paired =
+    by_name (same_bytes update.name name) refl (placed_first updates kept name (omega (arith, paired)))
+  where
+    by_name : (b : Bool) → same_bytes update.name name ≡ b
+        → slice_get (live_updates updates kept)
+        (position_or_len (λ (u : Shown). same_bytes u.name name) updates)
+        ≡ find (has_name name) (live_updates updates kept)
+        → slice_get (live_update update one ∷ live_updates updates kept)
+        (position_or_len (λ (u : Shown). same_bytes u.name name) (update ∷ updates))
+        ≡ find (has_name name) (live_update update one ∷ live_updates updates kept)
+    by_name true is rest =
+        let first : position_or_len (λ (u : Shown). same_bytes u.name name) (update ∷ updates) ≡ 0 =
+        rw is refl in
+        ap (slice_get (live_update update one ∷ live_updates updates kept)) first
+        ∙ sym (ap (λ (b : Bool). cond b (Some (live_update update one)) (find (has_name name) (live_updates updates kept)))
+        is)
+    by_name false is rest =
+        let place = position_or_len (λ (u : Shown). same_bytes u.name name) updates in
+        let later : position_or_len (λ (u : Shown). same_bytes u.name name) (update ∷ updates) ≡ suc place =
+        rw is (omega arith) in
+        ap (slice_get (live_update update one ∷ live_updates updates kept)) later
+        ∙ rest
+        ∙ sym (ap (λ (b : Bool). cond b (Some (live_update update one)) (find (has_name name) (live_updates updates kept)))
+        is)
+
+pub found_at : (updates : List Shown) (kept : List Kept) (name : List ℕ) → length kept ≡ length updates
+    → (o : Option ℕ) → o ≡ position (λ (update : Shown). same_bytes update.name name) updates
+    → MatchOption o (find (has_name name) (live_updates updates kept) ≡ None)
+    (λ at. (at < length (live_updates updates kept))
+    × (slice_get (live_updates updates kept) at ≡ find (has_name name) (live_updates updates kept)))
+found_at updates kept name paired o is =
+    subst (λ (p : Option ℕ). MatchOption p (find (has_name name) (live_updates updates kept) ≡ None)
+    (λ at. (at < length (live_updates updates kept))
+    × (slice_get (live_updates updates kept) at ≡ find (has_name name) (live_updates updates kept)))) (sym is)
+    (by_place (nat_lt place (length updates)) refl)
+  where
+    place : ℕ
+    place = position_or_len (λ (u : Shown). same_bytes u.name name) updates
+
+    by_place : (b : Bool) → nat_lt place (length updates) ≡ b
+        → MatchOption (cond b (Some place) None)
+        (find (has_name name) (live_updates updates kept) ≡ None)
+        (λ at. (at < length (live_updates updates kept))
+        × (slice_get (live_updates updates kept) at ≡ find (has_name name) (live_updates updates kept)))
+    by_place true inside =
+        let less : place < length updates = grind (arith, nat_tests) in
+        let many = length_live updates kept paired in
+        (omega (arith, less, many), placed_first updates kept name paired)
+    by_place false outside =
+        let past : length updates ≤ place = grind (arith, nat_tests) in
+        let many = length_live updates kept paired in
+        sym (placed_first updates kept name paired)
+        ∙ slice_get_past (live_updates updates kept) place (omega (arith, past, many))

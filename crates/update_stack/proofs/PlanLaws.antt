@@ -34,7 +34,7 @@ use Rattle.symbol_table.specs.Bodies.{home_of, homes, newest}
 use Rattle.image_threads.specs.Program.{Program}
 use Rattle.update_plan.specs.declared.types.Plan.{Plan}
 use Rattle.update_plan.specs.Plan.{planned, unless}
-use Rattle.update_plan.specs.Sound.{AreGaps, AreListed, CanBeMade}
+use Rattle.update_plan.specs.Sound.{AllReplaceNewest, AreGaps, AreListed, CanBeMade}
 use Rattle.update_stack.specs.AbstractMachine.{AbstractMachine, bodies_in, contents_of}
 use Rattle.update_stack.specs.Apply.{name_refusal, running_of, retired_of, gaps_of, planned_in}
 use Rattle.update_stack.specs.StandsFor.{Seen, StandsFor, patched}
@@ -232,6 +232,15 @@ PlansCanBeMade = (running : Running) (retired gaps : List Range) (pre_file post_
     → AreGaps running.contents gaps → planned running retired gaps pre_file post_file ≡ Ok plan
     → CanBeMade running.contents plan
 
+abbrev pub PlansReplaceNewest : Type 0
+PlansReplaceNewest = (running : Running) (retired gaps : List Range) (pre_file post_file : List ℕ) (plan : Plan)
+    → IsValid running.contents → planned running retired gaps pre_file post_file ≡ Ok plan
+    → AllReplaceNewest running.bodies plan
+
+pub record SoundPlans : Type 0 where
+  pub can : PlansCanBeMade
+  pub replace : PlansReplaceNewest
+
 -- what of a program goes into a plan is what the machine has of it
 pub record IsBeside (k : AbstractMachine) (contents : Contents) (symbols : List Symbol) (bodies : List (ℕ × ℕ))
     (retired gaps : List Range) : Type 0 where
@@ -278,15 +287,38 @@ plan_sound can ascend below apart k pre_file post_file (Ok plan) built given =
     can (running_of k) (retired_of k) (gaps_of k) pre_file post_file plan sound.jumps.valid sound.jumps.spliced
     (fences_listed k built) (gaps_are ascend below apart k sound) given
 
+-- and it replaces the newest versions
+pub plan_replaces : PlansReplaceNewest → (k : AbstractMachine) (pre_file post_file : List ℕ)
+    (result : Result Plan Refusal) → IsBuilt k
+    → Gives (λ (plan : Plan). plan) result (planned (running_of k) (retired_of k) (gaps_of k) pre_file post_file)
+    → IfOk result (λ (plan : Plan). AllReplaceNewest (bodies_in k.table) plan)
+plan_replaces replace k pre_file post_file (Err refusal) built given = tt
+plan_replaces replace k pre_file post_file (Ok plan) built given =
+    replace (running_of k) (retired_of k) (gaps_of k) pre_file post_file plan (built_sound k built).jumps.valid given
+
+-- what is planned for an update, beside its name
+pub plan_found : (k : AbstractMachine) (name pre_file post_file : List ℕ) (plan : Plan)
+    → planned_in k name pre_file post_file ≡ Ok plan
+    → planned (running_of k) (retired_of k) (gaps_of k) pre_file post_file ≡ Ok plan
+unfolding planned_in
+plan_found k name pre_file post_file plan is = by_name (name_refusal k name) is
+  where
+    by_name : (o : Option Refusal)
+        → (unless o k >>= λ (m : AbstractMachine). planned (running_of m) (retired_of m) (gaps_of m) pre_file post_file)
+        ≡ Ok plan → planned (running_of k) (retired_of k) (gaps_of k) pre_file post_file ≡ Ok plan
+    by_name (Some refusal) same = absurd cc
+    by_name None same = same
+
 -- so the plan that a machine has for an update can be made
 pub planned_can : PlansCanBeMade → GapsAscend → GapsBelow → GapsApart → (k : AbstractMachine)
     (name pre_file post_file : List ℕ) (plan : Plan) → IsBuilt k → planned_in k name pre_file post_file ≡ Ok plan
     → CanBeMade (contents_of k) plan
-unfolding planned_in
-planned_can can ascend below apart k name pre_file post_file plan built is = by_name (name_refusal k name) is
-  where
-    by_name : (o : Option Refusal)
-        → (unless o k >>= λ (m : AbstractMachine). planned (running_of m) (retired_of m) (gaps_of m) pre_file post_file)
-        ≡ Ok plan → CanBeMade (contents_of k) plan
-    by_name (Some refusal) is = absurd (cc)
-    by_name None is = plan_sound can ascend below apart k pre_file post_file (Ok plan) built is
+planned_can can ascend below apart k name pre_file post_file plan built is =
+    plan_sound can ascend below apart k pre_file post_file (Ok plan) built
+    (plan_found k name pre_file post_file plan is)
+
+-- and replaces the newest versions
+pub planned_replaces : PlansReplaceNewest → (k : AbstractMachine) (name pre_file post_file : List ℕ) (plan : Plan)
+    → IsBuilt k → planned_in k name pre_file post_file ≡ Ok plan → AllReplaceNewest (bodies_in k.table) plan
+planned_replaces replace k name pre_file post_file plan built is =
+    plan_replaces replace k pre_file post_file (Ok plan) built (plan_found k name pre_file post_file plan is)

@@ -37,11 +37,11 @@ use Rattle.update_plan.specs.declared.types.Plan.{Plan}
 use Rattle.update_plan.specs.Addresses.{AreSteps}
 use Rattle.update_plan.specs.NewCode.{HasNewCode, BringsNewCode, linked_code}
 use Rattle.update_plan.specs.Plan.{planned, unless}
-use Rattle.update_plan.specs.Sound.{IsCode, is_replaced_at, CanBeMade}
+use Rattle.update_plan.specs.Sound.{IsCode, is_replaced_at, AllReplaceNewest, CanBeMade}
 use Rattle.update_stack.specs.AbstractMachine.{AbstractMachine, Row, is_home, bodies_in, base_of, view_in, contents_of}
 use Rattle.update_stack.specs.AbstractMachine.{with_replaced}
 use Rattle.update_stack.specs.Steps.{step_at, step_in}
-use Rattle.update_stack.specs.Apply.{name_refusal, running_of, retired_of, gaps_of, planned_in}
+use Rattle.update_stack.specs.Apply.{running_of, retired_of, gaps_of, planned_in}
 use Rattle.update_stack.specs.Apply.{committed, applied}
 use Rattle.update_stack.specs.Stacked.{IsSound, IsBuilt}
 use Rattle.update_stack.specs.Reached.{LeadsTo, AreReached}
@@ -51,7 +51,8 @@ use Rattle.update_stack.specs.laws.ViewLaws.{home_row}
 use Rattle.update_stack.proofs.TableLaws.{all_homes_more, base_over, newest_after}
 use Rattle.update_stack.proofs.BuiltLaws.{MemoryLaws, built_commit, pieces_made}
 use Rattle.update_stack.proofs.PlaceLaws.{name_is_new}
-use Rattle.update_stack.proofs.PlanLaws.{PlansCanBeMade, GapsAscend, GapsBelow, GapsApart, gaps_ascend, planned_can}
+use Rattle.update_stack.proofs.PlanLaws.{GapsAscend, GapsBelow, GapsApart, SoundPlans, gaps_ascend, plan_found}
+use Rattle.update_stack.proofs.PlanLaws.{planned_can, planned_replaces}
 
 -- what is said of plans
 abbrev pub CodeIsBrought : Type 0
@@ -330,18 +331,6 @@ accepted k name pre_file post_file now report is =
       report_is = ap (λ (pair : AbstractMachine × Report). pair.1) same;
     }
 
-plan_found : (k : AbstractMachine) (name pre_file post_file : List ℕ) (plan : Plan)
-    → planned_in k name pre_file post_file ≡ Ok plan
-    → planned (running_of k) (retired_of k) (gaps_of k) pre_file post_file ≡ Ok plan
-unfolding planned_in
-plan_found k name pre_file post_file plan is = by_name (name_refusal k name) is
-  where
-    by_name : (o : Option Refusal)
-        → (unless o k >>= λ (m : AbstractMachine). planned (running_of m) (retired_of m) (gaps_of m) pre_file post_file)
-        ≡ Ok plan → planned (running_of k) (retired_of k) (gaps_of k) pre_file post_file ≡ Ok plan
-    by_name (Some refusal) same = absurd cc
-    by_name None same = same
-
 -- new code that stands among other pieces, too
 abbrev pub code_in_others : (running : Running) (gaps : List Range) (pre_file post_file : List ℕ)
     (steps : AreSteps running gaps pre_file post_file) (pieces others : List Piece) (one : Replaced)
@@ -370,14 +359,15 @@ brought codes ascend k name pre_file post_file plan is =
 
 -- so each function that it replaces is reached
 reached_by : MemoryLaws → CodeIsBrought → GapsAscend → (k : AbstractMachine) (name pre_file post_file : List ℕ)
-    (plan : Plan) → IsBuilt k → CanBeMade (contents_of k) plan → planned_in k name pre_file post_file ≡ Ok plan
+    (plan : Plan) → IsBuilt k → CanBeMade (contents_of k) plan → AllReplaceNewest (bodies_in k.table) plan
+    → planned_in k name pre_file post_file ≡ Ok plan
     → AreReached k pre_file post_file (committed k name plan) plan.report
-reached_by laws codes ascend k name pre_file post_file plan built can is =
+reached_by laws codes ascend k name pre_file post_file plan built can replace is =
     let brings = brought codes ascend k name pre_file post_file plan is in
     let steps = brings.steps in
     let now = committed k name plan in
     let new = name_is_new k name pre_file post_file plan is in
-    let sound = built_sound now (built_commit laws k name plan built can new) in
+    let sound = built_sound now (built_commit laws k name plan built can new replace) in
     record {
       steps = brings.steps;
       each = λ i d less.
@@ -392,12 +382,13 @@ reached_by laws codes ascend k name pre_file post_file plan built can is =
           };
     }
 
-pub all_reached : MemoryLaws → CodeIsBrought → PlansCanBeMade → GapsAscend → GapsBelow → GapsApart
+pub all_reached : MemoryLaws → CodeIsBrought → SoundPlans → GapsAscend → GapsBelow → GapsApart
     → (k now : AbstractMachine) (name pre_file post_file : List ℕ) (report : Report) → IsBuilt k
     → applied k name pre_file post_file ≡ Ok (now, report) → AreReached k pre_file post_file now report
 all_reached laws codes plans ascend below apart k now name pre_file post_file report built is =
     let it = accepted k name pre_file post_file now report is in
-    let can = planned_can plans ascend below apart k name pre_file post_file it.plan built it.plan_is in
+    let can = planned_can plans.can ascend below apart k name pre_file post_file it.plan built it.plan_is in
+    let replace = planned_replaces plans.replace k name pre_file post_file it.plan built it.plan_is in
     subst (λ (m : AbstractMachine). AreReached k pre_file post_file m report) it.now_is
     (subst (AreReached k pre_file post_file (committed k name it.plan)) it.report_is
-    (reached_by laws codes ascend k name pre_file post_file it.plan built can it.plan_is))
+    (reached_by laws codes ascend k name pre_file post_file it.plan built can replace it.plan_is))

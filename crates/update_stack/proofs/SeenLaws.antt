@@ -23,7 +23,6 @@ use Rattle.update_stack.specs.StandsFor.{Seen, patched}
 use Rattle.update_stack.specs.Undo.{ranges_in, newest_update}
 use Rattle.update_stack.specs.Systems.{machine_of, Holds}
 use Rattle.update_stack.specs.Stacked.{IsKept, AreKept, NoneKept, OneKept}
-use Rattle.update_stack.specs.inside.TakingBack.{refusal_of, undo_refusal}
 use Rattle.update_stack.specs.laws.StackedLaws.{built_sound}
 use Rattle.update_stack.proofs.LastLaws.{last_more}
 use Rattle.update_stack.proofs.FreshLaws.{all_have_stacks}
@@ -81,49 +80,6 @@ module _ (program : Program) (arena : Range) (updates : List Shown) (kept : List
       ap (λ (s : Seen). thread_refusal s.contents.pieces ranges program.threads) holds.stands
       ∙ threads_stay data_stay (contents_of k) (bodies_in k.table) sound.jumps.valid sound.jumps.spliced ranges
       program.threads (all_have_stacks k.pieces program.stacks program.threads sound.stacks placed)
-
--- where nothing is kept there is no update, and the last that is kept is of the newest
-kept_none : (k : AbstractMachine) (kept : List Kept) → AreKept k kept
-    → last_or None kept ≡ None
-    → newest_update k ≡ None
-kept_none k kept (NoneKept _ _ none nothing free) last = ap (last_or None) none
-kept_none k kept (OneKept _ update earlier _ one newest ends is before) last =
-    let some : last_or None kept ≡ Some one = ap (last_or None) ends ∙ last_more earlier one in
-    absurd (cc)
-
-pub record HasLast (k : AbstractMachine) (one : Kept) : Type 0 where
-  pub update : Update
-  pub newest : newest_update k ≡ Some update
-  pub is : IsKept k update one
-
-kept_last : (k : AbstractMachine) (kept : List Kept) (one : Kept) → AreKept k kept
-    → last_or None kept ≡ Some one → HasLast k one
-kept_last k kept one (NoneKept _ _ none nothing free) last =
-    let no : last_or None kept ≡ None = ap (last_or None) nothing in
-    absurd (cc)
-kept_last k kept one (OneKept _ update earlier _ other newest ends is before) last =
-    let some : last_or None kept ≡ Some other = ap (last_or None) ends ∙ last_more earlier other in
-    let same : other ≡ one = cc in
-    subst (HasLast k) same (record { update = update; newest = newest; is = is })
-
-pub none_refused : (k : AbstractMachine) (kept : List Kept) → AreKept k kept
-    → last_or None kept ≡ None → Some NothingApplied ≡ undo_refusal k
-unfolding undo_refusal
-none_refused k kept are last = sym (ap (refusal_of k) (kept_none k kept are last))
-
--- a law of another crate: the order of ranges doesn't matter
-abbrev pub OrderHasNoSay : Type 0
-OrderHasNoSay = (pieces : List Piece) (ranges others : List Range) (threads : List Thread) → IsPermutation ranges others
-    → thread_refusal pieces ranges threads ≡ thread_refusal pieces others threads
-
-pub last_refused : OrderHasNoSay → (k : AbstractMachine) (kept : List Kept) (one : Kept)
-    → AreKept k kept → last_or None kept ≡ Some one
-    → thread_refusal k.pieces one.ranges k.threads ≡ undo_refusal k
-unfolding undo_refusal
-last_refused order k kept one are last =
-    let has = kept_last k kept one are last in
-    order k.pieces one.ranges (ranges_in k has.update) k.threads has.is.ranges
-    ∙ sym (ap (refusal_of k) has.newest)
 
 -- the last item is that before the length
 last_get : {X : Type 0} (x : X) (xs : List X) → slice_get (x ∷ xs) (length xs) ≡ last_or (Some x) xs

@@ -1,17 +1,22 @@
--- What comes of taking the newest update back.
-use Rattle.std.proofs.Common.{◌≡◌, ℕ, ◌+◌, ◌≤◌, ◌<◌, Bool, true, false, cond, not, List, [], ◌∷◌, ◌++◌, map}
-use Rattle.std.proofs.Common.{length, get_or, Some, None}
+-- What comes of taking an update back that stands among others.
+use Rattle.std.proofs.Common.{◌≡◌, ◌≢◌, ℕ, ◌+◌, ◌-◌, ◌≤◌, ◌<◌, Bool, true, false, cond, not, List, [], ◌∷◌, ◌++◌, map}
+use Rattle.std.proofs.Common.{length, get_or, Some, None, ◌⊎◌, inl, inr}
 use Rattle.std.proofs.Common.{refl, sym, ◌∙◌, ap, subst, arith}
-use Rattle.std.specs.List.{All, Any, fold, last_or}
+use Rattle.std.specs.List.{All, AllPairs, Any, Contains, find, flat_map, fold, list_any}
 use Rattle.std.proofs.lemmas.List.{length-map, length-append, get_or-map, get_or_default}
-use Rattle.std.proofs.lemmas.List.Elements.{All-head, All-tail, All-map, All-weaker, All-push}
+use Rattle.std.proofs.lemmas.List.Elements.{All-head, All-tail, All-cons, All-map, All-weaker, All-push}
+use Rattle.std.proofs.lemmas.List.Elements.{Contains-get_or, Contains-append_right}
+use Rattle.std.proofs.lemmas.Grind.{flat_map-append}
 use Rattle.ks_base.specs.declared.places.Range.{Range}
 use Rattle.ks_base.specs.declared.reports.Replaced.{Replaced}
 use Rattle.image_memory.specs.declared.types.Piece.{Piece}
 use Rattle.image_memory.specs.declared.types.Fence.{Fence}
+use Rattle.image_memory.specs.Ranges.{Ascends, are_same}
 use Rattle.image_memory.specs.Contents.{Contents, IsValid, piece_range, fence_range}
 use Rattle.image_memory.specs.Access.{bytes_at, written}
 use Rattle.image_memory.specs.Fetch.{HasCode}
+use Rattle.symbol_table.specs.declared.symbols.Symbol.{Symbol}
+use Rattle.symbol_table.specs.Table.{without_symbols}
 use Rattle.splice_jump.specs.Jump.{five_at, jump_bytes}
 use Rattle.splice_jump.specs.Jumps.{jumped, jumped_memory, with_row, old_at, olds_at, unjumped, AreSpliced}
 use Rattle.update_memory.specs.declared.types.Jump.{Jump}
@@ -24,18 +29,30 @@ use Rattle.update_stack.specs.AbstractMachine.{AbstractMachine, Row, Update, is_
 use Rattle.update_stack.specs.AbstractMachine.{jump_rows}
 use Rattle.update_stack.specs.AbstractMachine.{with_replaced}
 use Rattle.update_stack.specs.StandsFor.{Seen, seen, seen_of, patched}
-use Rattle.update_stack.specs.Undo.{without_last, without_base, withdrawn, newest_update}
-use Rattle.update_stack.specs.Systems.{text_of, replaced_by, table_of, live_update, live_updates, machine_of}
+use Rattle.update_stack.specs.Apply.{has_name}
+use Rattle.update_stack.specs.Undo.{without_base, symbols_of, withdrawn, cover_refusal}
+use Rattle.update_stack.specs.Uncovered.{IsUncovered, HasOtherHomes}
+use Rattle.update_stack.specs.Systems.{text_of, table_of, live_update, live_updates, machine_of}
 use Rattle.update_stack.specs.Systems.{HasJumpCode, Holds}
-use Rattle.update_stack.specs.Stacked.{IsBuilt, AreKept, NoneKept, OneKept}
-use Rattle.update_stack.specs.inside.TakingBack.{CanBeTaken, after_taking, IsHeldBefore}
-use Rattle.update_stack.specs.laws.StackedLaws.{HasNewest, built_newest}
-use Rattle.update_stack.proofs.LastLaws.{last_more, without_more, text_more, table_more, live_more}
-use Rattle.update_stack.proofs.TableLaws.{JumpsAdded, JumpsReplaced, first_table, table_stays, table_back, spliced_new}
-use Rattle.update_stack.proofs.TableLaws.{jumps_stacked}
-use Rattle.update_stack.proofs.BuiltLaws.{machine_is}
-use Rattle.update_stack.proofs.PlaceLaws.{without_newest, withdrawn_newest}
-use Rattle.update_stack.proofs.KeptLaws.{HasKept, kept_newest, CodeWasThere, withdrawn_pieces}
+use Rattle.update_stack.specs.Stacked.{IsSound, IsBuilt, Untouched, Updated, IsKept, AreKept, NoneKept, OneKept}
+use Rattle.update_stack.specs.inside.TakingBack.{CanBeTaken, after_taking, AtUpdate, IsHeldWithout}
+use Rattle.update_stack.specs.laws.StackedLaws.{HasNewest, built_newest, built_sound}
+use Rattle.update_stack.proofs.TableLaws.{JumpsAdded, JumpsReplaced, spliced_new}
+use Rattle.update_stack.proofs.BuiltLaws.{machine_is, contains_first, contains_later}
+use Rattle.update_stack.proofs.PlaceLaws.{own_name}
+use Rattle.update_stack.proofs.KeptLaws.{CodeWasThere, withdrawn_pieces}
+use Rattle.update_stack.proofs.ApartLaws.{AllAway}
+use Rattle.std.proofs.lemmas.Bool.{or_parts}
+use Rattle.update_stack.proofs.PastLaws.{IsAmong, without_one, later_among, withdrawn_among}
+use Rattle.update_stack.proofs.UncoveredLaws.{uncovered_alone}
+use Rattle.update_stack.proofs.LeftLaws.{LeftLaws, uncovered_goes}
+use Rattle.update_stack.proofs.StillKeptLaws.{BytesStay, uncovered_kept}
+use Rattle.update_stack.proofs.OldsLaws.{AreOlds, olds_behind, kept_olds, olds_away}
+use Rattle.update_stack.proofs.AtLaws.{length_live}
+use Rattle.update_stack.proofs.ThereLaws.{newest_or_older, live_there, built_names, listed_among, built_symbols}
+use Rattle.update_stack.proofs.StandingLaws.{Stands, OnTop, Under, spliced_own, jumps_over}
+use Rattle.update_stack.proofs.MarkLaws.{marked_left}
+use Rattle.update_stack.proofs.AmongLaws.{live_joined, symbols_kept, text_joined, text_swapped, table_without}
 
 -- the laws of other crates that are used here
 abbrev pub ValidJumped : Type 0
@@ -206,156 +223,338 @@ text_dropped past bases (one ∷ later) pieces =
     ap (unjumped (olds_of one.jumps)) (text_dropped past bases later pieces)
     ∙ sym (past bases (olds_of one.jumps) (text_of later pieces))
 
-module _ (laws : Laws) (program : Program) (arena : Range) (updates : List Shown) (kept : List Kept)
-    (update : Shown) (one : Kept) (holds : Holds program arena (updates ++ update ∷ []) (kept ++ one ∷ [])) where
-  -- the machine, its newest update, and the machine without it
-  abbrev k : AbstractMachine
-  k = machine_of program arena (updates ++ update ∷ []) (kept ++ one ∷ [])
+-- what holds of each item of two lists holds of each one's
+all_parts : {X : Type 0} (P : X → Type 0) (xs ys : List X) → All P (xs ++ ys) → All P xs × All P ys
+all_parts P [] ys all = ((λ i d l. absurd (omega arith)), all)
+all_parts P (x ∷ xs) ys all =
+    let rest = all_parts P xs ys (All-tail P x (xs ++ ys) all) in
+    (All-cons P x xs (All-head P x (xs ++ ys) all) rest.0, rest.1)
 
-  abbrev live : Update
-  live = live_update update one
+-- An update whose homes no later one has stands among the others.
+pub stands_from : (k : AbstractMachine) → IsBuilt k → (update : Update) (earlier later : List Update)
+    → IsAmong k.updates update earlier later → All (HasOtherHomes update) later → Stands k update
+stands_from _ (Untouched k sound none empty unused) update earlier later among alone =
+    absurd (nowhere earlier (sym none ∙ among.parts))
+  where
+    nowhere : (before : List Update) → [] ≡ before ++ update ∷ later → ⊥
+    nowhere [] is = absurd (cc)
+    nowhere (x ∷ before) is = absurd (cc)
+stands_from _ (Updated k newest sound is top below) update earlier later among alone =
+    let has : HasNewest k newest = record { sound = sound; top = top; below = below } in
+    elim (newest_or_older k newest update earlier later is top.name among) [
+      | inl one ↦ subst (Stands k) (sym one.same) (OnTop k newest has)
+      | inr older ↦
+          let parts = all_parts (HasOtherHomes update) older.between (newest ∷ [])
+          (subst (All (HasOtherHomes update)) older.parts alone) in
+          Under k update newest has (All-head (HasOtherHomes update) newest [] parts.1)
+          (stands_from (withdrawn k newest) below update earlier older.between older.among parts.0)
+    ]
+
+-- it is the one of its name
+found_first : {X : Type 0} (p : X → Bool) (before : List X) (x : X) (after : List X) → list_any p before ≡ false
+    → p x ≡ true → find p (before ++ x ∷ after) ≡ Some x
+found_first p [] x after none is = rw is refl
+found_first p (y ∷ before) x after none is =
+    let parts = or_parts (p y) (list_any p before) none in
+    let here : p y ≡ false = parts.0 in
+    rw here (found_first p before x after parts.1 is)
+
+-- What each update that stands among others has of its own.
+pub record HasOwn (update : Update) : Type 0 where
+  pub once : AllPairs (λ (a b : Replaced). a.home ≢ b.home) update.report.replaced
+  pub bases : AllPairs (λ (a b : ℕ). a ≢ b) update.pieces
+  pub ranges : AllPairs (λ a b. are_same a b ≡ false) update.retired
+
+own_of : (k : AbstractMachine) (update : Update) → Stands k update → HasOwn update
+own_of k update (OnTop _ _ has) = record { once = has.top.once; bases = has.top.bases; ranges = has.top.ranges }
+own_of k update (Under _ _ newest has apart stands) = own_of (withdrawn k newest) update stands
+
+-- What is left where an update goes from among others: the machine without it is built, with what is kept of the others;
+-- what is kept of it is so in the whole machine, and puts no code back at the homes of the later ones.
+pub record Leaves (k : AbstractMachine) (update : Update) (one : Kept) (earlier later : List Kept) : Type 0 where
+  pub built : IsBuilt (withdrawn k update)
+  pub are_kept : AreKept (withdrawn k update) (earlier ++ later)
+  pub is_kept : IsKept k update one
+  pub apart : All (λ (other : Kept). AllAway (olds_of one.jumps) (olds_of other.jumps)) later
+
+module _ (laws : Laws) (program : Program) (arena : Range) (updates : List Shown) (kept : List Kept)
+    (at : AtUpdate updates kept) (holds : Holds program arena updates kept) where
+  -- the machine, the update, the machine without it, and the other updates
+  abbrev pub k : AbstractMachine
+  k = machine_of program arena updates kept
+
+  abbrev pub live : Update
+  live = live_update at.update at.one
 
   abbrev before : AbstractMachine
   before = withdrawn k live
 
   abbrev replaced : List Replaced
-  replaced = update.report.replaced
+  replaced = at.update.report.replaced
 
-  paired : length kept ≡ length updates
-  paired =
-      let long : length (kept ++ one ∷ []) ≡ length (updates ++ update ∷ []) = holds.paired in
-      omega (arith, length-append kept (one ∷ []), length-append updates (update ∷ []))
+  abbrev pub earlier : List Update
+  earlier = live_updates at.earlier at.kept_earlier
 
-  pub newest : newest_update k ≡ Some live
-  newest =
-      ap (last_or None) (live_more updates update kept one paired) ∙ last_more (live_updates updates kept) live
+  abbrev pub later : List Update
+  later = live_updates at.later at.kept_later
 
-  has : HasNewest k live
-  has = built_newest k live holds.built newest
+  later_paired : length at.kept_later ≡ length at.later
+  later_paired =
+      let all : length kept ≡ length updates = holds.paired in
+      let some : length at.kept_earlier ≡ length at.earlier = at.beside in
+      let long : length kept ≡ length (at.kept_earlier ++ at.one ∷ at.kept_later) = ap length at.kept_are in
+      let wide : length updates ≡ length (at.earlier ++ at.update ∷ at.later) = ap length at.updates_are in
+      omega (
+        arith,
+        all,
+        some,
+        long,
+        wide,
+        length-append at.kept_earlier (at.one ∷ at.kept_later),
+        length-append at.earlier (at.update ∷ at.later),
+      )
 
-  keeps : HasKept k live kept one
-  keeps = kept_newest k live kept (kept ++ one ∷ []) one holds.are_kept newest refl
+  live_parts : k.updates ≡ earlier ++ live ∷ later
+  live_parts =
+      ap (λ (us : List Shown). live_updates us kept) at.updates_are
+      ∙ ap (live_updates (at.earlier ++ at.update ∷ at.later)) at.kept_are
+      ∙ live_joined at.earlier (at.update ∷ at.later) at.kept_earlier (at.one ∷ at.kept_later) at.beside
+
+  pub among : IsAmong k.updates live earlier later
+  among = listed_among k.updates live earlier later (built_names k holds.built) live_parts
+
+  sound : IsSound k
+  sound = built_sound k holds.built
 
   memory : program.contents ≡ jumped_memory (bodies_in k.table) (contents_of k)
   unfolding patched
   memory = ap (λ (s : Seen). s.contents) holds.stands
 
-  spliced : AreSpliced (contents_of k) (bodies_in (fold with_replaced before.table replaced))
-  spliced = subst (λ (t : List Row). AreSpliced (contents_of k) (bodies_in t)) has.top.table has.sound.jumps.spliced
+  pub named_live : find (has_name live.name) k.updates ≡ Some live
+  named_live =
+      ap (find (has_name live.name)) live_parts
+      ∙ found_first (has_name live.name) earlier live later among.new (own_name live.name)
 
-  -- what is taken away can be
-  pub can_be_taken : CanBeTaken program one
-  can_be_taken = record {
-    pieces = λ i d l. has_based program.contents.pieces k.pieces (get_or one.pieces i d)
-        (ap (λ (c : Contents). map piece_range c.pieces) memory ∙ laws.places (bodies_in k.table) k.pieces)
-        (has.top.pieces i d l);
-    bases = has.top.bases;
-    retired = has.top.retired;
-    ranges = has.top.ranges;
-    code =
-        All-weaker (HasFive k.pieces) (HasFive program.contents.pieces)
-        (λ jump code. subst (λ (c : Contents). HasCode c.pieces jump.home 5) (sym memory)
-        (code_jumped laws.stays (bodies_in k.table) k.pieces jump.home 5 code))
-        one.jumps (newest_code k live one has keeps.is_kept.rows);
-    symbols =
-        let few : length one.symbols ≤ length program.table.symbols = has.top.symbols in
-        let count : one.symbol_count ≡ length one.symbols = keeps.is_kept.count in
-        omega arith;
-  }
+  -- where no later update covers it, it can go
+  module _ (clear : cover_refusal k live ≡ None) where
+    uncovered : IsUncovered k live
+    uncovered = record { built = holds.built; live = named_live; uncovered = clear }
 
-  -- the memory with the jumps of the updates before it alone
-  abbrev under : List Piece
-  under = jumped (bodies_in before.table) k.pieces
+    pub free_at : All (HasOtherHomes live) later
+    free_at =
+        subst (All (HasOtherHomes live)) (later_among k.updates live earlier later among)
+        (uncovered_alone k live uncovered)
 
-  restored : unjumped (olds_of one.jumps) program.contents.pieces ≡ under
-  restored =
-      ap (λ (olds : List (ℕ × List ℕ)). unjumped olds program.contents.pieces) keeps.is_kept.olds
-      ∙ ap (λ (c : Contents). unjumped (olds_at under (jump_rows replaced)) c.pieces) memory
-      ∙ ap (λ (t : List Row). unjumped (olds_at under (jump_rows replaced)) (jumped (bodies_in t) k.pieces))
-      has.top.table
-      ∙ ap (unjumped (olds_at under (jump_rows replaced)))
-      (jumps_stacked laws.added laws.over (contents_of k) before.table replaced has.sound.jumps.valid spliced)
-      ∙ laws.taken_back (jumped_memory (bodies_in before.table) (contents_of k)) (jump_rows replaced)
-      (laws.valid (contents_of k) (bodies_in before.table) has.sound.jumps.valid)
-      (laws.spliced (contents_of k) (jump_rows replaced) (bodies_in before.table)
-      (spliced_new (contents_of k) before.table replaced has.top.once spliced))
+    front_paired : length at.kept_earlier ≡ length earlier
+    front_paired = at.beside ∙ sym (length_live at.earlier at.kept_earlier at.beside)
 
-  pieces_left : without_pieces one.pieces (unjumped (olds_of one.jumps) program.contents.pieces)
-      ≡ jumped (bodies_in before.table) before.pieces
-  pieces_left =
-      ap (without_pieces one.pieces) restored
-      ∙ laws.past_jumps one.pieces (bodies_in before.table) k.pieces
-      ∙ ap (jumped (bodies_in before.table)) (sym (withdrawn_pieces k live))
+    back_paired : length at.kept_later ≡ length later
+    back_paired = later_paired ∙ sym (length_live at.later at.kept_later later_paired)
 
-  fences_left : without_ranges one.retired program.contents.fences ≡ map (fence_in before.table) before.retired
-  unfolding withdrawn
-  fences_left =
-      ap (λ (c : Contents). without_ranges one.retired c.fences) memory
-      ∙ left_marked one.retired k.table before.table k.retired has.top.marked
+    all_paired : length kept ≡ length k.updates
+    all_paired = holds.paired ∙ sym (length_live updates kept holds.paired)
 
-  contents_left : withdrawn_memory one.pieces one.retired (olds_of one.jumps) program.contents ≡ patched before
-  unfolding withdrawn_memory patched
-  contents_left = λ i. record { pieces = pieces_left i; fences = fences_left i }
+    olds : AreOlds (live ∷ later) (at.one ∷ at.kept_later)
+    olds =
+        olds_behind earlier (live ∷ later) at.kept_earlier (at.one ∷ at.kept_later) front_paired
+        (subst (λ (us : List Update). AreOlds us (at.kept_earlier ++ at.one ∷ at.kept_later)) live_parts
+        (subst (AreOlds k.updates) at.kept_are (kept_olds k kept holds.are_kept holds.built all_paired)))
 
-  module _ (after : Program) (is : seen after ≡ after_taking one (seen program)) where
-    abbrev now : AbstractMachine
-    now = machine_of after arena updates kept
+    live_listed : Contains k.updates live
+    live_listed =
+        subst (λ (us : List Update). Contains us live) (sym live_parts)
+        (Contains-append_right earlier (live ∷ later) live (contains_first live later))
 
-    pieces_now : after.contents.pieces
-        ≡ without_pieces one.pieces (unjumped (olds_of one.jumps) program.contents.pieces)
-    unfolding withdrawn_memory
-    pieces_now = ap (λ (s : Seen). s.contents.pieces) is
+    later_listed : All (Contains k.updates) later
+    later_listed i d l =
+        subst (λ (us : List Update). Contains us (get_or later i d)) (sym live_parts)
+        (Contains-append_right earlier (live ∷ later) (get_or later i d)
+        (contains_later live later (get_or later i d) (Contains-get_or later i d l)))
 
-    fences_now : after.contents.fences ≡ without_ranges one.retired program.contents.fences
-    unfolding withdrawn_memory
-    fences_now = ap (λ (s : Seen). s.contents.fences) is
+    pub leaves_at : LeftLaws → BytesStay → Leaves k live at.one at.kept_earlier at.kept_later
+    leaves_at left bytes =
+        let still = uncovered_kept left bytes k live uncovered earlier later live_parts kept at.kept_earlier
+        at.kept_later at.one holds.are_kept at.kept_are front_paired in record {
+          built = uncovered_goes left k live uncovered;
+          are_kept = still.rest;
+          is_kept = still.own;
+          apart =
+              olds_away k holds.built live at.one live_listed olds.0 later at.kept_later back_paired later_listed free_at
+              olds.1;
+        }
 
-    table_now : table_of updates ≡ (without_newest k live).table
-    table_now =
-        sym (table_back (table_of updates) replaced (table_stays [] (replaced_by updates) first_table) has.top.once)
-        ∙ ap (λ (t : List Row). fold without_base t replaced) (sym (table_more updates update))
+  module _ (alone : All (HasOtherHomes live) later) (leaves : Leaves k live at.one at.kept_earlier at.kept_later) where
+    stands : Stands k live
+    stands = stands_from k holds.built live earlier later among alone
 
-    pub same : now ≡ before
-    same =
-        machine_is now (without_newest k live)
-        (ap (text_of kept) pieces_now
-        ∙ text_dropped laws.past_olds one.pieces kept (unjumped (olds_of one.jumps) program.contents.pieces)
-        ∙ ap (without_pieces one.pieces) (sym (text_more kept one program.contents.pieces)))
-        table_now
-        (ap (map fence_range) fences_now ∙ laws.ranges one.retired program.contents.fences)
-        (ap (λ (s : Seen). s.symbols) is
-        ∙ ap (λ (n : ℕ). without_last n program.table.symbols) keeps.is_kept.count)
-        (ap (λ (s : Seen). s.stacks) is)
-        refl
-        (ap (λ (s : Seen). s.threads) is)
-        (sym (without_more (live_updates updates kept) (live ∷ []))
-        ∙ ap (without_last 1) (sym (live_more updates update kept one paired)))
-        ∙ sym (withdrawn_newest k live newest has.top.name)
+    own : HasOwn live
+    own = own_of k live stands
 
-    stands : seen after ≡ seen_of now
-    stands =
-        ap (λ (c : Contents). let s : Seen = record (seen after) { contents = c } in s)
-        (ap (λ (s : Seen). s.contents) is ∙ contents_left ∙ ap patched (sym same))
+    own_spliced : AreSpliced (contents_of k) (jump_rows replaced)
+    own_spliced = spliced_own k live stands (contents_of k) sound.jumps.spliced
 
-    built : IsBuilt now
-    built = subst IsBuilt (sym same) has.below
+    own_code : All (HasFive k.pieces) at.one.jumps
+    own_code =
+        jump_code k.pieces at.one.jumps
+        (subst (All (CodeAt k.pieces)) (sym leaves.is_kept.rows) (λ i d l. (own_spliced.each i d l).code))
 
-    are_kept : AreKept now kept
-    are_kept = subst (λ (m : AbstractMachine). AreKept m kept) (sym same) keeps.before
+    -- what is taken away can be
+    pub can_be_taken : CanBeTaken program at.one at.kept_later
+    can_be_taken =
+        let there = live_there k holds.built live (record { earlier = earlier; later = later; among = among }) in record {
+          pieces = λ i d l. has_based program.contents.pieces k.pieces (get_or at.one.pieces i d)
+              (ap (λ (c : Contents). map piece_range c.pieces) memory ∙ laws.places (bodies_in k.table) k.pieces)
+              (there.pieces i d l);
+          bases = own.bases;
+          retired = there.retired;
+          ranges = own.ranges;
+          code =
+              All-weaker (HasFive k.pieces) (HasFive program.contents.pieces)
+              (λ jump code. subst (λ (c : Contents). HasCode c.pieces jump.home 5) (sym memory)
+              (code_jumped laws.stays (bodies_in k.table) k.pieces jump.home 5 code))
+              at.one.jumps own_code;
+          symbols =
+              let all = built_symbols k holds.built in
+              let parts : length (symbols_of k.updates) ≡ length (symbols_of (earlier ++ live ∷ later)) =
+              ap (λ (us : List Update). length (symbols_of us)) live_parts in
+              let joined : length (symbols_of (earlier ++ live ∷ later))
+              ≡ length (symbols_of earlier ++ symbols_of (live ∷ later)) =
+              ap length (flat_map-append (λ (u : Update). u.symbols) earlier (live ∷ later)) in
+              let sum = length-append (symbols_of earlier) (symbols_of (live ∷ later)) in
+              let same : length (at.one.symbols ++ symbols_of later)
+              ≡ length (at.one.symbols ++ flat_map (λ (o : Kept). o.symbols) at.kept_later) =
+              ap (λ (ss : List Symbol). length (at.one.symbols ++ ss))
+              (symbols_kept at.later at.kept_later later_paired) in
+              omega (arith, all, parts, joined, sum, same);
+          count = leaves.is_kept.count;
+        }
 
-    code : All (λ (o : Kept). All (HasJumpCode after.contents.pieces) o.jumps) kept
-    unfolding patched
-    code =
-        All-weaker (λ (o : Kept). All (HasJumpCode now.pieces) o.jumps)
-        (λ (o : Kept). All (HasJumpCode after.contents.pieces) o.jumps)
-        (λ o all. All-weaker (HasJumpCode now.pieces) (HasJumpCode after.contents.pieces)
-        (λ jump there. subst (λ (s : Seen). HasCode s.contents.pieces jump.home (length jump.old)) (sym stands)
-        (code_jumped laws.stays (bodies_in now.table) now.pieces jump.home (length jump.old) there))
-        o.jumps all) kept (kept_code laws.was_there now kept built are_kept)
+    restored : unjumped (olds_of at.one.jumps) program.contents.pieces ≡ jumped (bodies_in before.table) k.pieces
+    restored =
+        let under = jumped (bodies_in before.table) k.pieces in
+        ap (λ (olds : List (ℕ × List ℕ)). unjumped olds program.contents.pieces) leaves.is_kept.olds
+        ∙ ap (λ (c : Contents). unjumped (olds_at under (jump_rows replaced)) c.pieces) memory
+        ∙ ap (unjumped (olds_at under (jump_rows replaced)))
+        (jumps_over laws.added laws.over k live stands (contents_of k) sound.jumps.valid sound.jumps.spliced)
+        ∙ laws.taken_back (jumped_memory (bodies_in before.table) (contents_of k)) (jump_rows replaced)
+        (laws.valid (contents_of k) (bodies_in before.table) sound.jumps.valid)
+        (laws.spliced (contents_of k) (jump_rows replaced) (bodies_in before.table) own_spliced)
 
-    pub held_before : IsHeldBefore program after arena updates kept update one
-    held_before = record {
-      newest = newest;
-      holds = record { stands = stands; built = built; are_kept = are_kept; code = code; paired = paired };
-      same = same;
-    }
+    pieces_left : without_pieces at.one.pieces (unjumped (olds_of at.one.jumps) program.contents.pieces)
+        ≡ jumped (bodies_in before.table) before.pieces
+    pieces_left =
+        ap (without_pieces at.one.pieces) restored
+        ∙ laws.past_jumps at.one.pieces (bodies_in before.table) k.pieces
+        ∙ ap (jumped (bodies_in before.table)) (sym (withdrawn_pieces k live))
+
+    fences_left : without_ranges at.one.retired program.contents.fences ≡ map (fence_in before.table) before.retired
+    unfolding withdrawn
+    fences_left =
+        ap (λ (c : Contents). without_ranges at.one.retired c.fences) memory
+        ∙ left_marked at.one.retired k.table before.table k.retired
+        (λ i d l. marked_left k live stands (get_or before.retired i d) (Contains-get_or before.retired i d l))
+
+    contents_left : withdrawn_memory at.one.pieces at.one.retired (olds_of at.one.jumps) program.contents ≡ patched before
+    unfolding withdrawn_memory patched
+    contents_left = λ i. record { pieces = pieces_left i; fences = fences_left i }
+
+    module _ (after : Program) (is : seen after ≡ after_taking at.one at.kept_later (seen program)) where
+      abbrev others : List Shown
+      others = at.earlier ++ at.later
+
+      abbrev kept_others : List Kept
+      kept_others = at.kept_earlier ++ at.kept_later
+
+      abbrev now : AbstractMachine
+      now = machine_of after arena others kept_others
+
+      pieces_now : after.contents.pieces
+          ≡ without_pieces at.one.pieces (unjumped (olds_of at.one.jumps) program.contents.pieces)
+      unfolding withdrawn_memory
+      pieces_now = ap (λ (s : Seen). s.contents.pieces) is
+
+      fences_now : after.contents.fences ≡ without_ranges at.one.retired program.contents.fences
+      unfolding withdrawn_memory
+      fences_now = ap (λ (s : Seen). s.contents.fences) is
+
+      ascend : Ascends piece_range 0 program.contents.pieces
+      ascend =
+          subst (λ (c : Contents). Ascends piece_range 0 c.pieces) (sym memory)
+          (laws.valid (contents_of k) (bodies_in k.table) sound.jumps.valid).placed.ascend
+
+      text_now : now.pieces ≡ without_pieces at.one.pieces k.pieces
+      text_now =
+          let olds = olds_of at.one.jumps in
+          let code = program.contents.pieces in
+          ap (text_of kept_others) pieces_now
+          ∙ text_dropped laws.past_olds at.one.pieces kept_others (unjumped olds code)
+          ∙ ap (without_pieces at.one.pieces)
+          (text_joined at.kept_earlier at.kept_later (unjumped olds code)
+          ∙ ap (text_of at.kept_earlier) (sym (text_swapped olds at.kept_later code ascend leaves.apart))
+          ∙ sym (text_joined at.kept_earlier (at.one ∷ at.kept_later) code)
+          ∙ ap (λ (ks : List Kept). text_of ks code) (sym at.kept_are))
+
+      table_now : now.table ≡ fold without_base k.table replaced
+      table_now =
+          table_without at.earlier at.update at.later at.one at.kept_later later_paired alone own.once
+          ∙ ap (λ (us : List Shown). fold without_base (table_of us) replaced) (sym at.updates_are)
+
+      symbols_now : after.table.symbols
+          ≡ without_symbols (length k.symbols - length (live.symbols ++ symbols_of later)) (length live.symbols) k.symbols
+      symbols_now =
+          ap (λ (s : Seen). s.symbols) is
+          ∙ ap (λ (ss : List Symbol). without_symbols (length k.symbols - length (live.symbols ++ ss))
+          at.one.symbol_count k.symbols) (sym (symbols_kept at.later at.kept_later later_paired))
+          ∙ ap (λ (n : ℕ). without_symbols (length k.symbols - length (live.symbols ++ symbols_of later)) n k.symbols)
+          leaves.is_kept.count
+
+      pub same : now ≡ before
+      same =
+          machine_is now (without_one k live earlier later) text_now table_now
+          (ap (map fence_range) fences_now ∙ laws.ranges at.one.retired program.contents.fences)
+          symbols_now
+          (ap (λ (s : Seen). s.stacks) is)
+          refl
+          (ap (λ (s : Seen). s.threads) is)
+          (live_joined at.earlier at.later at.kept_earlier at.kept_later at.beside)
+          ∙ sym (withdrawn_among k live earlier later among)
+
+      stands_now : seen after ≡ seen_of now
+      stands_now =
+          ap (λ (c : Contents). let s : Seen = record (seen after) { contents = c } in s)
+          (ap (λ (s : Seen). s.contents) is ∙ contents_left ∙ ap patched (sym same))
+
+      built : IsBuilt now
+      built = subst IsBuilt (sym same) leaves.built
+
+      are_kept : AreKept now kept_others
+      are_kept = subst (λ (m : AbstractMachine). AreKept m kept_others) (sym same) leaves.are_kept
+
+      code : All (λ (o : Kept). All (HasJumpCode after.contents.pieces) o.jumps) kept_others
+      unfolding patched
+      code =
+          All-weaker (λ (o : Kept). All (HasJumpCode now.pieces) o.jumps)
+          (λ (o : Kept). All (HasJumpCode after.contents.pieces) o.jumps)
+          (λ o all. All-weaker (HasJumpCode now.pieces) (HasJumpCode after.contents.pieces)
+          (λ jump there. subst (λ (s : Seen). HasCode s.contents.pieces jump.home (length jump.old)) (sym stands_now)
+          (code_jumped laws.stays (bodies_in now.table) now.pieces jump.home (length jump.old) there))
+          o.jumps all) kept_others (kept_code laws.was_there now kept_others built are_kept)
+
+      others_paired : length kept_others ≡ length others
+      others_paired =
+          let some : length at.kept_earlier ≡ length at.earlier = at.beside in
+          let rest = later_paired in
+          omega (arith, some, rest, length-append at.kept_earlier at.kept_later, length-append at.earlier at.later)
+
+      pub held_without : IsHeldWithout program after arena updates kept at
+      held_without = record {
+        live = named_live;
+        holds = record {
+          stands = stands_now;
+          built = built;
+          are_kept = are_kept;
+          code = code;
+          paired = others_paired;
+        };
+        same = same;
+      }

@@ -12,9 +12,10 @@ use Rattle.image_memory.specs.declared.types.Piece.{Piece}
 use Rattle.image_memory.specs.declared.types.Fence.{Fence}
 use Rattle.image_memory.specs.Contents.{Contents}
 use Rattle.image_memory.specs.Changes.{with_piece}
-use Rattle.image_memory.specs.Fetch.{View, view}
+use Rattle.image_memory.specs.Fetch.{View, view, is_code}
 use Rattle.symbol_table.specs.declared.symbols.Symbol.{Symbol}
 use Rattle.symbol_table.specs.Bodies.{newest}
+use Rattle.link_post.specs.declared.types.Needs.{Needs}
 use Rattle.ia32_step.specs.declared.types.Thread.{Thread}
 use Rattle.update_stack.specs.declared.updates.Update.{Update as Shown}
 
@@ -23,14 +24,16 @@ pub record Row : Type 0 where
   pub home : ℕ
   pub bases : List ℕ
 
--- An update that is live: its name and report, the bases of its pieces, the ranges that it retired, and the symbols
--- that it added. The homes that it replaced are those of its report's replaced functions.
+-- An update that is live: its name and report, the bases of its pieces, the ranges that it retired, the symbols that it
+-- added, and what the fields of its new sections need. The homes that it replaced are those of its report's replaced
+-- functions.
 pub record Update : Type 0 where
   pub name : List ℕ
   pub report : Report
   pub pieces : List ℕ
   pub retired : List Range
   pub symbols : List Symbol
+  pub needs : List Needs
 
 -- Text and data, ascending, the text being the pieces of code; the table; the retired ranges, ascending; the symbols;
 -- the image's stacks in order and its arena, which never change; all threads by number, those that have ended among
@@ -59,6 +62,10 @@ bodies_in table = map newest_in table
 -- where the newest version of a home's function begins: the home itself where it has no row
 abbrev pub base_of : AbstractMachine → ℕ → ℕ
 base_of k home = newest (bodies_in k.table) home
+
+-- whether a piece is text
+abbrev pub is_text : Piece → Bool
+is_text piece = is_code piece.kind
 
 -- what a thread meets at an address
 unfoldable pub view_in : AbstractMachine → ℕ → View

@@ -60,6 +60,7 @@ update_as name plan =
       pieces = map (λ (piece : Piece). piece.base) plan.pieces;
       retired = map fence_range plan.fences;
       symbols = plan.symbols;
+      needs = plan.needs;
     }
 
 abbrev pub with_new_piece : List Piece → Piece → List Piece

@@ -1,21 +1,22 @@
 -- The events of the machine: what each answers, and what lists of them leave.
-use Rattle.std.specs.Prelude.{ℕ, List, length, Result, Ok, Err}
+use Rattle.std.specs.Prelude.{ℕ, List, length, Option, None, Result, Ok, Err}
 use Rattle.std.specs.List.{fold}
 use Rattle.ks_base.specs.declared.refusals.Refusal.{Refusal}
 use Rattle.ks_base.specs.declared.reports.Report.{Report}
 use Rattle.ia32_step.specs.declared.types.Outcome.{Outcome}
-use Rattle.update_stack.specs.AbstractMachine.{AbstractMachine}
+use Rattle.update_stack.specs.AbstractMachine.{AbstractMachine, Update}
 use Rattle.update_stack.specs.Steps.{moved, spawned}
 use Rattle.update_stack.specs.Apply.{applied}
-use Rattle.update_stack.specs.Undo.{undone}
+use Rattle.update_stack.specs.Undo.{newest_update, named, undone, undone_named}
 
--- One event: a thread is started, a thread makes one step, an update is made as a whole, or the newest one is taken
--- back as a whole. What is refused changes nothing.
+-- One event: a thread is started, a thread makes one step, an update is made as a whole, or one is taken back as a
+-- whole, the newest or that of a name. What is refused changes nothing.
 pub data Event : Type 0 where
   Spawn : (name : List ℕ) (argument : ℕ) → Event
   Step : (thread : ℕ) → Event
   Apply : (name pre post : List ℕ) → Event
   Undo : Event
+  UndoNamed : (name : List ℕ) → Event
 
 -- what an event answers
 pub data Answer : Type 0 where
@@ -56,6 +57,13 @@ answered k (Spawn name argument) = spawn_answered (length k.threads) (spawned k 
 answered k (Step thread) = step_answered (moved k thread)
 answered k (Apply name pre post) = apply_answered (applied k name pre post)
 answered k Undo = undo_answered (undone k)
+answered k (UndoNamed name) = undo_answered (undone_named k name)
+
+-- the update that an event takes back, if it is accepted
+abbrev pub update_taken : AbstractMachine → Event → Option Update
+update_taken k Undo = newest_update k
+update_taken k (UndoNamed name) = named k name
+update_taken k other = None
 
 abbrev pub machine_after : AbstractMachine → Result Happened Refusal → AbstractMachine
 machine_after k (Err refusal) = k

@@ -10,7 +10,7 @@ use Rattle.update_plan.specs.Addresses.{AreSteps}
 use Rattle.update_plan.specs.Sound.{is_replaced_at}
 use Rattle.update_stack.specs.AbstractMachine.{AbstractMachine, Update, first_machine}
 use Rattle.update_stack.specs.Apply.{running_of, gaps_of, applied}
-use Rattle.update_stack.specs.Undo.{newest_update}
+use Rattle.update_stack.specs.Undo.{newest_update, named}
 use Rattle.update_stack.specs.Events.{Event, Answer, Happened, Spawned, Stepped, Applied, Undone, answered}
 use Rattle.update_stack.specs.Events.{after_event, after_events}
 use Rattle.update_stack.specs.Reached.{IsReached}
@@ -35,7 +35,7 @@ LeavesAloneBy before now (Applied report) home base =
     (is_replaced_at report.replaced home ≡ false)
     × IfSome (newest_update now.machine) (λ update. list_any (lies_in base) update.retired ≡ false)
 LeavesAloneBy before now (Undone name) home base =
-    IfSome (newest_update before) (λ update. is_replaced_at update.report.replaced home ≡ false)
+    IfSome (named before name) (λ update. is_replaced_at update.report.replaced home ≡ false)
 
 abbrev pub LeavesAlone : AbstractMachine → Result Happened Refusal → (home base : ℕ) → Type 0
 LeavesAlone before (Err refusal) home base = Unit {0}

@@ -39,6 +39,7 @@ live_update update kept =
       pieces = kept.pieces;
       retired = kept.retired;
       symbols = kept.symbols;
+      needs = kept.needs;
     }
 
 abbrev pub live_updates : List Shown → List Kept → List Update

@@ -1,7 +1,7 @@
 //! What carrying out a plan takes and does, piece by piece.
 ghost use Rattle.std.specs.Prelude.{◌≡◌, ℕ, false, List, ◌≤◌, ◌<◌, ◌+◌, ◌^◌, ◌++◌, [], ◌∷◌, length, map, IfOk, OnOk, OnErr};
-ghost use Rattle.std.specs.List.{list_any, All};
-ghost use Rattle.std.specs.List.Sorted.{IsPermutation};
+ghost use Rattle.std.specs.List.{filter, list_any, All};
+ghost use Rattle.std.specs.List.Sorted.{IsPermutation, IsNonDecreasingBy};
 ghost use Rattle.image_memory.specs.Contents.{piece_range, fence_range};
 ghost use Rattle.image_memory.specs.Changes.{ArePlaceable};
 ghost use Rattle.splice_jump.specs.Jumps.{jumped_memory, olds_at};
@@ -9,7 +9,7 @@ ghost use Rattle.update_memory.specs.Added.{AreAddable, with_pieces};
 ghost use Rattle.update_memory.specs.Retired.{AreRetirable, with_fences};
 ghost use Rattle.update_memory.specs.Rows.{olds_of, rows_of};
 ghost use Rattle.update_stack.specs.StandsFor.{seen};
-ghost use Rattle.update_stack.specs.AbstractMachine.{contents_of, jump_rows};
+ghost use Rattle.update_stack.specs.AbstractMachine.{bodies_in, contents_of, is_text, jump_rows};
 ghost use Rattle.update_stack.specs.declared.updates.Update.{Update as Shown};
 ghost use Rattle.update_stack.specs.Apply.{has_name};
 ghost use Rattle.update_stack.specs.Systems.{Holds, machine_of};
@@ -21,10 +21,10 @@ ghost use Rattle.ks_base.specs.declared.places.Range.{Range as RangeOf};
 ghost use Rattle.image_threads.specs.Program.{Program};
 ghost use Rattle.update_memory.specs.declared.types.Jump.{Jump as Jumped};
 ghost use Rattle.update_plan.specs.declared.types.Plan.{Plan as Planned};
-ghost use Rattle.update_plan.specs.Sound.{CanBeMade};
+ghost use Rattle.update_plan.specs.Sound.{AllReplaceNewest, CanBeMade};
 
 use crate::updates::{Kept, KeptList, Prepared, Update, Updates};
-use image_memory::{Fence, Piece, Pieces, Space, ranges_of, sorted};
+use image_memory::{Fence, Kind, Piece, Pieces, Space, ranges_of, sorted};
 use image_threads::Machine;
 use ks_base::{Name, Ranges, Replaced, Report};
 use splice_jump::{
@@ -32,35 +32,38 @@ use splice_jump::{
     jumps_change_their_bytes_alone,
 };
 use std::alloc::{AllocError, Global};
+use std::mem;
 use symbol_table::{Addresses, SymbolTable};
 use update_memory::{
     Jump, Jumps, add_pieces, changes_are_withdrawn, code_that_stays, note_old_code,
     pieces_are_added, pieces_are_added_past_code, ranges_are_retired, retire, write_jumps,
 };
 use update_pieces::NewSymbols;
-use update_plan::Plan;
+use update_plan::{AllNeeds, Plan};
 
 /// Makes all that carrying a plan out takes memory for: what is put into the system's lists, and room in the program.
-/// What is seen of the program stays.
+/// What is seen of the program stays, and so does the plan, out of which the needs of its fields are moved.
 pub(crate) fn prepare<S: Space>(
     alloc: Global,
     machine: &mut Machine<S>,
     name: &Name,
-    plan: &Plan,
+    plan: &mut Plan,
 ) -> Result<Prepared, AllocError>
-    requires pieces { ArePlaceable plan.now.pieces }
-    requires ends { All EndsLow plan.now.report.replaced }
-    ensures prepared { IfOk result (IsPrepared machine.old.contents name.now plan.now) }
+    requires pieces { ArePlaceable plan.old.pieces }
+    requires ends { All EndsLow plan.old.report.replaced }
+    ensures prepared { IfOk result (IsPrepared machine.old.contents name.now plan.old) }
+    ensures rest { plan.new ≡ record plan.old { needs = plan.new.needs } }
     ensures seen { seen machine.new ≡ seen machine.old }
-    ensures ranges { OnOk result (machine.new.room.ranges ≡ map piece_range plan.now.pieces) }
-    ensures fences { OnOk result (length plan.now.fences ≤ machine.new.room.fences) }
-    ensures symbols { OnOk result (length plan.now.symbols ≤ machine.new.table.spare) }
+    ensures ranges { OnOk result (machine.new.room.ranges ≡ map piece_range plan.old.pieces) }
+    ensures fences { OnOk result (length plan.old.fences ≤ machine.new.room.fences) }
+    ensures symbols { OnOk result (length plan.old.symbols ≤ machine.new.table.spare) }
 {
     reserve(machine, plan)?;
     let jumps = jumps_of(alloc, machine.space(), plan.report.replaced.as_slice())?;
+    let update = shown_as(alloc, name, &plan.report)?;
     let kept = kept_of(alloc, plan, &jumps)?;
     Ok(Prepared {
-        update: shown_as(alloc, name, &plan.report)?,
+        update,
         kept,
         jumps,
     })
@@ -171,21 +174,24 @@ fn bare_jump(one: &Replaced) -> Jump
     }
 }
 
-/// What is kept of a plan that is carried out with these jumps.
-fn kept_of(alloc: Global, plan: &Plan, jumps: &Jumps) -> Result<Kept, AllocError>
-    requires { ArePlaceable plan.now.pieces }
-    ensures { IfOk result (λ kept. IsKeptOf plan.now jumps.now kept) }
+/// What is kept of a plan that is carried out with these jumps. The needs of its fields are moved out of it.
+fn kept_of(alloc: Global, plan: &mut Plan, jumps: &Jumps) -> Result<Kept, AllocError>
+    requires { ArePlaceable plan.old.pieces }
+    ensures kept { IfOk result (λ kept. IsKeptOf plan.old jumps.now kept) }
+    ensures rest { plan.new ≡ record plan.old { needs = plan.new.needs } }
 {
     let symbol_count = counted(plan.symbols.len())?;
-    let retired = retired_of(alloc, plan.fences.as_slice())?;
-    let (pieces, ranges) = places_of(alloc, plan.pieces.as_slice())?;
+    let (pieces, retired) = places_of(alloc, plan)?;
+    let (ranges, code_ranges) = ranges_in_order(alloc, plan.pieces.as_slice())?;
     let (symbols, jumps) = copies_of(&plan.symbols, jumps)?;
     Ok(Kept {
         pieces,
         ranges,
+        code_ranges,
         retired,
         symbols,
         symbol_count,
+        needs: mem::replace(&mut plan.needs, AllNeeds::new(alloc)),
         jumps,
     })
 }
@@ -198,22 +204,48 @@ fn copies_of(symbols: &NewSymbols, jumps: &Jumps) -> Result<(NewSymbols, Jumps),
     Ok((symbols.clone()?, jumps.clone()?))
 }
 
-/// Where pieces begin, and their ranges in ascending order.
-fn places_of(alloc: Global, pieces: &[Piece]) -> Result<(Addresses, Ranges), AllocError>
-    requires { ArePlaceable pieces.now }
-    ensures bases { IfOk result (λ places. places.0 ≡ map base_of_piece pieces.now) }
-    ensures ranges { IfOk result (λ places. IsPermutation (map piece_range pieces.now) places.1) }
+/// Where the pieces of a plan begin, and the ranges that it retires.
+fn places_of(alloc: Global, plan: &Plan) -> Result<(Addresses, Ranges), AllocError>
+    ensures bases { IfOk result (λ places. places.0 ≡ map base_of_piece plan.now.pieces) }
+    ensures retired { IfOk result (λ places. places.1 ≡ map fence_range plan.now.fences) }
 {
-    Ok((bases_of(alloc, pieces)?, in_order(alloc, pieces)?))
+    let bases = bases_of(alloc, plan.pieces.as_slice())?;
+    Ok((bases, retired_of(alloc, plan.fences.as_slice())?))
 }
 
-/// The ranges of pieces in ascending order.
-fn in_order(alloc: Global, pieces: &[Piece]) -> Result<Ranges, AllocError>
+/// The ranges of pieces, and those of the pieces of code, each in ascending order.
+fn ranges_in_order(alloc: Global, pieces: &[Piece]) -> Result<(Ranges, Ranges), AllocError>
     requires { ArePlaceable pieces.now }
-    ensures { IfOk result (λ sorted. IsPermutation (map piece_range pieces.now) sorted) }
+    ensures all { IfOk result (λ sorted. IsPermutation (map piece_range pieces.now) sorted.0) }
+    ensures code { IfOk result
+        (λ sorted. IsPermutation (map piece_range (filter is_text pieces.now)) sorted.1) }
+    ensures order { IfOk result (λ sorted. IsNonDecreasingBy (λ range. range.low) sorted.0) }
+    ensures code_order { IfOk result (λ sorted. IsNonDecreasingBy (λ range. range.low) sorted.1) }
 {
-    let ranges = ranges_of(alloc, pieces)?;
+    let all = in_order(alloc, &ranges_of(alloc, pieces)?)?;
+    Ok((all, in_order(alloc, &code_ranges_of(alloc, pieces)?)?))
+}
+
+/// Ranges in ascending order.
+fn in_order(alloc: Global, ranges: &Ranges) -> Result<Ranges, AllocError>
+    ensures same { IfOk result (λ sorted. IsPermutation ranges.now sorted) }
+    ensures order { IfOk result (λ sorted. IsNonDecreasingBy (λ range. range.low) sorted) }
+{
     Ok(Ranges::from_vec(sorted(alloc, ranges.as_slice())?))
+}
+
+/// The ranges of the pieces of code.
+fn code_ranges_of(alloc: Global, pieces: &[Piece]) -> Result<Ranges, AllocError>
+    requires { ArePlaceable pieces.now }
+    ensures { IfOk result (λ ranges. ranges ≡ map piece_range (filter is_text pieces.now)) }
+{
+    let mut ranges = Ranges::new(alloc);
+    for piece in pieces {
+        if piece.kind == Kind::Code {
+            ranges.push(piece.range())?;
+        }
+    }
+    Ok(ranges)
 }
 
 fn bases_of(alloc: Global, pieces: &[Piece]) -> Result<Addresses, AllocError>
@@ -281,6 +313,7 @@ pub(crate) fn plans_are_carried_out()
     ensures holds { (before after : Program) (arena : RangeOf) (updates : List Shown)
         (kept : List KeptOf) (name : List ℕ) (plan : Planned) (jumps : List Jumped) (one : KeptOf)
         → Holds before arena updates kept → CanBeMade (contents_of (machine_of before arena updates kept)) plan
+        → AllReplaceNewest (bodies_in (machine_of before arena updates kept).table) plan
         → list_any (has_name name) (machine_of before arena updates kept).updates ≡ false
         → IsCarriedOut before after plan jumps → IsKeptOf plan jumps one
         → HoldsAfter before after arena updates kept name plan one }

@@ -18,6 +18,7 @@ ghost use Rattle.update_stack.specs.Stacked.{IsBuilt};
 ghost use Rattle.update_stack.specs.StandsFor.{patched};
 ghost use Rattle.update_stack.specs.Stays.{IsNewest, LeavesAloneBy, NewCodeStaysReached};
 
+use crate::uncovered::uncovered_updates_can_go;
 use ia32_decode::jumps_decode;
 use ia32_step::{code_bytes_have_no_say, steps_leave_code};
 use image_memory::pieces_stay_placed;
@@ -27,7 +28,7 @@ use splice_jump::{
     jumps_stand,
 };
 use update_memory::{changes_are_withdrawn, pieces_are_added, ranges_are_retired};
-use update_plan::{plans_can_be_made, replaced_functions_have_new_code};
+use update_plan::{plans_can_be_made, plans_replace_the_newest, replaced_functions_have_new_code};
 
 /// Over the memory with the jumps a thread's step comes to what it comes to on the machine: at a home it goes on at the
 /// newest version, in a retired range it stops, and elsewhere it carries out the machine's text.
@@ -86,6 +87,7 @@ pub fn accepted_code_is_reached()
     ranges_are_retired();
     changes_are_withdrawn();
     plans_can_be_made();
+    plans_replace_the_newest();
     gaps_are_free();
     replaced_functions_have_new_code();
 }
@@ -107,6 +109,8 @@ pub fn reached_code_stays()
     ranges_are_retired();
     changes_are_withdrawn();
     plans_can_be_made();
+    plans_replace_the_newest();
     gaps_are_free();
+    uncovered_updates_can_go();
     replaced_functions_have_new_code();
 }

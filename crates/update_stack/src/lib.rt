@@ -3,10 +3,12 @@
 #![tactic(auto)]
 
 mod carrying;
+mod covering;
 mod laws;
 mod live;
 mod system;
 mod taking_back;
+mod uncovered;
 mod updates;
 mod withdrawing;
 
@@ -15,5 +17,6 @@ pub use crate::laws::{
     updates_can_be_made,
 };
 pub use crate::taking_back::{machines_are_built, undo_restores};
+pub use crate::uncovered::uncovered_updates_can_go;
 pub use system::System;
 pub use updates::{Update, Updates};

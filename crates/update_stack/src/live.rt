@@ -1,7 +1,7 @@
 //! What live updates come to: the newest base of each home, the ranges that they retired, what their pieces leave of
 //! the arena, and their names.
 ghost use Rattle.std.specs.Prelude.{◌≡◌, ℕ, List, ◌++◌, IfOk, OnOk, nat_eq};
-ghost use Rattle.std.specs.List.{flat_map, list_any};
+ghost use Rattle.std.specs.List.{flat_map, list_any, position};
 ghost use Rattle.std.specs.List.Sorted.{IsPermutation};
 ghost use Rattle.indexmap.specs.IndexMap.{insert_all};
 ghost use Rattle.i386_reloc.specs.Normal.{same_bytes};
@@ -130,6 +130,13 @@ pub(crate) fn is_taken(updates: &[Update], name: &Name) -> bool
     ensures { result ≡ list_any (λ update. same_bytes update.name name.now) updates.now }
 {
     updates.iter().any(|update| has_name(update, name))
+}
+
+/// The place of the update of a name among live ones, `None` exactly where none has the name.
+pub(crate) fn place_of(updates: &[Update], name: &Name) -> Option<usize>
+    ensures { result ≡ position (λ update. same_bytes update.name name.now) updates.now }
+{
+    updates.iter().position(|update| has_name(update, name))
 }
 
 fn has_name(update: &Update, name: &Name) -> bool

@@ -1,34 +1,40 @@
 //! A running program with its updates.
 ghost use Rattle.std.specs.Prelude.{◌≡◌, ◌≢◌, [], map, IfOk, IsSomeAnd, OnOk, OnErr, MatchResult, None, Ok, Err};
-ghost use Rattle.std.specs.Prelude.{false, is_some};
+ghost use Rattle.std.specs.Prelude.{false, true, is_some, Some, ◌<◌, length, slice_get, MatchOption};
 ghost use Rattle.std.specs.List.{list_any};
 ghost use Rattle.std.specs.Result.{is_ok, result_err};
-ghost use Rattle.ks_base.specs.declared.refusals.Refusal.TheVariants.{Memory};
+ghost use Rattle.ks_base.specs.declared.refusals.Refusal.TheVariants.{Memory, NothingApplied};
 ghost use Rattle.ia32_step.specs.Code.{KeepsCode};
 ghost use Rattle.ia32_step.specs.Step.{store_fault, after_store, stored, fetched_count};
 ghost use Rattle.image_threads.specs.Program.{running_at};
 ghost use Rattle.image_threads.specs.Spawning.{AreStacks};
-ghost use Rattle.update_stack.specs.AbstractMachine.{contents_of, shown_update};
+ghost use Rattle.update_stack.specs.AbstractMachine.{bodies_in, contents_of, shown_update};
 ghost use Rattle.update_stack.specs.Systems.{gaps_in, machine_of};
 ghost use Rattle.ks_base.specs.Gives.{Gives};
 ghost use Rattle.i386_reloc.specs.Rule.{Finds};
 ghost use Rattle.stack_scan.specs.Standing.{thread_refusal};
 ghost use Rattle.update_plan.specs.Plan.{planned};
-ghost use Rattle.update_plan.specs.Sound.{AreGaps, CanBeMade};
+ghost use Rattle.update_plan.specs.Sound.{AllReplaceNewest, AreGaps, CanBeMade};
 ghost use Rattle.update_stack.specs.Apply.{committed, gaps_of, has_name, planned_in, retired_of, running_of};
-ghost use Rattle.update_stack.specs.Events.{Apply, Spawn, Step, Undo, Applied, Spawned, Stepped, Undone, happened};
+ghost use Rattle.update_stack.specs.Events.{Apply, Spawn, Step, Undo, UndoNamed, happened};
+ghost use Rattle.update_stack.specs.Events.{Applied, Spawned, Stepped, Undone};
 ghost use Rattle.update_stack.specs.Events.{answered, after_event};
 ghost use Rattle.update_stack.specs.Stacked.{IsBuilt};
 ghost use Rattle.update_stack.specs.StandsFor.{StandsFor, patched, IsUntouched};
-ghost use Rattle.update_stack.specs.Undo.{newest_update};
+ghost use Rattle.update_stack.specs.Undo.{newest_update, ranges_in, cover_refusal, need_refusal, withdrawn};
+ghost use Rattle.update_stack.specs.Undo.{named, undone_named, is_refused_by_name};
 ghost use Rattle.update_stack.specs.inside.Stepping.{ComesOfStep};
-ghost use Rattle.update_stack.specs.inside.TakingBack.{undo_refusal, ComesOfUndo};
+ghost use Rattle.i386_reloc.specs.Below.{first_of};
+ghost use Rattle.update_stack.specs.AbstractMachine.{Update as Live};
 
 use crate::carrying::{change, plans_are_carried_out, prepare, push_both};
+use crate::covering::{behind, check_covers, check_needs};
 use crate::laws::{steps_stand, threads_leave_code};
-use crate::live::{bodies_of, gaps_left, is_taken, kept_ranges_leave_the_gaps, retired_by};
+use crate::live::{
+    bodies_of, gaps_left, is_taken, kept_ranges_leave_the_gaps, place_of, retired_by,
+};
 use crate::updates::{KeptList, Updates};
-use crate::withdrawing::{pop_both, take_back, updates_are_taken_back};
+use crate::withdrawing::{take_back, take_out, updates_are_taken_back};
 use ia32_step::{Outcome, Traced};
 use image_memory::{Space, sorted};
 use image_threads::Machine;
@@ -42,7 +48,9 @@ use stack_scan::{check_threads, order_has_no_say};
 use std::alloc::{AllocError, Global};
 use std::marker::Model;
 use update_memory::code_that_stays;
-use update_plan::{Plan, alike_programs_have_one_plan, plan, plans_can_be_made};
+use update_plan::{
+    Plan, alike_programs_have_one_plan, plan, plans_can_be_made, plans_replace_the_newest,
+};
 
 /// So many updates may be live.
 const MOST_UPDATES: usize = 64;
@@ -233,39 +241,115 @@ impl<S: Space> System<S> {
             (λ refusal. answered self.old Undo ≡ Err refusal) }
         ensures refused { OnErr result (self.new ≡ self.old) }
     {
-        self.check_newest()?;
-        self.take_newest_back()
+        // The machine's updates lie each on what was there without it, so nothing is later than the newest.
+        let _program = self.machine();
+        let at = self.newest()?;
+        self.check_threads_in(at)?;
+        Ok(self.take_back_at(at))
     }
 
-    /// Whether no thread stands in the way of taking the newest update back.
-    fn check_newest(&self) -> Result<(), Refusal>
-        ensures { result_err result ≡ undo_refusal self.now }
+    /// Takes the update of a name back, as [`System::undo`] does with the newest: its pieces, its retired ranges and its
+    /// symbols are gone, and each home that it replaced goes on where it went before it. All else stays as it is, the other
+    /// updates among it.
+    ///
+    /// It is refused by the first of these that holds, and all is then as before:
+    ///
+    /// - no live update has the name ([`Refusal::NoUpdate`]);
+    /// - a later one retired code of it; the oldest such is told ([`Refusal::Covered`]);
+    /// - a later one has a field that needs an address in its pieces; the oldest such is told, with its first such field
+    ///   ([`Refusal::Needed`]);
+    /// - a running thread stands in one of its pieces, or its ESP is outside its stack ([`Refusal::Busy`],
+    ///   [`Refusal::StackOut`]).
+    ///
+    /// [`Refusal::Memory`] may come in place of the first three, which tell names, but only if memory runs out; all is then
+    /// as before. Otherwise it takes no memory.
+    pub fn undo_named(&mut self, name: &Name) -> Result<(), Refusal>
+        ensures answered { MatchResult result
+            (λ _. answered self.old (UndoNamed name.now) ≡ Ok (happened self.new (Undone name.now)))
+            (λ refusal. refusal ≢ Memory → answered self.old (UndoNamed name.now) ≡ Err refusal) }
+        ensures memory { OnErr result (result_err result ≡ Some Memory
+            → is_refused_by_name (undone_named self.old name.now) ≡ true) }
+        ensures refused { OnErr result (self.new ≡ self.old) }
     {
-        // The law says that the answer is the same in whichever order the ranges are.
-        order_has_no_say();
-        match self.kept.as_slice().last() {
+        let Some(at) = self.place_of(name) else {
+            let name = Name::from_slice(self.alloc, name.as_slice())?;
+            return Err(Refusal::NoUpdate(name));
+        };
+        self.check_later(at)?;
+        self.check_threads_in(at)?;
+        self.take_back_at(at);
+        Ok(())
+    }
+
+    /// The place of the newest update among the live ones.
+    fn newest(&self) -> Result<usize, Refusal>
+        ensures { MatchResult result
+            (λ at. (at < length self.now.updates) × (slice_get self.now.updates at ≡ newest_update self.now))
+            (λ refusal. (refusal ≡ NothingApplied) × (newest_update self.now ≡ None)) }
+    {
+        match self.updates.len().checked_sub(1) {
             None => Err(Refusal::NothingApplied),
-            Some(one) => self.check_ranges(one.ranges.as_slice()),
+            Some(at) => Ok(at),
         }
     }
 
-    /// Takes the newest update back, and answers its name.
-    fn take_newest_back(&mut self) -> Result<Name, Refusal>
-        ensures { ComesOfUndo (newest_update self.old) self.old self.new result }
+    /// The place of the update of a name among the live ones.
+    fn place_of(&self, name: &Name) -> Option<usize>
+        ensures { MatchOption result (named self.now name.now ≡ None)
+            (λ at. (at < length self.now.updates) × (slice_get self.now.updates at ≡ named self.now name.now)) }
     {
-        // The law says that what is kept of the newest update can be taken away, and what holds then.
+        place_of(self.updates.as_slice(), name)
+    }
+
+    /// Whether no later update retired code of the one at a place, or needs an address in its pieces.
+    fn check_later(&self, at: usize) -> Result<(), Refusal>
+        requires { at < length self.now.updates }
+        ensures found { (update : Live) → slice_get self.now.updates at ≡ Some update → MatchResult result
+            (λ _. (cover_refusal self.now update ≡ None) × (need_refusal self.now update ≡ None))
+            (λ refusal. refusal ≢ Memory →
+            first_of (cover_refusal self.now update) (need_refusal self.now update) ≡ Some refusal) }
+        ensures told { (update : Live) → slice_get self.now.updates at ≡ Some update → OnErr result
+            (is_some (first_of (cover_refusal self.now update) (need_refusal self.now update)) ≡ true) }
+    {
+        let updates = behind(self.updates.as_slice(), at);
+        let kept = behind(self.kept.as_slice(), at);
+        let one = &self.kept.as_slice()[at];
+        check_covers(one.code_ranges.as_slice(), updates, kept)?;
+        check_needs(one.ranges.as_slice(), updates, kept)
+    }
+
+    /// Whether no thread stands in a piece of the update at a place.
+    fn check_threads_in(&self, at: usize) -> Result<(), Refusal>
+        requires { at < length self.now.updates }
+        ensures { (update : Live) → slice_get self.now.updates at ≡ Some update →
+            result_err result ≡ thread_refusal self.now.pieces (ranges_in self.now update) self.now.threads }
+    {
+        // The law says that the answer is the same in whichever order the ranges are.
+        order_has_no_say();
+        self.check_ranges(self.kept.as_slice()[at].ranges.as_slice())
+    }
+
+    /// Takes the update at a place back, which no later one covers, and answers its name. It takes no memory.
+    fn take_back_at(&mut self, at: usize) -> Name
+        requires place { at < length self.old.updates }
+        requires uncovered { (update : Live) → slice_get self.old.updates at ≡ Some update →
+            cover_refusal self.old update ≡ None }
+        ensures { (update : Live) → slice_get self.old.updates at ≡ Some update →
+            (result ≡ update.name) × (self.new ≡ withdrawn self.old update) }
+    {
+        // The law says that what is kept of the update can be taken away, and what holds then.
         updates_are_taken_back();
-        let Some((update, one)) = pop_both(&mut self.updates, &mut self.kept) else {
-            return Err(Refusal::NothingApplied);
-        };
-        take_back(&mut self.machine, &one);
-        Ok(update.name)
+        let update = take_out(self.alloc, &mut self.updates, at);
+        let one = take_out(self.alloc, &mut self.kept, at);
+        take_back(&mut self.machine, &one, &self.kept.as_slice()[at..]);
+        update.name
     }
 
     /// What an update would do, or the first refusal but those of the threads.
     fn plan(&self, name: &Name, pre: &[u8], post: &[u8]) -> Result<Plan, Refusal>
         ensures planned { Gives (λ plan. plan) result (planned_in self.now name.now pre.now post.now) }
         ensures sound { IfOk result (λ plan. CanBeMade (contents_of self.now) plan) }
+        ensures newest { IfOk result (λ plan. AllReplaceNewest (bodies_in self.now.table) plan) }
     {
         if self.updates.len() >= MOST_UPDATES {
             return Err(Refusal::TooMany);
@@ -282,9 +366,11 @@ impl<S: Space> System<S> {
         ensures planned { Gives (λ plan. plan) result
             (planned (running_of self.now) (retired_of self.now) (gaps_of self.now) pre.now post.now) }
         ensures sound { IfOk result (λ plan. CanBeMade (contents_of self.now) plan) }
+        ensures newest { IfOk result (λ plan. AllReplaceNewest (bodies_in self.now.table) plan) }
     {
-        // The laws say that what is planned can be carried out, and that jumps don't matter for a plan.
+        // The laws say that what is planned can be carried out, what it replaces, and that jumps don't matter for a plan.
         plans_can_be_made();
+        plans_replace_the_newest();
         alike_programs_have_one_plan();
         jumps_leave_views();
         jumps_change_their_bytes_alone();
@@ -322,8 +408,9 @@ impl<S: Space> System<S> {
     }
 
     /// Carries a plan out, and answers its report. `Err` comes only if memory runs out, and all is then as before.
-    fn carry_out(&mut self, name: &Name, plan: Plan) -> Result<Report, AllocError>
+    fn carry_out(&mut self, name: &Name, mut plan: Plan) -> Result<Report, AllocError>
         requires can { CanBeMade (contents_of self.old) plan }
+        requires newest { AllReplaceNewest (bodies_in self.old.table) plan }
         requires new { list_any (has_name name.now) self.old.updates ≡ false }
         ensures report { IfOk result (λ report. report ≡ plan.report) }
         ensures committed { OnOk result (self.new ≡ committed self.old name.now plan) }
@@ -331,7 +418,7 @@ impl<S: Space> System<S> {
     {
         // The laws say that the plan fits, and what comes of it.
         plans_are_carried_out();
-        let made = prepare(self.alloc, &mut self.machine, name, &plan)?;
+        let made = prepare(self.alloc, &mut self.machine, name, &mut plan)?;
         push_both(&mut self.updates, &mut self.kept, made.update, made.kept)?;
         let Plan {
             report,
@@ -339,6 +426,7 @@ impl<S: Space> System<S> {
             symbols,
             fences,
             guarded: _,
+            needs: _,
         } = plan;
         change(
             &mut self.machine,

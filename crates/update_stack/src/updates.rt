@@ -3,6 +3,7 @@ use ks_base::{ListOf, Name, Ranges, Report};
 use symbol_table::Addresses;
 use update_memory::Jumps;
 use update_pieces::NewSymbols;
+use update_plan::AllNeeds;
 
 /// An update that is live.
 #[derive(Clone, PartialEq, Eq, Drop)]
@@ -23,12 +24,16 @@ pub(crate) struct Kept {
     pub(crate) pieces: Addresses,
     /// The ranges of these pieces, in ascending order.
     pub(crate) ranges: Ranges,
+    /// The ranges of those that are code, in ascending order.
+    pub(crate) code_ranges: Ranges,
     /// The ranges that it retired.
     pub(crate) retired: Ranges,
     /// The symbols that it added.
     pub(crate) symbols: NewSymbols,
     /// How many they are.
     pub(crate) symbol_count: u32,
+    /// What the fields of its new sections need.
+    pub(crate) needs: AllNeeds,
     /// The jumps that it wrote, with the code that stood there before.
     pub(crate) jumps: Jumps,
 }

@@ -1,7 +1,7 @@
 -- What is kept of a plan that is carried out.
 use Rattle.std.specs.Prelude.{◌≡◌, ℕ, ◌+◌, ◌≤◌, ◌^◌, List, [], ◌∷◌, ◌++◌, map, length, replicate}
-use Rattle.std.specs.List.{All}
-use Rattle.std.specs.List.Sorted.{IsPermutation}
+use Rattle.std.specs.List.{All, filter}
+use Rattle.std.specs.List.Sorted.{IsPermutation, IsNonDecreasingBy}
 use Rattle.ks_base.specs.declared.places.Range.{Range}
 use Rattle.ks_base.specs.declared.reports.Replaced.{Replaced}
 use Rattle.ks_base.specs.declared.reports.Report.{Report}
@@ -18,7 +18,7 @@ use Rattle.update_plan.specs.declared.types.Plan.{Plan}
 use Rattle.update_stack.specs.declared.updates.Update.{Update as Shown}
 use Rattle.update_stack.specs.declared.updates.Kept.{Kept}
 use Rattle.update_stack.specs.declared.updates.Prepared.{Prepared}
-use Rattle.update_stack.specs.AbstractMachine.{jump_rows}
+use Rattle.update_stack.specs.AbstractMachine.{is_text, jump_rows}
 use Rattle.update_stack.specs.StandsFor.{seen}
 use Rattle.update_stack.specs.Systems.{Holds, machine_of}
 use Rattle.update_stack.specs.Apply.{committed}
@@ -39,8 +39,12 @@ pub record IsKeptOf (plan : Plan) (jumps : List Jump) (kept : Kept) : Type 0 whe
   pub pieces : kept.pieces ≡ map base_of_piece plan.pieces
   pub retired : kept.retired ≡ map fence_range plan.fences
   pub symbols : kept.symbols ≡ plan.symbols
+  pub needs : kept.needs ≡ plan.needs
   pub jumps_kept : kept.jumps ≡ jumps
   pub ranges : IsPermutation (map piece_range plan.pieces) kept.ranges
+  pub code_ranges : IsPermutation (map piece_range (filter is_text plan.pieces)) kept.code_ranges
+  pub order : IsNonDecreasingBy (λ range. range.low) kept.ranges
+  pub code_order : IsNonDecreasingBy (λ range. range.low) kept.code_ranges
   pub count : kept.symbol_count ≡ length plan.symbols
 
 -- A program after a plan was carried out: its pieces were added, its ranges retired, its jumps written, each over the

@@ -10,4 +10,4 @@ returns-clause-updates c =
     updates_keep_windows laws
 
 pub returns-clause-undos : goal.returns-clause-undos
-returns-clause-undos c = undos_keep_windows
+returns-clause-undos c = undos_keep_windows c.uncovered_updates_can_go.ensures.goes

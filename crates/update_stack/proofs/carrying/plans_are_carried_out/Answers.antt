@@ -41,7 +41,7 @@ returns-clause-ends c program arena updates kept plan holds can =
     homes_end c.code_stays_code.ensures.ends (contents_of k) plan (built_sound k holds.built).jumps.valid can
 
 pub returns-clause-holds : goal.returns-clause-holds
-returns-clause-holds c before after arena updates kept name plan jumps one holds can new is has =
+returns-clause-holds c before after arena updates kept name plan jumps one holds can replace new is has =
     let laws : Laws = record {
       memory = record {
         pieces_valid = c.pieces_are_added.ensures.valid;
@@ -69,4 +69,4 @@ returns-clause-holds c before after arena updates kept name plan jumps one holds
       past_jumps = c.pieces_are_added_past_code.ensures.jumps;
       was_there = c.code_that_stays.ensures.code;
     } in
-    holds_after laws before arena updates kept holds plan can name new after jumps one is has
+    holds_after laws before arena updates kept holds plan can name new replace after jumps one is has

@@ -15,8 +15,8 @@ pub returns-clause-prepared : goal.returns-clause-prepared
 returns-clause-prepared g c =
     let plan = c.args.plan.now in
     record {
-      shown = c.in_ok-shown_as.ensures;
-      kept_of_plan = c.in_ok-kept.ensures;
+      shown = c.in_ok-update.ensures;
+      kept_of_plan = c.in_ok-kept.ensures.kept;
       rows = c.in_ok-jumps.ensures.rows ∙ ap jump_rows c.as_slice.ensures;
       olds =
           c.in_ok-jumps.ensures.olds

@@ -18,5 +18,9 @@ returns c =
       ranges_given = c.ranges_are_retired.ensures.given;
       ranges_back = c.changes_are_withdrawn.ensures.ranges;
     } in
-    all_reached laws c.replaced_functions_have_new_code.ensures c.plans_can_be_made.ensures
+    all_reached laws c.replaced_functions_have_new_code.ensures
+    (record {
+      can = c.plans_can_be_made.ensures;
+      replace = c.plans_replace_the_newest.ensures;
+    })
     c.gaps_are_free.ensures.ascend c.gaps_are_free.ensures.below c.gaps_are_free.ensures.apart

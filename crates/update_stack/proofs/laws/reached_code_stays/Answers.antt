@@ -19,11 +19,16 @@ returns-clause-event c =
       ranges_given = c.ranges_are_retired.ensures.given;
       ranges_back = c.changes_are_withdrawn.ensures.ranges;
     } in
-    one_event laws c.plans_can_be_made.ensures
-    (λ contents free valid up low. record {
-      ascend = c.gaps_are_free.ensures.ascend free contents.pieces up;
-      low = c.gaps_are_free.ensures.below 0xFFFF_0000 free contents.pieces low;
-      free = c.gaps_are_free.ensures.apart free contents.pieces;
+    one_event
+    (record {
+      memory = laws;
+      plans = record { can = c.plans_can_be_made.ensures; replace = c.plans_replace_the_newest.ensures };
+      free = λ contents free valid up low. record {
+        ascend = c.gaps_are_free.ensures.ascend free contents.pieces up;
+        low = c.gaps_are_free.ensures.below 0xFFFF_0000 free contents.pieces low;
+        free = c.gaps_are_free.ensures.apart free contents.pieces;
+      };
+      goes = c.uncovered_updates_can_go.ensures.goes;
     })
 
 pub returns-clause-events : goal.returns-clause-events
@@ -42,10 +47,15 @@ returns-clause-events c =
       ranges_given = c.ranges_are_retired.ensures.given;
       ranges_back = c.changes_are_withdrawn.ensures.ranges;
     } in
-    all_stay laws c.replaced_functions_have_new_code.ensures c.gaps_are_free.ensures.ascend c.plans_can_be_made.ensures
-    (λ contents free valid up low. record {
-      ascend = c.gaps_are_free.ensures.ascend free contents.pieces up;
-      low = c.gaps_are_free.ensures.below 0xFFFF_0000 free contents.pieces low;
-      free = c.gaps_are_free.ensures.apart free contents.pieces;
+    all_stay
+    (record {
+      memory = laws;
+      plans = record { can = c.plans_can_be_made.ensures; replace = c.plans_replace_the_newest.ensures };
+      free = λ contents free valid up low. record {
+        ascend = c.gaps_are_free.ensures.ascend free contents.pieces up;
+        low = c.gaps_are_free.ensures.below 0xFFFF_0000 free contents.pieces low;
+        free = c.gaps_are_free.ensures.apart free contents.pieces;
+      };
+      goes = c.uncovered_updates_can_go.ensures.goes;
     })
-    (starts_well c.pieces_stay_placed.ensures)
+    c.replaced_functions_have_new_code.ensures c.gaps_are_free.ensures.ascend (starts_well c.pieces_stay_placed.ensures)

@@ -1,6 +1,6 @@
 use Rattle.update_stack.proofs.BuiltLaws.{MemoryLaws}
 use Rattle.update_stack.proofs.FirstLaws.{starts_well}
-use Rattle.update_stack.proofs.TakenBackLaws.{all_built}
+use Rattle.update_stack.proofs.MomentLaws.{all_built}
 use Rattle.update_stack.proofs.taking_back.machines_are_built.Goals as goal
 
 pub returns : goal.returns
@@ -19,10 +19,15 @@ returns c =
       ranges_given = c.ranges_are_retired.ensures.given;
       ranges_back = c.changes_are_withdrawn.ensures.ranges;
     } in
-    all_built laws c.plans_can_be_made.ensures
-    (λ contents free valid up low. record {
-      ascend = c.gaps_are_free.ensures.ascend free contents.pieces up;
-      low = c.gaps_are_free.ensures.below 0xFFFF_0000 free contents.pieces low;
-      free = c.gaps_are_free.ensures.apart free contents.pieces;
+    all_built
+    (record {
+      memory = laws;
+      plans = record { can = c.plans_can_be_made.ensures; replace = c.plans_replace_the_newest.ensures };
+      free = λ contents free valid up low. record {
+        ascend = c.gaps_are_free.ensures.ascend free contents.pieces up;
+        low = c.gaps_are_free.ensures.below 0xFFFF_0000 free contents.pieces low;
+        free = c.gaps_are_free.ensures.apart free contents.pieces;
+      };
+      goes = c.uncovered_updates_can_go.ensures.goes;
     })
     (starts_well c.pieces_stay_placed.ensures)

@@ -3,6 +3,7 @@ use Rattle.update_stack.specs.Events.{Undo, Undone, happened}
 use Rattle.ksplice_session.specs.Answers.{watched}
 use Rattle.ksplice_session.specs.Watching.{Watched, watched_after}
 use Rattle.ksplice_session.specs.inside.InStep.{IsInStep}
+use Rattle.ksplice_session.proofs.EventAnswers.{undo_gives}
 use Rattle.ksplice_session.proofs.SeenLaws.{placed_of}
 use Rattle.ksplice_session.proofs.UpdateLaws.{kept_in_step, undo_watched}
 use Rattle.ksplice_session.proofs.session.Session.undo.Goals as goal
@@ -12,16 +13,18 @@ invariant_of-self-2 c =
     let k = c.self.inside.system in
     let now = c.undo.new.self in
     let left = happened now (Undone c.in_ok-name.name) in
+    let answered = c.in_ok-name.ensures.answered in
+    let undone = undo_gives k left answered in
     subst (IsInStep now) (sym c.note_update.ensures)
     (kept_in_step k now c.self.inside.watch
-    (c.updates_keep_slots.ensures.undone_threads k left c.in_ok-name.ensures.answered)
-    (c.updates_keep_slots.ensures.undos k left c.machine.ensures.built c.machine-machine.ensures.built
-    c.in_ok-name.ensures.answered)
+    (c.updates_keep_slots.ensures.undone_threads k Undo undone.update left undone.taken answered)
+    (c.updates_keep_slots.ensures.undos k Undo undone.update left c.machine.ensures.built
+    c.machine-machine.ensures.built undone.taken answered)
     (placed_of c.machine.result.now k c.machine.ensures.stands c.threads-threads.ensures.placed) c.self.invariant)
 
 pub returns-clause-noted : goal.returns-clause-noted
 returns-clause-noted c =
     let now = c.undo.new.self in
     subst (λ (s : Watched). watched now c.note_update.new.self ≡ watched_after s Undo) c.self.view_is
-    (undo_watched (watched c.self.inside.system c.self.inside.watch) now c.note_update.new.self c.in_ok-name.name
+    (undo_watched (watched c.self.inside.system c.self.inside.watch) Undo now c.note_update.new.self c.in_ok-name.name
     c.in_ok-name.ensures.answered c.note_update.ensures)

@@ -5,8 +5,9 @@ use Rattle.image_memory.specs.Contents.{Contents}
 use Rattle.update_memory.specs.declared.types.Jump.{Jump}
 use Rattle.update_memory.specs.Added.{AreAddable, with_pieces}
 use Rattle.update_memory.specs.Retired.{AreRetirable, with_fences}
-use Rattle.update_plan.specs.Sound.{CanBeMade}
-use Rattle.update_stack.specs.AbstractMachine.{AbstractMachine, contents_of}
+use Rattle.update_plan.specs.declared.types.Plan.{Plan}
+use Rattle.update_plan.specs.Sound.{AllReplaceNewest, CanBeMade}
+use Rattle.update_stack.specs.AbstractMachine.{AbstractMachine, bodies_in, contents_of}
 use Rattle.update_stack.specs.Systems.{machine_of, Holds}
 use Rattle.update_stack.specs.declared.updates.Update.{Update as Shown}
 use Rattle.update_stack.specs.StandsFor.{Seen}
@@ -36,8 +37,9 @@ change-requires-clause-addable g c =
     let fits : FitsIn inside.machine.contents plan made.jumps =
     c.plans_are_carried_out.ensures.fits inside.machine inside.arena inside.updates inside.kept plan
     made.jumps c.self.invariant can c.in_ok-made.ensures.prepared.rows in
-    subst (λ (m : Contents). AreAddable m plan.pieces)
-    (sym (ap (λ (s : Seen). s.contents) c.prepare.ensures.seen)) fits.addable
+    subst (λ (left : Plan). AreAddable c.prepare.new.machine.contents left.pieces) (sym c.prepare.ensures.rest)
+    (subst (λ (m : Contents). AreAddable m plan.pieces)
+    (sym (ap (λ (s : Seen). s.contents) c.prepare.ensures.seen)) fits.addable)
 
 pub change-requires-clause-retirable : goal.change-requires-clause-retirable
 change-requires-clause-retirable g c =
@@ -50,9 +52,13 @@ change-requires-clause-retirable g c =
     let fits : FitsIn inside.machine.contents plan made.jumps =
     c.plans_are_carried_out.ensures.fits inside.machine inside.arena inside.updates inside.kept plan
     made.jumps c.self.invariant can c.in_ok-made.ensures.prepared.rows in
-    subst (λ (m : Contents). AreRetirable (with_pieces m plan.pieces) c.as_slice.result.now)
+    let fences = c.as_slice.result.now in
+    subst (λ (left : Plan). AreRetirable (with_pieces c.prepare.new.machine.contents left.pieces) fences)
+    (sym c.prepare.ensures.rest)
+    (subst (λ (m : Contents). AreRetirable (with_pieces m plan.pieces) fences)
     (sym (ap (λ (s : Seen). s.contents) c.prepare.ensures.seen))
-    (subst (AreRetirable (with_pieces inside.machine.contents plan.pieces)) (sym c.as_slice.ensures) fits.retirable)
+    (subst (AreRetirable (with_pieces inside.machine.contents plan.pieces))
+    (sym (c.as_slice.ensures ∙ ap (λ (left : Plan). left.fences) c.prepare.ensures.rest)) fits.retirable))
 
 pub change-requires-clause-code : goal.change-requires-clause-code
 change-requires-clause-code g c =
@@ -65,15 +71,19 @@ change-requires-clause-code g c =
     let fits : FitsIn inside.machine.contents plan made.jumps =
     c.plans_are_carried_out.ensures.fits inside.machine inside.arena inside.updates inside.kept plan
     made.jumps c.self.invariant can c.in_ok-made.ensures.prepared.rows in
-    subst (λ (m : Contents). All (HasHomeCode
-    (with_fences (with_pieces m plan.pieces) c.as_slice.result.now).pieces) c.as_slice-2.result.now)
+    let fences = c.as_slice.result.now in
+    let jumps = c.as_slice-2.result.now in
+    subst (λ (left : Plan). All (HasHomeCode
+    (with_fences (with_pieces c.prepare.new.machine.contents left.pieces) fences).pieces) jumps)
+    (sym c.prepare.ensures.rest)
+    (subst (λ (m : Contents). All (HasHomeCode (with_fences (with_pieces m plan.pieces) fences).pieces) jumps)
     (sym (ap (λ (s : Seen). s.contents) c.prepare.ensures.seen))
     (subst (λ (fs : List Fence). All (HasHomeCode
-    (with_fences (with_pieces inside.machine.contents plan.pieces) fs).pieces) c.as_slice-2.result.now)
-    (sym c.as_slice.ensures)
+    (with_fences (with_pieces inside.machine.contents plan.pieces) fs).pieces) jumps)
+    (sym (c.as_slice.ensures ∙ ap (λ (left : Plan). left.fences) c.prepare.ensures.rest))
     (subst (λ (js : List Jump). All (HasHomeCode
     (with_fences (with_pieces inside.machine.contents plan.pieces) plan.fences).pieces) js)
-    (sym c.as_slice-2.ensures) fits.code))
+    (sym c.as_slice-2.ensures) fits.code)))
 
 pub invariant_of-self-2 : goal.invariant_of-self-2
 invariant_of-self-2 g c =
@@ -86,8 +96,9 @@ invariant_of-self-2 g c =
     let is : IsPrepared inside.machine.contents c.args.name.now plan made = c.in_ok-made.ensures.prepared in
     let carried : IsCarriedOut inside.machine c.change.new.machine plan made.jumps = record {
       seen_after =
-          seen_carried inside.machine c.prepare.new.machine c.change.new.machine plan c.as_slice.result.now made.jumps
-          c.as_slice-2.result.now c.prepare.ensures.seen c.as_slice.ensures c.as_slice-2.ensures c.change.ensures;
+          seen_carried inside.machine c.prepare.new.machine c.change.new.machine plan c.prepare.new.plan
+          c.as_slice.result.now made.jumps c.as_slice-2.result.now c.prepare.ensures.seen c.prepare.ensures.rest
+          c.as_slice.ensures c.as_slice-2.ensures c.change.ensures;
       rows = is.rows;
       olds = is.olds;
     } in
@@ -96,6 +107,7 @@ invariant_of-self-2 g c =
     c.args.name.now plan made.kept =
     c.plans_are_carried_out.ensures.holds inside.machine c.change.new.machine inside.arena inside.updates
     inside.kept c.args.name.now plan made.jumps made.kept c.self.invariant can
+    (subst (λ (m : AbstractMachine). AllReplaceNewest (bodies_in m.table) plan) (sym c.self.view_is) c.requires.newest)
     (subst (λ (m : AbstractMachine). list_any (has_name c.args.name.now) m.updates ≡ false) (sym c.self.view_is)
     c.requires.new) carried is.kept_of_plan in
     let updates : c.push_both.new.updates ≡ inside.updates ++ shown ∷ [] =
@@ -115,8 +127,9 @@ returns-clause-committed g c =
     let is : IsPrepared inside.machine.contents c.args.name.now plan made = c.in_ok-made.ensures.prepared in
     let carried : IsCarriedOut inside.machine c.change.new.machine plan made.jumps = record {
       seen_after =
-          seen_carried inside.machine c.prepare.new.machine c.change.new.machine plan c.as_slice.result.now made.jumps
-          c.as_slice-2.result.now c.prepare.ensures.seen c.as_slice.ensures c.as_slice-2.ensures c.change.ensures;
+          seen_carried inside.machine c.prepare.new.machine c.change.new.machine plan c.prepare.new.plan
+          c.as_slice.result.now made.jumps c.as_slice-2.result.now c.prepare.ensures.seen c.prepare.ensures.rest
+          c.as_slice.ensures c.as_slice-2.ensures c.change.ensures;
       rows = is.rows;
       olds = is.olds;
     } in
@@ -125,6 +138,7 @@ returns-clause-committed g c =
     c.args.name.now plan made.kept =
     c.plans_are_carried_out.ensures.holds inside.machine c.change.new.machine inside.arena inside.updates
     inside.kept c.args.name.now plan made.jumps made.kept c.self.invariant can
+    (subst (λ (m : AbstractMachine). AllReplaceNewest (bodies_in m.table) plan) (sym c.self.view_is) c.requires.newest)
     (subst (λ (m : AbstractMachine). list_any (has_name c.args.name.now) m.updates ≡ false) (sym c.self.view_is)
     c.requires.new) carried is.kept_of_plan in
     let updates : c.push_both.new.updates ≡ inside.updates ++ shown ∷ [] =

@@ -1,4 +1,4 @@
-use Rattle.std.proofs.Common.{List, Result, IfOk, sym, ◌∙◌, ap, subst}
+use Rattle.std.proofs.Common.{List, Result, sym, ◌∙◌, ap, subst}
 use Rattle.std.specs.List.{flat_map}
 use Rattle.std.specs.List.Sorted.{IsPermutation}
 use Rattle.ks_base.specs.Gives.{Gives}
@@ -9,16 +9,16 @@ use Rattle.symbol_table.specs.Table.{Table}
 use Rattle.symbol_table.specs.Bodies.{newest}
 use Rattle.update_plan.specs.declared.types.Plan.{Plan}
 use Rattle.update_plan.specs.Plan.{planned}
-use Rattle.update_plan.specs.Sound.{CanBeMade}
 use Rattle.update_stack.specs.declared.updates.Update.{Update as Shown}
 use Rattle.update_stack.specs.declared.updates.Kept.{Kept}
-use Rattle.update_stack.specs.AbstractMachine.{AbstractMachine, bodies_in, contents_of}
+use Rattle.update_stack.specs.AbstractMachine.{AbstractMachine, bodies_in}
 use Rattle.update_stack.specs.Apply.{running_of, retired_of, gaps_of}
 use Rattle.update_stack.specs.Systems.{gaps_left, machine_of, table_of}
+use Rattle.update_stack.specs.Stacked.{IsBuilt}
 use Rattle.update_stack.specs.laws.StackedLaws.{built_sound}
 use Rattle.update_stack.proofs.LiveLaws.{retired_live}
 use Rattle.update_stack.proofs.PlanLaws.{gaps_ascend, memory_of, bodies_spliced, IsBeside, PlanLaws, plan_beside}
-use Rattle.update_stack.proofs.PlanLaws.{plan_sound}
+use Rattle.update_stack.proofs.PlanLaws.{plan_sound, plan_replaces}
 use Rattle.update_stack.proofs.system.System.plan_beside.Goals as goal
 
 pub plan-requires-clause-spliced : goal.plan-requires-clause-spliced
@@ -85,42 +85,11 @@ returns-clause-planned g c =
 
 pub returns-clause-sound : goal.returns-clause-sound
 returns-clause-sound g c =
-    let inside = c.self.inside in
-    let machine = inside.machine in
-    let k = machine_of machine inside.arena inside.updates inside.kept in
-    let contents = g.S.Space.contents c.space-space.result.now in
-    let symbols = c.symbols-symbols.result.now.symbols in
-    let bodies = c.in_ok-bodies.bodies in
-    let retired = c.in_ok-retired.retired in
-    let laws : PlanLaws = record {
-      views = c.jumps_leave_views.ensures;
-      looks = c.jumps_change_their_bytes_alone.ensures.data_looks;
-      held = c.jumps_change_their_bytes_alone.ensures.held;
-      kinds = c.jumps_change_their_bytes_alone.ensures.kinds;
-      places = c.jumps_change_their_bytes_alone.ensures.ranges;
-      one_plan = c.alike_programs_have_one_plan.ensures;
-    } in
-    let beside : IsBeside k contents symbols bodies retired c.in_ok-gaps.gaps = record {
-      built = c.self.invariant.built;
-      memory = c.space-space.ensures.contents ∙ memory_of machine k c.self.invariant.stands;
-      symbols_are = ap (λ (t : Table). t.symbols) c.symbols-symbols.ensures;
-      newest_are = λ home.
-          c.in_ok-bodies.ensures.newest home
-          ∙ ap (λ (us : List Shown). newest (bodies_in (table_of us)) home) c.as_slice.ensures;
-      retired_are =
-          c.in_ok-retired.ensures
-          ∙ ap (λ (ks : List Kept). flat_map (λ (one : Kept). one.retired) ks) c.as_slice-2.ensures
-          ∙ retired_live inside.updates inside.kept c.self.invariant.paired;
-      gaps_are =
-          c.in_ok-gaps.ensures
-          ∙ ap (gaps_left inside.arena) c.as_slice-3.ensures
-          ∙ c.kept_ranges_leave_the_gaps.ensures k inside.kept c.self.invariant.are_kept;
-    } in
-    let given : Gives (λ (plan : Plan). plan) c.plan.result
-    (planned (running_of k) (retired_of k) (gaps_of k) c.args.pre.now c.args.post.now) =
-    subst (λ (r : Result Plan Refusal). Gives (λ (plan : Plan). plan) c.plan.result r)
-    (plan_beside laws k contents symbols bodies retired c.in_ok-gaps.gaps c.args.pre.now c.args.post.now beside)
-    c.plan.ensures in
-    subst (λ (m : AbstractMachine). IfOk c.plan.result (λ (plan : Plan). CanBeMade (contents_of m) plan)) c.self.view_is
-    (plan_sound c.plans_can_be_made.ensures c.gaps_are_free.ensures.ascend c.gaps_are_free.ensures.below
-    c.gaps_are_free.ensures.apart k c.args.pre.now c.args.post.now c.plan.result c.self.invariant.built given)
+    plan_sound c.plans_can_be_made.ensures c.gaps_are_free.ensures.ascend c.gaps_are_free.ensures.below
+    c.gaps_are_free.ensures.apart c.args.self.now c.args.pre.now c.args.post.now c.plan.result
+    (subst IsBuilt c.self.view_is c.self.invariant.built) (returns-clause-planned g c)
+
+pub returns-clause-newest : goal.returns-clause-newest
+returns-clause-newest g c =
+    plan_replaces c.plans_replace_the_newest.ensures c.args.self.now c.args.pre.now c.args.post.now c.plan.result
+    (subst IsBuilt c.self.view_is c.self.invariant.built) (returns-clause-planned g c)
