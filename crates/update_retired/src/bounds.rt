@@ -38,8 +38,8 @@ impl<'a> Bounds<'a> {
     {
         Ok(Bounds {
             ranges,
-            lows: ascending(lows_of(alloc, ranges)?),
-            highs: ascending(highs_of(alloc, ranges)?),
+            lows: ascending(lows_of(alloc, ranges)?)?,
+            highs: ascending(highs_of(alloc, ranges)?)?,
         })
     }
 
@@ -76,13 +76,14 @@ fn highs_of(alloc: Global, ranges: &[Range]) -> Result<Vec<u32>, AllocError>
         .collect(alloc)
 }
 
-/// Numbers in ascending order.
-fn ascending(mut numbers: Vec<u32>) -> Vec<u32>
-    ensures rise { IsSorted nat_cmp result.items }
-    ensures same { IsPermutation numbers.items result.items }
+/// Numbers in ascending order. Runs of them that ascend already are kept, and merged. `Err` comes only if memory runs
+/// out.
+fn ascending(mut numbers: Vec<u32>) -> Result<Vec<u32>, AllocError>
+    ensures rise { IfOk result (λ sorted. IsSorted nat_cmp sorted.items) }
+    ensures same { IfOk result (λ sorted. IsPermutation numbers.items sorted.items) }
 {
-    numbers.sort_unstable();
-    numbers
+    numbers.sort()?;
+    Ok(numbers)
 }
 
 /// How many of ascending numbers are below a bound.

@@ -59,7 +59,7 @@ fn put_replaced(bases: &mut Bases, replaced: &[Replaced]) -> Result<(), AllocErr
 fn rows_of(alloc: Global, bases: &Bases) -> Result<Vec<(u32, u32)>, AllocError>
     ensures { IfOk result (λ rows. rows.items ≡ bases.now.entries) }
 {
-    let mut rows = Vec::new(alloc);
+    let mut rows = Vec::with_capacity(alloc, bases.len())?;
     for (home, base) in bases {
         rows.push((*home, *base))?;
     }
@@ -70,20 +70,11 @@ fn rows_of(alloc: Global, bases: &Bases) -> Result<Vec<(u32, u32)>, AllocError>
 pub(crate) fn retired_by(alloc: Global, kept: &[Kept]) -> Result<Ranges, AllocError>
     ensures { IfOk result (λ ranges. ranges ≡ flat_map (λ one. one.retired) kept.now) }
 {
-    let mut ranges = Ranges::new(alloc);
+    let mut ranges = Vec::new(alloc);
     for one in kept {
-        put_ranges(&mut ranges, one.retired.as_slice())?;
+        ranges.extend_from_slice(one.retired.as_slice())?;
     }
-    Ok(ranges)
-}
-
-fn put_ranges(ranges: &mut Ranges, more: &[Range]) -> Result<(), AllocError>
-    ensures { OnOk result (ranges.new ≡ ranges.old ++ more.now) }
-{
-    for range in more {
-        ranges.push(*range)?;
-    }
-    Ok(())
+    Ok(Ranges::from_vec(ranges))
 }
 
 /// What the pieces of live updates leave of an arena.
@@ -107,12 +98,12 @@ fn gaps_in(alloc: Global, arena: Range) -> Result<Ranges, AllocError>
 }
 
 /// The ranges of the pieces of live updates, those of the oldest first.
-fn taken_by(alloc: Global, kept: &[Kept]) -> Result<Ranges, AllocError>
-    ensures { IfOk result (λ ranges. ranges ≡ flat_map (λ one. one.ranges) kept.now) }
+fn taken_by(alloc: Global, kept: &[Kept]) -> Result<Vec<Range>, AllocError>
+    ensures { IfOk result (λ ranges. ranges.items ≡ flat_map (λ one. one.ranges) kept.now) }
 {
-    let mut ranges = Ranges::new(alloc);
+    let mut ranges = Vec::new(alloc);
     for one in kept {
-        put_ranges(&mut ranges, one.ranges.as_slice())?;
+        ranges.extend_from_slice(one.ranges.as_slice())?;
     }
     Ok(ranges)
 }
