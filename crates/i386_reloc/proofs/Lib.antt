@@ -17,4 +17,6 @@ pub mod RelocationLists
 pub mod RightFields
 pub mod Sorting
 pub mod StandingTexts
+pub mod SymbolNames
+pub mod Wholes
 pub mod ZeroPlaces

@@ -7,6 +7,7 @@ mod fields;
 mod file_sections;
 mod functions;
 mod known;
+mod laws;
 mod loaded;
 mod names;
 mod objects;
@@ -25,6 +26,7 @@ mod types;
 mod value;
 
 pub use crate::file_sections::read_sections;
+pub use crate::laws::sections_are_whole;
 pub use crate::reading::normalise;
 pub use crate::refused::object_refusal;
 pub use crate::sections::Normal;

@@ -52,6 +52,8 @@ pub fn normalise<'a>(alloc: Global, object: &Object<'a>) -> Result<Normal<'a>, R
         (λ normal. All (λ section. section_named normal section.name ≡ Some section) normal) }
     ensures by_offset { IfOk result (λ _. HasOrder object.now (section_count object.now)) }
 {
+    // The object breaks no rule.
+    let _count = object.section_count();
     let places = places(alloc, object)?;
     let source = Source::new(alloc, object)?;
     let functions = gather(alloc, &source)?;

@@ -7,6 +7,7 @@ ghost use Rattle.i386_reloc.specs.Places.{place_named, reference_at, place_of_re
 ghost use Rattle.i386_reloc.specs.inside.NamePlaces.{named};
 ghost use Rattle.i386_reloc.specs.inside.Targets.{targets_in};
 ghost use Rattle.i386_reloc.specs.Texts.{HasTexts};
+ghost use Rattle.i386_reloc.specs.Whole.{HasSymbolNames, IsWhole};
 
 use crate::types::NormalSection;
 use ks_base::ListOf;
@@ -30,6 +31,7 @@ impl<'a> Model for Normal<'a> {
     ghost use Rattle.i386_reloc.specs.inside.NamePlaces.{named};
     ghost use Rattle.i386_reloc.specs.inside.Targets.{targets_in};
     ghost use Rattle.i386_reloc.specs.Texts.{HasTexts};
+    ghost use Rattle.i386_reloc.specs.Whole.{HasSymbolNames, IsWhole};
 
     ghost Value = { List NormalSection };
 
@@ -39,6 +41,8 @@ impl<'a> Model for Normal<'a> {
         × All (λ section. section_named n.sections section.name ≡ Some section) n.sections
         × All IsFunction n.sections
         × All HasFieldsInOrder n.sections
+        × All IsWhole n.sections
+        × All HasSymbolNames n.sections
         × IsDistinct same_bytes (map name_of n.sections)
         × HasTexts n.sections
         × (n.targets ≡ targets_in n.sections)
@@ -56,6 +60,8 @@ impl<'a> Normal<'a> {
         requires named { All (λ section. section_named sections section.name ≡ Some section) sections }
         requires functions { All IsFunction sections }
         requires by_offset { All HasFieldsInOrder sections }
+        requires whole { All IsWhole sections }
+        requires symbol_names { All HasSymbolNames sections }
         requires distinct { IsDistinct same_bytes (map name_of sections) }
         requires texts { HasTexts sections }
         requires targets { targets ≡ targets_in sections }
@@ -78,12 +84,16 @@ impl<'a> Normal<'a> {
     }
 
     /// All sections in order. No two have one name, each code section is a function, the references of a section stand
-    /// by offset, and a reference to a text has that text's bytes from its section.
+    /// by offset, and a reference to a text has that text's bytes from its section. Each section has some bytes, as many
+    /// as its size where the file holds them, and the names of functions and variables have at most 4,096 bytes, none of
+    /// them zero.
     pub fn as_slice(&self) -> &[NormalSection<'a>]
         ensures sections { result.now ≡ self.now }
         ensures named { All (λ section. section_named self.now section.name ≡ Some section) self.now }
         ensures functions { All IsFunction self.now }
         ensures by_offset { All HasFieldsInOrder self.now }
+        ensures whole { All IsWhole self.now }
+        ensures symbol_names { All HasSymbolNames self.now }
         ensures distinct { IsDistinct same_bytes (map name_of self.now) }
         ensures texts { HasTexts self.now }
         ensures few { length self.now ≤ 4096 }

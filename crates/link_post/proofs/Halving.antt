@@ -1,6 +1,6 @@
 -- The section of a name among places of sections that stand in the order of an object, found by halving.
 use Rattle.std.proofs.Common.{◌≡◌, ℕ, suc, zero, ◌≤◌, ◌<◌, Bool, true, false, List, [], ◌∷◌, map}
-use Rattle.std.proofs.Common.{length, get_or, Some, None, refl, sym, ap, ◌∙◌, arith, ◌⊎◌, inl, inr}
+use Rattle.std.proofs.Common.{length, get_or, Some, None, refl, sym, ap, subst, ◌∙◌, arith, ◌⊎◌, inl, inr}
 use Rattle.std.specs.Prelude.{option_map}
 use Rattle.std.specs.List.{find}
 use Rattle.std.specs.List.Sorted.{IsPartitionedBy}
@@ -133,3 +133,20 @@ module _ (post : List NormalSection) (name : List ℕ) (xs : List Placed) (i : �
     where
       three : (a b : ℕ) → (a < b) ⊎ ((a ≡ b) ⊎ (b < a))
       three a b = grind arith
+
+-- A placed section of the name is the only one.
+at_index : (post : List NormalSection) (name : List ℕ) (xs : List Placed) (i : ℕ) (d : Placed) → AreInOrder post xs
+    → i < length xs → has_name name (get_or xs i d) ≡ true → find (has_name name) xs ≡ Some (get_or xs i d)
+at_index post name xs i d up within here =
+    find_at name xs i d within here
+    (λ k less.
+    other_below post (get_or xs k d).section name
+    (subst (λ n. place_in post (get_or xs k d).section < n) (same_place post (get_or xs i d).section name here)
+    (later post 0 xs k i d up less within)))
+
+pub base_at_index : (post : List NormalSection) (name : List ℕ) (xs : List Placed) (i : ℕ) (one : Placed)
+    → AreInOrder post xs → i < length xs → one ≡ get_or xs i one → same_bytes one.section name ≡ true
+    → base_in xs name ≡ Some one.base
+base_at_index post name xs i one up within is here =
+    ap (option_map (λ (x : Placed). x.base))
+    (at_index post name xs i one up within (ap (has_name name) (sym is) ∙ here) ∙ ap Some (sym is))

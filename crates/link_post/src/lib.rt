@@ -12,6 +12,7 @@ mod lookups;
 mod placing;
 mod resolving;
 mod rooms;
+mod sections;
 mod types;
 
 pub use crate::arena::without_all;
@@ -25,5 +26,7 @@ pub use crate::laws::{
 pub use crate::linking::{linked, needs};
 pub use crate::lookups::{in_order, solved_as};
 pub use crate::placing::{ascend, place};
-pub use crate::resolving::resolve_post;
+pub use crate::resolving::{add_address, resolve_post};
+pub use crate::rooms::round_up;
+pub use crate::sections::{function_symbol, kind_of_class, variable_symbol};
 pub use crate::types::{Need, Needs, Placed, Placement, SectionSize};

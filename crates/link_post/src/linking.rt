@@ -200,10 +200,13 @@ impl<'a, 'b> Linking<'a, 'b> {
         ensures { IfOk result (λ address. address
             ≡ section_address self.now.post.now self.now.placement.now self.now.values.now.entries r.now name.now) }
     {
-        if is_code(self.post, name) {
+        let Some(section) = self.post.find(name) else {
+            return Ok(base_in(self.post, self.placement, name));
+        };
+        if section.class.is_code() {
             return self.function_address(alloc, r, name);
         }
-        if is_data(self.post, name) {
+        if section.class.is_data() {
             let which = Unknown::Data(Name::from_slice(alloc, name)?);
             if let Some(address) = value_in(self.values, &which) {
                 return Ok(Some(address));
@@ -230,16 +233,6 @@ impl<'a, 'b> Linking<'a, 'b> {
             }
         }
         Ok(base_in(self.post, self.placement, name))
-    }
-}
-
-/// Whether the section of a name is a function.
-fn is_code(post: &Normal<'_>, name: &[u8]) -> bool
-    ensures { result ≡ is_in is_code_class post.now name.now }
-{
-    match post.find(name) {
-        Some(section) => section.class.is_code(),
-        None => false,
     }
 }
 

@@ -49,12 +49,28 @@ fn begun(post: &Normal<'_>, placement: &[Placed], place: usize) -> usize
     placement.partition_point(|placed| place_in(post, placed.section.as_slice()) < place)
 }
 
-/// Where the section of a name was placed, found by halving.
+/// Where the section of a name was placed. Where all sections of the object were placed it stands at its own index among
+/// them, which is looked at first; otherwise it is found by halving.
 pub(crate) fn base_in(post: &Normal<'_>, placement: &[Placed], name: &[u8]) -> Option<u32>
     requires { AreInOrder post.now placement.now }
     ensures { result ≡ base_in placement.now name.now }
 {
-    let begun = begun(post, placement, place_in(post, name));
+    let place = place_in(post, name);
+    if let Some(placed) = placement.get(place) {
+        if placed.section.as_slice() == name {
+            return Some(placed.base);
+        }
+    }
+    halved(post, placement, name, place)
+}
+
+/// The same by halving, from the section's place in the object.
+fn halved(post: &Normal<'_>, placement: &[Placed], name: &[u8], place: usize) -> Option<u32>
+    requires order { AreInOrder post.now placement.now }
+    requires place { place ≡ place_in post.now name.now }
+    ensures { result ≡ base_in placement.now name.now }
+{
+    let begun = begun(post, placement, place);
     if begun == placement.len() {
         return None;
     }

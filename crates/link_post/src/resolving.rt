@@ -172,8 +172,8 @@ fn add_listed(
     Ok(())
 }
 
-/// Puts the address of an unknown that has no value yet at the end.
-fn add_address(values: &mut Values, which: Unknown, address: u32) -> Result<(), AllocError>
+/// Puts the address of an unknown that has no value yet at the end. `Err` comes only if memory runs out.
+pub fn add_address(values: &mut Values, which: Unknown, address: u32) -> Result<(), AllocError>
     requires { solved_as values.old.entries which ≡ None }
     ensures { OnOk result (values.new.entries ≡ values.old.entries ++ (which, Solved.Address address) ∷ []) }
 {

@@ -14,7 +14,7 @@ pub(crate) const LEAST_BOUNDARY: u32 = 16;
 
 /// The lowest multiple of a unit at or above an address.
 #[tactic(auto, using(crate::proofs::Rounding::rounded))]
-pub(crate) fn round_up(address: u32, unit: u32) -> u64
+pub fn round_up(address: u32, unit: u32) -> u64
     requires { 0 < unit }
     ensures value { result ≡ round_up address unit }
     ensures bound { result < 2 ^ 34 }

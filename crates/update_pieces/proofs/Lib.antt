@@ -1,7 +1,6 @@
 pub mod Zips
 pub mod Steps
 pub mod OldNames
-pub mod Wholes
 pub mod NewRanges
 pub mod OwnPlaces
 pub mod NewTexts

@@ -24,7 +24,8 @@ use Rattle.link_post.specs.Places.{AreApart, ArePlaces, IsPlace, LiesInOne, base
 use Rattle.link_post.specs.Linked.{filled, linked, linked_by, linked_section, with_word}
 use Rattle.update_pieces.specs.Parts.{NewPart, at_place, at_places, size_of}
 use Rattle.update_pieces.specs.Pieces.{new_piece, new_pieces}
-use Rattle.update_pieces.specs.Apart.{IsWhole, IsPartOf, ArePartsOf, IsInGap, AreNewPieces, kind_for}
+use Rattle.i386_reloc.specs.Whole.{IsWhole}
+use Rattle.update_pieces.specs.Apart.{IsPartOf, ArePartsOf, IsInGap, AreNewPieces, kind_for}
 
 -- ---- the length of linked bytes
 word_length : (word : ℕ) → length (to_le_bytes w32 word) ≡ 4

@@ -7,21 +7,13 @@ use Rattle.image_memory.specs.declared.types.Kind.{Kind}
 use Rattle.image_memory.specs.declared.types.Piece.{Piece}
 use Rattle.image_memory.specs.Contents.{piece_range}
 use Rattle.image_memory.specs.Access.{kind_of}
-use Rattle.i386_reloc.specs.declared.types.Class.TheVariants.{Zero}
 use Rattle.i386_reloc.specs.declared.types.NormalSection.{NormalSection}
 use Rattle.i386_reloc.specs.Normal.{section_named}
+use Rattle.i386_reloc.specs.Whole.{IsWhole}
 use Rattle.link_post.specs.declared.types.Placed.{Placed}
 use Rattle.link_post.specs.Places.{AreApart, LiesInOne, base_in, extents}
 use Rattle.update_pieces.specs.Parts.{NewPart, AtPlace, size_of}
-use Rattle.update_pieces.specs.Pieces.{kind_of_class}
-
--- a section has some bytes, and as many as its size where the file holds them
-pub record IsWhole (section : NormalSection) : Type 0 where
-  pub some : 0 < section.size
-  pub all : section.class ≢ Zero → length section.bytes ≡ section.size
-
-abbrev pub AreWhole : List NormalSection → Type 0
-AreWhole sections = AllByRecursion IsWhole sections
+use Rattle.link_post.specs.Sections.{kind_of_class}
 
 -- a whole section of an object
 pub record IsPartOf (post : List NormalSection) (part : NewPart) : Type 0 where

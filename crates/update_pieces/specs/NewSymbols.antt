@@ -1,27 +1,13 @@
 -- The symbols that an update adds: of each function that it adds, and of each variable of new data.
-use Rattle.std.specs.Prelude.{ℕ, ◌+◌, ◌%◌, ◌^◌, true, false, List, [], ◌∷◌, map}
+use Rattle.std.specs.Prelude.{ℕ, List, [], ◌∷◌, map}
 use Rattle.std.specs.List.{flat_map}
 use Rattle.symbol_table.specs.declared.symbols.Symbol.{Symbol}
-use Rattle.i386_reloc.specs.declared.types.ObjectSymbol.{ObjectSymbol}
 use Rattle.i386_reloc.specs.declared.types.NormalSection.{NormalSection}
-use Rattle.i386_reloc.specs.Normal.{function_name}
 use Rattle.link_post.specs.declared.types.Placed.{Placed}
+use Rattle.link_post.specs.Sections.{function_symbol, variable_symbol}
 use Rattle.extract_post.specs.declared.role.Role.{Role}
 use Rattle.extract_post.specs.declared.role.Role.TheVariants.{Changed, Added, Carried, NewData}
 use Rattle.update_pieces.specs.Parts.{NewPart, AtPlace, at_places}
-
-abbrev pub function_symbol : NormalSection → ℕ → Symbol
-function_symbol section base =
-    record { address = base; function = true; global = section.global; name = function_name section }
-
-abbrev pub variable_symbol : ℕ → ObjectSymbol → Symbol
-variable_symbol base object =
-    record {
-      address = (base + object.value) % 2 ^ 32;
-      function = false;
-      global = object.global;
-      name = object.name;
-    }
 
 -- what a section that is placed adds, by what the update does with it
 abbrev pub symbols_by : Role → NormalSection → ℕ → List Symbol

@@ -10,7 +10,8 @@ use Rattle.link_post.specs.Linked.{linked}
 use Rattle.extract_post.specs.declared.role.Role.TheVariants.{Changed}
 use Rattle.update_retired.specs.declared.types.OldFunction.{OldFunction}
 use Rattle.update_pieces.specs.Parts.{NewPart, AtPlace, at_places}
-use Rattle.update_pieces.specs.Pieces.{kind_of_class, new_pieces}
+use Rattle.link_post.specs.Sections.{kind_of_class}
+use Rattle.update_pieces.specs.Pieces.{new_pieces}
 use Rattle.update_pieces.specs.Reports.{old_named}
 
 -- A replaced function is the old function of a changed section's name, and goes on at the base at which that section is

@@ -1,10 +1,8 @@
 //! What holds of all new pieces, and of all reports.
-ghost use Rattle.std.specs.Prelude.{◌≡◌, ℕ, List, map, None, Ok};
+ghost use Rattle.std.specs.Prelude.{◌≡◌, ℕ, List, map, Ok};
 ghost use Rattle.std.specs.List.{All};
 ghost use Rattle.ks_base.specs.declared.places.Range.{Range};
-ghost use Rattle.i386_reloc.specs.Rules.{object_fault};
 ghost use Rattle.i386_reloc.specs.declared.types.NormalSection.{NormalSection};
-ghost use Rattle.i386_reloc.specs.Normal.{loaded_sections};
 ghost use Rattle.image_memory.specs.Ranges.{Ascends};
 ghost use Rattle.link_post.specs.declared.types.Placed.{Placed};
 ghost use Rattle.link_post.specs.Linked.{AreInOrder};
@@ -14,16 +12,10 @@ ghost use Rattle.update_retired.specs.declared.types.OldFunction.{OldFunction};
 ghost use Rattle.update_pieces.specs.Parts.{NewPart, at_places, size_of};
 ghost use Rattle.update_pieces.specs.Pieces.{new_pieces};
 ghost use Rattle.update_pieces.specs.Reports.{report_of};
-ghost use Rattle.update_pieces.specs.Apart.{AreWhole, ArePartsOf, AreNewPieces, AreFound};
+ghost use Rattle.update_pieces.specs.Apart.{ArePartsOf, AreNewPieces, AreFound};
 ghost use Rattle.update_pieces.specs.NewText.{HasNewText};
 
 use link_post::places_lie_apart;
-
-/// The loaded sections of an object that breaks no rule: each has some bytes, and as many as its size where the file
-/// holds them.
-pub fn sections_are_whole()
-    ensures { (bytes : List ℕ) → object_fault bytes ≡ None → AreWhole (loaded_sections bytes) }
-{}
 
 /// The pieces of whole sections of an object at the places that [`place`](link_post::place) gives: one for each
 /// section, with the section's size and the kind of its class. Each has all its bytes, of which there are some, in one

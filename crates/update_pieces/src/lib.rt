@@ -8,9 +8,7 @@ mod pieces;
 mod reporting;
 mod symbols;
 
-pub use crate::laws::{
-    new_pieces_lie_apart, places_are_found, replaced_functions_have_new_text, sections_are_whole,
-};
+pub use crate::laws::{new_pieces_lie_apart, places_are_found, replaced_functions_have_new_text};
 pub use crate::parts::{Part, sizes};
 pub use crate::pieces::new_pieces;
 pub use crate::reporting::report_of;

@@ -1,13 +1,13 @@
 //! The pieces of memory that an update adds.
 ghost use Rattle.std.specs.Prelude.{◌≡◌, IfOk};
 ghost use Rattle.link_post.specs.Linked.{AreInOrder};
-ghost use Rattle.update_pieces.specs.Pieces.{kind_of_class, new_piece, new_pieces};
+ghost use Rattle.update_pieces.specs.Pieces.{new_piece, new_pieces};
 
 use crate::parts::{Part, PlacedPart, at_places};
-use i386_reloc::{Class, Normal};
-use image_memory::{Kind, Piece, Pieces};
+use i386_reloc::Normal;
+use image_memory::{Piece, Pieces};
 use ks_base::Name;
-use link_post::{Placement, linked};
+use link_post::{Placement, kind_of_class, linked};
 use std::alloc::{AllocError, Global};
 use symbol_table::Values;
 
@@ -51,17 +51,4 @@ fn new_piece(
         base: part.base(),
         bytes,
     })
-}
-
-/// What the piece of a section may be used for.
-fn kind_of_class(class: Class) -> Kind
-    ensures { result ≡ kind_of_class class }
-{
-    match class {
-        Class::Code => Kind::Code,
-        Class::ReadOnly => Kind::ReadOnly,
-        Class::Strings => Kind::ReadOnly,
-        Class::Writable => Kind::Writable,
-        Class::Zero => Kind::Writable,
-    }
 }

@@ -1,12 +1,13 @@
 //! The symbols that an update adds.
 ghost use Rattle.std.specs.Prelude.{◌≡◌, ◌++◌, map, IfOk, OnOk};
-ghost use Rattle.update_pieces.specs.NewSymbols.{function_symbol, new_symbols, symbols_of, variable_symbol};
+ghost use Rattle.link_post.specs.Sections.{variable_symbol};
+ghost use Rattle.update_pieces.specs.NewSymbols.{new_symbols, symbols_of};
 
 use crate::parts::{Part, PlacedPart, at_places};
 use extract_post::Role;
-use i386_reloc::{NormalSection, ObjectSymbol};
-use ks_base::{ListOf, Name};
-use link_post::Placement;
+use i386_reloc::ObjectSymbol;
+use ks_base::ListOf;
+use link_post::{Placement, function_symbol, variable_symbol};
 use std::alloc::{AllocError, Global};
 use symbol_table::Symbol;
 
@@ -48,22 +49,6 @@ fn add_symbols(
     }
 }
 
-/// The symbol of the function that a section is.
-fn function_symbol(
-    alloc: Global,
-    section: &NormalSection<'_>,
-    base: u32,
-) -> Result<Symbol, AllocError>
-    ensures { IfOk result (λ symbol. symbol ≡ function_symbol section.now base) }
-{
-    Ok(Symbol {
-        address: base,
-        function: true,
-        global: section.global,
-        name: Name::from_slice(alloc, section.function_name())?,
-    })
-}
-
 /// Adds the symbols of the variables of a section.
 fn add_variables(
     alloc: Global,
@@ -77,20 +62,4 @@ fn add_variables(
         symbols.push(variable_symbol(alloc, object, base)?)?;
     }
     Ok(())
-}
-
-/// The symbol of a variable of a section.
-fn variable_symbol(
-    alloc: Global,
-    object: &ObjectSymbol<'_>,
-    base: u32,
-) -> Result<Symbol, AllocError>
-    ensures { IfOk result (λ symbol. symbol ≡ variable_symbol base object.now) }
-{
-    Ok(Symbol {
-        address: base.wrapping_add(object.value),
-        function: false,
-        global: object.global,
-        name: Name::from_slice(alloc, object.name.as_slice())?,
-    })
 }

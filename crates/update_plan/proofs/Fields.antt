@@ -24,7 +24,7 @@ use Rattle.i386_reloc.specs.References.{by_offset, changes_at, fields_of, is_out
 use Rattle.i386_reloc.specs.References.{reference_to, references_of, relocations_of, symbol_of}
 use Rattle.i386_reloc.specs.Sections.{sections_of}
 use Rattle.symbol_solve.specs.MatchAlike.{HasFieldsInside}
-use Rattle.update_pieces.specs.Apart.{AreWhole, IsWhole}
+use Rattle.i386_reloc.specs.Whole.{AreWhole, IsWhole}
 use Rattle.update_plan.proofs.SoundLists.{Has, all_of, each_has, filter_has, has_either, map_has}
 use Rattle.update_plan.proofs.SoundFile.{is_file}
 

@@ -31,7 +31,8 @@ use Rattle.link_post.specs.Places.{name_of as name_of_size, placed}
 use Rattle.link_post.specs.Linked.{AreInOrder, AreNamesInOrder, linked}
 use Rattle.update_retired.specs.declared.types.OldFunction.{OldFunction}
 use Rattle.update_pieces.specs.Parts.{AtPlace, NewPart, at_places, size_of}
-use Rattle.update_pieces.specs.Pieces.{kind_of_class, new_pieces}
+use Rattle.link_post.specs.Sections.{kind_of_class}
+use Rattle.update_pieces.specs.Pieces.{new_pieces}
 use Rattle.update_pieces.specs.Reports.{report_of}
 use Rattle.update_pieces.specs.Apart.{AreFound, IsFound}
 use Rattle.update_pieces.specs.NewText.{HasNewText}

@@ -14,7 +14,8 @@ use Rattle.extract_post.specs.Roles.{is_among, role_of}
 use Rattle.link_post.specs.declared.types.Placed.{Placed}
 use Rattle.link_post.specs.Places.{IsPlace}
 use Rattle.update_pieces.specs.Parts.{AtPlace, NewPart, at_places, new_part, placed_part, size_of}
-use Rattle.update_pieces.specs.Apart.{ArePartsOf, AreWhole, IsPartOf, IsWhole}
+use Rattle.i386_reloc.specs.Whole.{AreWhole, IsWhole}
+use Rattle.update_pieces.specs.Apart.{ArePartsOf, IsPartOf}
 use Rattle.update_plan.specs.Placing.{part_as, part_in, parts_of}
 use Rattle.update_plan.proofs.SoundLists.{Has, IsShort, Pairs, each_has, each_of, flat_has, has_flat, pairs_flat}
 

@@ -32,7 +32,8 @@ use Rattle.update_retired.specs.Retired.{AreInUse, body_range, retired_by, secti
 use Rattle.update_retired.specs.Overlaps.{LieApart, code_refusal}
 use Rattle.update_pieces.specs.Parts.{AtPlace, NewPart, at_places, new_part, placed_part, size_of}
 use Rattle.update_pieces.specs.Pieces.{new_piece, new_pieces}
-use Rattle.update_pieces.specs.Apart.{AreNewPieces, ArePartsOf, AreWhole}
+use Rattle.i386_reloc.specs.Whole.{AreWhole}
+use Rattle.update_pieces.specs.Apart.{AreNewPieces, ArePartsOf}
 use Rattle.update_plan.specs.declared.types.Plan.{Plan}
 use Rattle.update_plan.specs.Olds.{olds_of}
 use Rattle.update_plan.specs.Placing.{parts_of}

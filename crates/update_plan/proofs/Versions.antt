@@ -13,7 +13,8 @@ use Rattle.symbol_solve.specs.Candidates.{Running}
 use Rattle.update_retired.specs.declared.types.OldFunction.{OldFunction}
 use Rattle.update_retired.specs.Retired.{is_retired}
 use Rattle.update_pieces.specs.Parts.{AtPlace, NewPart, at_places}
-use Rattle.update_pieces.specs.Pieces.{kind_of_class, new_piece, new_pieces}
+use Rattle.link_post.specs.Sections.{kind_of_class}
+use Rattle.update_pieces.specs.Pieces.{new_piece, new_pieces}
 use Rattle.update_pieces.specs.Reports.{replaced_of}
 use Rattle.update_plan.specs.declared.types.Plan.{Plan}
 use Rattle.update_plan.specs.Olds.{olds_of}

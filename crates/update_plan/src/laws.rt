@@ -24,14 +24,13 @@ ghost use Rattle.update_plan.specs.Sound.{AllReplaceNewest, AreGaps, AreListed, 
 ghost use Rattle.update_plan.specs.NewCode.{BringsNewCode};
 
 use extract_post::placed_sections_bring_what_they_name;
+use i386_reloc::sections_are_whole;
 use ia32_decode::instructions_have_bytes;
 use link_post::{places_keep_the_order, places_lie_apart, values_are_found};
 use symbol_solve::{
     alike_programs_have_one_answer, answer_is_only_solution, answers_tell_each_body,
 };
-use update_pieces::{
-    new_pieces_lie_apart, places_are_found, replaced_functions_have_new_text, sections_are_whole,
-};
+use update_pieces::{new_pieces_lie_apart, places_are_found, replaced_functions_have_new_text};
 use update_retired::{retired_code_lies_apart, room_is_code, room_is_met};
 
 /// The functions of an old object as they run are in use: no address of a body that was matched is retired, since each

@@ -11,6 +11,8 @@ use Rattle.i386_reloc.proofs.FieldOrder.{all_in_order}
 use Rattle.i386_reloc.proofs.Going.{all_going}
 use Rattle.i386_reloc.proofs.Normals.{no_fault, relocation_refused, all_functions}
 use Rattle.i386_reloc.proofs.StandingTexts.{has_texts}
+use Rattle.i386_reloc.proofs.SymbolNames.{all_symbol_names}
+use Rattle.i386_reloc.proofs.Wholes.{each_is_whole}
 use Rattle.i386_reloc.proofs.reading.normalise.Goals as goal
 
 pub new-requires-2-clause-named : goal.new-requires-2-clause-named
@@ -50,6 +52,18 @@ new-requires-2-clause-by_offset c =
     let order : HasOrder c.args.object.now (section_count c.args.object.now) =
     rw (← here) c.in_ok-sections.ensures.order in
     rw (c.in_ok-sections.ensures.sections ∙ ap loaded_sections here) (all_in_order c.args.object.now order)
+
+pub new-requires-2-clause-whole : goal.new-requires-2-clause-whole
+new-requires-2-clause-whole c =
+    let here : c.in_ok-source.source.object.now ≡ c.args.object.now = grind (arith, common_steps) in
+    rw (c.in_ok-sections.ensures.sections ∙ ap loaded_sections here)
+    (each_is_whole c.args.object.now c.section_count-count.ensures.kept)
+
+pub new-requires-2-clause-symbol_names : goal.new-requires-2-clause-symbol_names
+new-requires-2-clause-symbol_names c =
+    let here : c.in_ok-source.source.object.now ≡ c.args.object.now = grind (arith, common_steps) in
+    rw (c.in_ok-sections.ensures.sections ∙ ap loaded_sections here)
+    (all_symbol_names c.args.object.now c.section_count-count.ensures.kept)
 
 pub new-requires-2-clause-targets : goal.new-requires-2-clause-targets
 new-requires-2-clause-targets c =

@@ -1,5 +1,5 @@
 use Rattle.std.proofs.Common.{◌≡◌, ◌++◌, map, take}
-use Rattle.update_pieces.specs.NewSymbols.{variable_symbol}
+use Rattle.link_post.specs.Sections.{variable_symbol}
 use Rattle.update_pieces.proofs.symbols.add_variables.Given as goal
 
 abbrev pub invariant-loop-object : goal.invariant-loop-object

@@ -1,23 +1,24 @@
 -- The loaded sections of an object that breaks no rule have all their bytes.
 use Rattle.std.proofs.Common.{◌≡◌, ◌≢◌, ℕ, zero, suc, ◌+◌, ◌<◌, ◌≤◌, true, false, ◌==◌, ◌||◌, List, []}
 use Rattle.std.proofs.Common.{◌∷◌, ◌++◌, length, take, drop, None, refl, ap, ◌∙◌}
-use Rattle.std.proofs.Common.{if◌then◌else◌, inl, inr, arith, length-take, length-drop}
+use Rattle.std.proofs.Common.{if◌then◌else◌, inl, inr, arith, length-take, length-drop, All}
 use Rattle.std.proofs.lemmas.Bool.{cases_Bool}
+use Rattle.std.proofs.lemmas.List.Elements.{All-from_recursion}
 use Rattle.std.proofs.lemmas.Bool.Decides.{nat_tests}
-use Rattle.i386_reloc.specs.Numbers.{SHT_NOBITS}
-use Rattle.i386_reloc.specs.SectionHeader.{SectionHeader}
-use Rattle.i386_reloc.specs.Reloc.{Reloc}
-use Rattle.i386_reloc.specs.Below.{first_below}
-use Rattle.i386_reloc.specs.Fields.{section_count, section_header, section_bytes, has_no_bytes, lies_in_file}
-use Rattle.i386_reloc.specs.Fields.{holds_program, is_section, is_loaded}
-use Rattle.i386_reloc.specs.Rules.{object_fault, place_fault, section_fault}
-use Rattle.i386_reloc.specs.BelowLaws.{none_first, none_second, none_below}
+use Rattle.elf32_object.specs.Numbers.{SHT_NOBITS}
+use Rattle.elf32_object.specs.declared.types.SectionHeader.{SectionHeader}
+use Rattle.elf32_object.specs.declared.types.Reloc.{Reloc}
+use Rattle.elf32_object.specs.Below.{first_below}
+use Rattle.elf32_object.specs.Fields.{section_count, section_header, section_bytes, has_no_bytes, lies_in_file}
+use Rattle.elf32_object.specs.Fields.{holds_program, is_section, is_loaded}
+use Rattle.elf32_object.specs.Rules.{object_fault, place_fault, section_fault}
+use Rattle.elf32_object.specs.laws.BelowLaws.{none_first, none_second, none_below}
 use Rattle.i386_reloc.specs.declared.types.Class.TheVariants.{Zero}
 use Rattle.i386_reloc.specs.declared.types.NormalSection.{NormalSection}
 use Rattle.i386_reloc.specs.Classes.{class_of}
 use Rattle.i386_reloc.specs.Normal.{loaded_below, loaded_sections, normal_section}
 use Rattle.i386_reloc.specs.References.{blanked_from, blanked_bytes}
-use Rattle.update_pieces.specs.Apart.{IsWhole, AreWhole}
+use Rattle.i386_reloc.specs.Whole.{IsWhole, AreWhole}
 
 sections_kept : (bytes : List ℕ) → object_fault bytes ≡ None
     → first_below (section_fault bytes) (section_count bytes) ≡ None
@@ -106,3 +107,6 @@ whole_below bytes (suc i) e =
 pub all_whole : (bytes : List ℕ) → object_fault bytes ≡ None → AreWhole (loaded_sections bytes)
 unfolding loaded_sections
 all_whole bytes e = whole_below bytes (section_count bytes) e
+
+pub each_is_whole : (bytes : List ℕ) → object_fault bytes ≡ None → All IsWhole (loaded_sections bytes)
+each_is_whole bytes e = All-from_recursion IsWhole (loaded_sections bytes) (all_whole bytes e)
