@@ -1,0 +1,11 @@
+pub mod Growth
+pub mod Laying
+pub mod Zips
+pub mod Counts
+pub mod Joins
+pub mod Sizes
+pub mod Named
+pub mod Ruled
+pub mod Doubles
+pub mod Images
+pub mod Finding

@@ -1,0 +1,8 @@
+use Rattle.std.proofs.Common.{◌≡◌, ◌++◌, length, take}
+use Rattle.std.specs.List.{flat_map, zip}
+use Rattle.image_link.specs.Symbols.{symbols_of_part}
+use Rattle.image_link.proofs.symbols.add_object.Given as goal
+
+abbrev pub invariant-loop-section : goal.invariant-loop-section
+invariant-loop-section l =
+    l.symbols ≡ l.fn.symbols ++ flat_map symbols_of_part (take (length l.yielded) (zip l.fn.laid.object l.fn.laid.places))

@@ -1,0 +1,9 @@
+use Rattle.std.proofs.Common.{◌≡◌, ◌+◌, length, min, take}
+use Rattle.std.specs.List.{flat_map}
+use Rattle.image_link.specs.Symbols.{variable_in}
+use Rattle.image_link.proofs.symbols.count_variables.Given as goal
+
+abbrev pub invariant-loop-object : goal.invariant-loop-object
+invariant-loop-object l =
+    l.counted
+    ≡ min (l.count + length (flat_map (variable_in l.section l.base) (take l.object-index l.object-items))) 65537
