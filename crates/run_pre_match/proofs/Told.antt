@@ -24,10 +24,10 @@ use Rattle.run_pre_match.specs.Matched.{Statement, spot_at, stated_in_pair, stat
 use Rattle.run_pre_match.specs.Matched.{stated_at, stated_from, statements, name_at, unknown_of, claim_about, claim_of}
 use Rattle.run_pre_match.specs.Matched.{home_claim, interior_at, interior_of, matched_by, outcome}
 use Rattle.run_pre_match.specs.Match.{Valuation, is_valued, IsField, InCode, InConstant, IsMeant, Match, IsSaid}
-use Rattle.run_pre_match.specs.Match.{IsClaimed, IsNamed, Says}
+use Rattle.run_pre_match.specs.Match.{Agrees, IsClaimed, IsNamed, Says}
 use Rattle.run_pre_match.specs.Places.{IsFieldAt, AtCode, AtConstant}
 use Rattle.run_pre_match.proofs.Claims.{no_difference, all_stated, Claimed, claimed}
-use Rattle.run_pre_match.proofs.Valuations.{matches, one_valuation}
+use Rattle.run_pre_match.proofs.Valuations.{matches, one_valuation, value_of_both, field_of_both}
 use Rattle.run_pre_match.proofs.ListParts.{front, behind, each_of, unmapped, all_flat, SaysAll, all_said, contains_said}
 
 each_stated : (P : Statement → Type 0) (c : Candidate) (found : List Found) (place : ℕ)
@@ -246,3 +246,28 @@ said_under c v m at match is =
     let same : Firsts c ≡ v = fun_ext (one_valuation c (Firsts c) v first match) in
     subst (λ (v : Valuation). Says c v m) same
     (subst (λ (m : Matched). Says c (Firsts c) m) (sym made) (says c at (is ∙ ap (λ (m : Matched). Ok m) made) first))
+
+-- Where all agrees under a valuation that may give more, each claim has its value, and each interior is that of a field
+-- that counts under it.
+pub claims_agreed : (c : Candidate) (v : Valuation) (m : Matched) → slice_get c.object c.place ≡ Some c.section →
+    Agrees c v → outcome c ≡ Ok m → All (IsSaid c v) m.claims
+claims_agreed c v m at agrees is =
+    let (w, match) = matched_under c m is in
+    All-weaker (IsSaid c w) (IsSaid c v)
+    (λ claim said. record {
+      goal = said.goal;
+      speaks = said.speaks;
+      value = value_of_both c w v match agrees said.goal claim.value said.value;
+    }) m.claims
+    (said_under c w m at match is).claims
+
+pub interiors_agreed : (c : Candidate) (v : Valuation) (m : Matched) → slice_get c.object c.place ≡ Some c.section →
+    Agrees c v → outcome c ≡ Ok m →
+    All (λ interior. (field : Given) × IsField c v field × IsNamed c interior field) m.interiors
+interiors_agreed c v m at agrees is =
+    let (w, match) = matched_under c m is in
+    All-weaker (λ (interior : Interior). (field : Given) × IsField c w field × IsNamed c interior field)
+    (λ (interior : Interior). (field : Given) × IsField c v field × IsNamed c interior field)
+    (λ interior (field, counts, named).
+    (field, field_of_both c w v match.one_value agrees.one_value field counts, named)) m.interiors
+    (said_under c w m at match is).interiors

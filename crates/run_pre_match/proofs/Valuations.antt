@@ -1,4 +1,5 @@
--- A candidate comes to a match exactly where some valuation makes it one, and there is at most one.
+-- A candidate comes to a match exactly where some valuation makes it one, and there is at most one. It also
+-- comes to one where all agrees under a valuation that gives a value to more than the fields tell.
 use Rattle.std.proofs.Common.{◌≡◌, ◌⊎◌, inl, inr, ℕ, zero, suc, ◌≤◌, Bool, true, false, not, ◌&&◌, ◌||◌}
 use Rattle.std.proofs.Common.{cond, List, [], ◌∷◌, ◌++◌, map, length, Option, Some, None, is_some, option_map, IsTrue}
 use Rattle.std.proofs.Common.{All, refl, sym, ◌∙◌, ap, subst, arith, Ok}
@@ -28,7 +29,7 @@ use Rattle.run_pre_match.specs.Differences.{is_refused_verdict, is_absent_verdic
 use Rattle.run_pre_match.specs.Differences.{break_before, is_refused_here, is_refused_target, is_unmet, kind_of}
 use Rattle.run_pre_match.specs.Differences.{difference_at, break_of, difference_from}
 use Rattle.run_pre_match.specs.Matched.{statements, matched_by, matched_unless, outcome}
-use Rattle.run_pre_match.specs.Match.{Valuation, is_valued, Agree, IsField, InCode, InConstant, IsMeant, Match}
+use Rattle.run_pre_match.specs.Match.{Valuation, is_valued, Agree, IsField, InCode, InConstant, IsMeant, Match, Agrees}
 use Rattle.run_pre_match.proofs.Stepwise.{Keeping, given_of, givens, kept_by_pair, kept_by_pairs}
 use Rattle.run_pre_match.proofs.FirstValues.{Holding, StandsIn, holds_from}
 use Rattle.run_pre_match.proofs.Opened.{Has, has_pairs}
@@ -43,9 +44,14 @@ use Rattle.run_pre_match.proofs.ListParts.{behind, unmapped}
 abbrev pub GivesOne : Candidate → Valuation → Type 0
 GivesOne c v = (field : Given) → IsField c v field → IsTrue (is_valued field.goal) → v field.goal ≡ Some field.value
 
--- one valuation at most: its fields are those of another
-field_of_both : (c : Candidate) (v w : Valuation) → GivesOne c v → GivesOne c w → (field : Given) → IsField c v field →
-    IsField c w field
+-- in a match, code and fields agree
+pub match_agrees : (c : Candidate) (v : Valuation) → Match c v → Agrees c v
+match_agrees c v m = record { whole = m.whole; code = m.code; home = m.home; one_value = m.one_value; met = m.met }
+
+-- The fields of one valuation are those of another, and the values of a match are those of any other valuation under
+-- which all agrees; so at most one makes it a match.
+pub field_of_both : (c : Candidate) (v w : Valuation) → GivesOne c v → GivesOne c w → (field : Given) →
+    IsField c v field → IsField c w field
 field_of_both c v w one other field (InCode pair r in_pairs in_pair) = InCode pair r in_pairs in_pair
 field_of_both c v w one other field (InConstant by place base section r counts goes value at in_section) =
     let there : IsField c w by = field_of_both c v w one other by counts in
@@ -54,8 +60,8 @@ field_of_both c v w one other field (InConstant by place base section r counts g
     let also : w (Constant place) ≡ Some by.value = ap w (sym goes) ∙ other by there valued in
     InConstant by place base section r there goes (also ∙ sym here ∙ value) at in_section
 
-value_of_both : (c : Candidate) (v w : Valuation) → Match c v → Match c w → (goal : Goal) (x : ℕ) → v goal ≡ Some x →
-    w goal ≡ Some x
+pub value_of_both : (c : Candidate) (v w : Valuation) → Match c v → Agrees c w → (goal : Goal) (x : ℕ) →
+    v goal ≡ Some x → w goal ≡ Some x
 value_of_both c v w one other goal x is =
     let (valued, meant) = one.no_more goal x is in
     elim meant [
@@ -75,8 +81,9 @@ same_options None (Some y) there back = back y refl
 same_options None None there back = refl
 
 pub one_valuation : (c : Candidate) (v w : Valuation) → Match c v → Match c w → (goal : Goal) → v goal ≡ w goal
-one_valuation c v w one other goal = same_options (v goal) (w goal) (λ x is. value_of_both c v w one other goal x is)
-    (λ x is. value_of_both c w v other one goal x is)
+one_valuation c v w one other goal =
+    same_options (v goal) (w goal) (λ x is. value_of_both c v w one (match_agrees c w other) goal x is)
+    (λ x is. value_of_both c w v other (match_agrees c v one) goal x is)
 
 -- all that is found is the own home, or what a field that counts gives
 abbrev pub IsGiven : Candidate → Valuation → Given → Type 0
@@ -142,8 +149,8 @@ all_given c v one =
     (All-weaker (Contains (pairs c)) (λ (pair : Pair). All (IsField c v) (givens c pair)) (fields_of_pair c v) (pairs c)
     (All-contains_itself (pairs c)))
 
--- What is found under a valuation that matches holds.
-value_given : (c : Candidate) (v : Valuation) → Match c v → (g : Given) → IsGiven c v g → is_valued g.goal ≡ true →
+-- What is found under a valuation under which all agrees holds.
+value_given : (c : Candidate) (v : Valuation) → Agrees c v → (g : Given) → IsGiven c v g → is_valued g.goal ≡ true →
     v g.goal ≡ Some g.value
 value_given c v m g (inl home) valued = subst (λ (g : Given). v g.goal ≡ Some g.value) (sym home) m.home
 value_given c v m g (inr counts) valued = m.one_value g counts valued
@@ -167,7 +174,7 @@ given_at c v before g all has =
     (All-map (IsGiven c v) given_of before
     (All-weaker (GivenHolds c v) (IsGivenHere c v) (λ f given. given.given) before all)) has
 
-apart : (c : Candidate) (v : Valuation) → Match c v → (before : List Found) (g : Given) → All (GivenHolds c v) before →
+apart : (c : Candidate) (v : Valuation) → Agrees c v → (before : List Found) (g : Given) → All (GivenHolds c v) before →
     IsField c v g → (is_valued g.goal && contradicts before g.goal g.value) ≡ false
 apart c v m before g all counts =
     both_false (is_valued g.goal) (contradicts before g.goal g.value) (λ valued.
@@ -179,7 +186,7 @@ apart c v m before g all counts =
     let now : v g.goal ≡ Some g.value = m.one_value g counts valued in
     cc))
 
-holds_keeping : (c : Candidate) (v : Valuation) → Match c v →
+holds_keeping : (c : Candidate) (v : Valuation) → Agrees c v →
     Keeping c (λ found. All (GivenHolds c v) found) (IsField c v)
 holds_keeping c v m = record {
   one = λ own before g here counts.
@@ -237,7 +244,7 @@ no_break : (c : Candidate) → IsWhole c → break_of c ≡ None
 no_break c whole = rw (slice_get_past (kept_of (pre_list c)) (length (kept_of (run_list c))) (omega (arith, whole)))
     refl
 
-none_differ : (c : Candidate) (v : Valuation) → Match c v → (before : List Found) (ps : List Pair) →
+none_differ : (c : Candidate) (v : Valuation) → Agrees c v → (before : List Found) (ps : List Pair) →
     All (GivenHolds c v) before → All (Contains (pairs c)) ps → All (Agree c) ps →
     difference_from c before ps ≡ None
 unfolding difference_from
@@ -251,8 +258,8 @@ none_differ c v m before (pair ∷ ps) here has agree =
     (none_differ c v m (before ++ found_in c before pair) ps after (All-tail (Contains (pairs c)) pair ps has)
     (All-tail (Agree c) pair ps agree))
 
--- where a valuation makes it a match, a candidate comes to one
-pub comes : (c : Candidate) (v : Valuation) → Match c v → (m : Matched) × (outcome c ≡ Ok m)
+-- where all agrees under a valuation, a candidate comes to a match
+pub comes : (c : Candidate) (v : Valuation) → Agrees c v → (m : Matched) × (outcome c ≡ Ok m)
 unfolding outcome
 comes c v m = (
   matched_by c (statements c (all_found c)),

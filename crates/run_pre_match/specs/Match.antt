@@ -104,6 +104,15 @@ pub record Match (c : Candidate) (v : Valuation) : Type 0 where
   -- what the values ask besides is met
   pub met : (field : Given) → IsField c v field → IsMet c field.goal field.value
 
+-- Code and fields agree under a valuation, which may give a value to more than the fields tell: a match but for
+-- `no_more`.
+pub record Agrees (c : Candidate) (v : Valuation) : Type 0 where
+  pub whole : length (kept_of (run_list c)) ≡ length (kept_of (pre_list c))
+  pub code : All (Agree c) (pairs c)
+  pub home : v (Entry c.place) ≡ Some c.home
+  pub one_value : (field : Given) → IsField c v field → IsTrue (is_valued field.goal) → v field.goal ≡ Some field.value
+  pub met : (field : Given) → IsField c v field → IsMet c field.goal field.value
+
 -- a claim says the value of a goal of which it speaks
 pub record IsSaid (c : Candidate) (v : Valuation) (claim : Claim) : Type 0 where
   pub goal : Goal

@@ -11,11 +11,12 @@ ghost use Rattle.run_pre_match.specs.Bodies.{body_at};
 ghost use Rattle.run_pre_match.specs.Candidate.{Candidate, body_of, same_number};
 ghost use Rattle.match_instructions.specs.Instructions.{kept_of};
 ghost use Rattle.match_instructions.specs.Landing.{undecoded_offset};
-ghost use Rattle.run_pre_match.specs.Match.{Valuation, StandForOne, Match, Says};
+ghost use Rattle.run_pre_match.specs.Match.{Valuation, StandForOne, IsField, Match, Agrees, IsSaid, IsNamed, Says};
 ghost use Rattle.run_pre_match.specs.Matched.{PreSection, home_claim, outcome};
 ghost use Rattle.run_pre_match.specs.Places.{StandAtFields, IsInteriorAt, HasFieldsApart};
 ghost use Rattle.match_instructions.specs.PreCode.{pre_code};
 ghost use Rattle.run_pre_match.specs.declared.goals.Goal.{Goal};
+ghost use Rattle.run_pre_match.specs.declared.goals.Given.{Given};
 ghost use Rattle.run_pre_match.specs.declared.types.Claim.{Claim};
 ghost use Rattle.run_pre_match.specs.declared.types.Interior.{Interior};
 ghost use Rattle.run_pre_match.specs.declared.types.Matched.{Matched};
@@ -62,6 +63,18 @@ pub fn matches_have_one_valuation()
     ensures one { (c : Candidate) (v w : Valuation) → Match c v → Match c w → (goal : Goal) → v goal ≡ w goal }
     ensures says { (c : Candidate) (v : Valuation) (m : Matched) → slice_get c.object c.place ≡ Some c.section →
         Match c v → outcome c ≡ Ok m → Says c v m }
+{}
+
+/// Where code and fields agree under a valuation, which may give values to more than the fields tell, a candidate comes
+/// out as a match. The values that are reported are the valuation's, and each interior is that of a field that counts
+/// under it.
+pub fn agreeing_values_match()
+    ensures comes { (c : Candidate) (v : Valuation) → Agrees c v → (m : Matched) × (outcome c ≡ Ok m) }
+    ensures says { (c : Candidate) (v : Valuation) (m : Matched) → slice_get c.object c.place ≡ Some c.section →
+        Agrees c v → outcome c ≡ Ok m → All (IsSaid c v) m.claims }
+    ensures interiors { (c : Candidate) (v : Valuation) (m : Matched) → slice_get c.object c.place ≡ Some c.section →
+        Agrees c v → outcome c ≡ Ok m
+        → All (λ interior. (field : Given) × IsField c v field × IsNamed c interior field) m.interiors }
 {}
 
 /// In a match, an address in the running body is found to stand for the number of an offset of the section exactly

@@ -24,7 +24,8 @@ pub use bodies::Body;
 pub use borrowed::{BorrowedSpot, BorrowedUnknown, UnknownKind};
 pub use code::{PreCode, PreObject, match_body};
 pub use laws::{
-    alike_memories_match_alike, bodies_lie_in_code, claims_agree, claims_stand_at_their_fields,
-    interiors_stand_at_their_fields, matches_have_one_valuation, numbers_stand_for_one,
+    agreeing_values_match, alike_memories_match_alike, bodies_lie_in_code, claims_agree,
+    claims_stand_at_their_fields, interiors_stand_at_their_fields, matches_have_one_valuation,
+    numbers_stand_for_one,
 };
 pub use types::{Claim, Claims, Interior, Interiors, MatchFault, Matched};

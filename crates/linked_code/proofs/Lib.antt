@@ -1,0 +1,15 @@
+mod DecodeTable
+mod DecodeHeads
+mod DecodeAddressing
+mod DecodeParts
+mod DecodeFields
+mod Layouts
+mod Blanking
+mod Agreement
+mod Holding
+mod Pairs
+mod Meetings
+mod RunLists
+mod Numbers
+mod Runs
+mod Blanks
