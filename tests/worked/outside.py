@@ -20,7 +20,8 @@ LONG_OUTPUT = sum(len(said) + 1 for _, *reply in LONG_SESSION for said in reply)
 
 def usage(name, words, files=None):
     return call(name, words, files or {},
-                "usage: ksplice diff PRE POST | code IMAGE NAME | match IMAGE PRE | run IMAGE SCRIPT | gen NUMBER")
+                "usage: ksplice diff PRE POST | code IMAGE NAME | match IMAGE PRE | run IMAGE SCRIPT | gen NUMBER"
+                " | link OBJECT...")
 
 
 ROWS = [
@@ -34,7 +35,9 @@ ROWS = [
     *(usage(f"{command}-{told}", f"{command} {words}") for command in ("code", "match", "run")
       for told, words in OTHER_WORDS.items()),
     *(usage(f"gen-of-{told}", f"gen {words}") for told, words in NO_NUMBERS.items()),
-    usage("link-is-no-command", "link o1.o", {"o1.o": f_and_main(1)}),
+    usage("link-of-no-object", "link"),
+    usage("link-of-seventeen-objects", "link" + " a.o" * 17, {"a.o": f_alone(1)}),
+    usage("link-with-a-dash", "link a.o -o", {"a.o": f_alone(1)}),
 
     call("first-object-is-missing", "diff x.o post.o", {"post.o": f_alone(1)}, "file x.o missing"),
     call("second-object-is-missing", "diff pre.o x.o", {"pre.o": f_alone(1)}, "file x.o missing"),

@@ -1,5 +1,5 @@
 -- What clap makes of words of which none begins with a dash is their reading.
-use Rattle.std.proofs.Common.{◌≡◌, ◌≢◌, ◌∙◌, ◌⊎◌, ◌&&◌, inl, inr, refl, sym, ap, ap₂, subst, Bool, true, false, List, [], ◌∷◌, codes, Option, Some, None, find, fold, is_some, option_map, if◌then◌else◌}
+use Rattle.std.proofs.Common.{◌≡◌, ◌≢◌, ◌∙◌, ◌⊎◌, ◌&&◌, inl, inr, refl, sym, ap, ap₂, subst, Bool, true, false, List, [], ◌∷◌, codes, drop, Option, Some, None, find, fold, is_some, option_map, if◌then◌else◌}
 use Rattle.std.specs.List.{list_any}
 use Rattle.std.specs.Option.{option_map_or}
 use Rattle.std.specs.Str.{bytes_eq}
@@ -15,8 +15,8 @@ use Rattle.clap.specs.Faults.{check_fault, defaults_fault, entered_fault, fault_
 use Rattle.clap.proofs.OnLiterals.{clap_on_literals}
 use Rattle.call_words.specs.Words.{Asked, Diff, Code, Match, Run, begins_with_dash, command_of, reading}
 use Rattle.call_words.specs.inside.Forms.{asked_from, program, values_by}
-use Rattle.call_words.proofs.Walks.{apart_back, at, met, past_faults, past_name, plain_faults}
-use Rattle.call_words.proofs.Levels.{answer_of, leaf_of_one, leaf_of_two, number_reads, two_reads}
+use Rattle.call_words.proofs.Walks.{apart_back, at, met, or_else_nil, past_faults, past_name, plain_faults}
+use Rattle.call_words.proofs.Levels.{answer_of, leaf_of_several, leaf_of_two, number_reads, objects_read, two_reads}
 
 -- clap's command as it is built, and the names of its subcommands
 abbrev app : App
@@ -24,11 +24,6 @@ app = built program
 
 abbrev names : Names
 names = names_of app
-
--- where nothing else is wrong
-or_else_nil : (kinds : Kinds) → or_else kinds [] ≡ kinds
-or_else_nil [] = refl
-or_else_nil (kind ∷ kinds) = refl
 
 -- the faults at the program's words, after those of the walk over them
 abbrev top_fault : Kinds → Walk → Kinds
@@ -39,7 +34,7 @@ top_fault faults w = or_else faults (or_else (entered_fault app w.stopped)
 
 -- what clap and the code behind it make of words
 abbrev clap_answer : List Text → Option Asked
-clap_answer words = answer_of (fault_of program words) (asked_from (subcommand_of program words))
+clap_answer words = answer_of (fault_of program words) (asked_from (drop 1 words) (subcommand_of program words))
 
 -- ---- at a command's name
 
@@ -75,7 +70,7 @@ module _ (name : Text) (s : Shape) (is_met : subcommand_met names idle name ≡ 
 
   -- what the command's own words come to
   pub name_answer : (words : List Text)
-      → clap_answer (name ∷ words) ≡ answer_of (level_fault s [] nothing_held words false []) (values_by s.name (rows_after s.rules [] words))
+      → clap_answer (name ∷ words) ≡ answer_of (level_fault s [] nothing_held words false []) (values_by s.name words (rows_after s.rules [] words))
   unfolding defaults_fault
   name_answer words =
       let fault : fault_of program (name ∷ words) ≡ level_fault s [] nothing_held words false [] =
@@ -85,15 +80,15 @@ module _ (name : Text) (s : Shape) (is_met : subcommand_met names idle name ≡ 
       ∙ or_else_nil (level_fault s [] nothing_held words false []) in
       let found : subcommand_of program (name ∷ words) ≡ Some (rows_at s words) =
       ap (λ w. entered app w.stopped) (name_walk words) ∙ ap (option_map (λ s. rows_at s words)) is_found in
-      ap₂ (λ kinds found. answer_of kinds (asked_from found)) fault found
+      ap₂ (λ kinds found. answer_of kinds (asked_from words found)) fault found
 
 -- a word that names no command
 stray_answer : (name : Text) (words : List Text) → subcommand_met names idle name ≡ None → begins_with_dash name ≡ false
     → clap_answer (name ∷ words) ≡ None
 unfolding defaults_fault
 stray_answer name words none plain =
-    ap (λ kinds. answer_of (top_fault kinds (walk app.top.rules names nothing_held (name ∷ words))) (asked_from (subcommand_of program (name ∷ words))))
-    (plain_faults app.top names nothing_held 1 name words none plain)
+    ap (λ kinds. answer_of (top_fault kinds (walk app.top.rules names nothing_held (name ∷ words))) (asked_from words (subcommand_of program (name ∷ words))))
+    (plain_faults false app.top names nothing_held 1 name words none plain)
 
 -- ---- each command
 
@@ -124,7 +119,12 @@ run_answer words plain =
 gen_answer : AnswersTo (codes "gen")
 gen_answer words plain =
     number_reads (codes "gen") (codes "number") words plain
-    ∙ sym (name_answer (codes "gen") (leaf_of_one (codes "gen") (codes "number")) refl refl words)
+    ∙ sym (name_answer (codes "gen") (leaf_of_several (codes "gen") (codes "number") 1) refl refl words)
+
+link_answer : AnswersTo (codes "link")
+link_answer words plain =
+    objects_read (codes "link") (codes "objects") words plain
+    ∙ sym (name_answer (codes "link") (leaf_of_several (codes "link") (codes "objects") 16) refl refl words)
 
 -- ---- any words
 
@@ -149,10 +149,11 @@ no_name : (word : Text) (words : List Text) → begins_with_dash word ≡ false
     → (bytes_eq word (codes "match") ≡ false) × (bytes_eq (codes "match") word ≡ false)
     → (bytes_eq word (codes "run") ≡ false) × (bytes_eq (codes "run") word ≡ false)
     → (bytes_eq word (codes "gen") ≡ false) × (bytes_eq (codes "gen") word ≡ false)
+    → (bytes_eq word (codes "link") ≡ false) × (bytes_eq (codes "link") word ≡ false)
     → command_of (word ∷ words) ≡ clap_answer (word ∷ words)
-no_name word words plain diff code match run gen =
-    let unknown : command_of (word ∷ words) ≡ None = rw (diff.0, code.0, match.0, run.0, gen.0) refl in
-    let unmet : subcommand_met names idle word ≡ None = rw (diff.1, code.1, match.1, run.1, gen.1) refl in
+no_name word words plain diff code match run gen link =
+    let unknown : command_of (word ∷ words) ≡ None = rw (diff.0, code.0, match.0, run.0, gen.0, link.0) refl in
+    let unmet : subcommand_met names idle word ≡ None = rw (diff.1, code.1, match.1, run.1, gen.1, link.1) refl in
     unknown ∙ sym (stray_answer word words unmet plain)
 
 no_words : clap_answer [] ≡ None
@@ -173,7 +174,10 @@ read_by_clap (word ∷ words) plain =
             | inl same ↦ by_name (codes "run") run_answer word words parts.1 same
             | inr run ↦ elim (is_name word (codes "gen")) [
               | inl same ↦ by_name (codes "gen") gen_answer word words parts.1 same
-              | inr gen ↦ no_name word words parts.0 diff code match run gen
+              | inr gen ↦ elim (is_name word (codes "link")) [
+                | inl same ↦ by_name (codes "link") link_answer word words parts.1 same
+                | inr link ↦ no_name word words parts.0 diff code match run gen link
+              ]
             ]
           ]
         ]
@@ -193,21 +197,21 @@ unfolding reading
 read words plain = sym (rw plain (read_by_clap words plain))
 
 -- a parse that succeeds finds the reading
-pub read_ok : (app : App) (words : List Text) (matches : ArgMatches) → app ≡ program → list_any begins_with_dash words ≡ false
-    → HasMatchesOf app words matches → (is_simple_and_free app ≡ true → fault_of app words ≡ [])
-    → asked_from (subcommand_rows_of matches) ≡ reading words
-read_ok app words matches is plain has no_fault =
-    ap asked_from ((has (ap is_simple is)).1 ∙ ap (λ a. subcommand_of a words) is)
-    ∙ sym (ap (λ kinds. answer_of kinds (asked_from (subcommand_of program words))) (sym (ap (λ a. fault_of a words) is) ∙ no_fault (ap is_simple_and_free is)))
+pub read_ok : (form : App) (words : List Text) (matches : ArgMatches) → form ≡ program → list_any begins_with_dash words ≡ false
+    → HasMatchesOf form words matches → (is_simple_and_free form ≡ true → fault_of form words ≡ [])
+    → asked_from (drop 1 words) (subcommand_rows_of matches) ≡ reading words
+read_ok form words matches is plain has no_fault =
+    ap (asked_from (drop 1 words)) ((has (ap is_simple is)).1 ∙ ap (λ a. subcommand_of a words) is)
+    ∙ sym (ap (λ kinds. answer_of kinds (asked_from (drop 1 words) (subcommand_of program words))) (sym (ap (λ a. fault_of a words) is) ∙ no_fault (ap is_simple_and_free is)))
     ∙ read words plain
 
 -- where it fails, and not for want of memory, there is none
-pub read_err : (app : App) (words : List Text) (kind : ErrorKind) → app ≡ program → list_any begins_with_dash words ≡ false
-    → (is_simple_and_free app ≡ true → (kind ≡ OutOfMemory) ⊎ IsAmong kind (fault_of app words)) → kind ≢ OutOfMemory
+pub read_err : (form : App) (words : List Text) (kind : ErrorKind) → form ≡ program → list_any begins_with_dash words ≡ false
+    → (is_simple_and_free form ≡ true → (kind ≡ OutOfMemory) ⊎ IsAmong kind (fault_of form words)) → kind ≢ OutOfMemory
     → None ≡ reading words
-read_err app words kind is plain fails known = elim (fails (ap is_simple_and_free is)) [
+read_err form words kind is plain fails known = elim (fails (ap is_simple_and_free is)) [
   | inl memory ↦ absurd (known memory)
-  | inr among ↦ sym (among_none (fault_of program words) kind (asked_from (subcommand_of program words))
+  | inr among ↦ sym (among_none (fault_of program words) kind (asked_from (drop 1 words) (subcommand_of program words))
       (let Among : App → Type 0 = λ a. IsAmong kind (fault_of a words) in subst Among is among)) ∙ read words plain
 ]
 

@@ -5,7 +5,7 @@ use Rattle.std.specs.Option.{option_map_or}
 use Rattle.std.specs.Str.{bytes_eq}
 use Rattle.std.proofs.lemmas.Slice.Eq.{bytes_eq-Decides}
 use Rattle.clap.specs.Lexer.{long_of, short_of}
-use Rattle.clap.specs.Walk.{Held, Names, Rule, Text, Walk, after_step, arg_by_index, idle, long_or_other, short_or_plain, subcommand_met, subcommand_or_other, to_positional, trailing, value, walked, word_met}
+use Rattle.clap.specs.Walk.{Held, Names, Rule, Text, Waiting, Walk, after_step, arg_by_index, idle, long_or_other, plain_word, positional, short_or_plain, subcommand_met, subcommand_or_other, to_positional, trailing, value, walked, word_met}
 use Rattle.clap.specs.Simple.{Shape}
 use Rattle.clap.specs.Kinds.{Kinds, or_else}
 use Rattle.clap.specs.Faults.{bundle_fault, flag_word_fault, other_fault, positional_fault, step_fault, stray_fault, turn_fault, walk_fault, word_fault}
@@ -37,32 +37,51 @@ no_short : (word : Text) → begins_with_dash word ≡ false → short_of word �
 no_short [] plain = refl
 no_short (first ∷ rest) plain = rw plain refl
 
+-- ---- where nothing else is wrong
+
+pub or_else_nil : (kinds : Kinds) → or_else kinds [] ≡ kinds
+or_else_nil [] = refl
+or_else_nil (kind ∷ kinds) = refl
+
 -- ---- the walk at such a word, where no subcommand was met yet
 
+-- whether a positional may take more words
+abbrev pub waits : Bool → Waiting
+waits true = positional
+waits false = idle
+
 -- before a word, with what is held and the place of the next positional
+abbrev pub between : Bool → Held → ℕ → Walk
+between more held position = record { held = held; waiting = waits more; position = position; is_trailing = false; stopped = None }
+
 abbrev pub at : Held → ℕ → Walk
-at held position = record { held = held; waiting = idle; position = position; is_trailing = false; stopped = None }
+at = between false
 
 -- what the word is, and that it isn't wrong by itself
-plain_met : (rules : List Rule) (names : Names) (position : ℕ) (word : Text) (held : Held) → subcommand_met names idle word ≡ None
-    → begins_with_dash word ≡ false → word_met rules names false idle position word held ≡ (held, value)
-plain_met rules names position word held none plain =
-    ap (λ met. subcommand_or_other rules met idle position word held) none
-    ∙ ap (λ b. if b then (held, trailing position) else long_or_other rules idle word (long_of word) held) (no_dashes word plain)
-    ∙ ap (λ found. long_or_other rules idle word found held) (no_long word plain)
-    ∙ ap (λ found. short_or_plain rules idle word found held) (no_short word plain)
+plain_value : (more : Bool) (rules : List Rule) (word : Text) (held : Held) → plain_word rules (waits more) word held ≡ (held, value)
+plain_value true rules word held = refl
+plain_value false rules word held = refl
 
-plain_fault : (s : Shape) (names : Names) (word : Text) (held : Held) → subcommand_met names idle word ≡ None
-    → begins_with_dash word ≡ false → word_fault s names false idle word held ≡ []
-plain_fault s names word held none plain =
+plain_met : (more : Bool) (rules : List Rule) (names : Names) (position : ℕ) (word : Text) (held : Held) → subcommand_met names (waits more) word ≡ None
+    → begins_with_dash word ≡ false → word_met rules names false (waits more) position word held ≡ (held, value)
+plain_met more rules names position word held none plain =
+    ap (λ met. subcommand_or_other rules met (waits more) position word held) none
+    ∙ ap (λ b. if b then (held, trailing position) else long_or_other rules (waits more) word (long_of word) held) (no_dashes word plain)
+    ∙ ap (λ found. long_or_other rules (waits more) word found held) (no_long word plain)
+    ∙ ap (λ found. short_or_plain rules (waits more) word found held) (no_short word plain)
+    ∙ plain_value more rules word held
+
+plain_fault : (more : Bool) (s : Shape) (names : Names) (word : Text) (held : Held) → subcommand_met names (waits more) word ≡ None
+    → begins_with_dash word ≡ false → word_fault s names false (waits more) word held ≡ []
+plain_fault more s names word held none plain =
     ap (λ met. other_fault s met word held) none
     ∙ ap (λ b. if b then [] else flag_word_fault s.rules s.args_override_self (long_of word) word held) (no_dashes word plain)
     ∙ ap (λ found. flag_word_fault s.rules s.args_override_self found word held) (no_long word plain)
     ∙ ap (λ found. option_map_or (λ flags. bundle_fault s.rules s.args_override_self flags held) found []) (no_short word plain)
 
 -- the walk after the word
-abbrev pub next : Shape → Held → ℕ → Text → Walk
-next s held position word = to_positional s.rules (arg_by_index s.rules position) word (at held position) held
+abbrev pub next : Bool → Shape → Held → ℕ → Text → Walk
+next more s held position word = to_positional s.rules (arg_by_index s.rules position) word (between more held position) held
 
 -- what is wrong with the word
 abbrev pub fault_at : Shape → Held → ℕ → Kinds
@@ -70,25 +89,26 @@ fault_at s held position =
     option_map_or (λ a. positional_fault s.rules s.args_override_self a held) (arg_by_index s.rules position) (stray_fault s)
 
 -- one step of the walk, and of the list of faults
-pub plain_next : (s : Shape) (names : Names) (held : Held) (position : ℕ) (word : Text) → subcommand_met names idle word ≡ None
-    → begins_with_dash word ≡ false → walked s.rules names (at held position) word ≡ next s held position word
+pub plain_next : (more : Bool) (s : Shape) (names : Names) (held : Held) (position : ℕ) (word : Text) → subcommand_met names (waits more) word ≡ None
+    → begins_with_dash word ≡ false → walked s.rules names (between more held position) word ≡ next more s held position word
 unfolding walked
-plain_next s names held position word none plain =
-    ap (λ met. after_step s.rules word (at held position) met.0 met.1) (plain_met s.rules names position word held none plain)
+plain_next more s names held position word none plain =
+    ap (λ met. after_step s.rules word (between more held position) met.0 met.1) (plain_met more s.rules names position word held none plain)
 
-plain_turn : (s : Shape) (names : Names) (held : Held) (position : ℕ) (word : Text) → subcommand_met names idle word ≡ None
-    → begins_with_dash word ≡ false → turn_fault s names (at held position) word ≡ fault_at s held position
-plain_turn s names held position word none plain =
-    ap₂ or_else (plain_fault s names word held none plain)
-    (ap (λ met. step_fault s position met.0 met.1) (plain_met s.rules names position word held none plain))
+plain_turn : (more : Bool) (s : Shape) (names : Names) (held : Held) (position : ℕ) (word : Text) → subcommand_met names (waits more) word ≡ None
+    → begins_with_dash word ≡ false → turn_fault s names (between more held position) word ≡ fault_at s held position
+plain_turn more s names held position word none plain =
+    ap₂ or_else (plain_fault more s names word held none plain)
+    (ap (λ met. step_fault s position met.0 met.1) (plain_met more s.rules names position word held none plain))
 
-pub plain_faults : (s : Shape) (names : Names) (held : Held) (position : ℕ) (word : Text) (words : List Text) → subcommand_met names idle word ≡ None
-    → begins_with_dash word ≡ false
-    → walk_fault s names (at held position) (word ∷ words) ≡ or_else (fault_at s held position) (walk_fault s names (next s held position word) words)
+pub plain_faults : (more : Bool) (s : Shape) (names : Names) (held : Held) (position : ℕ) (word : Text) (words : List Text)
+    → subcommand_met names (waits more) word ≡ None → begins_with_dash word ≡ false
+    → walk_fault s names (between more held position) (word ∷ words)
+    ≡ or_else (fault_at s held position) (walk_fault s names (next more s held position word) words)
 unfolding walk_fault
-plain_faults s names held position word words none plain =
-    ap₂ or_else (plain_turn s names held position word none plain)
-    (ap (λ w. walk_fault s names w words) (plain_next s names held position word none plain))
+plain_faults more s names held position word words none plain =
+    ap₂ or_else (plain_turn more s names held position word none plain)
+    (ap (λ w. walk_fault s names w words) (plain_next more s names held position word none plain))
 
 -- ---- the walk behind a subcommand's name
 

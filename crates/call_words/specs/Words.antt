@@ -1,5 +1,6 @@
 -- What the words of a call ask for.
-use Rattle.std.specs.Prelude.{ℕ, Bool, false, ◌==◌, if◌then◌else◌, List, [], ◌∷◌, codes, Option, Some, None, option_map}
+use Rattle.std.specs.Prelude.{ℕ, Bool, false, ◌&&◌, ◌==◌, nat_le, if◌then◌else◌, List, [], ◌∷◌, codes, length}
+use Rattle.std.specs.Prelude.{Option, Some, None, option_map}
 use Rattle.std.specs.List.{list_any}
 use Rattle.std.specs.Str.{bytes_eq}
 use Rattle.script_lines.specs.Numbers.{numeral}
@@ -11,6 +12,7 @@ pub data Asked : Type 0 where
   Match : (image pre : List ℕ) → Asked
   Run : (image script : List ℕ) → Asked
   Gen : (number : ℕ) → Asked
+  Link : (objects : List (List ℕ)) → Asked
 
 -- a word that begins with a dash is an option, and there are none
 abbrev pub begins_with_dash : List ℕ → Bool
@@ -27,6 +29,10 @@ abbrev pub number_word : List (List ℕ) → Option Asked
 number_word (number ∷ []) = option_map Gen (numeral 10 10 number)
 number_word _ = None
 
+-- one to sixteen words
+abbrev pub object_words : List (List ℕ) → Option Asked
+object_words words = if nat_le 1 (length words) && nat_le (length words) 16 then Some (Link words) else None
+
 -- what a command of this name asks for with the words that follow
 abbrev pub command_by : List ℕ → List (List ℕ) → Option Asked
 command_by name words =
@@ -34,7 +40,8 @@ command_by name words =
     else (if bytes_eq name (codes "code") then two_words Code words
     else (if bytes_eq name (codes "match") then two_words Match words
     else (if bytes_eq name (codes "run") then two_words Run words
-    else (if bytes_eq name (codes "gen") then number_word words else None))))
+    else (if bytes_eq name (codes "gen") then number_word words
+    else (if bytes_eq name (codes "link") then object_words words else None)))))
 
 -- a command's name, and exactly its words
 abbrev pub command_of : List (List ℕ) → Option Asked

@@ -13,4 +13,6 @@ pub enum Command<'a> {
     Run { image: &'a str, script: &'a str },
     /// `gen NUMBER`: the work that is made from a number.
     Gen { number: u32 },
+    /// `link OBJECT...`: the image that one to sixteen object files are linked to, by their names.
+    Link { objects: &'a [String] },
 }

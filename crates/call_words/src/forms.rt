@@ -1,6 +1,6 @@
 //! The commands as clap sees them.
 ghost use Rattle.std.specs.Prelude.{IfOk};
-ghost use Rattle.call_words.specs.inside.Forms.{AddsForm, HasForm, bare_program, form_of_one, form_of_two, program};
+ghost use Rattle.call_words.specs.inside.Forms.{AddsForm, HasForm, bare_program, form_of_several, form_of_two, program};
 
 use clap::{Arg, Command};
 use std::alloc::{AllocError, Global};
@@ -13,7 +13,8 @@ pub(crate) fn program<'a>(alloc: Global) -> Result<Command<'a>, AllocError>
     let program = with_two_words(alloc, program, "code", "image", "name")?;
     let program = with_two_words(alloc, program, "match", "image", "pre")?;
     let program = with_two_words(alloc, program, "run", "image", "script")?;
-    with_word(alloc, program, "gen", "number")
+    let program = with_words(alloc, program, "gen", "number", 1)?;
+    with_words(alloc, program, "link", "objects", 16)
 }
 
 /// The program without its commands.
@@ -43,15 +44,17 @@ fn with_two_words<'a>(
     program.subcommand(command)
 }
 
-/// The program with one more command, of one word.
-fn with_word<'a>(
+/// The program with one more command, of one to `most` words.
+fn with_words<'a>(
     alloc: Global,
     program: Command<'a>,
     name: &'a str,
-    word: &'a str,
+    words: &'a str,
+    most: usize,
 ) -> Result<Command<'a>, AllocError>
-    ensures { IfOk result (AddsForm program.entry (form_of_one name.now word.now)) }
+    ensures { IfOk result (AddsForm program.entry (form_of_several name.now words.now most)) }
 {
-    let command = Command::new(alloc, name).arg(Arg::new(alloc, word).required(true))?;
+    let words = Arg::new(alloc, words).required(true).num_args(1..=most);
+    let command = Command::new(alloc, name).arg(words)?;
     program.subcommand(command)
 }

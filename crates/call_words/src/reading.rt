@@ -1,5 +1,5 @@
 //! What the words of a call ask for.
-ghost use Rattle.std.specs.Prelude.{◌≡◌, IfOk, map, string_bytes, option_map};
+ghost use Rattle.std.specs.Prelude.{◌≡◌, IfOk, map, drop, string_bytes, option_map};
 ghost use Rattle.std.specs.List.{list_any};
 ghost use Rattle.clap.specs.Matches.{found_of};
 ghost use Rattle.clap.specs.Simple.{subcommand_rows_of};
@@ -24,7 +24,7 @@ pub fn read_words<'a>(alloc: Global, words: &'a [String]) -> Result<Option<Comma
         return Ok(None);
     }
     match program(alloc)?.try_get_matches_from(words) {
-        Ok(matches) => Ok(command_in(&matches)),
+        Ok(matches) => Ok(command_in(&matches, behind_name(words))),
         Err(error) => match error.kind() {
             ErrorKind::OutOfMemory => Err(AllocError),
             _ => Ok(None),
@@ -49,17 +49,29 @@ fn is_option(word: &[u8]) -> bool
     }
 }
 
-/// The command of the subcommand that was met.
-fn command_in<'a>(matches: &ArgMatches<'a>) -> Option<Command<'a>>
-    ensures { option_map asked_by result ≡ asked_from (subcommand_rows_of matches.now) }
+/// The words behind the command's name.
+fn behind_name(words: &[String]) -> &[String]
+    ensures { result.now ≡ drop 1 words.now }
 {
-    let (name, values) = matches.subcommand()?;
-    command_by(name, values)
+    match words {
+        [_, rest @ ..] => rest,
+        [] => words,
+    }
 }
 
-/// The command of a name with its values.
-fn command_by<'a>(name: &str, values: &ArgMatches<'a>) -> Option<Command<'a>>
-    ensures { option_map asked_by result ≡ values_by name.now (rows_of (found_of values.now)) }
+/// The command of the subcommand that was met, with these words behind its name.
+fn command_in<'a>(matches: &ArgMatches<'a>, words: &'a [String]) -> Option<Command<'a>>
+    ensures { option_map asked_by result
+        ≡ asked_from (map string_bytes words.now) (subcommand_rows_of matches.now) }
+{
+    let (name, values) = matches.subcommand()?;
+    command_by(name, words, values)
+}
+
+/// The command of a name, with the words behind it and its values.
+fn command_by<'a>(name: &str, words: &'a [String], values: &ArgMatches<'a>) -> Option<Command<'a>>
+    ensures { option_map asked_by result
+        ≡ values_by name.now (map string_bytes words.now) (rows_of (found_of values.now)) }
 {
     match name {
         "diff" => {
@@ -82,6 +94,7 @@ fn command_by<'a>(name: &str, values: &ArgMatches<'a>) -> Option<Command<'a>>
             let number = decimal(value_of(values, "number")?.as_bytes())?;
             Some(Command::Gen { number })
         }
+        "link" => Some(Command::Link { objects: words }),
         _ => None,
     }
 }

@@ -2,18 +2,19 @@
 use Rattle.std.specs.Prelude.{zero, suc}
 use Rattle.std.proofs.Common.{◌≡◌, ◌∙◌, ℕ, ◌+◌, ◌<◌, List, [], ◌∷◌, ◌++◌, length, map}
 use Rattle.std.proofs.Common.{get_or, Option, Some, None, refl, sym, ap, subst, arith}
-use Rattle.std.proofs.lemmas.List.{length_push}
+use Rattle.std.proofs.lemmas.List.{append-nil, get_or_default, length_push, length-map}
 use Rattle.std.specs.Global.{Vec}
 use Rattle.ks_io.specs.Outside.{Counts}
 use Rattle.ks_io.specs.Loads.{Needed, Told, CameTo, IsLostAfter, first_lacking, needed_by, outside_fault, bytes_of}
-use Rattle.ks_io.specs.laws.LoadLaws.{CameTo-then, CameTo-within, CameTo-nothing}
+use Rattle.ks_io.specs.laws.LoadLaws.{CameTo-then, CameTo-within, CameTo-nothing, first_lacking-none}
 use Rattle.ks_io.specs.declared.types.Lost.{Lost}
 use Rattle.ks_io.specs.declared.types.Wanted.{Wanted}
 use Rattle.ksplice_calls.specs.Answer.{Answer, ComesOut, OneComesOut, Answered, NoMemory, lost_answer, usage_answer}
-use Rattle.ksplice_calls.specs.Calls.{named_files, line_files, Answers, RunAnswers}
+use Rattle.ksplice_calls.specs.Calls.{needed_object, named_files, line_files, IsAnswerBy, Answers, RunAnswers}
 use Rattle.ksplice_calls.specs.Reply.{IsReply, code_answer, match_answer, session_of, session_files}
+use Rattle.ksplice_calls.specs.Linking.{link_answer}
 use Rattle.ksplice_calls.specs.Works.{gen_answer}
-use Rattle.call_words.specs.Words.{Asked, Diff, Code, Match, Run, Gen}
+use Rattle.call_words.specs.Words.{Asked, Diff, Code, Match, Run, Gen, Link}
 
 -- what comes out is one of these answers, so it is one of those
 pub carried_over : {P Q : Answer → Type 0} {old new : Option (List ℕ)} {status : ℕ}
@@ -70,6 +71,20 @@ lost_answers asked wanted lost {told} {before} {now} named after out =
           (line_files (Some asked) after.held) after.held (outside_fault lost.fault) before now within loads;
       answer = Answered (lost_answer file (outside_fault lost.fault)) (rw first refl) out;
     }
+
+-- the same, where the file is the one at its place
+pub lost_one_answers : (asked : Asked)
+    (wanted : List Wanted) (lost : Lost) (file : Wanted) {told : Told} {before now : Counts}
+    {old new : Option (List ℕ)} {status : ℕ}
+    → map needed_by wanted ≡ named_files (Some asked) → IsLostAfter told (map needed_by wanted) before now lost
+    → file ≡ get_or wanted lost.index file
+    → ComesOut (lost_answer (needed_by file) (outside_fault lost.fault)) old new status
+    → Answers (Some asked) told before now old new status
+lost_one_answers asked wanted lost file {told} {before} {now} {old} {new} {status} named after is out =
+    let within : lost.index < length wanted = omega (arith, after.within, length-map wanted needed_by) in
+    lost_answers asked wanted lost named after
+    (subst (λ (one : Wanted). ComesOut (lost_answer (needed_by one) (outside_fault lost.fault)) old new status)
+    (is ∙ get_or_default wanted lost.index file _ within) out)
 
 -- the bytes of one file, and of two
 pub one_held : (files : List (Vec ℕ)) (file : Vec ℕ) (bytes : List ℕ)
@@ -143,6 +158,25 @@ pub gen_answers : (number : ℕ) {told : Told} {before : Counts} {old new : Opti
     → Answers (Some (Gen number)) told before before old new status
 gen_answers number {told} {before} out =
     record { held = []; lost = None; loads = CameTo-nothing told _ before; answer = out }
+
+-- All objects were held, and the reply for them came out.
+pub link_answers : (objects : List (List ℕ)) (needed : List Needed) (held : List (List ℕ))
+    {told : Told} {before now : Counts} {old new : Option (List ℕ)} {status : ℕ}
+    → needed ≡ map needed_object objects → length held ≡ length needed → CameTo told needed held None before now
+    → OneComesOut (λ answer. answer ≡ link_answer held) old new status
+    → Answers (Some (Link objects)) told before now old new status
+link_answers objects needed held {told} {before} {now} named all loads out =
+    let none : first_lacking (map needed_object objects) held ≡ None =
+    first_lacking-none (map needed_object objects) held (all ∙ ap length named) in
+    record {
+      held = held;
+      lost = None;
+      loads = subst (λ (files : List Needed). CameTo told files held None before now)
+          (named ∙ sym (append-nil (map needed_object objects))) loads;
+      answer = carried_over (λ answer one. subst
+          (λ (first : Option Needed). IsAnswerBy first (Link objects) held None answer) (sym none)
+          (all ∙ ap length named ∙ length-map objects needed_object, one)) out;
+    }
 
 -- Memory ran out before anything was loaded, and nothing came out.
 pub memory_answers : (asked : Option Asked) {told : Told} {before : Counts} {old : Option (List ℕ)}

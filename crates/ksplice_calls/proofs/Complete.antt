@@ -15,7 +15,8 @@ use Rattle.ksplice_calls.specs.Answer.{Answer, OneComesOut, Answered, NoMemory, 
 use Rattle.ksplice_calls.specs.Calls.{named_files, needed, IsReplyTo, IsAnswer, IsAnswerBy, Answers}
 use Rattle.ksplice_calls.specs.Promises.{AllAreGiven, RepliesWhole}
 use Rattle.ksplice_calls.specs.Reply.{code_reply, match_reply, reply_answer, session_of, session_status, session_answer, session_files}
-use Rattle.call_words.specs.Words.{Asked, Diff, Code, Match, Run, Gen}
+use Rattle.ksplice_calls.specs.Linking.{link_reply}
+use Rattle.call_words.specs.Words.{Asked, Diff, Code, Match, Run, Gen, Link}
 use Rattle.ksplice_calls.specs.Works.{gen_answer}
 use Rattle.ksplice_calls.proofs.OneLoading.{all_are_loaded}
 use Rattle.ksplice_calls.proofs.WorkAnswers.{work_ends}
@@ -68,6 +69,8 @@ reply_ends (Run image script) (bytes ∷ lines ∷ held) answer one whole =
     moved answer (session_answer (session_of bytes lines) held None) one
     (session_ends (session_of bytes lines) held whole)
 reply_ends (Gen number) all answer one whole = moved answer (gen_answer number) one (work_replied number)
+reply_ends (Link objects) all answer one whole =
+    moved answer (reply_answer (link_reply all)) one.1 (replied (link_reply all))
 reply_ends (Diff pre post) [] answer one whole = absurd one
 reply_ends (Diff pre post) (old ∷ []) answer one whole = absurd one
 reply_ends (Code image name) [] answer one whole = absurd one

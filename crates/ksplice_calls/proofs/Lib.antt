@@ -1,4 +1,5 @@
 pub mod CallAnswers
+pub mod ObjectsRead
 pub mod Listings
 pub mod Replies
 pub mod Codes

@@ -13,7 +13,7 @@ use Rattle.ksplice_calls.specs.Answer.{Answer}
 use Rattle.ksplice_calls.specs.Difference.{listing}
 use Rattle.ksplice_calls.specs.Reply.{both_sections, IsDifference, IsReply, reply_answer}
 use Rattle.ksplice_calls.specs.Reply.IsDifference.{Unread, NoneExtracted, Lists}
-use Rattle.call_words.specs.Words.{Asked, Diff, Code, Match, Run, Gen}
+use Rattle.call_words.specs.Words.{Asked, Diff, Code, Match, Run, Gen, Link}
 use Rattle.ksplice_calls.specs.Calls.{IsAnswer, IsAnswerBy, failed_load, named_files, needed}
 use Rattle.ksplice_calls.proofs.OneLoading.{same_loads}
 
@@ -84,6 +84,7 @@ one_by law None (Code image name) (bytes ∷ held) lost one other is is' = is �
 one_by law None (Match image pre) (bytes ∷ object ∷ held) lost one other is is' = is ∙ sym is'
 one_by law None (Run image script) (bytes ∷ lines ∷ held) lost one other is is' = is ∙ sym is'
 one_by law None (Gen number) held lost one other is is' = is ∙ sym is'
+one_by law None (Link objects) held lost one other is is' = is.1 ∙ sym is'.1
 one_by law None (Diff pre post) [] lost one other is is' = absurd is
 one_by law None (Diff pre post) (old ∷ []) lost one other is is' = absurd is
 one_by law None (Code image name) [] lost one other is is' = absurd is

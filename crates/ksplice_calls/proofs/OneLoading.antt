@@ -2,6 +2,7 @@
 -- run out.
 use Rattle.std.proofs.Common.{◌≡◌, ℕ, ◌<◌, ◌≤◌, Bool, List, [], ◌∷◌, length, Option, Some}
 use Rattle.std.proofs.Common.{None, Result, Ok, Err, refl, sym, ◌∙◌, ap, subst, arith}
+use Rattle.std.proofs.lemmas.List.{append-nil}
 use Rattle.std.proofs.lemmas.Option.{same_Some}
 use Rattle.ks_base.specs.declared.refusals.Refusal.{Refusal}
 use Rattle.ks_io.specs.Outside.{Counts, IsLonger}
@@ -14,7 +15,7 @@ use Rattle.ksplice_session.specs.Session.{lacking, session_played}
 use Rattle.ksplice_calls.specs.Answer.{Answer}
 use Rattle.ksplice_calls.specs.Calls.{failed_load, named_files, needed, IsAnswer, IsAnswerBy}
 use Rattle.ksplice_calls.specs.Reply.{session_of, session_status, session_answer, session_files}
-use Rattle.call_words.specs.Words.{Asked, Diff, Code, Match, Run, Gen}
+use Rattle.call_words.specs.Words.{Asked, Diff, Code, Match, Run, Gen, Link}
 
 -- loads that ended for a fault, or were all made
 Ended : (List ℕ → Option (List ℕ)) → Option Needed → Option FileFault → Type 0
@@ -170,6 +171,8 @@ same_call files (Some (Match image pre)) held held' lost lost' =
     same_by files (named_files (Some (Match image pre))) held held' lost lost'
 same_call files (Some (Run image script)) held held' lost lost' = same_run files image script held held' lost lost'
 same_call files (Some (Gen number)) held held' lost lost' = same_by files [] held held' lost lost'
+same_call files (Some (Link objects)) held held' lost lost' =
+    same_by files (needed (Some (Link objects)) []) held held' lost lost'
 
 -- loads that ended, but not because memory ran out
 ended : (files : List ℕ → Option (List ℕ)) (first : Option Needed) (lost : Option FileFault) (before now : Counts)
@@ -180,6 +183,12 @@ ended files None None before now ends whole = refl
 ended files None (Some fault) before now ends whole = absurd ends
 ended files (Some file) None before now ends whole = absurd (let e = whole refl in cc)
 ended files (Some file) (Some fault) before now ends whole = ends.is_told files refl
+
+-- no file is needed but those that the words name
+pub no_object_lacks : (objects held : List (List ℕ)) → first_lacking (named_files (Some (Link objects))) held ≡ None
+    → first_lacking (needed (Some (Link objects)) held) held ≡ None
+no_object_lacks objects held none =
+    ap (λ (files : List Needed). first_lacking files held) (append-nil (named_files (Some (Link objects)))) ∙ none
 
 -- an answer with another status than 6 is one by loads of which none is lacking, or one is for a fault
 whole_lines : (file : Option Needed) (lost : Option FileFault) (refused : Bool)
@@ -196,30 +205,31 @@ whole_session (Ok session) held lost ample is =
     whole_lines (lacking session.1 held) lost (session_played session.0 session.1 held).refused ample is
 
 whole_by : (first : Option Needed) (command : Asked) (held : List (List ℕ)) (lost : Option FileFault) (answer : Answer)
-    → IsAnswerBy first command held lost answer → (answer.status ≡ 6 → ⊥)
-    → lost ≡ None → first_lacking (needed (Some command) held) held ≡ None
-whole_by (Some file) command held None answer one ample is = absurd (ample (ap (λ (a : Answer). a.status) one))
-whole_by (Some file) command held (Some fault) answer one ample is = absurd (cc)
-whole_by None (Diff pre post) (old ∷ new ∷ held) lost answer one ample is = refl
-whole_by None (Code image name) (bytes ∷ held) lost answer one ample is = refl
-whole_by None (Match image pre) (bytes ∷ object ∷ held) lost answer one ample is = refl
-whole_by None (Run image script) (bytes ∷ lines ∷ held) lost answer one ample is =
+    → first_lacking (named_files (Some command)) held ≡ first → IsAnswerBy first command held lost answer
+    → (answer.status ≡ 6 → ⊥) → lost ≡ None → first_lacking (needed (Some command) held) held ≡ None
+whole_by (Some file) command held None answer lacks one ample is = absurd (ample (ap (λ (a : Answer). a.status) one))
+whole_by (Some file) command held (Some fault) answer lacks one ample is = absurd (cc)
+whole_by None (Diff pre post) (old ∷ new ∷ held) lost answer lacks one ample is = refl
+whole_by None (Code image name) (bytes ∷ held) lost answer lacks one ample is = refl
+whole_by None (Match image pre) (bytes ∷ object ∷ held) lost answer lacks one ample is = refl
+whole_by None (Run image script) (bytes ∷ lines ∷ held) lost answer lacks one ample is =
     whole_session (session_of bytes lines) held lost (λ e. ample (ap (λ (a : Answer). a.status) one ∙ e)) is
-whole_by None (Gen number) held lost answer one ample is = refl
-whole_by None (Diff pre post) [] lost answer one ample is = absurd one
-whole_by None (Diff pre post) (old ∷ []) lost answer one ample is = absurd one
-whole_by None (Code image name) [] lost answer one ample is = absurd one
-whole_by None (Match image pre) [] lost answer one ample is = absurd one
-whole_by None (Match image pre) (bytes ∷ []) lost answer one ample is = absurd one
-whole_by None (Run image script) [] lost answer one ample is = absurd one
-whole_by None (Run image script) (bytes ∷ []) lost answer one ample is = absurd one
+whole_by None (Gen number) held lost answer lacks one ample is = refl
+whole_by None (Link objects) held lost answer lacks one ample is = no_object_lacks objects held lacks
+whole_by None (Diff pre post) [] lost answer lacks one ample is = absurd one
+whole_by None (Diff pre post) (old ∷ []) lost answer lacks one ample is = absurd one
+whole_by None (Code image name) [] lost answer lacks one ample is = absurd one
+whole_by None (Match image pre) [] lost answer lacks one ample is = absurd one
+whole_by None (Match image pre) (bytes ∷ []) lost answer lacks one ample is = absurd one
+whole_by None (Run image script) [] lost answer lacks one ample is = absurd one
+whole_by None (Run image script) (bytes ∷ []) lost answer lacks one ample is = absurd one
 
 whole_call : (asked : Option Asked) (held : List (List ℕ)) (lost : Option FileFault) (answer : Answer)
     → IsAnswer asked held lost answer → (answer.status ≡ 6 → ⊥)
     → lost ≡ None → first_lacking (needed asked held) held ≡ None
 whole_call None held lost answer one ample is = refl
 whole_call (Some command) held lost answer one ample is =
-    whole_by (first_lacking (named_files (Some command)) held) command held lost answer one ample is
+    whole_by (first_lacking (named_files (Some command)) held) command held lost answer refl one ample is
 
 pub same_loads : (files : List ℕ → Option (List ℕ)) (asked : Option Asked) (held held' : List (List ℕ))
     (lost lost' : Option FileFault) (before now before' now' : Counts) (one other : Answer)

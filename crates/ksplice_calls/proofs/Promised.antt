@@ -18,8 +18,10 @@ use Rattle.ksplice_calls.specs.Answer.{Answer, OneComesOut, Answered, NoMemory, 
 use Rattle.ksplice_calls.specs.Calls.{named_files, line_files, needed, IsAnswer, IsAnswerBy, Answers}
 use Rattle.ksplice_calls.specs.Promises.{RepliesSome, EndsWithFile, CountsTellOf, replies_before}
 use Rattle.ksplice_calls.specs.Reply.{code_reply, match_reply, reply_answer, session_of, session_status, session_answer, session_files}
+use Rattle.ksplice_calls.specs.Linking.{link_reply}
+use Rattle.ksplice_calls.proofs.OneLoading.{no_object_lacks}
 use Rattle.ksplice_calls.proofs.WorkAnswers.{work_ends_not_with_four}
-use Rattle.call_words.specs.Words.{Asked, Diff, Code, Match, Run, Gen}
+use Rattle.call_words.specs.Words.{Asked, Diff, Code, Match, Run, Gen, Link}
 
 -- no reading
 pub usage_line : (told : Told) (before now : Counts) (old new : Option (List ℕ)) (status : ℕ)
@@ -154,6 +156,7 @@ no_replies (Diff pre post) held less = refl
 no_replies (Code image name) held less = refl
 no_replies (Match image pre) held less = refl
 no_replies (Gen number) held less = refl
+no_replies (Link objects) held less = refl
 no_replies (Run image script) [] less = refl
 no_replies (Run image script) (bytes ∷ []) less = refl
 no_replies (Run image script) (bytes ∷ lines ∷ held) less =
@@ -197,6 +200,8 @@ file_at None (Run image script) told (bytes ∷ lines ∷ held) lost before now 
     (out.0 ∙ ap (λ (a : Answer). a.status) one) (out.1 ∙ ap (λ (a : Answer). grown old a.output) one)
 file_at None (Gen number) told held lost before now old new is are ends (Answered answer one out) =
     absurd (work_ends_not_with_four number (out.0 ∙ ap (λ (a : Answer). a.status) one))
+file_at None (Link objects) told held lost before now old new is are ends (Answered answer one out) =
+    absurd (not_four (link_reply held) (out.0 ∙ ap (λ (a : Answer). a.status) one.1))
 file_at None (Diff pre post) told [] lost before now old new is are ends (Answered answer one out) = absurd one
 file_at None (Diff pre post) told (bytes ∷ []) lost before now old new is are ends
     (Answered answer one out) = absurd one
@@ -262,22 +267,26 @@ four_by_session (Ok session) held told fault before now ends =
 
 four_by : (first : Option Needed)
     (command : Asked) (told : Told) (held : List (List ℕ)) (fault : FileFault) (before now : Counts) (answer : Answer)
+    → first_lacking (named_files (Some command)) held ≡ first
     → EndsLoads told (first_lacking (needed (Some command) held) held) (Some fault) before now
     → IsAnswerBy first command held (Some fault) answer → answer.status ≡ 4
-four_by (Some file) command told held fault before now answer ends one = ap (λ (a : Answer). a.status) one
-four_by None (Diff pre post) told (bytes ∷ others ∷ held) fault before now answer ends one = absurd ends
-four_by None (Code image name) told (bytes ∷ held) fault before now answer ends one = absurd ends
-four_by None (Match image pre) told (bytes ∷ object ∷ held) fault before now answer ends one = absurd ends
-four_by None (Run image script) told (bytes ∷ lines ∷ held) fault before now answer ends one =
+four_by (Some file) command told held fault before now answer is ends one = ap (λ (a : Answer). a.status) one
+four_by None (Diff pre post) told (bytes ∷ others ∷ held) fault before now answer is ends one = absurd ends
+four_by None (Code image name) told (bytes ∷ held) fault before now answer is ends one = absurd ends
+four_by None (Match image pre) told (bytes ∷ object ∷ held) fault before now answer is ends one = absurd ends
+four_by None (Run image script) told (bytes ∷ lines ∷ held) fault before now answer is ends one =
     ap (λ (a : Answer). a.status) one ∙ four_by_session (session_of bytes lines) held told fault before now ends
-four_by None (Gen number) told held fault before now answer ends one = absurd ends
-four_by None (Diff pre post) told [] fault before now answer ends one = absurd one
-four_by None (Diff pre post) told (bytes ∷ []) fault before now answer ends one = absurd one
-four_by None (Code image name) told [] fault before now answer ends one = absurd one
-four_by None (Match image pre) told [] fault before now answer ends one = absurd one
-four_by None (Match image pre) told (bytes ∷ []) fault before now answer ends one = absurd one
-four_by None (Run image script) told [] fault before now answer ends one = absurd one
-four_by None (Run image script) told (bytes ∷ []) fault before now answer ends one = absurd one
+four_by None (Gen number) told held fault before now answer is ends one = absurd ends
+four_by None (Link objects) told held fault before now answer is ends one =
+    absurd (subst (λ (file : Option Needed). EndsLoads told file (Some fault) before now)
+    (no_object_lacks objects held is) ends)
+four_by None (Diff pre post) told [] fault before now answer is ends one = absurd one
+four_by None (Diff pre post) told (bytes ∷ []) fault before now answer is ends one = absurd one
+four_by None (Code image name) told [] fault before now answer is ends one = absurd one
+four_by None (Match image pre) told [] fault before now answer is ends one = absurd one
+four_by None (Match image pre) told (bytes ∷ []) fault before now answer is ends one = absurd one
+four_by None (Run image script) told [] fault before now answer is ends one = absurd one
+four_by None (Run image script) told (bytes ∷ []) fault before now answer is ends one = absurd one
 
 -- what the statuses 0, 3 and 7 tell of the counts
 stay_at : (command : Asked) (told : Told) (held : List (List ℕ))
@@ -287,7 +296,7 @@ stay_at : (command : Asked) (told : Told) (held : List (List ℕ))
 stay_at command told held None before now old new status replied ends out = ends
 stay_at command told held (Some fault) before now old new status replied ends (Answered answer one out) =
     let four =
-    four_by (first_lacking (named_files (Some command)) held) command told held fault before now answer ends one in
+    four_by (first_lacking (named_files (Some command)) held) command told held fault before now answer refl ends one in
     absurd (not_replied status answer.status replied (whole_status answer old new status replied out) (inr (inl four)))
 stay_at command told held (Some fault) before now old new status replied ends (NoMemory s n) =
     absurd (not_replied status 6 replied s (inr (inr refl)))

@@ -1,6 +1,6 @@
 -- How a reply comes about, and comes out.
 use Rattle.std.proofs.Common.{◌≡◌, ◌≢◌, ◌⊎◌, inl, inr, ℕ, List, Option}
-use Rattle.std.proofs.Common.{Result, Ok, Err, IfOk, IfErr, codes, refl, subst}
+use Rattle.std.proofs.Common.{Result, Ok, Err, IfOk, IfErr, refl, subst}
 use Rattle.ks_base.specs.declared.refusals.Refusal.{Refusal}
 use Rattle.ks_base.specs.declared.refusals.Refusal.TheVariants.{Memory}
 use Rattle.i386_reloc.specs.declared.types.NormalSection.{NormalSection}
@@ -66,6 +66,6 @@ refusal_comes_out pre post refusal old new status difference =
 
 -- the usage line comes out, where the words have no reading
 pub usage_comes_out : (output : List ℕ) (old new : Option (List ℕ)) (status : ℕ)
-    → output ≡ codes "usage: ksplice diff PRE POST | code IMAGE NAME | match IMAGE PRE | run IMAGE SCRIPT | gen NUMBER\n"
+    → output ≡ usage_answer.output
     → ComesOut (answer_of output 2) old new status → ComesOut usage_answer old new status
 usage_comes_out output old new status e out = subst (λ (x : List ℕ). ComesOut (answer_of x 2) old new status) e out

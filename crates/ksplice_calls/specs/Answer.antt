@@ -1,5 +1,5 @@
 -- What a call answers: its output and its status.
-use Rattle.std.specs.Prelude.{◌≡◌, ℕ, ◌||◌, ◌==◌, List, codes, Option, Some, None, MatchBool}
+use Rattle.std.specs.Prelude.{◌≡◌, ℕ, ◌||◌, ◌==◌, List, ◌++◌, codes, Option, Some, None, MatchBool}
 use Rattle.ks_base.specs.declared.refusals.Refusal.{Refusal}
 use Rattle.ks_base.specs.declared.refusals.Refusal.TheVariants.{BadImage, BadLine}
 use Rattle.ks_base.specs.Refusals.{refusal_line}
@@ -18,7 +18,8 @@ answer_of output status = record { output = output; status = status }
 -- the line for words without a reading, with status 2
 abbrev pub usage_answer : Answer
 usage_answer = record {
-  output = codes "usage: ksplice diff PRE POST | code IMAGE NAME | match IMAGE PRE | run IMAGE SCRIPT | gen NUMBER\n";
+  output = codes "usage: ksplice diff PRE POST | code IMAGE NAME | match IMAGE PRE | run IMAGE SCRIPT | gen NUMBER"
+      ++ codes " | link OBJECT...\n";
   status = 2;
 }
 

@@ -1,5 +1,5 @@
 -- What a call of the program does: which files it loads, and which answers are those to its words and its files.
-use Rattle.std.specs.Prelude.{◌≡◌, ℕ, Bool, nat_eq, List, [], ◌∷◌, ◌++◌, length, Option, Some, None}
+use Rattle.std.specs.Prelude.{◌≡◌, ℕ, Bool, nat_eq, List, [], ◌∷◌, ◌++◌, map, length, Option, Some, None}
 use Rattle.std.specs.List.{list_any}
 use Rattle.ks_io.specs.Loads.{Needed, Told, CameTo, first_lacking}
 use Rattle.ks_io.specs.Outside.{Counts}
@@ -10,8 +10,9 @@ use Rattle.ksplice_session.specs.declared.types.SessionEnd.{SessionEnd}
 use Rattle.ksplice_session.specs.declared.types.SessionEnd.TheVariants.{Done, SomeRefused, FileEnd, SinkEnd, MemoryEnd}
 use Rattle.ksplice_calls.specs.Answer.{Answer, OneComesOut, usage_answer, lost_answer}
 use Rattle.ksplice_calls.specs.Reply.{IsReply, code_answer, match_answer, run_answer, session_of, session_files}
-use Rattle.call_words.specs.Words.{Asked, Diff, Code, Match, Run, Gen}
+use Rattle.call_words.specs.Words.{Asked, Diff, Code, Match, Run, Gen, Link}
 use Rattle.ksplice_calls.specs.Works.{gen_answer}
+use Rattle.ksplice_calls.specs.Linking.{link_answer}
 
 -- the most bytes that an image file may have, and a script
 abbrev pub image_limit : ℕ
@@ -23,6 +24,9 @@ script_limit = 1048576
 abbrev pub needed_file : List ℕ → ℕ → Needed
 needed_file name limit = record { name = name; limit = limit }
 
+abbrev pub needed_object : List ℕ → Needed
+needed_object name = needed_file name object_limit
+
 -- the files that the words name, in order
 abbrev pub named_files : Option Asked → List Needed
 named_files None = []
@@ -31,6 +35,7 @@ named_files (Some (Code image name)) = needed_file image image_limit ∷ []
 named_files (Some (Match image pre)) = needed_file image image_limit ∷ needed_file pre object_limit ∷ []
 named_files (Some (Run image script)) = needed_file image image_limit ∷ needed_file script script_limit ∷ []
 named_files (Some (Gen number)) = []
+named_files (Some (Link objects)) = map needed_object objects
 
 -- The files that lines name, once the files that the words name are held with these bytes: those of the script, where
 -- image and script are in their forms. (The lines of a work's script have their files in memory.)
@@ -49,6 +54,7 @@ IsReplyTo (Code image name) (bytes ∷ held) lost answer = answer ≡ code_answe
 IsReplyTo (Match image pre) (bytes ∷ object ∷ held) lost answer = answer ≡ match_answer bytes object
 IsReplyTo (Run image script) (bytes ∷ lines ∷ held) lost answer = answer ≡ run_answer bytes lines held lost
 IsReplyTo (Gen number) held lost answer = answer ≡ gen_answer number
+IsReplyTo (Link objects) held lost answer = (length held ≡ length objects) × (answer ≡ link_answer held)
 IsReplyTo asked held lost answer = ⊥
 
 -- the answers to a command: the line of the first file that the words name and that is lacking, or the reply

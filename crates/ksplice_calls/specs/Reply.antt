@@ -1,6 +1,6 @@
--- The replies to all commands but `gen`: to `diff` the difference of two object files, to `code` the instructions of one
--- function of an image, to `match` which functions of an image an object's code is, to `run` those of a session; or why
--- there are none.
+-- The replies to all commands but `gen` and `link`: to `diff` the difference of two object files, to `code` the
+-- instructions of one function of an image, to `match` which functions of an image an object's code is, to `run` those
+-- of a session; or why there are none.
 use Rattle.std.specs.Prelude.{◌≡◌, ℕ, Bool, if◌then◌else◌, List, [], Option, Some, None, Result, Ok, Err}
 use Rattle.ks_base.specs.declared.refusals.Refusal.{Refusal}
 use Rattle.i386_reloc.specs.declared.types.NormalSection.{NormalSection}

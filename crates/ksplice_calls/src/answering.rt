@@ -8,6 +8,7 @@ ghost use Rattle.call_words.specs.Words.{reading};
 
 use crate::diffing::diff;
 use crate::image_code::code;
+use crate::linking::link;
 use crate::matching::match_object;
 use crate::saying::say;
 use crate::session_run::run;
@@ -17,8 +18,9 @@ use call_words::{Command, read_words};
 use ks_io::{Files, Sink};
 use std::alloc::Global;
 
-const USAGE: &str =
-    "usage: ksplice diff PRE POST | code IMAGE NAME | match IMAGE PRE | run IMAGE SCRIPT | gen NUMBER\n";
+const USAGE: &str = "\
+    usage: ksplice diff PRE POST | code IMAGE NAME | match IMAGE PRE | run IMAGE SCRIPT | gen NUMBER \
+    | link OBJECT...\n";
 
 /// Carries out a call: the words after the program's name, the files that it may load, and the sink that its
 /// output goes to. The status says how it ended.
@@ -87,5 +89,6 @@ fn carry_out<F: Files, O: Sink>(
         Command::Match { image, pre } => match_object(alloc, image, pre, files, out),
         Command::Run { image, script } => run(alloc, image, script, files, out),
         Command::Gen { number } => run_work(alloc, number, out),
+        Command::Link { objects } => link(alloc, objects, files, out),
     }
 }

@@ -9,6 +9,7 @@ mod held;
 mod image_code;
 mod laws;
 mod limits;
+mod linking;
 mod listing;
 mod matching;
 mod real;

@@ -1,5 +1,5 @@
 //! Whole calls over files and a sink in memory, which fail in mid-stream, and in which memory runs out.
-use crate::images::{LISTING, PAIR, PROGRAM};
+use crate::images::{LINKED, LISTING, PAIR, PROGRAM};
 use crate::objects::OBJECTS;
 use ks_io::{MemoryFiles, MemorySink};
 use ksplice_calls::ksplice;
@@ -7,8 +7,9 @@ use object_builder::{Section, object};
 use std::alloc::{AllocError, Global};
 use std::test::Fail;
 
-const USAGE: &str =
-    "usage: ksplice diff PRE POST | code IMAGE NAME | match IMAGE PRE | run IMAGE SCRIPT | gen NUMBER\n";
+const USAGE: &str = "\
+    usage: ksplice diff PRE POST | code IMAGE NAME | match IMAGE PRE | run IMAGE SCRIPT | gen NUMBER \
+    | link OBJECT...\n";
 
 // A script with one reply of each kind, and its replies.
 const SCRIPT: &str = "# a thread\nspawn main 7\nstep 0 2\nthreads\n\nrr 1 9\npeek 0x00100000 2\n";
@@ -141,7 +142,7 @@ fn end_of(alloc: Global, call: &Call) -> Result<End, AllocError> {
     })
 }
 
-static FAULTS: [Call; 25] = [
+static FAULTS: [Call; 26] = [
     (&["diff", "one"], &[], &[], 7, USAGE, 2),
     (
         &["diff", "one", "two"],
@@ -228,6 +229,14 @@ static FAULTS: [Call; 25] = [
     ),
     (&["run", "program", "update"], &[], &[], 1, UPDATED, 3),
     (&["run", "program", "update"], &[], &[], 0, "", 5),
+    (
+        &["link", "caller", "one"],
+        &[2],
+        &[],
+        100,
+        "file one failed\n",
+        4,
+    ),
     (&["gen", "0"], &[1], &[], 1, SUMMARY, 0),
     (&["gen", "0"], &[], &[2], 5, "gen 0", 5),
 ];
@@ -240,7 +249,7 @@ fn faults_of_the_outside(rt: HostRuntime) -> Result<(), Fail> {
     Ok(())
 }
 
-static CALLS: [Call; 9] = [
+static CALLS: [Call; 11] = [
     (&["match", "pair", "start"], &[], &[], 7, START_VALUES, 0),
     (&["match", "pair", "p and q"], &[], &[], 7, CONFLICT, 3),
     (&["run", "program", "script"], &[], &[], 7, REPLIES, 0),
@@ -264,6 +273,22 @@ static CALLS: [Call; 9] = [
         3,
     ),
     (
+        &["link", "one", "caller", "two"],
+        &[],
+        &[],
+        7,
+        "refused 40 double global f\n",
+        3,
+    ),
+    (
+        &["link", "caller", "start"],
+        &[],
+        &[],
+        7,
+        "refused 41 undefined f\n",
+        3,
+    ),
+    (
         &["diff", "one", "none"],
         &[],
         &[],
@@ -280,5 +305,20 @@ fn want_of_memory(rt: HostRuntime) -> Result<(), Fail> {
     for (at, call) in CALLS.iter().enumerate() {
         assert!(rt; end_of(rt.alloc(), call)? != End::Otherwise, "call {at}");
     }
+    Ok(())
+}
+
+/// Whether the image of two objects comes out, of which the first calls a function of the second.
+fn are_linked(alloc: Global) -> Result<bool, AllocError> {
+    let words = words_of(alloc, &["link", "caller", "one"])?;
+    let mut files = files_of(alloc, &[])?;
+    let mut out = MemorySink::new(alloc, Vec::new(alloc), 100);
+    let status = ksplice(alloc, words.as_slice(), &mut files, &mut out);
+    Ok(status.code == 0 && out.taken() == LINKED.as_slice())
+}
+
+#[test]
+fn linked_objects(rt: HostRuntime) -> Result<(), Fail> {
+    assert!(rt; are_linked(rt.alloc())?);
     Ok(())
 }

@@ -92,6 +92,14 @@ const MAIN: Section = Section {
     references: &[(1, RELATIVE, ".text.f")],
 };
 
+// Calls `f` of another object, and `ret`.
+const CALLER: Section = Section {
+    name: ".text.main",
+    kind: Global("main"),
+    bytes: b"\xe8\xfc\xff\xff\xff\xc3",
+    references: &[(1, RELATIVE, "f")],
+};
+
 /// `xor eax, eax` and `ret`.
 const TW: Section = Section {
     name: ".text.tw",
@@ -108,13 +116,14 @@ const START: Section = Section {
     references: &[(1, RELATIVE, ".text.tw"), (6, RELATIVE, "ext")],
 };
 
-pub(crate) const OBJECTS: [(&str, &[Section]); 10] = [
+pub(crate) const OBJECTS: [(&str, &[Section]); 11] = [
     ("one", &[F]),
     ("two", &[F_CHANGED]),
     ("pre.o", &[F, MAIN]),
     ("post.o", &[F_CHANGED, MAIN]),
     ("p and q", &[X, P, Q]),
     ("start", &[START, TW]),
+    ("caller", &[CALLER]),
     ("text a", &[TEXT_AT_0, A]),
     ("text b", &[TEXT_AT_0, B]),
     ("data", &[ONE, F_CHANGED, EIGHT_ZEROS]),

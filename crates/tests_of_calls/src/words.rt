@@ -3,10 +3,10 @@ use call_words::{Command, read_words};
 use std::alloc::{AllocError, Global};
 use std::test::Fail;
 
-/// A command's name, its words and its number.
+/// A command's name, its words and its number: of `link` the first object and the last, and how many there are.
 type Parts<'a> = (&'static str, &'a str, &'a str, u32);
 
-static READ: [(&[&str], Parts<'static>); 13] = [
+static READ: [(&[&str], Parts<'static>); 18] = [
     (&["diff", "a.o", "b.o"], ("diff", "a.o", "b.o", 0)),
     (&["code", "image", "f"], ("code", "image", "f", 0)),
     (&["match", "image", "a.o"], ("match", "image", "a.o", 0)),
@@ -14,6 +14,16 @@ static READ: [(&[&str], Parts<'static>); 13] = [
     (&["gen", "0"], ("gen", "", "", 0)),
     (&["gen", "0000000007"], ("gen", "", "", 7)),
     (&["gen", "4294967295"], ("gen", "", "", 4_294_967_295)),
+    (&["link", "a.o"], ("link", "a.o", "a.o", 1)),
+    (&["link", "a.o", "b.o"], ("link", "a.o", "b.o", 2)),
+    (&["link", "a.o", "a.o", "a.o"], ("link", "a.o", "a.o", 3)),
+    (&["link", "", "", "link", "help"], ("link", "", "help", 4)),
+    (
+        &[
+            "link", "a", "b", "c", "d", "e", "f", "g", "h", "i", "j", "k", "l", "m", "n", "o", "p",
+        ],
+        ("link", "a", "p", 16),
+    ),
     (&["diff", "a.o", "a.o"], ("diff", "a.o", "a.o", 0)),
     (&["diff", "", ""], ("diff", "", "", 0)),
     (&["diff", "help", "diff"], ("diff", "help", "diff", 0)),
@@ -22,7 +32,7 @@ static READ: [(&[&str], Parts<'static>); 13] = [
     (&["match", "+5", "?"], ("match", "+5", "?", 0)),
 ];
 
-static UNREAD: [&[&str]; 34] = [
+static UNREAD: [&[&str]; 40] = [
     &[],
     &[""],
     &["diff"],
@@ -34,6 +44,14 @@ static UNREAD: [&[&str]; 34] = [
     &["run"],
     &["gen"],
     &["gen", "1", "2"],
+    &["link"],
+    &[
+        "link", "a", "b", "c", "d", "e", "f", "g", "h", "i", "j", "k", "l", "m", "n", "o", "p", "q",
+    ],
+    &["link", "-"],
+    &["link", "a", "--", "b"],
+    &["link", "a", "b", "-o"],
+    &["a", "link"],
     &["help"],
     &["help", "diff"],
     &["help", "a", "b"],
@@ -66,6 +84,16 @@ fn parts_of<'a>(command: Command<'a>) -> Parts<'a> {
         Command::Match { image, pre } => ("match", image, pre, 0),
         Command::Run { image, script } => ("run", image, script, 0),
         Command::Gen { number } => ("gen", "", "", number),
+        Command::Link { objects } => link_parts_of(objects),
+    }
+}
+
+fn link_parts_of(objects: &[String]) -> Parts<'_> {
+    let count = u32::try_from(objects.len()).unwrap_or(0);
+    match objects {
+        [] => ("link", "", "", count),
+        [only] => ("link", only.as_str(), only.as_str(), count),
+        [first, .., last] => ("link", first.as_str(), last.as_str(), count),
     }
 }
 

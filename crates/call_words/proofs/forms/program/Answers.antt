@@ -1,6 +1,6 @@
 use Rattle.std.proofs.Common.{codes}
 use Rattle.std.proofs.lemmas.Result.{IfOk-weaker}
-use Rattle.call_words.specs.inside.Forms.{form_of_one, form_of_two}
+use Rattle.call_words.specs.inside.Forms.{form_of_several, form_of_two}
 use Rattle.call_words.proofs.Building.{has_more}
 use Rattle.call_words.proofs.forms.program.Goals as goal
 
@@ -14,5 +14,7 @@ returns c =
     code c.in_ok-program-3.ensures in
     let run = has_more c.in_ok-program-3.program c.in_ok-program-4.program _ (form_of_two (codes "run") (codes "image") (codes "script"))
     match c.in_ok-program-4.ensures in
-    IfOk-weaker c.with_word.result _ _
-    (λ new adds. has_more c.in_ok-program-4.program new _ (form_of_one (codes "gen") (codes "number")) run adds) c.with_word.ensures
+    let gen = has_more c.in_ok-program-4.program c.in_ok-program-5.program _ (form_of_several (codes "gen") (codes "number") 1)
+    run c.in_ok-program-5.ensures in
+    IfOk-weaker c.with_words-2.result _ _
+    (λ new adds. has_more c.in_ok-program-5.program new _ (form_of_several (codes "link") (codes "objects") 16) gen adds) c.with_words-2.ensures

@@ -1,7 +1,9 @@
-use Rattle.std.proofs.Common.{◌∙◌, sym, string_bytes}
-use Rattle.clap.specs.Simple.{app_of}
+use Rattle.std.proofs.Common.{◌∙◌, sym, ap, map, string_bytes}
+use Rattle.std.specs.List.{drop-map}
+use Rattle.clap.specs.Simple.{app_of, subcommand_rows_of}
 use Rattle.clap.proofs.WalkLemmas.{list_any-map}
 use Rattle.call_words.specs.Words.{begins_with_dash}
+use Rattle.call_words.specs.inside.Forms.{asked_from}
 use Rattle.call_words.proofs.Readings.{read_err, read_ok, read_option}
 use Rattle.call_words.proofs.reading.read_words.Goals as goal
 
@@ -12,6 +14,8 @@ returns-then-has_option c =
 pub returns-in-Ok : goal.returns-in-Ok
 returns-in-Ok c =
     c.command_in.ensures
+    ∙ ap (λ words. asked_from words (subcommand_rows_of c.in-Ok.matches))
+    (ap (map string_bytes) c.behind_name.ensures ∙ sym (drop-map string_bytes 1 c.args.words.now))
     ∙ read_ok (app_of c.in_ok-program.field-0) _ c.in-Ok.matches c.in_ok-program.ensures.0
     (sym (list_any-map begins_with_dash string_bytes c.args.words.now) ∙ sym c.has_option.ensures ∙ c.if-has_option.false)
     c.in-Ok.ensures.matches c.in-Ok.ensures.kinds
