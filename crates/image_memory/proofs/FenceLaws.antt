@@ -1,10 +1,11 @@
--- What the retired range that holds an address tells of it.
+-- What the retired range that holds an address tells of it, and where a range stands among the retired ones.
 use Rattle.std.proofs.Common.{◌≡◌, ◌≢◌, ℕ, zero, suc, ◌≤◌, ◌<◌, Bool, true, false, cond, ◌&&◌, ◌||◌, ◌==◌, List}
-use Rattle.std.proofs.Common.{[], ◌∷◌, length, get_or, refl, arith, ◌⊎◌, inl, inr, Some, None, min, take}
-use Rattle.std.specs.List.{find, list_any, slice_get}
+use Rattle.std.proofs.Common.{[], ◌∷◌, length, get_or, map, refl, sym, ◌∙◌, arith, ◌⊎◌, inl, inr, Some, None, min, take}
+use Rattle.std.specs.List.{find, list_any, slice_get, Contains}
 use Rattle.std.proofs.lemmas.Bool.Decides.{nat_tests}
-use Rattle.std.proofs.lemmas.List.{take-take, take_all, length-take}
+use Rattle.std.proofs.lemmas.List.{take-take, take_all, length-take, length-map, get_or-map}
 use Rattle.std.proofs.lemmas.List.Folds.{list_any_none}
+use Rattle.ks_base.specs.declared.places.Range.{Range}
 use Rattle.image_memory.specs.Ranges.{lies_in, Ascends}
 use Rattle.image_memory.specs.Contents.{fence_range, spliced_at}
 use Rattle.image_memory.specs.declared.types.Fence.{Fence}
@@ -97,3 +98,11 @@ take_min m n xs = elim (cases m n) [
   where
     cases : (m n : ℕ) → (m ≤ n) ⊎ (n ≤ m)
     cases m n = grind arith
+
+-- where a range stands among those that are retired
+pub in_list : (fences : List Fence) (range : Range) (at : Contains (map fence_range fences) range) → at.0 < length fences
+in_list fences range at = let l = at.1 in rw length-map at l
+
+pub is_range : (fences : List Fence) (range : Range) (at : Contains (map fence_range fences) range) (d : Fence)
+    → (get_or fences at.0 d).range ≡ range
+is_range fences range at d = sym (get_or-map fence_range fences at.0 d range (in_list fences range at)) ∙ at.2

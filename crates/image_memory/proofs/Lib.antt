@@ -1,2 +1,3 @@
 pub mod FenceLaws
 pub mod MetLaws
+pub mod EmptyLaws

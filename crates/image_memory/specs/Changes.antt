@@ -2,7 +2,7 @@
 use Rattle.std.specs.Prelude.{◌≡◌, ℕ, ◌≤◌, ◌<◌, not, ◌==◌, List, [], ◌∷◌, map, if◌then◌else◌}
 use Rattle.std.specs.List.{filter, All, Any, Contains}
 use Rattle.ks_base.specs.declared.places.Range.{Range}
-use Rattle.image_memory.specs.Ranges.{are_same, put_in}
+use Rattle.image_memory.specs.Ranges.{are_same, is_one_of, put_in}
 use Rattle.image_memory.specs.Contents.{Contents, Room, piece_range, fence_range}
 use Rattle.image_memory.specs.declared.types.Piece.{Piece}
 use Rattle.image_memory.specs.declared.types.Fence.{Fence}
@@ -14,12 +14,15 @@ with_piece piece pieces = put_in piece_range piece pieces
 abbrev pub without_piece : ℕ → List Piece → List Piece
 without_piece base pieces = filter (λ piece. not (piece.base == base)) pieces
 
--- a retired range put among those that ascend, and the retired ranges but one
+-- a retired range put among those that ascend, the retired ranges but one, and those but some
 abbrev pub with_fence : Fence → List Fence → List Fence
 with_fence fence fences = put_in fence_range fence fences
 
 abbrev pub without_fence : Range → List Fence → List Fence
 without_fence range fences = filter (λ fence. not (are_same fence.range range)) fences
+
+abbrev pub without_ranges : List Range → List Fence → List Fence
+without_ranges taken fences = filter (λ fence. not (is_one_of taken fence.range)) fences
 
 -- ranges but the first that is this one
 abbrev pub without_first : Range → List Range → List Range
@@ -45,7 +48,7 @@ HasPiece contents base = Any (λ piece. piece.base ≡ base) contents.pieces
 abbrev pub IsRetired : Contents → Range → Type 0
 IsRetired contents range = Contains (map fence_range contents.fences) range
 
--- contents after a piece was added or dropped, and after a range was retired or no longer is
+-- contents after a piece was added or dropped, and after a range was retired, no longer is, or some no longer are
 abbrev pub after_add : Contents → Piece → Contents
 after_add contents piece = record contents { pieces = with_piece piece contents.pieces }
 
@@ -57,3 +60,6 @@ after_fence contents fence = record contents { fences = with_fence fence content
 
 abbrev pub after_unfence : Contents → Range → Contents
 after_unfence contents range = record contents { fences = without_fence range contents.fences }
+
+abbrev pub after_unfence_all : Contents → List Range → Contents
+after_unfence_all contents ranges = record contents { fences = without_ranges ranges contents.fences }

@@ -18,6 +18,10 @@ lies_in address range = nat_le range.low address && nat_lt address range.high
 abbrev pub are_same : Range → Range → Bool
 are_same a b = (a.low == b.low) && (a.high == b.high)
 
+-- whether a range is one of some
+abbrev pub is_one_of : List Range → Range → Bool
+is_one_of ranges range = list_any (are_same range) ranges
+
 -- whether two ranges share an address
 abbrev pub meets : Range → Range → Bool
 meets a b = nat_lt (max a.low b.low) (min a.high b.high)

@@ -235,4 +235,8 @@ impl Space for FlatSpace {
     fn unfence(&mut self, range: Range) {
         self.retired.remove(range);
     }
+
+    fn unfence_all(&mut self, ranges: &[Range]) {
+        self.retired.remove_all(ranges);
+    }
 }

@@ -2,11 +2,12 @@
 ghost use Rattle.std.specs.Prelude.{◌≡◌, ◌+◌, ◌-◌, ◌≤◌, ◌<◌, [], length, map, min, nat_lt, insert, slice_get};
 ghost use Rattle.std.specs.Prelude.{OnOk, OnErr, IfSome, Some, None, ◌&&◌, ◌==◌, if◌then◌else◌};
 ghost use Rattle.std.specs.Option.{option_copied};
-ghost use Rattle.std.specs.List.{AllWithin, Contains, find, remove};
+ghost use Rattle.std.specs.List.{All, AllWithin, Contains, filter, find, remove};
+ghost use Rattle.std.specs.List.Sorted.{IsNonDecreasingBy};
 ghost use Rattle.image_memory.specs.Ranges.{Ascends, MeetsNone, lies_in};
 ghost use Rattle.image_memory.specs.Contents.{fence_range, spliced_at};
 ghost use Rattle.image_memory.specs.Fetch.{CutsCode, IsLimit, jump_length};
-ghost use Rattle.image_memory.specs.Changes.{with_fence, without_fence};
+ghost use Rattle.image_memory.specs.Changes.{with_fence, without_fence, without_ranges};
 ghost use Rattle.image_memory.specs.declared.types.Fence.{Fence};
 
 use crate::changes::insert_spare;
@@ -109,11 +110,36 @@ impl RetiredRanges {
         let at = place_of(self.fences.as_slice(), range);
         self.fences.remove(at);
     }
+
+    /// Takes ranges out, each of which is found by halving, in one pass over the others.
+    pub fn remove_all(&mut self, ranges: &[Range])
+        requires { All (Contains (map fence_range self.old.fences)) ranges.now }
+        ensures fences { self.new.fences ≡ without_ranges ranges.now self.old.fences }
+        ensures spare { self.new.spare ≡ self.old.spare }
+        ensures ascend { Ascends fence_range 0 self.new.fences }
+    {
+        make_empty(self.fences.as_mut_slice(), ranges);
+        self.fences
+            .retain(|fence| fence.range.low < fence.range.high);
+    }
+}
+
+/// Makes ranges empty where they stand, so that their lows still ascend.
+fn make_empty(fences: &mut [Fence], ranges: &[Range])
+    requires ascend { Ascends fence_range 0 fences.old }
+    requires there { All (Contains (map fence_range fences.old)) ranges.now }
+    ensures { filter (λ fence. nat_lt fence.range.low fence.range.high) fences.new
+        ≡ without_ranges ranges.now fences.old }
+{
+    for range in ranges {
+        let at = begun(fences, range.low) - 1;
+        fences[at].range.high = range.low;
+    }
 }
 
 /// How many ranges begin at or below an address: the place of one that begins there.
 fn begun(fences: &[Fence], address: u32) -> usize
-    requires { Ascends fence_range 0 fences.now }
+    requires { IsNonDecreasingBy (λ fence. fence.range.low) fences.now }
     ensures bound { result ≤ length fences.now }
     ensures below { AllWithin (λ fence. fence.range.low ≤ address) fences.now 0 result }
     ensures above { AllWithin (λ fence. address < fence.range.low) fences.now result (length fences.now) }

@@ -1,11 +1,12 @@
 //! What every representation of memory offers.
 ghost use Rattle.std.specs.Prelude.{◌≡◌, ◌≤◌, ◌<◌, ◌-◌, [], length, map, OnOk, OnErr, IfOk, MatchResult};
+ghost use Rattle.std.specs.List.{All};
 ghost use Rattle.image_memory.specs.Ranges.{MeetsNone};
 ghost use Rattle.image_memory.specs.Contents.{Contents, Room, IsValid, piece_range, fence_range, look_at, spliced_at};
 ghost use Rattle.image_memory.specs.Access.{first_fault, read_fault, write_fault, bytes_at, after_write};
 ghost use Rattle.image_memory.specs.Fetch.{window_at, HasCode, TellsView};
 ghost use Rattle.image_memory.specs.Changes.{ArePlaceable, FitsSpare, HasPiece, IsRetired, without_first};
-ghost use Rattle.image_memory.specs.Changes.{after_add, after_drop, after_fence, after_unfence};
+ghost use Rattle.image_memory.specs.Changes.{after_add, after_drop, after_fence, after_unfence, after_unfence_all};
 
 use crate::types::{Kind, Piece, Pieces, Window};
 use ks_base::{Fault, Range};
@@ -101,6 +102,13 @@ pub trait Space {
     fn unfence(&mut self, range: Range)
         requires { IsRetired (contents self.old) range }
         ensures contents { contents self.new ≡ after_unfence (contents self.old) range }
+        ensures room { room self.new ≡ room self.old };
+
+    /// Ends the retirement of ranges, in one pass over the retired ones, whatever their order; their lows are then no
+    /// spliced homes.
+    fn unfence_all(&mut self, ranges: &[Range])
+        requires { All (IsRetired (contents self.old)) ranges.now }
+        ensures contents { contents self.new ≡ after_unfence_all (contents self.old) ranges.now }
         ensures room { room self.new ≡ room self.old };
 
     ghost valid: { (space : Self) → IsValid (contents space) };

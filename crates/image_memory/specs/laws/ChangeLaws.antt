@@ -26,8 +26,21 @@ module _ {X : Type 0} (range : X → Range) where
       ascends_lower (range x).high floor xs (omega arith) up.2
   Ascends-remove floor (x ∷ xs) (suc i) up = (up.0, up.1, Ascends-remove (range x).high xs i up.2)
 
+  pub Ascends-filter : (keep : X → Bool) (floor : ℕ) (xs : List X) → Ascends range floor xs
+      → Ascends range floor (filter keep xs)
+  Ascends-filter keep floor [] up = tt
+  Ascends-filter keep floor (x ∷ xs) up = by_keep (keep x) (Ascends-filter keep (range x).high xs up.2)
+    where
+      lower : floor ≤ (range x).high
+      lower = let low = up.0 in let full = up.1 in omega arith
+
+      by_keep : (b : Bool) → Ascends range (range x).high (filter keep xs)
+          → Ascends range floor (cond b (x ∷ filter keep xs) (filter keep xs))
+      by_keep true rest = (up.0, up.1, rest)
+      by_keep false rest = ascends_lower (range x).high floor (filter keep xs) lower rest
+
   -- of things that ascend only one begins at an address
-  begin_apart : (floor : ℕ) (xs : List X) (i j : ℕ) (d : X) → Ascends range floor xs → i < length xs → j < length xs
+  pub begin_apart : (floor : ℕ) (xs : List X) (i j : ℕ) (d : X) → Ascends range floor xs → i < length xs → j < length xs
       → i ≢ j
       → (range (get_or xs i d)).low ≢ (range (get_or xs j d)).low
   begin_apart floor xs i j d up l m apart =

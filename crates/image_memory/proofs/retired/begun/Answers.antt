@@ -5,7 +5,6 @@ use Rattle.std.specs.List.Sorted.{IsPartitionedBy}
 use Rattle.std.proofs.lemmas.List.Sorted.{IsPartitionPoint-from_clause, IsPartitionedBy-leb}
 use Rattle.image_memory.specs.Contents.{fence_range}
 use Rattle.image_memory.specs.declared.types.Fence.{Fence}
-use Rattle.image_memory.specs.laws.RangeLaws.{lows_rise}
 use Rattle.image_memory.specs.laws.PutLaws.{insert_is_put}
 use Rattle.image_memory.proofs.retired.begun.Goals as goal
 
@@ -14,7 +13,7 @@ returns c =
     let fences = c.args.fences.now in
     let parted : IsPartitionedBy (λ fence. leb fence.range.low c.args.address) fences
     = IsPartitionedBy-leb (λ (fence : Fence). fence.range.low) fences c.args.address
-    (lows_rise fence_range 0 fences c.requires) in
+    c.requires in
     let at = IsPartitionPoint-from_clause (λ fence. leb fence.range.low c.args.address) fences
     c.partition_point.result c.partition_point.ensures.partitioned parted (λ a r f' k. search rules) in
     let above : AllWithin (λ fence. c.args.address < fence.range.low) fences c.partition_point.result (length fences)

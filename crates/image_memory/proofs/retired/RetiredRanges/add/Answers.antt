@@ -4,7 +4,12 @@ use Rattle.image_memory.specs.Ranges.{Ascends, MeetsNone}
 use Rattle.image_memory.specs.Contents.{Retired, fence_range}
 use Rattle.image_memory.specs.declared.types.Fence.{Fence}
 use Rattle.image_memory.specs.laws.PutLaws.{Ascends-put}
+use Rattle.image_memory.specs.laws.RangeLaws.{lows_rise}
 use Rattle.image_memory.proofs.retired.RetiredRanges.add.Goals as goal
+
+pub begun-at-requires : goal.begun-at-requires
+begun-at-requires c =
+    rw c.as_slice.ensures.value (lows_rise fence_range 0 c.self.inside.fences.items c.self.invariant.0)
 
 ascend : (c : goal.After-self-1) → Ascends fence_range 0 c.insert_spare.new.items.items
 ascend c =

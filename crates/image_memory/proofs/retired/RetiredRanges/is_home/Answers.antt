@@ -4,7 +4,11 @@ use Rattle.std.specs.List.{find}
 use Rattle.image_memory.specs.Ranges.{lies_in}
 use Rattle.image_memory.specs.Contents.{Retired, fence_range, spliced_at}
 use Rattle.image_memory.proofs.FenceLaws.{spliced_found, spliced_nowhere}
+use Rattle.image_memory.specs.laws.RangeLaws.{lows_rise}
 use Rattle.image_memory.proofs.retired.RetiredRanges.is_home.Goals as goal
+
+pub begun-requires : goal.begun-requires
+begun-requires c = rw c.as_slice-fences.ensures.value (lows_rise fence_range 0 c.self.inside.fences.items c.self.invariant.0)
 
 pub returns-in-Some : goal.returns-in-Some
 returns-in-Some c =

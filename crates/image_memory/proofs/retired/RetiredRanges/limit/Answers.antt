@@ -6,9 +6,13 @@ use Rattle.image_memory.specs.Ranges.{lies_in}
 use Rattle.image_memory.specs.Contents.{Retired, fence_range, spliced_at}
 use Rattle.image_memory.specs.Fetch.{IsLimit, jump_length}
 use Rattle.image_memory.specs.declared.types.Fence.{Fence}
-use Rattle.image_memory.specs.laws.RangeLaws.{list_any-map}
+use Rattle.image_memory.specs.laws.RangeLaws.{lows_rise, list_any-map}
 use Rattle.image_memory.proofs.FenceLaws.{spliced_found, spliced_nowhere, any_found, any_nowhere}
 use Rattle.image_memory.proofs.retired.RetiredRanges.limit.Goals as goal
+
+pub begun-begun-requires : goal.begun-begun-requires
+begun-begun-requires c =
+    rw c.as_slice-fences.ensures.value (lows_rise fence_range 0 c.self.inside.fences.items c.self.invariant.0)
 
 by_jump : (fences : List Fence) (pc : ℕ) (b : Bool) (o : Option ℕ) → o ≡ cond b (Some jump_length) None
     → spliced_at fences pc ≡ b → list_any (lies_in pc) (map fence_range fences) ≡ true → IsLimit fences pc o
