@@ -124,4 +124,8 @@ impl Space for PagedSpace {
     fn unfence(&mut self, range: Range) {
         self.retired.remove(range);
     }
+
+    fn unfence_all(&mut self, ranges: &[Range]) {
+        self.retired.remove_all(ranges);
+    }
 }
