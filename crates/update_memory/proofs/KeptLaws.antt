@@ -1,7 +1,7 @@
 -- What is left of things when those are taken away that don't pass a test.
 use Rattle.std.proofs.Common.{◌≡◌, ℕ, zero, suc, ◌<◌, ◌≤◌, Bool, true, false, cond, ◌&&◌, nat_lt, List, []}
 use Rattle.std.proofs.Common.{◌∷◌, map, length, get_or, Some, refl, ap, ◌∙◌, arith}
-use Rattle.std.specs.List.{filter, find, All, Any, Contains}
+use Rattle.std.specs.List.{filter, find, All, Any}
 use Rattle.std.proofs.lemmas.List.Elements.{All-head, All-tail}
 use Rattle.ks_base.specs.declared.places.Range.{Range}
 use Rattle.image_memory.specs.Ranges.{lies_in, put_in, Ascends}
@@ -53,19 +53,6 @@ any_left keep P (y ∷ ys) (suc k) x l is here passes =
     by_keep true at = let l = at.2 in (suc at.0, at.1, omega arith, at.3, at.4)
     by_keep false at = at
 
-pub contains_left : {X : Type 0} (keep : X → Bool) (xs : List X) (k : ℕ) (x : X) → k < length xs
-    → get_or xs k x ≡ x → keep x ≡ true → Contains (filter keep xs) x
-contains_left keep [] k x l is passes = absurd (omega arith)
-contains_left keep (y ∷ ys) zero x l is passes =
-    let e : keep y ≡ true = ap keep is ∙ passes in
-    rw e (0, omega arith, is)
-contains_left keep (y ∷ ys) (suc k) x l is passes =
-    by_keep (keep y) (contains_left keep ys k x (omega arith) is passes)
-  where
-    by_keep : (b : Bool) → Contains (filter keep ys) x → Contains (cond b (y ∷ filter keep ys) (filter keep ys)) x
-    by_keep true at = let l = at.1 in (suc at.0, omega arith, at.2)
-    by_keep false at = at
-
 module _ {X : Type 0} (range : X → Range) where
   -- what doesn't pass is put among things, and taken away again
   pub filter_put : (keep : X → Bool) (x : X) (xs : List X) → keep x ≡ false
@@ -84,23 +71,6 @@ module _ {X : Type 0} (range : X → Range) where
           → filter keep (cond b (x ∷ y ∷ ys) (y ∷ put_in range x ys)) ≡ filter keep (y ∷ ys)
       by_order true rest = rw fails refl
       by_order false rest = by_keep (keep y) rest
-
-  ascends_lower : (floor low : ℕ) (xs : List X) → low ≤ floor → Ascends range floor xs → Ascends range low xs
-  ascends_lower floor low [] l up = tt
-  ascends_lower floor low (x ∷ xs) l up = let h = up.0 in (omega arith, up.1, up.2)
-
-  pub Ascends-filter : (keep : X → Bool) (floor : ℕ) (xs : List X) → Ascends range floor xs
-      → Ascends range floor (filter keep xs)
-  Ascends-filter keep floor [] up = tt
-  Ascends-filter keep floor (x ∷ xs) up = by_keep (keep x) (Ascends-filter keep (range x).high xs up.2)
-    where
-      lower : floor ≤ (range x).high
-      lower = let low = up.0 in let full = up.1 in omega arith
-
-      by_keep : (b : Bool) → Ascends range (range x).high (filter keep xs)
-          → Ascends range floor (cond b (x ∷ filter keep xs) (filter keep xs))
-      by_keep true rest = (up.0, up.1, rest)
-      by_keep false rest = ascends_lower (range x).high floor (filter keep xs) lower rest
 
   -- what holds an address and is left held it before
   pub found_left : (keep : X → Bool) (floor : ℕ) (xs : List X) (a : ℕ) (y : X) → Ascends range floor xs

@@ -10,7 +10,7 @@ use Rattle.image_memory.specs.Ranges.{MeetsNone}
 use Rattle.image_memory.specs.Contents.{Contents, IsValid, piece_range, fence_range}
 use Rattle.image_memory.specs.Access.{byte_at}
 use Rattle.image_memory.specs.Fetch.{HasCode}
-use Rattle.image_memory.specs.Changes.{IsPlaceable, ArePlaceable, with_piece, after_add}
+use Rattle.image_memory.specs.Changes.{IsPlaceable, ArePlaceable, with_piece, after_add, without_ranges}
 use Rattle.image_memory.specs.laws.AccessLaws.{length-bytes_at, get_or-bytes_at}
 use Rattle.splice_jump.specs.Jumps.{jumped, jumped_memory, old_at, olds_at, unjumped, AreSpliced}
 use Rattle.splice_jump.specs.laws.CodeLaws.{code_at, not_held_twice}
@@ -20,7 +20,7 @@ use Rattle.splice_jump.specs.laws.WriteLaws.{written_or_not, all_outside, unjump
 use Rattle.splice_jump.specs.laws.RowLaws.{writes_apart, misses_jumps}
 use Rattle.update_memory.specs.Added.{AreAddable, with_pieces}
 use Rattle.update_memory.specs.Retired.{AreRetirable, with_fences}
-use Rattle.update_memory.specs.Withdrawn.{without_pieces, without_ranges, withdrawn_memory}
+use Rattle.update_memory.specs.Withdrawn.{without_pieces, withdrawn_memory}
 use Rattle.update_memory.proofs.PieceLaws.{none_added, first_added, first_clear, rest_addable, fences_stay, StayPlaced}
 use Rattle.update_memory.proofs.PieceLaws.{along_pieces}
 use Rattle.update_memory.proofs.FenceLaws.{pieces_stay, valid_retired}

@@ -1,24 +1,22 @@
 -- What is left to do when changes are taken back one after another.
 use Rattle.std.proofs.Common.{◌≡◌, ◌≢◌, ℕ, ◌+◌, ◌<◌, ◌≤◌, Bool, true, false, not, ◌&&◌, ◌||◌, ◌==◌, List, []}
 use Rattle.std.proofs.Common.{◌∷◌, map, length, get_or, take, drop, refl, sym, ap, subst, ◌∙◌, add-one, arith}
-use Rattle.std.specs.List.{list_any, Any, Contains}
+use Rattle.std.specs.List.{list_any, Any}
 use Rattle.std.proofs.lemmas.Bool.Decides.{nat_tests}
 use Rattle.std.proofs.lemmas.List.{at_drop_more, at_drop_all, length-map, get_or-map}
 use Rattle.std.proofs.lemmas.List.Elements.{filter_agree}
 use Rattle.ks_base.specs.declared.places.Range.{Range}
 use Rattle.image_memory.specs.declared.types.Piece.{Piece}
-use Rattle.image_memory.specs.declared.types.Fence.{Fence}
-use Rattle.image_memory.specs.Ranges.{are_same}
-use Rattle.image_memory.specs.Contents.{Contents, fence_range}
-use Rattle.image_memory.specs.Changes.{HasPiece, IsRetired, after_drop, after_unfence}
+use Rattle.image_memory.specs.Contents.{Contents}
+use Rattle.image_memory.specs.Changes.{HasPiece, after_drop}
 use Rattle.splice_jump.specs.Jump.{after_old}
 use Rattle.splice_jump.specs.Jumps.{unjumped}
 use Rattle.splice_jump.specs.laws.WriteLaws.{piece_after, unjumped-is}
 use Rattle.update_memory.specs.declared.types.Jump.{Jump}
 use Rattle.update_memory.specs.Rows.{old_of}
-use Rattle.update_memory.specs.Withdrawn.{without_pieces, without_ranges, spare_after}
-use Rattle.update_memory.proofs.KeptLaws.{filter_map, filter_all, filter_twice, any_left, contains_left}
-use Rattle.update_memory.proofs.WithdrawLaws.{keeps_piece, keeps_fence}
+use Rattle.update_memory.specs.Withdrawn.{without_pieces, spare_after}
+use Rattle.update_memory.proofs.KeptLaws.{filter_all, filter_twice, any_left}
+use Rattle.update_memory.proofs.WithdrawLaws.{keeps_piece}
 
 -- old bytes
 abbrev pub unjumped_memory : List Jump → Contents → Contents
@@ -98,55 +96,6 @@ still_there contents now base other is apart at =
     let kept : not (at.1.base == base) ≡ true = grind (arith, nat_tests) in
     subst (λ (m : Contents). HasPiece m other) (sym is)
     (any_left (λ (p : Piece). not (p.base == base)) (λ p. p.base ≡ other) contents.pieces at.0 at.1 at.2 at.3 at.4 kept)
-
--- ranges
-abbrev pub unretired_memory : List Range → Contents → Contents
-unretired_memory ranges contents = record contents { fences = without_ranges ranges contents.fences }
-
-none_unretired : (contents : Contents) → unretired_memory [] contents ≡ contents
-none_unretired contents =
-    ap (λ (fs : List Fence). let m : Contents = record contents { fences = fs } in m)
-    (filter_all (keeps_fence []) contents.fences (λ k d l. refl))
-
-both_ranges : (one rest : Bool) → (not one && not rest) ≡ not (one || rest)
-both_ranges true rest = refl
-both_ranges false rest = refl
-
-first_unretired : (contents : Contents) (range : Range) (ranges : List Range)
-    → unretired_memory (range ∷ ranges) contents ≡ unretired_memory ranges (after_unfence contents range)
-first_unretired contents range ranges =
-    ap (λ (fs : List Fence). let m : Contents = record contents { fences = fs } in m)
-    (sym (filter_twice (λ (f : Fence). not (are_same f.range range)) (keeps_fence ranges) contents.fences
-    ∙ filter_agree (λ (f : Fence). not (are_same f.range range) && keeps_fence ranges f) (keeps_fence (range ∷ ranges))
-    (λ f. both_ranges (are_same f.range range) (list_any (are_same f.range) ranges)) contents.fences))
-
-abbrev with_unretired : Contents → List Range → Contents
-with_unretired contents ranges = unretired_memory ranges contents
-
-pub next_unretired : (contents now : Contents) (ranges : List Range) (i : ℕ) (d : Range) → i < length ranges
-    → now ≡ after_unfence contents (get_or ranges i d)
-    → unretired_memory (drop (i + 1) ranges) now ≡ unretired_memory (drop i ranges) contents
-next_unretired contents now ranges i d l is =
-    ap (unretired_memory (drop (i + 1) ranges)) is
-    ∙ (sym (first_unretired contents (get_or ranges i d) (drop (i + 1) ranges))
-    ∙ sym (at_drop_more (with_unretired contents) ranges i d l))
-
-pub all_unretired : (contents : Contents) (ranges : List Range) (i : ℕ) → length ranges ≤ i
-    → contents ≡ unretired_memory (drop i ranges) contents
-all_unretired contents ranges i l =
-    sym (none_unretired contents) ∙ sym (at_drop_all (with_unretired contents) ranges i l)
-
-same_back : (r s : Range) → are_same r s ≡ false → not (are_same s r) ≡ true
-same_back r s apart = grind (arith, nat_tests)
-
-pub still_retired : (contents now : Contents) (range other : Range) → now ≡ after_unfence contents range
-    → are_same range other ≡ false → IsRetired contents other → IsRetired now other
-still_retired contents now range other is apart at =
-    subst (λ (m : Contents). IsRetired m other) (sym is)
-    (subst (λ (rs : List Range). Contains rs other)
-    (filter_map (λ (r : Range). not (are_same r range)) fence_range contents.fences)
-    (contains_left (λ (r : Range). not (are_same r range)) (map fence_range contents.fences) at.0 other at.1 at.2
-    (same_back range other apart)))
 
 -- pieces begin where they did when old bytes were put back
 pub begin_still : (olds : List (ℕ × List ℕ)) (contents : Contents) (base : ℕ) → HasPiece contents base

@@ -10,21 +10,22 @@ use Rattle.std.proofs.lemmas.List.Folds.{list_any_at, list_any_none}
 use Rattle.ks_base.specs.declared.places.Range.{Range}
 use Rattle.image_memory.specs.declared.types.Piece.{Piece}
 use Rattle.image_memory.specs.declared.types.Fence.{Fence}
-use Rattle.image_memory.specs.Ranges.{are_same, meets, MeetsNone}
+use Rattle.image_memory.specs.Ranges.{are_same, meets, MeetsNone, is_one_of}
 use Rattle.image_memory.specs.Contents.{Contents, IsValid, piece_range, fence_range, holding}
 use Rattle.image_memory.specs.Access.{byte_at, bytes_at, written, overlaid_piece}
 use Rattle.image_memory.specs.Fetch.{code_in, HasCode}
-use Rattle.image_memory.specs.Changes.{ArePlaceable, after_add, after_fence}
+use Rattle.image_memory.specs.Changes.{ArePlaceable, after_add, after_fence, without_ranges}
 use Rattle.image_memory.specs.laws.RangeLaws.{each_above}
+use Rattle.image_memory.specs.laws.ChangeLaws.{Ascends-filter}
 use Rattle.splice_jump.specs.Jumps.{jumped, unjumped}
 use Rattle.splice_jump.specs.laws.CodeLaws.{code_at}
 use Rattle.splice_jump.specs.laws.WriteLaws.{piece_after, unjumped-is, jumps_of, jumped-is}
 use Rattle.update_memory.specs.Added.{AreAddable, with_pieces}
 use Rattle.update_memory.specs.Retired.{AreRetirable, with_fences, with_ranges}
-use Rattle.update_memory.specs.Withdrawn.{is_based_at, without_pieces, is_one_of, ranges_but, without_ranges}
+use Rattle.update_memory.specs.Withdrawn.{is_based_at, without_pieces, ranges_but}
 use Rattle.update_memory.proofs.PieceLaws.{none_added, first_added}
 use Rattle.update_memory.proofs.FenceLaws.{none_retired, first_retired, ranges_retired}
-use Rattle.update_memory.proofs.KeptLaws.{filter_map, filter_all, filter_put, Ascends-filter, found_left}
+use Rattle.update_memory.proofs.KeptLaws.{filter_map, filter_all, filter_put, found_left}
 
 abbrev pub base_of : Piece → ℕ
 base_of piece = piece.base

@@ -3,9 +3,9 @@ use Rattle.std.specs.Prelude.{ℕ, Bool, not, ◌==◌, List, [], ◌∷◌}
 use Rattle.std.specs.List.{filter, list_any}
 use Rattle.ks_base.specs.declared.places.Range.{Range}
 use Rattle.image_memory.specs.declared.types.Piece.{Piece}
-use Rattle.image_memory.specs.declared.types.Fence.{Fence}
-use Rattle.image_memory.specs.Ranges.{are_same}
+use Rattle.image_memory.specs.Ranges.{is_one_of}
 use Rattle.image_memory.specs.Contents.{Contents}
+use Rattle.image_memory.specs.Changes.{without_ranges}
 use Rattle.splice_jump.specs.Jumps.{unjumped}
 
 -- whether a piece begins at one of some addresses, and the pieces that don't
@@ -21,15 +21,9 @@ abbrev pub spare_after : List ℕ → List Range → List Range
 spare_after [] spare = spare
 spare_after (base ∷ bases) spare = []
 
--- whether a range is one of some, the ranges that aren't, and the retired ranges that aren't
-abbrev pub is_one_of : List Range → Range → Bool
-is_one_of ranges range = list_any (are_same range) ranges
-
+-- the ranges that are none of some
 abbrev pub ranges_but : List Range → List Range → List Range
 ranges_but taken ranges = filter (λ range. not (is_one_of taken range)) ranges
-
-abbrev pub without_ranges : List Range → List Fence → List Fence
-without_ranges taken fences = filter (λ fence. not (is_one_of taken fence.range)) fences
 
 -- A memory after an update was taken back: old bytes are put back at homes, ranges are no longer retired, and the
 -- pieces that begin at some addresses are gone.

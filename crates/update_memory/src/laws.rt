@@ -7,12 +7,12 @@ ghost use Rattle.image_memory.specs.declared.types.Piece.{Piece};
 ghost use Rattle.image_memory.specs.Contents.{Contents, IsValid, fence_range};
 ghost use Rattle.image_memory.specs.Access.{bytes_at, written};
 ghost use Rattle.image_memory.specs.Fetch.{HasCode};
-ghost use Rattle.image_memory.specs.Changes.{ArePlaceable};
+ghost use Rattle.image_memory.specs.Changes.{ArePlaceable, without_ranges};
 ghost use Rattle.splice_jump.specs.Jumps.{AreSpliced, jumped, jumped_memory, olds_at, unjumped};
 ghost use Rattle.update_memory.specs.Added.{AreAddable, with_pieces};
 ghost use Rattle.update_memory.specs.Retired.{AreRetirable, with_fences, with_ranges};
 ghost use Rattle.update_memory.specs.Rows.{rows_of, olds_of};
-ghost use Rattle.update_memory.specs.Withdrawn.{without_pieces, ranges_but, without_ranges, withdrawn_memory};
+ghost use Rattle.update_memory.specs.Withdrawn.{without_pieces, ranges_but, withdrawn_memory};
 ghost use Rattle.update_memory.specs.declared.types.Jump.{Jump};
 
 use image_memory::pieces_stay_placed;

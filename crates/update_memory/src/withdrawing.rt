@@ -4,10 +4,10 @@ ghost use Rattle.std.specs.Prelude.{◌≡◌, ◌≢◌, false, map};
 ghost use Rattle.std.specs.List.{All, AllPairs};
 ghost use Rattle.image_memory.specs.Ranges.{are_same};
 ghost use Rattle.image_memory.specs.Fetch.{HasCode};
-ghost use Rattle.image_memory.specs.Changes.{HasPiece, IsRetired};
+ghost use Rattle.image_memory.specs.Changes.{HasPiece, IsRetired, without_ranges};
 ghost use Rattle.splice_jump.specs.Jumps.{unjumped};
 ghost use Rattle.update_memory.specs.Rows.{old_of};
-ghost use Rattle.update_memory.specs.Withdrawn.{without_pieces, without_ranges, spare_after, withdrawn_memory};
+ghost use Rattle.update_memory.specs.Withdrawn.{without_pieces, spare_after, withdrawn_memory};
 
 use crate::types::Jump;
 use image_memory::Space;
@@ -36,9 +36,7 @@ pub fn unretire<S: Space>(space: &mut S, ranges: &[Range])
         ≡ record (S.contents space.old) { fences = without_ranges ranges.now (S.contents space.old).fences } }
     ensures room { S.room space.new ≡ S.room space.old }
 {
-    for range in ranges {
-        space.unfence(*range);
-    }
+    space.unfence_all(ranges);
 }
 
 /// Takes the pieces away that begin at some addresses, of which none stands twice. No range is spare then, unless there

@@ -10,9 +10,9 @@ use Rattle.std.proofs.lemmas.List.Elements.{All-weaker}
 use Rattle.std.proofs.lemmas.List.Folds.{Any-from_list_any}
 use Rattle.ks_base.specs.declared.places.Range.{Range}
 use Rattle.ks_base.specs.declared.reports.Replaced.{Replaced}
+use Rattle.image_memory.specs.Ranges.{is_one_of}
 use Rattle.image_memory.specs.laws.RangeLaws.{found}
 use Rattle.symbol_table.specs.Bodies.{newest as newest_base}
-use Rattle.update_memory.specs.Withdrawn.{is_one_of}
 use Rattle.update_plan.specs.Sound.{is_replaced_at, BeginsAt}
 use Rattle.update_stack.specs.AbstractMachine.{AbstractMachine, Row, Update, is_home, base_of, bodies_in}
 use Rattle.update_stack.specs.Apply.{has_name}

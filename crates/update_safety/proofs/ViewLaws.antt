@@ -10,7 +10,7 @@ use Rattle.std.proofs.lemmas.List.Folds.{Any-from_list_any, list_any_at}
 use Rattle.ks_base.specs.declared.places.Range.{Range}
 use Rattle.image_memory.specs.declared.types.Piece.{Piece}
 use Rattle.image_memory.specs.declared.types.Fence.{Fence}
-use Rattle.image_memory.specs.Ranges.{are_same, lies_in}
+use Rattle.image_memory.specs.Ranges.{are_same, lies_in, is_one_of}
 use Rattle.image_memory.specs.Contents.{Contents, IsValid, piece_range, fence_range, holding}
 use Rattle.image_memory.specs.Access.{overlaid_piece, written}
 use Rattle.image_memory.specs.Fetch.{AtHome, Stray, Bytes, is_code, code_in, HasCode, window_of, seen_in, view}
@@ -18,7 +18,7 @@ use Rattle.image_memory.specs.Fetch.{has_window}
 use Rattle.image_memory.specs.laws.AccessLaws.{length-overlaid}
 use Rattle.image_memory.specs.laws.RangeLaws.{inside, found, found_here}
 use Rattle.update_memory.specs.Retired.{with_range, with_ranges}
-use Rattle.update_memory.specs.Withdrawn.{is_based_at, is_one_of, without_pieces}
+use Rattle.update_memory.specs.Withdrawn.{is_based_at, without_pieces}
 use Rattle.stack_scan.specs.Standing.{in_one}
 
 -- whether a piece is one of code, and whether a code piece holds an address

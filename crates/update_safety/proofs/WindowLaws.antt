@@ -16,9 +16,9 @@ use Rattle.image_memory.specs.declared.types.Piece.{Piece}
 use Rattle.image_memory.specs.declared.types.Fence.{Fence}
 use Rattle.image_memory.specs.Contents.{IsValid, fence_range}
 use Rattle.image_memory.specs.Fetch.{HasCode}
+use Rattle.image_memory.specs.Ranges.{is_one_of}
 use Rattle.image_memory.specs.laws.RangeLaws.{within}
 use Rattle.symbol_table.specs.Symbols.{function_named}
-use Rattle.update_memory.specs.Withdrawn.{is_one_of}
 use Rattle.ia32_step.specs.declared.types.Thread.{Thread}
 use Rattle.image_threads.specs.Program.{running_at}
 use Rattle.image_threads.specs.Spawning.{started, started_at, started_on, free_stack, first_bytes, first_thread}

@@ -15,7 +15,7 @@ use Rattle.ks_base.specs.declared.places.Range.{Range}
 use Rattle.ks_base.specs.declared.reports.Replaced.{Replaced}
 use Rattle.image_memory.specs.declared.types.Piece.{Piece}
 use Rattle.image_memory.specs.declared.types.Fence.{Fence}
-use Rattle.image_memory.specs.Ranges.{Ascends, meets, MeetsNone, are_same}
+use Rattle.image_memory.specs.Ranges.{Ascends, meets, MeetsNone, are_same, is_one_of}
 use Rattle.image_memory.specs.Contents.{Contents, IsValid, ArePlaced, piece_range, fence_range}
 use Rattle.image_memory.specs.Access.{overlaid_piece, written}
 use Rattle.image_memory.specs.Changes.{ArePlaceable, HasPiece, with_piece, with_fence, after_add, after_fence}
@@ -25,7 +25,7 @@ use Rattle.splice_jump.specs.Jumps.{IsFenced, IsSpliced, AreSpliced}
 use Rattle.splice_jump.specs.laws.CodeLaws.{code_written, spliced_written}
 use Rattle.update_memory.specs.Added.{AreAddable, with_pieces}
 use Rattle.update_memory.specs.Retired.{AreRetirable, with_fences, with_ranges}
-use Rattle.update_memory.specs.Withdrawn.{is_based_at, without_pieces, is_one_of, ranges_but}
+use Rattle.update_memory.specs.Withdrawn.{is_based_at, without_pieces, ranges_but}
 use Rattle.ia32_step.specs.declared.types.Thread.{Thread}
 use Rattle.image_threads.specs.Spawning.{is_writable, is_stack}
 use Rattle.update_plan.specs.declared.types.Plan.{Plan}

@@ -12,16 +12,16 @@ use Rattle.ks_base.specs.declared.places.Range.{Range}
 use Rattle.ks_base.specs.declared.reports.Replaced.{Replaced}
 use Rattle.image_memory.specs.declared.types.Piece.{Piece}
 use Rattle.image_memory.specs.declared.types.Fence.{Fence}
-use Rattle.image_memory.specs.Ranges.{Ascends, are_same, lies_in}
+use Rattle.image_memory.specs.Ranges.{Ascends, are_same, lies_in, is_one_of}
 use Rattle.image_memory.specs.Contents.{Contents, IsValid, piece_range, fence_range, holding}
-use Rattle.image_memory.specs.Changes.{HasPiece}
+use Rattle.image_memory.specs.Changes.{HasPiece, without_ranges}
 use Rattle.image_memory.specs.Fetch.{HasCode, code_in}
 use Rattle.image_memory.specs.laws.RangeLaws.{each_above, inside, found}
 use Rattle.image_threads.specs.Spawning.{is_stack, is_writable}
 use Rattle.symbol_table.specs.Bodies.{newest as newest_base}
 use Rattle.splice_jump.specs.Jumps.{IsFenced, IsSpliced, AreSpliced}
 use Rattle.splice_jump.specs.laws.CodeLaws.{held}
-use Rattle.update_memory.specs.Withdrawn.{is_based_at, without_pieces, is_one_of, ranges_but, without_ranges}
+use Rattle.update_memory.specs.Withdrawn.{is_based_at, without_pieces, ranges_but}
 use Rattle.update_plan.specs.Sound.{IsCode, IsVersion, BeginsAt, is_replaced_at}
 use Rattle.update_stack.specs.AbstractMachine.{AbstractMachine, Row, Update, is_home, bodies_in, base_of, fence_in}
 use Rattle.update_stack.specs.AbstractMachine.{contents_of, is_text, with_replaced}

@@ -10,11 +10,11 @@ use Rattle.std.proofs.lemmas.Bool.Decides.{nat_tests}
 use Rattle.ks_base.specs.declared.places.Range.{Range}
 use Rattle.ks_base.specs.declared.reports.Replaced.{Replaced}
 use Rattle.image_memory.specs.declared.types.Fence.{Fence}
-use Rattle.image_memory.specs.Ranges.{Ascends, are_same}
+use Rattle.image_memory.specs.Ranges.{Ascends, are_same, is_one_of}
 use Rattle.image_memory.specs.Contents.{Contents, fence_range}
 use Rattle.image_memory.specs.laws.RangeLaws.{one_after}
 use Rattle.splice_jump.specs.Jumps.{IsFenced, IsSpliced, AreSpliced}
-use Rattle.update_memory.specs.Withdrawn.{is_one_of, ranges_but}
+use Rattle.update_memory.specs.Withdrawn.{ranges_but}
 use Rattle.update_plan.specs.Sound.{is_replaced_at}
 use Rattle.update_stack.specs.AbstractMachine.{AbstractMachine, Row, Update, is_home, bodies_in, fence_in, contents_of}
 use Rattle.update_stack.specs.AbstractMachine.{with_replaced}

@@ -15,8 +15,9 @@ use Rattle.symbol_table.specs.declared.symbols.Symbol.{Symbol}
 use Rattle.symbol_table.specs.Table.{without_symbols}
 use Rattle.symbol_table.specs.Bodies.{newest}
 use Rattle.image_memory.specs.declared.types.Piece.{Piece}
+use Rattle.image_memory.specs.Ranges.{is_one_of}
 use Rattle.ks_base.specs.declared.places.Range.{Range}
-use Rattle.update_memory.specs.Withdrawn.{is_based_at, without_pieces, is_one_of, ranges_but}
+use Rattle.update_memory.specs.Withdrawn.{is_based_at, without_pieces, ranges_but}
 use Rattle.update_stack.specs.AbstractMachine.{AbstractMachine, Row, Update, is_home, newest_in, bodies_in}
 use Rattle.update_stack.specs.AbstractMachine.{with_replaced}
 use Rattle.update_stack.specs.Apply.{has_name}

@@ -12,14 +12,14 @@ use Rattle.ks_base.specs.declared.places.Range.{Range}
 use Rattle.ks_base.specs.declared.reports.Replaced.{Replaced}
 use Rattle.image_memory.specs.declared.types.Piece.{Piece}
 use Rattle.image_memory.specs.declared.types.Fence.{Fence}
-use Rattle.image_memory.specs.Ranges.{Ascends, are_same}
+use Rattle.image_memory.specs.Ranges.{Ascends, are_same, is_one_of}
 use Rattle.image_memory.specs.Contents.{Contents, IsValid, piece_range, fence_range}
 use Rattle.image_memory.specs.Access.{written}
 use Rattle.image_memory.specs.laws.AccessLaws.{Ascends-written}
 use Rattle.splice_jump.specs.Jumps.{jumped, unjumped, IsFenced, IsSpliced, AreSpliced}
 use Rattle.splice_jump.specs.laws.WriteLaws.{Away, jump_of, jumps_of, jumped_as}
 use Rattle.splice_jump.specs.laws.RowLaws.{writes_apart}
-use Rattle.update_memory.specs.Withdrawn.{is_one_of, ranges_but}
+use Rattle.update_memory.specs.Withdrawn.{ranges_but}
 use Rattle.update_stack.specs.AbstractMachine.{AbstractMachine, Row, Update, is_home, bodies_in, fence_in, contents_of}
 use Rattle.update_stack.specs.AbstractMachine.{with_replaced, jump_row, jump_rows}
 use Rattle.update_stack.specs.Undo.{without_base, withdrawn, newest_update}

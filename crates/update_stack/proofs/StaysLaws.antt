@@ -15,7 +15,7 @@ use Rattle.ks_base.specs.declared.reports.Replaced.{Replaced}
 use Rattle.ks_base.specs.declared.reports.Report.{Report}
 use Rattle.image_memory.specs.declared.types.Piece.{Piece}
 use Rattle.image_memory.specs.declared.types.Fence.{Fence}
-use Rattle.image_memory.specs.Ranges.{lies_in}
+use Rattle.image_memory.specs.Ranges.{lies_in, is_one_of}
 use Rattle.image_memory.specs.Contents.{piece_range, fence_range}
 use Rattle.image_memory.specs.Access.{first_fault, write_fault, overlaid_piece, written}
 use Rattle.image_memory.specs.Changes.{HasPiece, with_piece}
@@ -27,7 +27,7 @@ use Rattle.ia32_step.specs.declared.types.Thread.{Thread}
 use Rattle.splice_jump.specs.Jumps.{IsFenced}
 use Rattle.symbol_table.specs.Bodies.{newest}
 use Rattle.update_memory.specs.Retired.{with_ranges}
-use Rattle.update_memory.specs.Withdrawn.{is_based_at, is_one_of}
+use Rattle.update_memory.specs.Withdrawn.{is_based_at}
 use Rattle.update_plan.specs.declared.types.Plan.{Plan}
 use Rattle.update_plan.specs.NewCode.{linked_code}
 use Rattle.update_plan.specs.Sound.{IsJumpTo, is_replaced_at, AllReplaceNewest, CanBeMade}

@@ -11,7 +11,8 @@ use Rattle.std.proofs.Math.ListN.{length-append}
 use Rattle.ks_base.specs.declared.places.Range.{Range}
 use Rattle.image_memory.specs.declared.types.Piece.{Piece}
 use Rattle.image_memory.specs.Changes.{HasPiece}
-use Rattle.update_memory.specs.Withdrawn.{is_based_at, is_one_of}
+use Rattle.image_memory.specs.Ranges.{is_one_of}
+use Rattle.update_memory.specs.Withdrawn.{is_based_at}
 use Rattle.update_plan.specs.Sound.{IsVersion}
 use Rattle.update_stack.specs.AbstractMachine.{AbstractMachine, Update, contents_of}
 use Rattle.update_stack.specs.Apply.{has_name}

@@ -15,10 +15,10 @@ use Rattle.image_memory.specs.declared.types.Piece.{Piece}
 use Rattle.image_memory.specs.Contents.{IsValid, piece_range}
 use Rattle.image_memory.specs.Changes.{HasPiece}
 use Rattle.image_memory.specs.Fetch.{is_code}
-use Rattle.image_memory.specs.Ranges.{meets, are_same}
+use Rattle.image_memory.specs.Ranges.{meets, are_same, is_one_of}
 use Rattle.image_memory.specs.laws.RangeLaws.{each_above, meet_where}
 use Rattle.symbol_table.specs.Bodies.{newest as newest_base}
-use Rattle.update_memory.specs.Withdrawn.{is_based_at, is_one_of}
+use Rattle.update_memory.specs.Withdrawn.{is_based_at}
 use Rattle.update_plan.specs.Sound.{IsVersion, BeginsAt}
 use Rattle.update_stack.specs.AbstractMachine.{AbstractMachine, Update, base_of, bodies_in, contents_of, is_text}
 use Rattle.update_stack.specs.Undo.{withdrawn, later_than, ranges_in, is_code_of, code_ranges_in, meets_one, retires_in}

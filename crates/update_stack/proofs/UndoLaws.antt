@@ -11,17 +11,18 @@ use Rattle.ks_base.specs.declared.places.Range.{Range}
 use Rattle.ks_base.specs.declared.reports.Replaced.{Replaced}
 use Rattle.image_memory.specs.declared.types.Piece.{Piece}
 use Rattle.image_memory.specs.declared.types.Fence.{Fence}
-use Rattle.image_memory.specs.Ranges.{Ascends, are_same}
+use Rattle.image_memory.specs.Ranges.{Ascends, are_same, is_one_of}
 use Rattle.image_memory.specs.Contents.{Contents, IsValid, piece_range, fence_range}
 use Rattle.image_memory.specs.Access.{bytes_at, written}
 use Rattle.image_memory.specs.Fetch.{HasCode}
+use Rattle.image_memory.specs.Changes.{without_ranges}
 use Rattle.symbol_table.specs.declared.symbols.Symbol.{Symbol}
 use Rattle.symbol_table.specs.Table.{without_symbols}
 use Rattle.splice_jump.specs.Jump.{five_at, jump_bytes}
 use Rattle.splice_jump.specs.Jumps.{jumped, jumped_memory, with_row, old_at, olds_at, unjumped, AreSpliced}
 use Rattle.update_memory.specs.declared.types.Jump.{Jump}
 use Rattle.update_memory.specs.Rows.{row_of, rows_of, old_of, olds_of}
-use Rattle.update_memory.specs.Withdrawn.{is_one_of, without_pieces, ranges_but, without_ranges, withdrawn_memory}
+use Rattle.update_memory.specs.Withdrawn.{without_pieces, ranges_but, withdrawn_memory}
 use Rattle.image_threads.specs.Program.{Program}
 use Rattle.update_stack.specs.declared.updates.Update.{Update as Shown}
 use Rattle.update_stack.specs.declared.updates.Kept.{Kept}

@@ -1,10 +1,14 @@
-use Rattle.std.proofs.Common.{sym, ap, subst, ◌∙◌, map, get_or}
+use Rattle.std.proofs.Common.{List, sym, ap, subst, ◌∙◌, map, get_or}
+use Rattle.ks_base.specs.declared.places.Range.{Range}
 use Rattle.image_memory.specs.Contents.{Contents, Room}
-use Rattle.image_memory.specs.Changes.{HasPiece, IsRetired}
+use Rattle.image_memory.specs.Changes.{HasPiece, IsRetired, after_unfence_all}
 use Rattle.update_memory.specs.Rows.{old_of}
 use Rattle.update_memory.specs.Withdrawn.{spare_after, withdrawn_memory}
-use Rattle.update_memory.proofs.TakeLaws.{unretired_memory, dropped_memory, begin_still}
+use Rattle.update_memory.proofs.TakeLaws.{dropped_memory, begin_still}
 use Rattle.update_memory.proofs.withdrawing.withdraw.Goals as goal
+
+abbrev unretired_memory : List Range → Contents → Contents
+unretired_memory ranges contents = after_unfence_all contents ranges
 
 pub unretire-requires-clause-retired : goal.unretire-requires-clause-retired
 unretire-requires-clause-retired g c k d l =
