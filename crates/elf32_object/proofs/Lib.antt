@@ -1,5 +1,6 @@
 mod Apart
 mod Entries
+mod Held
 mod Loads
 mod Offered
 mod Rules

@@ -11,9 +11,12 @@ use crate::elf::{
     REL_SIZE, SHDR_SIZE, SHF_ALLOC, SHT_FINI_ARRAY, SHT_INIT_ARRAY, SHT_NOBITS, SHT_NULL,
     SHT_PROGBITS, SHT_REL, SHT_STRTAB, SHT_SYMTAB,
 };
-use crate::reading::{entry_at, header_at, piece};
+use crate::reading::{entry_at, header_at, piece, word};
 use crate::strings::{Strings, text};
 use crate::types::{Reloc, SectionHeader};
+
+/// Where `sh_offset` begins in an entry of the section header table.
+const OFFSET_FIELD: usize = 16;
 
 /// Whether a section's flags have one.
 pub(crate) fn has_flag(flags: u32, flag: u32) -> bool
@@ -77,6 +80,18 @@ impl<'a> Layout<'a> {
         header_at(
             self.bytes,
             self.table as usize + usize::from(SHDR_SIZE) * i as usize,
+        )
+    }
+
+    /// Where a section's bytes begin in the file: of its header only this field is read.
+    #[tactic(auto, unfolding(crate::specs::Fields::section_header, crate::specs::Fields::section_header_at))]
+    fn offset(&self, i: u32) -> u32
+        requires { i < self.now.count }
+        ensures { result ≡ (section_header self.now.bytes.now i).offset }
+    {
+        word(
+            self.bytes,
+            self.table as usize + usize::from(SHDR_SIZE) * i as usize + OFFSET_FIELD,
         )
     }
 
@@ -182,7 +197,7 @@ impl<'a> Layout<'a> {
     {
         entry_at(
             self.bytes,
-            self.header(i).offset as usize + REL_SIZE as usize * k as usize,
+            self.offset(i) as usize + REL_SIZE as usize * k as usize,
             i,
             k,
         )

@@ -3,11 +3,11 @@ use Rattle.std.proofs.lemmas.Result.{err_from_is_err_and}
 use Rattle.elf32_object.specs.Fields.{section_count}
 use Rattle.elf32_object.specs.Rules.{relocations_fault}
 use Rattle.elf32_object.specs.laws.BelowLaws.{first_at}
-use Rattle.elf32_object.proofs.Apart.{none_taken}
+use Rattle.elf32_object.proofs.Held.{none_held}
 use Rattle.elf32_object.proofs.relocations.check_relocations.Goals as goal
 
 pub loop-i-init : goal.loop-i-init
-loop-i-init c = (refl, none_taken c.args.layout.now.bytes.now c.new-fields.result c.new-fields.ensures.empty)
+loop-i-init c = (refl, none_held c.args.layout.now.bytes.now _ refl)
 
 pub returns-in_err-check_entries : goal.returns-in_err-check_entries
 returns-in_err-check_entries c =
