@@ -25,12 +25,33 @@ pub fn write_image(alloc: Global, image: &Image) -> Result<Bytes, AllocError>
 {
     // Nothing is done here: the law says that what is written is read as the image again.
     written_is_read(image);
-    let mut out = Vec::new(alloc);
+    let room = symbols_room(&image.symbols).saturating_add(pieces_room(image.pieces.as_slice()));
+    let mut out = Vec::with_capacity(alloc, room)?;
     put_header(&mut out, image)?;
     put_regions(&mut out, image.pieces.as_slice())?;
     put_symbols(&mut out, &image.symbols)?;
     put_stacks(&mut out, image.stacks.as_slice())?;
     Ok(Bytes::from_vec(out))
+}
+
+/// Room for the spelling of pieces, and of the header and the stacks that an image may have. It changes no byte.
+fn pieces_room(pieces: &[Piece]) -> usize {
+    let mut room: usize = 1024;
+    for piece in pieces {
+        room = room.saturating_add(piece.bytes.len()).saturating_add(12);
+    }
+    room
+}
+
+/// Room for the spelling of symbols.
+fn symbols_room(symbols: &SymbolTable) -> usize {
+    let mut room: usize = 0;
+    for i in 0..symbols.len() {
+        if let Some(symbol) = symbols.get(i) {
+            room = room.saturating_add(symbol.name.len()).saturating_add(16);
+        }
+    }
+    room
 }
 
 fn put_number(out: &mut Vec<u8>, n: u32) -> Result<(), AllocError>

@@ -1,16 +1,14 @@
 -- Places, one section and one object after another.
-use Rattle.std.proofs.Common.{◌≡◌, ℕ, suc, ◌+◌, ◌<◌, ◌≤◌, false, cond, List, [], ◌∷◌, ◌++◌, length, map, drop, take, get_or}
-use Rattle.std.proofs.Common.{Option, Some, None, option_map, unwrap_or, refl, sym, ap, ◌∙◌, subst, arith}
+use Rattle.std.proofs.Common.{◌≡◌, ℕ, ◌+◌, ◌<◌, ◌≤◌, List, [], ◌∷◌, ◌++◌, length, map, drop, take, get_or}
+use Rattle.std.proofs.Common.{refl, sym, ap, ◌∙◌, subst}
 use Rattle.std.proofs.Common.{append_assoc, append-nil}
-use Rattle.std.specs.List.{All, fold, AllByRecursion, IsDistinct}
-use Rattle.std.proofs.lemmas.Cmp.{nat_list_eq_equiv}
+use Rattle.std.specs.List.{All, fold}
 use Rattle.std.proofs.lemmas.List.{drop_more, drop_all, take_more}
 use Rattle.std.proofs.lemmas.List.Elements.{All-push}
 use Rattle.i386_reloc.specs.declared.types.NormalSection.{NormalSection}
-use Rattle.i386_reloc.specs.Normal.{same_bytes, name_of}
-use Rattle.i386_reloc.specs.Places.{place_named}
+use Rattle.i386_reloc.specs.Normal.{name_of}
 use Rattle.link_post.specs.declared.types.Placed.{Placed}
-use Rattle.link_post.specs.Linked.{AreInOrder, Rise, place_in, section_of}
+use Rattle.link_post.specs.Linked.{section_of}
 use Rattle.image_link.specs.Places.{Ends, Laid, behind, ends_after, laid_from, next_base, next_place, places_from}
 use Rattle.image_link.specs.inside.Laying.{laid}
 
@@ -73,54 +71,9 @@ unfolding laid_from
 laid_all before all ends objects k end so_far =
     sym (append-nil before) ∙ sym (ap (λ xs. before ++ laid_from ends xs) (drop_all k objects end)) ∙ so_far
 
--- ---- the places stand in the order of the object
-rise_more : (n : ℕ) (ns : List ℕ) → Rise n ns → Rise (suc n) (map suc ns)
-rise_more n [] up = tt
-rise_more n (m ∷ ms) up = (omega (arith, up.0), rise_more (suc m) ms up.1)
-
-one_later : (o : Option ℕ) (n : ℕ) → unwrap_or (option_map suc o) (suc n) ≡ suc (unwrap_or o n)
-one_later None n = refl
-one_later (Some k) n = refl
-
-behind_first : (section : NormalSection) (sections : List NormalSection) (name : List ℕ)
-    → same_bytes section.name name ≡ false → place_in (section ∷ sections) name ≡ suc (place_in sections name)
-behind_first section sections name apart =
-    ap (λ b. unwrap_or (cond b (Some 0) (option_map suc (place_named sections name))) (suc (length sections))) apart
-    ∙ one_later (place_named sections name) (length sections)
-
-at_first : (section : NormalSection) (sections : List NormalSection) → place_in (section ∷ sections) section.name ≡ 0
-at_first section sections =
-    ap (λ b. unwrap_or (cond b (Some 0) (option_map suc (place_named sections section.name))) (suc (length sections)))
-    (nat_list_eq_equiv.refl section.name)
-
-moved : (first : NormalSection) (sections others : List NormalSection)
-    → AllByRecursion (λ other. same_bytes first.name other ≡ false) (map name_of others)
-    → map (place_in (first ∷ sections)) (map name_of others) ≡ map suc (map (place_in sections) (map name_of others))
-moved first sections [] apart = refl
-moved first sections (other ∷ others) apart =
-    let one = behind_first first sections other.name apart.0 in
-    let rest = moved first sections others apart.1 in
-    λ i. one i ∷ rest i
-
-rising : (sections : List NormalSection) → IsDistinct same_bytes (map name_of sections)
-    → Rise 0 (map (place_in sections) (map name_of sections))
-unfolding IsDistinct
-rising [] distinct = tt
-rising (section ∷ sections) distinct =
-    let rest = rising sections distinct.1 in
-    let moves = moved section sections sections distinct.0 in
-    let P : ℕ → Type 0 = λ n. Rise (suc n) (map (place_in (section ∷ sections)) (map name_of sections)) in
-    (omega arith, subst P (sym (at_first section sections)) (subst (Rise 1) (sym moves) (rise_more 0 _ rest)))
-
-names_of_places : (ends : Ends) (sections : List NormalSection)
+-- ---- all sections are placed
+pub names_of_places : (ends : Ends) (sections : List NormalSection)
     → map section_of (places_from ends sections) ≡ map name_of sections
 unfolding places_from
 names_of_places ends [] = refl
 names_of_places ends (section ∷ sections) = ap (λ xs. section.name ∷ xs) (names_of_places (behind ends section) sections)
-
-pub in_order : (sections : List NormalSection) (ends : Ends) (places : List Placed)
-    → IsDistinct same_bytes (map name_of sections) → places ≡ places_from ends sections → AreInOrder sections places
-in_order sections ends places distinct are =
-    subst (AreInOrder sections) (sym are)
-    (subst (λ names. Rise 0 (map (place_in sections) names)) (sym (names_of_places ends sections))
-    (rising sections distinct))

@@ -9,3 +9,4 @@ pub mod Ruled
 pub mod Doubles
 pub mod Images
 pub mod Finding
+pub mod PlacedFields

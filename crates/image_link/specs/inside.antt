@@ -6,3 +6,4 @@ pub mod Globals
 pub mod Missing
 pub mod Joining
 pub mod Linkable
+pub mod Filling

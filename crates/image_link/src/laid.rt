@@ -1,6 +1,6 @@
 //! Objects whose sections have their places.
 ghost use Rattle.std.specs.Prelude.{◌≡◌};
-ghost use Rattle.link_post.specs.Linked.{AreInOrder};
+ghost use Rattle.image_link.specs.inside.Filling.{AreAllPlaced};
 ghost use Rattle.image_link.specs.inside.Laying.{laid};
 
 use i386_reloc::Normal;
@@ -15,21 +15,21 @@ pub(crate) struct LaidObject<'p, 'a> {
 }
 
 impl<'p, 'a> Model for LaidObject<'p, 'a> {
-    ghost use Rattle.link_post.specs.Linked.{AreInOrder};
     ghost use Rattle.image_link.specs.Places.{Laid};
+    ghost use Rattle.image_link.specs.inside.Filling.{AreAllPlaced};
     ghost use Rattle.image_link.specs.inside.Laying.{laid};
 
     ghost Value = { Laid };
 
     ghost view = { λ l. laid l.object.now l.placement };
 
-    ghost invariant = { λ l. AreInOrder l.object.now l.placement };
+    ghost invariant = { λ l. AreAllPlaced l.object.now l.placement };
 }
 
 impl<'p, 'a> LaidObject<'p, 'a> {
     /// An object with the places of its sections.
     pub(crate) fn new(object: &'p Normal<'a>, placement: Placement) -> LaidObject<'p, 'a>
-        requires { AreInOrder object.now placement }
+        requires { AreAllPlaced object.now placement }
         ensures { result ≡ laid object.now placement }
     {
         LaidObject { object, placement }
@@ -45,7 +45,7 @@ impl<'p, 'a> LaidObject<'p, 'a> {
     /// The places of its sections.
     pub(crate) fn placement(&self) -> &Placement
         ensures places { result.now ≡ self.now.places }
-        ensures ordered { AreInOrder self.now.object self.now.places }
+        ensures placed { AreAllPlaced self.now.object self.now.places }
     {
         &self.placement
     }

@@ -2,6 +2,7 @@
 #![tactic(auto)]
 
 mod ends;
+mod filling;
 mod globals;
 mod laid;
 mod linking;

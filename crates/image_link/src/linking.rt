@@ -96,6 +96,22 @@ fn link_laid(
     if count_symbols(laid) > MOST_SYMBOLS {
         return Err(Refusal::LinkTooLarge(LinkLimit::Symbols));
     }
+    link_counted(alloc, objects, laid)
+}
+
+/// The image of objects at their places that have no more symbols than an image may have.
+fn link_counted(
+    alloc: Global,
+    objects: &[Normal<'_>],
+    laid: &[LaidObject<'_, '_>],
+) -> Result<Image, Refusal>
+    requires laid { laid.now ≡ laid_out objects.now }
+    requires short { total_length objects.now ≤ 16777216 }
+    requires linkable { AreLinkable objects.now }
+    requires few { length (all_symbols laid.now) ≤ 65536 }
+    ensures { Gives contents_of result
+        (image_unless (symbol_fault (all_symbols laid.now) objects.now) (image_of_laid laid.now)) }
+{
     let symbols = all_symbols(alloc, laid)?;
     let values = global_values(alloc, &symbols)?;
     if let Some(name) = first_missing(alloc, objects, &values)? {

@@ -3,14 +3,15 @@ ghost use Rattle.std.specs.Prelude.{◌≡◌, ◌++◌, IfOk, OnOk};
 ghost use Rattle.std.specs.List.{flat_map, fold};
 ghost use Rattle.image_link.specs.Regions.{gap_of};
 ghost use Rattle.image_link.specs.Linked.{filled_in, region, regions, same_kind};
+ghost use Rattle.image_link.specs.inside.Filling.{OfNames};
 ghost use Rattle.image_link.specs.inside.Joining.{bytes_of, chosen, filled_at, first_tail, joined_tail, with_filled};
 
 use crate::ends::{gap_of, kind_of, start_of};
+use crate::filling::linked_bytes;
 use crate::laid::LaidObject;
 use i386_reloc::NormalSection;
 use image_memory::{Kind, Piece, Pieces};
-use ks_base::{Bytes, Name};
-use link_post::linked;
+use ks_base::Bytes;
 use std::alloc::{AllocError, Global};
 use std::marker::Model;
 use symbol_table::Values;
@@ -33,15 +34,16 @@ impl Model for RegionBytes {
 }
 
 impl RegionBytes {
-    fn new(alloc: Global, kind: Kind) -> RegionBytes
-        ensures { result ≡ first_tail kind }
+    /// A region without a section, with room for so many bytes.
+    fn new(alloc: Global, kind: Kind, room: u32) -> Result<RegionBytes, AllocError>
+        ensures { IfOk result (λ region. region ≡ first_tail kind) }
     {
-        RegionBytes {
-            bytes: Vec::new(alloc),
+        Ok(RegionBytes {
+            bytes: Vec::with_capacity(alloc, room as usize)?,
             last: start_of(kind),
             length: 0,
             any: false,
-        }
+        })
     }
 
     /// Adds bytes at a base, behind a gap up to there.
@@ -77,6 +79,7 @@ pub(crate) fn regions(
     laid: &[LaidObject<'_, '_>],
     values: &Values,
 ) -> Result<Pieces, AllocError>
+    requires { OfNames values.now.entries }
     ensures { IfOk result (λ pieces. pieces ≡ regions laid.now values.now.entries) }
 {
     let mut pieces = Pieces::new(alloc);
@@ -95,6 +98,7 @@ fn add_region(
     values: &Values,
     kind: Kind,
 ) -> Result<(), AllocError>
+    requires { OfNames values.now.entries }
     ensures { OnOk result (pieces.new ≡ pieces.old ++ region laid.now values.now.entries kind) }
 {
     if let Some(bytes) = region_bytes(alloc, laid, values, kind)? {
@@ -114,14 +118,37 @@ fn region_bytes(
     values: &Values,
     kind: Kind,
 ) -> Result<Option<Bytes>, AllocError>
+    requires { OfNames values.now.entries }
     ensures { IfOk result (λ bytes. bytes
         ≡ bytes_of (joined_tail kind (flat_map (filled_in kind values.now.entries) laid.now))) }
 {
-    let mut region = RegionBytes::new(alloc, kind);
+    let mut region = RegionBytes::new(alloc, kind, room_of(laid, kind))?;
     for object in laid {
         add_object(alloc, &mut region, object, values, kind)?;
     }
     Ok(region.into_bytes())
+}
+
+/// Room for the bytes of a region. It changes no byte.
+fn room_of(laid: &[LaidObject<'_, '_>], kind: Kind) -> u32 {
+    let mut end = start_of(kind);
+    for object in laid {
+        end = end_behind(object, kind, end);
+    }
+    end.saturating_sub(start_of(kind))
+}
+
+/// Where a region ends with an object, when it ended here before.
+fn end_behind(laid: &LaidObject<'_, '_>, kind: Kind, before: u32) -> u32 {
+    let object = laid.object();
+    let placement = laid.placement();
+    let mut end = before;
+    for (section, place) in object.as_slice().iter().zip(placement.as_slice()) {
+        if same_kind(kind, kind_of(section)) {
+            end = place.base.saturating_add(section.size);
+        }
+    }
+    end
 }
 
 /// Adds the sections of an object that go to a region.
@@ -133,6 +160,7 @@ fn add_object(
     values: &Values,
     kind: Kind,
 ) -> Result<(), AllocError>
+    requires { OfNames values.now.entries }
     ensures { OnOk result (region.new
         ≡ fold (with_filled (gap_of kind)) region.old (filled_in kind values.now.entries laid.now)) }
 {
@@ -166,13 +194,13 @@ fn add_section(
     section: &NormalSection<'_>,
     base: u32,
 ) -> Result<(), AllocError>
+    requires { OfNames values.now.entries }
     ensures { OnOk result (region.new
         ≡ fold (with_filled (gap_of kind)) region.old (chosen kind laid.now values.now.entries section.now base)) }
 {
     if !same_kind(kind, kind_of(section)) {
         return Ok(());
     }
-    let name = Name::from_slice(alloc, section.name.as_slice())?;
-    let bytes = linked(alloc, laid.object(), &name, laid.placement(), values)?;
+    let bytes = linked_bytes(alloc, laid, values, section.name.as_slice())?;
     region.add(alloc, gap_of(kind), base, bytes.as_slice())
 }

@@ -246,8 +246,8 @@ pub(crate) fn is_data(post: &Normal<'_>, name: &[u8]) -> bool
     }
 }
 
-/// Puts a word into the field at an offset, where the field lies in the bytes.
-fn put_word(bytes: &mut [u8], offset: usize, word: u32)
+/// Puts a word into the field at an offset, little-endian. Where the field doesn't lie in the bytes nothing changes.
+pub fn put_word(bytes: &mut [u8], offset: usize, word: u32)
     requires { offset < 2 ^ 32 }
     ensures { bytes.new ≡ with_word bytes.old offset word }
 {

@@ -90,7 +90,7 @@ pub fn solved_as(values: &Values, which: &Unknown) -> Option<Solved>
 }
 
 /// The address that stands for an unknown: of a function its home.
-pub(crate) fn value_in(values: &Values, which: &Unknown) -> Option<u32>
+pub fn value_in(values: &Values, which: &Unknown) -> Option<u32>
     ensures { result ≡ value_in values.now.entries which.now }
 {
     match solved_as(values, which)? {

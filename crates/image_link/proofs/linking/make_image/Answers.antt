@@ -1,9 +1,11 @@
 -- The image keeps the rules of images, since what is known of the objects is enough for that.
-use Rattle.std.proofs.Common.{◌≡◌, ◌∙◌, ap, arith}
+use Rattle.std.proofs.Common.{◌≡◌, ◌∙◌, ap, sym, subst, arith}
 use Rattle.image_link.specs.Places.{last_ends}
 use Rattle.symbol_table.specs.Table.{Table}
 use Rattle.image_link.specs.Symbols.{all_symbols}
 use Rattle.image_link.specs.Linked.{arena, global_values, image_of_laid, regions, stacks}
+use Rattle.image_link.specs.inside.Filling.{OfNames}
+use Rattle.image_link.proofs.PlacedFields.{of_names}
 use Rattle.image_link.proofs.Images.{image_kept, image_placed, image_regions, image_stacks, image_symbols}
 use Rattle.image_link.proofs.linking.make_image.Goals as goal
 
@@ -42,6 +44,9 @@ invariant_of-result-clause-stacks_kept c =
     image_stacks c.in_ok-pieces.pieces (last_ends c.args.objects.now) c.in_ok-stacks.stacks
     (image_regions c.args.objects.now c.args.values.now.entries c.args.laid.now c.in_ok-pieces.pieces c.requires.laid
     c.in_ok-pieces.ensures c.requires.linkable c.requires.short) c.in_ok-stacks.ensures
+
+pub regions-requires : goal.regions-requires
+regions-requires c = subst OfNames (sym c.requires.values) (of_names c.args.symbols)
 
 pub returns : goal.returns
 unfolding image_of_laid
