@@ -6,13 +6,14 @@ ghost use Rattle.ks_io.specs.Loads.{bytes_of, needed_by};
 ghost use Rattle.ks_io.specs.Outside.{Rose};
 ghost use Rattle.ksplice_calls.specs.Answer.{OneComesOut};
 ghost use Rattle.ksplice_calls.specs.Calls.{Answers, is_carried_out, needed_object};
-ghost use Rattle.ksplice_calls.specs.Linking.{link_answer, link_reply, sections_of_all};
+ghost use Rattle.ksplice_calls.specs.Linking.{link_answer, link_reply, linked_of_read, sections_of_all};
+ghost use Rattle.image_file.specs.Seen.{contents_of};
 ghost use Rattle.call_words.specs.Words.{Link};
 
 use crate::saying::{end_with_file, refuse, say};
 use crate::status::Status;
 use i386_reloc::{Normal, read_sections};
-use image_file::write_image;
+use image_file::{Image, write_image};
 use image_link::link_image;
 use ks_base::{Bytes, ListOf, Refusal};
 use ks_io::{Files, Sink, Wanted, load_all};
@@ -82,9 +83,16 @@ fn print_image<O: Sink>(alloc: Global, objects: &[Vec<u8>], out: &mut O) -> Stat
 fn image_bytes(alloc: Global, objects: &[Vec<u8>]) -> Result<Bytes, Refusal>
     ensures { Gives (λ bytes. bytes) result (link_reply (bytes_of objects.now)) }
 {
-    let read = read_all(alloc, objects)?;
-    let image = link_image(alloc, read.as_slice())?;
+    let image = image_of_files(alloc, objects)?;
     Ok(write_image(alloc, &image)?)
+}
+
+/// The image itself. What was read of the files is dropped before it is spelled.
+fn image_of_files(alloc: Global, objects: &[Vec<u8>]) -> Result<Image, Refusal>
+    ensures { Gives contents_of result (linked_of_read (sections_of_all (bytes_of objects.now))) }
+{
+    let read = read_all(alloc, objects)?;
+    link_image(alloc, read.as_slice())
 }
 
 /// The sections of object files.
