@@ -3,7 +3,7 @@ use Rattle.std.proofs.Common.{◌≡◌, ℕ, ◌+◌, ◌-◌, ◌≤◌, ◌<�
 use Rattle.std.proofs.Common.{Option, Some, None, refl, sym, ap, ◌∙◌, arith, ◌⊎◌, inl, inr}
 use Rattle.std.specs.Option.{option_map, unwrap_or}
 use Rattle.std.specs.List.{All}
-use Rattle.std.proofs.lemmas.List.Elements.{All-cons}
+use Rattle.std.proofs.lemmas.List.Elements.{All-cons, All-head}
 use Rattle.std.proofs.lemmas.Grind.{fold-append}
 use Rattle.image_memory.specs.declared.types.Kind.{Kind}
 use Rattle.image_memory.specs.declared.types.Kind.TheVariants.{Code, ReadOnly, Writable}
@@ -18,7 +18,7 @@ use Rattle.splice_jump.specs.Jump.{with_old}
 use Rattle.splice_jump.specs.Jumps.{jumped, AreSpliced, with_old_row, unjumped}
 use Rattle.splice_jump.specs.laws.WriteLaws.{same_left, one_write, byte_after, piece_after, Misses, length-bytes_after}
 use Rattle.splice_jump.specs.laws.WriteLaws.{jumps_of, jumped-is, jumped_as, in_or_out, byte_outside, byte_after-append}
-use Rattle.splice_jump.specs.laws.WriteLaws.{holding-after, byte_in_after}
+use Rattle.splice_jump.specs.laws.WriteLaws.{holding-after, byte_in_after, unjumped-is}
 use Rattle.splice_jump.specs.laws.CodeLaws.{code_at}
 use Rattle.splice_jump.specs.laws.RowLaws.{misses_jumps}
 use Rattle.splice_jump.proofs.CodeLaws.{no_data}
@@ -106,6 +106,18 @@ pub data_stays : (contents : Contents) (rows : List (ℕ × ℕ)) (a : ℕ) → 
     → code_from contents.pieces a ≡ None → byte_at (jumped rows contents.pieces) a ≡ byte_at contents.pieces a
 data_stays contents rows a valid spliced none =
     byte_stays rows contents.pieces a (no_jump contents rows a valid spliced none)
+
+-- no other five bytes at a home are data either
+pub data_past_five : (contents : Contents) (home : ℕ) (five : List ℕ) (a : ℕ) → IsValid contents
+    → AreSpliced contents ((home, 0) ∷ []) → length five ≡ 5 → code_from contents.pieces a ≡ None
+    → byte_at (with_old home five contents.pieces) a ≡ byte_at contents.pieces a
+data_past_five contents home five a valid spliced is none =
+    let away = All-head (λ (row : ℕ × ℕ). (a < row.0) ⊎ (row.0 + 5 ≤ a)) (home, 0) []
+    (no_jump contents ((home, 0) ∷ []) a valid spliced none) in
+    let out : Misses a (home, five) = rw is away in
+    rw (one_write home five contents.pieces, unjumped-is ((home, five) ∷ []) contents.pieces)
+    (byte_outside_at ((home, five) ∷ []) contents.pieces a
+    (All-cons (Misses a) (home, five) [] out (λ i d l. absurd (omega arith))))
 
 -- one write after or before others
 pub last_write : (w : ℕ × List ℕ) (ws : List (ℕ × List ℕ)) (ps : List Piece)

@@ -9,10 +9,12 @@ use Rattle.image_memory.specs.Ranges.{lies_in}
 use Rattle.image_memory.specs.Contents.{Contents, IsValid, fence_range, spliced_at}
 use Rattle.image_memory.specs.Fetch.{AtHome, Stray, Bytes, code_from, cut_before, window_of, seen_in, view, view_at}
 use Rattle.image_memory.specs.Fetch.{jump_at}
-use Rattle.splice_jump.specs.Jump.{jump_bytes}
-use Rattle.splice_jump.specs.Jumps.{jumped, jumped_memory, AreSpliced}
+use Rattle.std.proofs.lemmas.List.Elements.{All-cons, All-head}
+use Rattle.splice_jump.specs.Jump.{jump_bytes, after_old}
+use Rattle.splice_jump.specs.Jumps.{jumped, jumped_memory, IsSpliced, AreSpliced}
 use Rattle.splice_jump.specs.laws.WriteLaws.{all_outside, bytes_after, Misses, Away, length-bytes_after, get_or-bytes_after}
 use Rattle.splice_jump.specs.laws.WriteLaws.{jump_of, jumps_of, jumped-is, byte_outside, byte_inside, code_from-after}
+use Rattle.splice_jump.specs.laws.WriteLaws.{one_write, piece_after, unjumped-is}
 use Rattle.splice_jump.specs.laws.RowLaws.{Before}
 use Rattle.splice_jump.proofs.RowLaws.{homes_apart, before_jumps}
 
@@ -37,26 +39,27 @@ cut_outside ws pc None xs h = all_outside ws pc xs (λ k l. h (pc + k) (omega ar
 cut_outside ws pc (Some range) xs h =
     take_outside ws (range.low - pc) pc xs (λ k l. h (pc + k) (omega arith) (omega arith))
 
--- what is met
-pub view_stays : (contents : Contents) (rows : List (ℕ × ℕ)) (pc : ℕ) → IsValid contents → AreSpliced contents rows
-    → view_at (jumped_memory rows contents) pc ≡ view_at contents pc
+-- what is met where no write reaches code that is met
+view_after : (contents : Contents) (ws : List (ℕ × List ℕ)) (pc : ℕ)
+    → (list_any (lies_in pc) (map fence_range contents.fences) ≡ false → (a : ℕ) → pc ≤ a
+    → Before a (find (λ range. nat_lt pc range.low) (map fence_range contents.fences)) → All (Misses a) ws)
+    → view (spliced_at contents.fences) (map fence_range contents.fences) (map (piece_after ws) contents.pieces) pc
+    ≡ view_at contents pc
 unfolding view
-view_stays contents rows pc valid spliced =
-    rw (jumped-is rows contents.pieces, code_from-after (jumps_of rows) contents.pieces pc)
-    (by_code (code_from contents.pieces pc))
+view_after contents ws pc misses =
+    rw (code_from-after ws contents.pieces pc) (by_code (code_from contents.pieces pc))
   where
     by_fence : (code : List ℕ) (b : Bool) → list_any (lies_in pc) (map fence_range contents.fences) ≡ b
-        → cond b Stray (Bytes (window_of (map fence_range contents.fences) pc (bytes_after (jumps_of rows) pc code)))
+        → cond b Stray (Bytes (window_of (map fence_range contents.fences) pc (bytes_after ws pc code)))
         ≡ cond b Stray (Bytes (window_of (map fence_range contents.fences) pc code))
     by_fence code true is = refl
     by_fence code false is =
         ap (λ (bytes : List ℕ). Bytes (take 15 bytes))
-        (cut_outside (jumps_of rows) pc (find (λ range. nat_lt pc range.low) (map fence_range contents.fences)) code
-        (λ a from before. before_jumps contents rows pc a valid spliced from is before))
+        (cut_outside ws pc (find (λ range. nat_lt pc range.low) (map fence_range contents.fences)) code (misses is))
 
     by_home : (code : List ℕ) (b : Bool)
         → cond b AtHome (cond (list_any (lies_in pc) (map fence_range contents.fences)) Stray
-        (Bytes (window_of (map fence_range contents.fences) pc (bytes_after (jumps_of rows) pc code))))
+        (Bytes (window_of (map fence_range contents.fences) pc (bytes_after ws pc code))))
         ≡ cond b AtHome (cond (list_any (lies_in pc) (map fence_range contents.fences)) Stray
         (Bytes (window_of (map fence_range contents.fences) pc code)))
     by_home code true = refl
@@ -64,10 +67,41 @@ view_stays contents rows pc valid spliced =
 
     by_code : (code : Option (List ℕ))
         → seen_in (spliced_at contents.fences) (map fence_range contents.fences) pc
-        (option_map (bytes_after (jumps_of rows) pc) code)
+        (option_map (bytes_after ws pc) code)
         ≡ seen_in (spliced_at contents.fences) (map fence_range contents.fences) pc code
     by_code None = refl
     by_code (Some code) = by_home code (spliced_at contents.fences pc)
+
+-- what is met past jumps
+pub view_stays : (contents : Contents) (rows : List (ℕ × ℕ)) (pc : ℕ) → IsValid contents → AreSpliced contents rows
+    → view_at (jumped_memory rows contents) pc ≡ view_at contents pc
+view_stays contents rows pc valid spliced =
+    rw (jumped-is rows contents.pieces)
+    (view_after contents (jumps_of rows) pc (λ out a from before.
+    before_jumps contents rows pc a valid spliced from out before))
+
+-- A spliced home alone. Where a jump at it doesn't reach, no other five bytes there do.
+pub only_home : (contents : Contents) (home : ℕ) → IsSpliced contents home → AreSpliced contents ((home, 0) ∷ [])
+only_home contents home spliced = record {
+  each = All-cons (λ (row : ℕ × ℕ). IsSpliced contents row.0) (home, 0) [] spliced (λ i d l. absurd (omega arith));
+  once = λ i j d before l. absurd (omega arith);
+}
+
+five_missed : (home a : ℕ) (five : List ℕ) → length five ≡ 5 → All (Misses a) (jumps_of ((home, 0) ∷ []))
+    → All (Misses a) ((home, five) ∷ [])
+five_missed home a five is misses =
+    let away = All-head (Misses a) (jump_of (home, 0)) [] misses in
+    let out : Misses a (home, five) = rw is away in
+    All-cons (Misses a) (home, five) [] out (λ i d l. absurd (omega arith))
+
+-- what is met past any five bytes at a spliced home
+pub view_past_five : (contents : Contents) (home : ℕ) (five : List ℕ) (pc : ℕ) → IsValid contents
+    → IsSpliced contents home → length five ≡ 5 → view_at (after_old contents home five) pc ≡ view_at contents pc
+view_past_five contents home five pc valid spliced is =
+    rw (one_write home five contents.pieces, unjumped-is ((home, five) ∷ []) contents.pieces)
+    (view_after contents ((home, five) ∷ []) pc (λ out a from before.
+    five_missed home a five is
+    (before_jumps contents ((home, 0) ∷ []) pc a valid (only_home contents home spliced) from out before)))
 
 -- the jump at a home
 jump_after : (ws : List (ℕ × List ℕ)) (i : ℕ) (d : ℕ × List ℕ) (home : ℕ) (bytes code : List ℕ) → AllPairs Away ws

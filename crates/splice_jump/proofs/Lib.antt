@@ -4,3 +4,4 @@ pub mod JumpLaws
 pub mod DataLaws
 pub mod ChangeLaws
 pub mod KeepLaws
+pub mod PhaseLaws

@@ -3,11 +3,16 @@ ghost use Rattle.std.specs.Prelude.{◌≡◌, ◌+◌, ◌≤◌, ◌^◌};
 ghost use Rattle.image_memory.specs.Access.{byte_at};
 ghost use Rattle.image_memory.specs.Fetch.{HasCode};
 ghost use Rattle.splice_jump.specs.Jump.{jump_bytes, five_at, after_jump, after_old};
+ghost use Rattle.splice_jump.specs.Phases.{phase_bytes, trapping};
 
+use crate::phase::Phase;
 use image_memory::{JUMP_LENGTH, Space};
 
 /// JMP by a displacement of 32 bits.
 const JUMP: u8 = 0xE9;
+
+/// INT3, at which a thread traps.
+const TRAP: u8 = 0xCC;
 
 /// The five bytes of the jump that stands at `home` and goes to `base`: E9, and how far it is from the jump's end to
 /// `base`, modulo 2^32, the lowest byte first.
@@ -17,6 +22,26 @@ pub fn jump_bytes(home: u32, base: u32) -> [u8; JUMP_LENGTH]
     let end = home.wrapping_add(JUMP_LENGTH as u32);
     let [a, b, c, d] = base.wrapping_sub(end).to_le_bytes();
     [JUMP, a, b, c, d]
+}
+
+/// The five bytes at `home` in a phase of writing the jump to `base` over `old` ones: the whole jump, or a byte that
+/// traps before the last four of the old bytes or of the jump. The home that the phase names has no say.
+pub fn phase_bytes(phase: Phase, home: u32, base: u32, old: [u8; JUMP_LENGTH]) -> [u8; JUMP_LENGTH]
+    ensures { result ≡ phase_bytes phase home base old }
+{
+    match phase {
+        Phase::Done => jump_bytes(home, base),
+        Phase::Marked(_) => trapping(old),
+        Phase::Tailed(_) => trapping(jump_bytes(home, base)),
+    }
+}
+
+/// Five bytes with a first that traps.
+fn trapping(bytes: [u8; JUMP_LENGTH]) -> [u8; JUMP_LENGTH]
+    ensures { result ≡ trapping bytes }
+{
+    let [_, b, c, d, e] = bytes;
+    [TRAP, b, c, d, e]
 }
 
 /// Writes the jump to `base` over the five bytes of code at `home`, and answers those that stood there. All else in

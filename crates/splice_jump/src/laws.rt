@@ -11,6 +11,7 @@ ghost use Rattle.image_memory.specs.Access.{kind_of, write_fault, first_fault, b
 ghost use Rattle.image_memory.specs.Fetch.{HasCode, code_from, view_at, jump_at};
 ghost use Rattle.image_memory.specs.Changes.{with_piece, without_piece, after_add, after_fence};
 ghost use Rattle.splice_jump.specs.Jump.{jump_bytes, five_at, with_jump, with_old};
+ghost use Rattle.splice_jump.specs.Phases.{HomesAreNotLookedAt, JumpIsNeverHalf, LastBytesStand, WritesChangeTheirBytes};
 ghost use Rattle.splice_jump.specs.Jumps.{jumped, jumped_memory, with_base, olds_at, unjumped, IsSpliced, AreSpliced};
 
 /// In memory with jumps at spliced homes a thread meets at each address what it meets there in memory without them: at
@@ -132,4 +133,27 @@ pub fn homes_stay_spliced()
         AreSpliced contents (rows ++ (home, base) ∷ []) → AreSpliced contents rows }
     ensures replaced { (contents : Contents) (rows : List (ℕ × ℕ)) (home base : ℕ) → AreSpliced contents rows →
         AreSpliced contents (with_base home base rows) }
+{}
+
+/// Whatever five bytes stand at a spliced home, a thread meets at each address what it met there, and each byte of data
+/// is as it was.
+pub fn homes_are_not_looked_at()
+    ensures { HomesAreNotLookedAt }
+{}
+
+/// Of bytes that are written twice at a home, the last stand there.
+pub fn last_bytes_stand()
+    ensures { LastBytesStand }
+{}
+
+/// In each phase of writing a jump the whole jump stands at its home, or the home's first byte traps: E9 never stands
+/// before other bytes than the jump's own.
+pub fn jump_is_never_half()
+    ensures { JumpIsNeverHalf }
+{}
+
+/// Of the three writes that make a jump the first changes the home's first byte alone, the second at most the four
+/// behind it, and the third the first byte again.
+pub fn writes_change_their_bytes()
+    ensures { WritesChangeTheirBytes }
 {}

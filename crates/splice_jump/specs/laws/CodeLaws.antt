@@ -133,6 +133,19 @@ code_written ps start bytes home count code =
     rw (one_write start bytes ps ∙ unjumped-is ((start, bytes) ∷ []) ps)
     (code_after ((start, bytes) ∷ []) ps home count code)
 
+-- what is code after that was code before
+pub code_unwritten : (ps : List Piece) (start : ℕ) (bytes : List ℕ) (home count : ℕ)
+    → HasCode (written start bytes ps) home count → HasCode ps home count
+code_unwritten ps start bytes home count code =
+    let ws : List (ℕ × List ℕ) = (start, bytes) ∷ [] in
+    each ws (code_from ps home)
+    (rw (one_write start bytes ps ∙ unjumped-is ws ps, code_from-after ws ps home) at code)
+  where
+    each : (ws : List (ℕ × List ℕ)) (o : Option (List ℕ)) → count ≤ length (unwrap_or (option_map (bytes_after ws home) o) [])
+        → count ≤ length (unwrap_or o [])
+    each ws None room = room
+    each ws (Some code) room = rw (length-bytes_after ws home code) at room
+
 -- homes stay spliced then
 pub spliced_written : (contents : Contents) (rows : List (ℕ × ℕ)) (start : ℕ) (bytes : List ℕ)
     → AreSpliced contents rows

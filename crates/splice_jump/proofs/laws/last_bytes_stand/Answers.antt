@@ -1,0 +1,5 @@
+use Rattle.splice_jump.specs.laws.WriteLaws.{last_stands}
+use Rattle.splice_jump.proofs.laws.last_bytes_stand.Goals as goal
+
+pub returns : goal.returns
+returns c pieces home one other same = last_stands pieces home one other same
