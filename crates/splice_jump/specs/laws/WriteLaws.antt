@@ -15,7 +15,7 @@ use Rattle.image_memory.specs.Access.{new_byte, overlaid, written, byte_at}
 use Rattle.image_memory.specs.Fetch.{is_code, code_in, code_from}
 use Rattle.image_memory.specs.laws.RangeLaws.{inside, within, found as found_at, found_here}
 use Rattle.image_memory.specs.laws.AccessLaws.{new_inside, new_outside}
-use Rattle.splice_jump.specs.Jump.{jump_bytes, with_old}
+use Rattle.splice_jump.specs.Jump.{jump_bytes}
 use Rattle.splice_jump.specs.Jumps.{jumped, with_old_row, unjumped}
 
 -- what stands at an address where b stood, and from an address on, after some writes
@@ -268,29 +268,3 @@ pub one_write : (start : ℕ) (bytes : List ℕ) (ps : List Piece)
     → written start bytes ps ≡ unjumped ((start, bytes) ∷ []) ps
 unfolding unjumped
 one_write start bytes ps = refl
-
--- one byte that is written twice, and the last bytes of as many that are written twice
-byte_again : (home : ℕ) (one other : List ℕ) (a b : ℕ) → length one ≡ length other
-    → new_byte home other a (new_byte home one a b) ≡ new_byte home other a b
-byte_again home one other a b same =
-    elim (in_or_out home (home + length other) a) [
-      | inl here ↦
-          new_inside home other a (new_byte home one a b) here.0 here.1
-          ∙ sym (new_inside home other a b here.0 here.1)
-      | inr out ↦
-          let away : (a < home) ⊎ (home + length one ≤ a) = rw same out in
-          ap (new_byte home other a) (new_outside home one a b away)
-    ]
-
-bytes_again : (home : ℕ) (one other : List ℕ) (a : ℕ) (xs : List ℕ) → length one ≡ length other
-    → overlaid home other a (overlaid home one a xs) ≡ overlaid home other a xs
-unfolding overlaid
-bytes_again home one other a [] same = refl
-bytes_again home one other a (x ∷ xs) same =
-    rw (byte_again home one other a x same, bytes_again home one other (a + 1) xs same) refl
-
-pub last_stands : (pieces : List Piece) (home : ℕ) (one other : List ℕ) → length one ≡ length other
-    → with_old home other (with_old home one pieces) ≡ with_old home other pieces
-last_stands [] home one other same = refl
-last_stands (p ∷ ps) home one other same =
-    rw (bytes_again home one other p.base p.bytes same, last_stands ps home one other same) refl

@@ -1,4 +1,4 @@
-use Rattle.splice_jump.specs.laws.WriteLaws.{last_stands}
+use Rattle.splice_jump.specs.laws.PhaseLaws.{last_stands}
 use Rattle.splice_jump.proofs.laws.last_bytes_stand.Goals as goal
 
 pub returns : goal.returns
