@@ -1,5 +1,6 @@
 -- What jumps leave as it was: what a thread meets, and all bytes but theirs.
-use Rattle.std.proofs.Common.{◌≡◌, ℕ, zero, suc, ◌+◌, ◌-◌, ◌≤◌, ◌<◌, Bool, true, false, cond, List, [], ◌∷◌, map}
+use Rattle.std.proofs.Common.{◌≡◌, ◌≢◌, ℕ, zero, suc, ◌+◌, ◌-◌, ◌≤◌, ◌<◌, Bool, true, false, cond, List, [], ◌∷◌, map}
+use Rattle.std.proofs.Common.{◌⊎◌, inl, inr}
 use Rattle.std.proofs.Common.{length, get_or, take, Option, Some, None, refl, sym, ap, ◌∙◌, arith, nat_lt}
 use Rattle.std.specs.Option.{option_map, unwrap_or}
 use Rattle.std.specs.List.{find, list_any, All, AllPairs}
@@ -10,12 +11,12 @@ use Rattle.image_memory.specs.Contents.{Contents, IsValid, fence_range, spliced_
 use Rattle.image_memory.specs.Fetch.{AtHome, Stray, Bytes, code_from, cut_before, window_of, seen_in, view, view_at}
 use Rattle.image_memory.specs.Fetch.{jump_at}
 use Rattle.std.proofs.lemmas.List.Elements.{All-cons, All-head}
-use Rattle.splice_jump.specs.Jump.{jump_bytes, after_old}
+use Rattle.splice_jump.specs.Jump.{jump_bytes, with_old, after_old}
 use Rattle.splice_jump.specs.Jumps.{jumped, jumped_memory, IsSpliced, AreSpliced}
 use Rattle.splice_jump.specs.laws.WriteLaws.{all_outside, bytes_after, Misses, Away, length-bytes_after, get_or-bytes_after}
 use Rattle.splice_jump.specs.laws.WriteLaws.{jump_of, jumps_of, jumped-is, byte_outside, byte_inside, code_from-after}
 use Rattle.splice_jump.specs.laws.WriteLaws.{one_write, piece_after, unjumped-is}
-use Rattle.splice_jump.specs.laws.RowLaws.{Before}
+use Rattle.splice_jump.specs.laws.RowLaws.{Before, two_apart}
 use Rattle.splice_jump.proofs.RowLaws.{homes_apart, before_jumps}
 
 -- code that no write reaches
@@ -102,6 +103,33 @@ view_past_five contents home five pc valid spliced is =
     (view_after contents ((home, five) ∷ []) pc (λ out a from before.
     five_missed home a five is
     (before_jumps contents ((home, 0) ∷ []) pc a valid (only_home contents home spliced) from out before)))
+
+-- the jump at another home
+pub jump_past_five : (contents : Contents) (home : ℕ) (five : List ℕ) (pc : ℕ) → IsValid contents
+    → IsSpliced contents home → length five ≡ 5 → IsSpliced contents pc → pc ≢ home
+    → jump_at (with_old home five contents.pieces) pc ≡ jump_at contents.pieces pc
+jump_past_five contents home five pc valid spliced is there differ =
+    rw (
+      one_write home five contents.pieces,
+      unjumped-is ((home, five) ∷ []) contents.pieces,
+      code_from-after ((home, five) ∷ []) contents.pieces pc,
+    ) (by_code (code_from contents.pieces pc))
+  where
+    away : (pc + 5 ≤ home) ⊎ (home + 5 ≤ pc)
+    away = two_apart 0 contents.fences pc home valid.fenced there.fence spliced.fence differ
+
+    misses : (k : ℕ) → k < 5 → All (Misses (pc + k)) ((home, five) ∷ [])
+    misses k less =
+        let out : Misses (pc + k) (home, five) = elim away [
+          | inl before ↦ inl (omega arith)
+          | inr behind ↦ inr (omega arith)
+        ] in
+        All-cons (Misses (pc + k)) (home, five) [] out (λ i d l. absurd (omega arith))
+
+    by_code : (code : Option (List ℕ))
+        → take 5 (unwrap_or (option_map (bytes_after ((home, five) ∷ []) pc) code) []) ≡ take 5 (unwrap_or code [])
+    by_code None = refl
+    by_code (Some code) = take_outside ((home, five) ∷ []) 5 pc code misses
 
 -- the jump at a home
 jump_after : (ws : List (ℕ × List ℕ)) (i : ℕ) (d : ℕ × List ℕ) (home : ℕ) (bytes code : List ℕ) → AllPairs Away ws

@@ -6,13 +6,14 @@ use Rattle.splice_jump.specs.declared.phase.Phase.TheVariants.{Done, Marked, Tai
 use Rattle.splice_jump.specs.Jump.{jump_bytes}
 use Rattle.splice_jump.specs.Jumps.{IsSpliced}
 use Rattle.splice_jump.specs.Phases.{trap_byte, phase_bytes, AreNotLookedAt}
-use Rattle.splice_jump.proofs.JumpLaws.{view_past_five, only_home}
+use Rattle.splice_jump.proofs.JumpLaws.{view_past_five, jump_past_five, only_home}
 use Rattle.splice_jump.proofs.DataLaws.{data_past_five}
 
 pub not_looked_at : (contents : Contents) (home : ℕ) (five : List ℕ) → IsValid contents → IsSpliced contents home
     → length five ≡ 5 → AreNotLookedAt contents home five
 not_looked_at contents home five valid spliced is = record {
   views = λ pc. view_past_five contents home five pc valid spliced is;
+  jumps = λ pc there differ. jump_past_five contents home five pc valid spliced is there differ;
   data_bytes =
       λ address none. data_past_five contents home five address valid (only_home contents home spliced) is none;
 }

@@ -1,11 +1,11 @@
 -- A jump that is written over a home in three separate writes, while threads run. The first makes the home's first byte
 -- one that traps (Intel SDM volume 2, INT3), the second writes the displacement behind it, the third the byte E9. So
 -- the jump's opcode never stands before another displacement than its own.
-use Rattle.std.specs.Prelude.{◌≡◌, ℕ, ◌⊎◌, List, [], ◌∷◌, take, drop, length, Option, Some, None}
+use Rattle.std.specs.Prelude.{◌≡◌, ◌≢◌, ℕ, ◌⊎◌, List, [], ◌∷◌, take, drop, length, Option, Some, None}
 use Rattle.image_memory.specs.declared.types.Piece.{Piece}
 use Rattle.image_memory.specs.Contents.{Contents, IsValid}
 use Rattle.image_memory.specs.Access.{byte_at}
-use Rattle.image_memory.specs.Fetch.{view_at, code_from}
+use Rattle.image_memory.specs.Fetch.{view_at, code_from, jump_at}
 use Rattle.splice_jump.specs.declared.phase.Phase.{Phase}
 use Rattle.splice_jump.specs.declared.phase.Phase.TheVariants.{Done, Marked, Tailed}
 use Rattle.splice_jump.specs.Jump.{jump_bytes, with_old, after_old}
@@ -49,9 +49,12 @@ JumpIsNeverHalf =
     → (phase_bytes phase home base old ≡ jump_bytes home base)
     ⊎ (take 1 (phase_bytes phase home base old) ≡ trap_byte ∷ [])
 
--- Whatever five bytes stand at a spliced home, a thread meets the same at each address, and data are the same;
+-- Whatever five bytes stand at a spliced home, a thread meets the same at each address, at another spliced home it
+-- fetches the same jump, and data are the same;
 pub record AreNotLookedAt (contents : Contents) (home : ℕ) (five : List ℕ) : Type 0 where
   pub views : (pc : ℕ) → view_at (after_old contents home five) pc ≡ view_at contents pc
+  pub jumps : (pc : ℕ) → IsSpliced contents pc → pc ≢ home
+      → jump_at (with_old home five contents.pieces) pc ≡ jump_at contents.pieces pc
   pub data_bytes : (address : ℕ) → code_from contents.pieces address ≡ None
       → byte_at (with_old home five contents.pieces) address ≡ byte_at contents.pieces address
 

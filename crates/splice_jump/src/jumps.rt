@@ -3,7 +3,7 @@ ghost use Rattle.std.specs.Prelude.{◌≡◌, ◌+◌, ◌≤◌, ◌^◌};
 ghost use Rattle.image_memory.specs.Access.{byte_at};
 ghost use Rattle.image_memory.specs.Fetch.{HasCode};
 ghost use Rattle.splice_jump.specs.Jump.{jump_bytes, five_at, after_jump, after_old};
-ghost use Rattle.splice_jump.specs.Phases.{phase_bytes, trapping};
+ghost use Rattle.splice_jump.specs.Phases.{open_home, phase_bytes, trapping};
 
 use crate::phase::Phase;
 use image_memory::{JUMP_LENGTH, Space};
@@ -22,6 +22,16 @@ pub fn jump_bytes(home: u32, base: u32) -> [u8; JUMP_LENGTH]
     let end = home.wrapping_add(JUMP_LENGTH as u32);
     let [a, b, c, d] = base.wrapping_sub(end).to_le_bytes();
     [JUMP, a, b, c, d]
+}
+
+/// The home at which a jump is being written, where it isn't whole.
+pub fn open_home(phase: Phase) -> Option<u32>
+    ensures { result ≡ open_home phase }
+{
+    match phase {
+        Phase::Done => None,
+        Phase::Marked(home) | Phase::Tailed(home) => Some(home),
+    }
 }
 
 /// The five bytes at `home` in a phase of writing the jump to `base` over `old` ones: the whole jump, or a byte that

@@ -135,8 +135,8 @@ pub fn homes_stay_spliced()
         AreSpliced contents (with_base home base rows) }
 {}
 
-/// Whatever five bytes stand at a spliced home, a thread meets at each address what it met there, and each byte of data
-/// is as it was.
+/// Whatever five bytes stand at a spliced home, a thread meets at each address what it met there, at another spliced
+/// home it fetches the same jump, and each byte of data is as it was.
 pub fn homes_are_not_looked_at()
     ensures { HomesAreNotLookedAt }
 {}

@@ -12,5 +12,5 @@ pub use crate::laws::{
     jumps_change_their_bytes_alone, jumps_leave_views, jumps_stand, last_bytes_stand,
     pieces_come_and_go_past_jumps, writes_change_their_bytes,
 };
-pub use jumps::{five_at, jump_bytes, phase_bytes, restore, splice};
+pub use jumps::{five_at, jump_bytes, open_home, phase_bytes, restore, splice};
 pub use phase::Phase;

@@ -28,7 +28,8 @@ one_first floor fences h g up x y before =
     let low = y.4.low in
     omega arith
 
-two_apart : (floor : ℕ) (fences : List Fence) (h g : ℕ) → Ascends fence_range floor fences → Any (IsFenced h) fences
+-- the five bytes at two homes share no address
+pub two_apart : (floor : ℕ) (fences : List Fence) (h g : ℕ) → Ascends fence_range floor fences → Any (IsFenced h) fences
     → Any (IsFenced g) fences
     → h ≢ g → (h + 5 ≤ g) ⊎ (g + 5 ≤ h)
 two_apart floor fences h g up x y differ =
