@@ -10,13 +10,13 @@ ghost use Rattle.image_memory.specs.Contents.{shape_of};
 ghost use Rattle.image_threads.specs.Program.{AreNumbered, WellPlaced, running_at, running_numbers};
 ghost use Rattle.image_threads.specs.Spawning.{is_stack, AreStacks, is_taken, free_stack};
 ghost use Rattle.image_threads.specs.Spawning.{first_bytes, first_thread, spawned};
-ghost use Rattle.image_threads.specs.Stepping.{moved};
+ghost use Rattle.image_threads.specs.Stepping.{moved, sent};
 
 use crate::first::first_bytes;
 use crate::stacks::fill_stack;
 use crate::thread_list::ThreadList;
 use ia32_step::{
-    Outcome, Thread, Threads, Traced, step_traced, steps_keep, steps_write_one_number,
+    Flow, Outcome, Thread, Threads, Traced, step_traced, steps_keep, steps_write_one_number,
 };
 use image_file::Image;
 use image_memory::Space;
@@ -227,6 +227,26 @@ impl<S: Space> Machine<S> {
         let traced = step_numbered(&mut self.space, &mut running);
         self.threads.put(running);
         Ok(traced)
+    }
+
+    /// Sends the running thread of a number to an address, as a jump there does, and answers that it moved.
+    /// [`Refusal::NoThread`] comes exactly where no running thread has the number, and all is then as before. Nothing
+    /// changes but where the thread stands. It takes no memory.
+    #[tactic(auto, unfolding(crate::specs::Stepping::sent))]
+    pub fn jump_thread(&mut self, thread: u32, pc: u32) -> Result<Outcome, Refusal>
+        ensures sent { MatchResult result
+            (λ outcome. sent self.old thread pc ≡ Ok (self.new, outcome))
+            (λ refusal. sent self.old thread pc ≡ Err refusal) }
+        ensures refused { OnErr result (self.new ≡ self.old) }
+        ensures stacks { AreStacks self.old.contents.pieces self.old.stacks
+            → AreStacks self.new.contents.pieces self.new.stacks }
+    {
+        let Some(mut running) = self.threads.running_at(thread) else {
+            return Err(Refusal::NoThread(thread));
+        };
+        running.pc = pc;
+        self.threads.put(running);
+        Ok(Outcome::Moved(Flow::Plain))
     }
 }
 
