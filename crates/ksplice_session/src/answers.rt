@@ -19,7 +19,7 @@ use crate::lines::{
     put_applied, put_peek, put_spawned, put_stepped, put_threads, put_turns, put_undone,
     put_updates, put_watch,
 };
-use crate::session::Session;
+use crate::session::{Session, program};
 use crate::types::{Answer, Trial};
 use ks_base::{Line, Name, Refusal, Report};
 use script_lines::Command;
@@ -303,7 +303,7 @@ fn peek_reply(
     ensures { IfOk result (λ line. line ≡ peek_line (patched session.now.machine).pieces address count) }
 {
     let mut line = Line::new(alloc);
-    put_peek(&mut line, session.system.machine().space(), address, count)?;
+    put_peek(&mut line, program(&session.system).space(), address, count)?;
     Ok(line)
 }
 

@@ -4,7 +4,11 @@ ghost use Rattle.std.specs.List.{slice_get};
 ghost use Rattle.ks_base.specs.declared.refusals.Refusal.TheVariants.{Memory};
 ghost use Rattle.image_file.specs.Seen.{contents_of};
 ghost use Rattle.image_threads.specs.Program.{running_at};
+ghost use Rattle.splice_jump.specs.declared.phase.Phase.TheVariants.{Done};
 ghost use Rattle.update_stack.specs.AbstractMachine.{shown_update};
+ghost use Rattle.update_stack.specs.Phases.{phased};
+ghost use Rattle.update_stack.specs.Stacked.{IsBuilt};
+ghost use Rattle.update_stack.specs.StandsFor.{StandsFor};
 ghost use Rattle.update_stack.specs.Events.{Apply, Applied, Spawn, Spawned, Undo, UndoNamed, Undone};
 ghost use Rattle.update_stack.specs.Events.{happened, answered};
 ghost use Rattle.ksplice_session.specs.Watching.{first_watched, watched_after};
@@ -25,8 +29,17 @@ use symbol_table::SymbolTable;
 use update_safety::updates_keep_slots;
 use update_stack::{System, Update};
 
+/// The program of a system in which no update is being written. It stands for the machine that the system is seen as.
+pub(crate) fn program(system: &System<PagedSpace>) -> &Machine<PagedSpace>
+    requires { system.now.phase ≡ Done }
+    ensures stands { StandsFor result.now system.now.machine }
+    ensures built { IsBuilt system.now.machine }
+{
+    system.machine()
+}
+
 /// A program that runs, and what was seen of its events. A clause sees it as the abstract machine, with the watch over
-/// its events.
+/// its events. Each of its updates is written whole.
 #[derive(Drop)]
 pub struct Session {
     pub(crate) system: System<PagedSpace>,
@@ -35,14 +48,14 @@ pub struct Session {
 
 impl Model for Session {
     ghost use Rattle.ksplice_session.specs.Watching.{Watched};
-    ghost use Rattle.ksplice_session.specs.inside.InStep.{IsInStep};
+    ghost use Rattle.ksplice_session.specs.inside.InStep.{IsWatched};
 
     ghost Value = { Watched };
 
-    ghost view = { λ s. record { machine = s.system; watch = s.watch } };
+    ghost view = { λ s. record { machine = s.system.machine; watch = s.watch } };
 
-    // The threads that the watch has run, and each of their frames keeps the slot rule.
-    ghost invariant = { λ s. IsInStep s.system s.watch };
+    // No update is being written, the threads that the watch has run, and each of their frames keeps the slot rule.
+    ghost invariant = { λ s. IsWatched s.system s.watch };
 }
 
 impl Session {
@@ -62,16 +75,16 @@ impl Session {
         Ok(Session { system, watch })
     }
 
-    /// The system that runs. It stands for the machine that the session is seen as.
+    /// The system that runs, in which no update is being written. It stands for the machine that the session is seen as.
     pub fn system(&self) -> &System<PagedSpace>
-        ensures { result.now ≡ self.now.machine }
+        ensures { result.now ≡ phased self.now.machine Done }
     {
         &self.system
     }
 
     /// The system and the watch.
     pub fn into_parts(self) -> (System<PagedSpace>, Watch)
-        ensures system { result.0 ≡ self.machine }
+        ensures system { result.0 ≡ phased self.machine Done }
         ensures watch { result.1 ≡ self.watch }
     {
         // The pattern names all fields: a session has nothing else that it could answer from.
@@ -101,9 +114,9 @@ impl Session {
         // Each thread has a stack of its own, and jumps don't matter for what is seen of a machine.
         jumps_leave_views();
         jumps_change_their_bytes_alone();
-        let _threads = self.system.machine().threads();
+        let _threads = program(&self.system).threads();
         let number = self.system.spawn(name, argument)?;
-        let machine = self.system.machine();
+        let machine = program(&self.system);
         let Some(thread) = machine.threads().get(number as usize) else {
             unreachable!()
         };
@@ -122,10 +135,10 @@ impl Session {
     {
         // Each thread has a stack of its own, and its slots keep what they hold.
         updates_keep_slots();
-        let _threads = self.system.machine().threads();
+        let _threads = program(&self.system).threads();
         let report = self.system.apply(name, pre, post)?;
         // After it each of the machine's updates lies on what was there without it.
-        let _machine = self.system.machine();
+        let _machine = program(&self.system);
         self.watch.note_update();
         Ok(report)
     }
@@ -140,10 +153,10 @@ impl Session {
     {
         // Each thread has a stack of its own, and its slots keep what they hold.
         updates_keep_slots();
-        let _threads = self.system.machine().threads();
+        let _threads = program(&self.system).threads();
         let name = self.system.undo()?;
         // After it each of the machine's updates lies on what was there without it.
-        let _machine = self.system.machine();
+        let _machine = program(&self.system);
         self.watch.note_update();
         Ok(name)
     }
@@ -158,10 +171,10 @@ impl Session {
     {
         // Each thread has a stack of its own, and its slots keep what they hold.
         updates_keep_slots();
-        let _threads = self.system.machine().threads();
+        let _threads = program(&self.system).threads();
         self.system.undo_named(name)?;
         // After it each of the machine's updates lies on what was there without it.
-        let _machine = self.system.machine();
+        let _machine = program(&self.system);
         self.watch.note_update();
         Ok(())
     }
@@ -177,14 +190,14 @@ impl Session {
     pub(crate) fn threads(&self) -> &[Thread]
         ensures { result.now ≡ self.now.machine.threads }
     {
-        self.system.machine().threads().as_slice()
+        program(&self.system).threads().as_slice()
     }
 
     /// The symbols.
     pub(crate) fn symbols(&self) -> &SymbolTable
         ensures { result.now.symbols ≡ self.now.machine.symbols }
     {
-        self.system.machine().symbols()
+        program(&self.system).symbols()
     }
 
     /// The thread of a number.

@@ -7,7 +7,7 @@ ghost use Rattle.ksplice_session.specs.Running.{thread_steps, round_robin};
 ghost use Rattle.ksplice_session.specs.Watching.{watched_after, watched_after_all};
 ghost use Rattle.ksplice_session.specs.inside.InStep.{watched_taken};
 
-use crate::session::Session;
+use crate::session::{Session, program};
 use ia32_step::{ESP, calls_and_returns};
 use image_threads::Turns;
 use splice_jump::{homes_stay_spliced, jumps_change_their_bytes_alone, jumps_leave_views};
@@ -32,11 +32,11 @@ impl Session {
         threads_keep_windows();
         fetched_bytes_have_windows();
         registers_fit(&before.registers);
-        let _threads = self.system.machine().threads();
+        let _threads = program(&self.system).threads();
         let Ok(traced) = self.system.step_traced(thread) else {
             return false;
         };
-        let machine = self.system.machine();
+        let machine = program(&self.system);
         let Some(after) = machine.threads().get(thread as usize) else {
             unreachable!()
         };
@@ -64,7 +64,7 @@ impl Session {
         ensures after { self.new ≡ watched_taken self.old (next_turn turns.old self.old.machine.threads) }
         ensures schedule { turns.new ≡ after_turn turns.old (next_turn turns.old self.old.machine.threads) }
     {
-        match turns.next(self.system.machine()) {
+        match turns.next(program(&self.system)) {
             Some(thread) => {
                 self.step(thread);
                 true

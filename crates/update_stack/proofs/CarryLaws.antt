@@ -462,6 +462,7 @@ module _ (laws : Laws) (before : Program) (arena : Range) (updates : List Shown)
       holds_after = record {
         holds = record {
           stands = stands;
+          opened = tt;
           built = built_now;
           are_kept = kept_now;
           code = code_now;

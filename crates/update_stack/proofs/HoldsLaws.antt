@@ -113,6 +113,7 @@ pub holds_again : (program : Program) (arena : Range) (updates : List Shown) (ke
     → IsKeptOver kept (machine_of program arena updates kept) → Holds program arena updates kept
 holds_again program arena updates kept paired sound over = record {
   stands = stands_by program arena updates kept sound.stands;
+  opened = tt;
   built = over.built;
   are_kept = over.are_kept;
   code = sound.code;
@@ -259,6 +260,7 @@ holds_at_first program arena valid none stacks gaps =
     let k = machine_of program arena [] [] in
     record {
       stands = stands_by program arena [] [] same;
+      opened = tt;
       built =
           Untouched k (record {
             jumps = record {

@@ -22,7 +22,7 @@ unfolding withdrawn
 withdrawn_pieces k update = refl
 
 -- the last item of a list that ends with it
-last_same : {X : Type 0} (xs ys : List X) (x y : X) → xs ++ x ∷ [] ≡ ys ++ y ∷ [] → x ≡ y
+pub last_same : {X : Type 0} (xs ys : List X) (x y : X) → xs ++ x ∷ [] ≡ ys ++ y ∷ [] → x ≡ y
 last_same {X} xs ys x y same =
     let e : last_or None (xs ++ x ∷ []) ≡ last_or None (ys ++ y ∷ []) = ap (last_or None) same in
     let f = last_more xs x in

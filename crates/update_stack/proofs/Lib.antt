@@ -48,3 +48,5 @@ pub mod ThreadLaws
 pub mod UncoveredLaws
 pub mod UndoLaws
 pub mod UndoneLaws
+pub mod PhaseLaws
+pub mod PhaseSpawnLaws

@@ -28,7 +28,7 @@ use Rattle.update_stack.proofs.HoldsLaws.{Laws, Sound, IsKeptOver, over_wrote, s
 use Rattle.update_stack.proofs.HoldsLaws.{holds_again}
 
 -- the bytes of a stack can be written
-stack_clear : (contents : Contents) (stacks : List Range) (stack : Range) (argument : ℕ) → IsValid contents
+pub stack_clear : (contents : Contents) (stacks : List Range) (stack : Range) (argument : ℕ) → IsValid contents
     → All IsStackRange stacks → AreStacks contents.pieces stacks → Contains stacks stack
     → IsClear stack.low (length (first_bytes stack argument)) contents.pieces
 stack_clear contents stacks stack argument valid bounds are listed =

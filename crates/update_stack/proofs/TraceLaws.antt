@@ -149,7 +149,6 @@ module _ (laws : Laws) (steps : AllSteps) (arena : Range) (updates : List Shown)
         text = retold ℕ traced.fetched (fetched_count (patched k)) (fetched_count (contents_of k))
             (λ thread. counts_beside views homes k thread (built_sound k holds.built).jumps) (running_at old.threads n)
             patched_count;
-        refused = same;
         after = stepped_after arena updates kept laws steps old new n (Ok traced.outcome) holds is same;
         runs = step_runs old new n (Ok traced.outcome) is;
       }
@@ -160,7 +159,6 @@ module _ (laws : Laws) (steps : AllSteps) (arena : Range) (updates : List Shown)
     store = told;
     fetched = count;
     text = count;
-    refused = ap (λ (p : Program). machine p) same;
     after = stepped_after arena updates kept laws steps old new n (Err refusal) holds is same;
     runs = step_runs old new n (Err refusal) is;
   }

@@ -1,6 +1,6 @@
 -- What comes of taking an update back that stands among others.
-use Rattle.std.proofs.Common.{◌≡◌, ◌≢◌, ℕ, ◌+◌, ◌-◌, ◌≤◌, ◌<◌, Bool, true, false, cond, not, List, [], ◌∷◌, ◌++◌, map}
-use Rattle.std.proofs.Common.{length, get_or, Some, None, ◌⊎◌, inl, inr}
+use Rattle.std.proofs.Common.{◌≡◌, ◌≢◌, ℕ, ◌+◌, ◌-◌, ◌<◌, Bool, true, false, cond, not, List, [], ◌∷◌, ◌++◌, map}
+use Rattle.std.proofs.Common.{length, get_or, Some, None, inl, inr}
 use Rattle.std.proofs.Common.{refl, sym, ◌∙◌, ap, subst, arith}
 use Rattle.std.specs.List.{All, AllPairs, Any, Contains, find, flat_map, fold, list_any}
 use Rattle.std.proofs.lemmas.List.{length-map, length-append, get_or-map, get_or_default}
@@ -552,6 +552,7 @@ module _ (laws : Laws) (program : Program) (arena : Range) (updates : List Shown
         live = named_live;
         holds = record {
           stands = stands_now;
+          opened = tt;
           built = built;
           are_kept = are_kept;
           code = code;

@@ -1,8 +1,8 @@
 -- Public clauses cite the abstract machine (AbstractMachine and its Events, by Steps, Apply and Undo), that new code is
 -- reached (Reached) and stays so (Stays), that undoing restores what was (TakenBack), what stands for the machine
--- (StandsFor), its steps beside those of a memory with its jumps (Jumps), and a system seen as it (Systems), with what
--- holds of it and of what it keeps (Stacked) and of updates that can be taken out from among others (Uncovered). What
--- `inside` holds is the code's own.
+-- (StandsFor), also in each phase of its newest update (Phases), its steps beside those of a memory with its jumps
+-- (Jumps), and a system seen as it (Systems), with what holds of it and of what it keeps (Stacked) and of updates that
+-- can be taken out from among others (Uncovered). What `inside` holds is the code's own.
 pub mod AbstractMachine
 pub mod Steps
 pub mod Apply
@@ -14,6 +14,7 @@ pub mod TakenBack
 pub mod StandsFor
 pub mod Jumps
 pub mod Stacked
+pub mod Phases
 pub mod Uncovered
 pub mod Systems
 pub mod inside

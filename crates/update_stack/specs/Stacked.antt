@@ -5,6 +5,7 @@ use Rattle.std.specs.List.{fold, list_any, All, Any, AllPairs, Contains}
 use Rattle.std.specs.List.Sorted.{IsPermutation, IsNonDecreasingBy}
 use Rattle.ks_base.specs.declared.places.Range.{Range}
 use Rattle.ks_base.specs.declared.reports.Replaced.{Replaced}
+use Rattle.image_memory.specs.declared.types.Piece.{Piece}
 use Rattle.image_memory.specs.Ranges.{are_same}
 use Rattle.image_memory.specs.Changes.{HasPiece}
 use Rattle.splice_jump.specs.Jumps.{jumped, olds_at}
@@ -56,12 +57,15 @@ pub data IsBuilt : AbstractMachine → Type 0 where
   Updated : (k : AbstractMachine) (update : Update) → IsSound k → newest_update k ≡ Some update → IsOnTop k update
       → IsBuilt (withdrawn k update) → IsBuilt k
 
+-- code as it was before the newest update, with the jumps of those before it
+abbrev pub code_before : AbstractMachine → Update → List Piece
+code_before k update = jumped (bodies_in (withdrawn k update).table) k.pieces
+
 -- What is kept of the newest update: the five bytes that stand at each of its homes without it, with the jumps of the
 -- updates before it; the ranges of its pieces, and of those that are code, by their lows; and how many symbols it added.
 pub record IsKept (k : AbstractMachine) (update : Update) (one : Kept) : Type 0 where
   pub rows : rows_of one.jumps ≡ jump_rows update.report.replaced
-  pub olds : olds_of one.jumps
-      ≡ olds_at (jumped (bodies_in (withdrawn k update).table) k.pieces) (jump_rows update.report.replaced)
+  pub olds : olds_of one.jumps ≡ olds_at (code_before k update) (jump_rows update.report.replaced)
   pub ranges : IsPermutation one.ranges (ranges_in k update)
   pub code_ranges : IsPermutation one.code_ranges (code_ranges_in k update)
   pub order : IsNonDecreasingBy (λ range. range.low) one.ranges

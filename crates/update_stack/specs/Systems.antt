@@ -7,6 +7,8 @@ use Rattle.ks_base.specs.declared.reports.Replaced.{Replaced}
 use Rattle.image_memory.specs.declared.types.Piece.{Piece}
 use Rattle.image_memory.specs.Contents.{fence_range}
 use Rattle.image_memory.specs.Fetch.{HasCode}
+use Rattle.splice_jump.specs.declared.phase.Phase.{Phase}
+use Rattle.splice_jump.specs.declared.phase.Phase.TheVariants.{Done}
 use Rattle.splice_jump.specs.Jumps.{unjumped}
 use Rattle.update_memory.specs.declared.types.Jump.{Jump}
 use Rattle.update_memory.specs.Rows.{olds_of}
@@ -15,7 +17,7 @@ use Rattle.image_threads.specs.Program.{Program}
 use Rattle.update_stack.specs.declared.updates.Update.{Update as Shown}
 use Rattle.update_stack.specs.declared.updates.Kept.{Kept}
 use Rattle.update_stack.specs.AbstractMachine.{AbstractMachine, Row, Update, with_replaced}
-use Rattle.update_stack.specs.StandsFor.{StandsFor}
+use Rattle.update_stack.specs.Phases.{StandsIn, IsOpenAt}
 use Rattle.update_stack.specs.Stacked.{IsBuilt, AreKept}
 
 -- pieces with the old code of updates put back, that of the newest update first
@@ -72,11 +74,19 @@ gaps_left arena kept = fold without (gaps_in arena) (flat_map (λ one. one.range
 abbrev pub HasJumpCode : List Piece → Jump → Type 0
 HasJumpCode pieces jump = HasCode pieces jump.home (length jump.old)
 
--- What holds of a system at every moment: its program stands for the machine, whose updates lie one upon the other;
--- with each is kept what taking it back needs; and the bytes that were kept have their place in code.
-pub record Holds (program : Program) (arena : Range) (updates : List Shown) (kept : List Kept) : Type 0 where
-  pub stands : StandsFor program (machine_of program arena updates kept)
+-- What holds of a system at every moment: its program stands for the machine, in the phase of its newest update, and
+-- the home that is open then is that of this update; the machine's updates lie one upon the other; with each is kept
+-- what taking it back needs; and the bytes that were kept have their place in code. The machine is the same in every
+-- phase, since the newest update's old bytes are put back over whatever five stand at its home.
+pub record HoldsIn (phase : Phase) (program : Program) (arena : Range) (updates : List Shown) (kept : List Kept)
+    : Type 0 where
+  pub stands : StandsIn phase program (machine_of program arena updates kept)
+  pub opened : IsOpenAt phase (machine_of program arena updates kept)
   pub built : IsBuilt (machine_of program arena updates kept)
   pub are_kept : AreKept (machine_of program arena updates kept) kept
   pub code : All (λ one. All (HasJumpCode program.contents.pieces) one.jumps) kept
   pub paired : length kept ≡ length updates
+
+-- the same where no update is being written
+abbrev pub Holds : Program → Range → List Shown → List Kept → Type 0
+Holds program arena updates kept = HoldsIn Done program arena updates kept

@@ -20,7 +20,9 @@ ghost use Rattle.update_stack.specs.Events.{Apply, Spawn, Step, Undo, UndoNamed,
 ghost use Rattle.update_stack.specs.Events.{Applied, Spawned, Stepped, Undone};
 ghost use Rattle.update_stack.specs.Events.{answered, after_event};
 ghost use Rattle.update_stack.specs.Stacked.{IsBuilt};
-ghost use Rattle.update_stack.specs.StandsFor.{StandsFor, patched, IsUntouched};
+ghost use Rattle.update_stack.specs.StandsFor.{patched, IsUntouched};
+ghost use Rattle.update_stack.specs.Phases.{StandsIn, phased};
+ghost use Rattle.splice_jump.specs.declared.phase.Phase.TheVariants.{Done};
 ghost use Rattle.update_stack.specs.Undo.{newest_update, ranges_in, cover_refusal, need_refusal, withdrawn};
 ghost use Rattle.update_stack.specs.Undo.{named, undone_named, is_refused_by_name};
 ghost use Rattle.update_stack.specs.inside.Stepping.{ComesOfStep};
@@ -41,7 +43,7 @@ use image_threads::Machine;
 use ks_base::{Name, Range, Refusal, Report};
 use link_post::gaps_are_free;
 use splice_jump::{
-    code_stays_code, data_are_written_past_jumps, homes_stay_spliced,
+    Phase, code_stays_code, data_are_written_past_jumps, homes_stay_spliced,
     jumps_change_their_bytes_alone, jumps_leave_views,
 };
 use stack_scan::{check_threads, order_has_no_say};
@@ -57,7 +59,8 @@ const MOST_UPDATES: usize = 64;
 
 /// A program that runs over a memory, with the arena that new versions of its functions are placed in, and its live
 /// updates. A clause sees it as the abstract machine, whose code is never patched: its text stays as it is, and a table
-/// says where the newest version of a function begins.
+/// says where the newest version of a function begins. Beside it stands the phase in which the newest update's jump is
+/// written.
 #[derive(Drop)]
 pub struct System<S: Space> {
     alloc: Global,
@@ -65,17 +68,18 @@ pub struct System<S: Space> {
     arena: Range,
     updates: Updates,
     kept: KeptList,
+    phase: Phase,
 }
 
 impl<S: Space> Model for System<S> {
-    ghost use Rattle.update_stack.specs.AbstractMachine.{AbstractMachine};
-    ghost use Rattle.update_stack.specs.Systems.{Holds, machine_of};
+    ghost use Rattle.update_stack.specs.Phases.{Phased, phased};
+    ghost use Rattle.update_stack.specs.Systems.{HoldsIn, machine_of};
 
-    ghost Value = { AbstractMachine };
+    ghost Value = { Phased };
 
-    ghost view = { λ s. machine_of s.machine s.arena s.updates s.kept };
+    ghost view = { λ s. phased (machine_of s.machine s.arena s.updates s.kept) s.phase };
 
-    ghost invariant = { λ s. Holds s.machine s.arena s.updates s.kept };
+    ghost invariant = { λ s. HoldsIn s.phase s.machine s.arena s.updates s.kept };
 }
 
 impl<S: Space> System<S> {
@@ -86,7 +90,7 @@ impl<S: Space> System<S> {
         requires none_retired { machine.contents.fences ≡ [] }
         requires stacks { AreStacks machine.contents.pieces machine.stacks }
         requires gaps { AreGaps machine.contents (gaps_in arena) }
-        ensures { IfOk result (λ system. system ≡ machine_of machine arena [] []) }
+        ensures { IfOk result (λ system. system ≡ phased (machine_of machine arena [] []) Done) }
     {
         // It runs over a memory.
         let _space = machine.space();
@@ -96,21 +100,22 @@ impl<S: Space> System<S> {
             arena,
             updates: Updates::new(alloc),
             kept: KeptList::new(alloc),
+            phase: Phase::Done,
         })
     }
 
     /// The program. It stands for the abstract machine that the system is seen as: all is equal but the bytes of the
     /// jumps at the homes of replaced functions.
     pub fn machine(&self) -> &Machine<S>
-        ensures stands { StandsFor result.now self.now }
-        ensures built { IsBuilt self.now }
+        ensures stands { StandsIn self.now.phase result.now self.now.machine }
+        ensures built { IsBuilt self.now.machine }
     {
         &self.machine
     }
 
     /// The live updates, the oldest first.
     pub fn updates(&self) -> &Updates
-        ensures { result.now ≡ map shown_update self.now.updates }
+        ensures { result.now ≡ map shown_update self.now.machine.updates }
     {
         &self.updates
     }
@@ -120,8 +125,10 @@ impl<S: Space> System<S> {
     /// and with [`Refusal::Memory`] only if memory runs out; all is then as before.
     pub fn spawn(&mut self, name: &Name, argument: u32) -> Result<u32, Refusal>
         ensures answered { MatchResult result
-            (λ number. answered self.old (Spawn name.now argument) ≡ Ok (happened self.new (Spawned number)))
-            (λ refusal. refusal ≢ Memory → answered self.old (Spawn name.now argument) ≡ Err refusal) }
+            (λ number. answered self.old.machine (Spawn name.now argument)
+            ≡ Ok (happened self.new.machine (Spawned number)))
+            (λ refusal. refusal ≢ Memory → answered self.old.machine (Spawn name.now argument) ≡ Err refusal) }
+        ensures phase { self.new.phase ≡ self.old.phase }
         ensures refused { OnErr result (self.new ≡ self.old) }
     {
         // The laws say that a start, which writes data alone, leaves the jumps and what is seen past them.
@@ -140,14 +147,16 @@ impl<S: Space> System<S> {
     ///
     /// Whatever the thread does, each piece of code and each byte in it stay as they are, the bytes of jumps among them.
     pub fn step(&mut self, thread: u32) -> Result<Outcome, Refusal>
+        requires done { self.old.phase ≡ Done }
         ensures answered { MatchResult result
-            (λ outcome. answered self.old (Step thread) ≡ Ok (happened self.new (Stepped outcome)))
-            (λ refusal. answered self.old (Step thread) ≡ Err refusal) }
+            (λ outcome. answered self.old.machine (Step thread) ≡ Ok (happened self.new.machine (Stepped outcome)))
+            (λ refusal. answered self.old.machine (Step thread) ≡ Err refusal) }
+        ensures phase { self.new.phase ≡ self.old.phase }
         ensures refused { OnErr result (self.new ≡ self.old) }
-        ensures after { self.new ≡ after_event self.old (Step thread) }
-        ensures runs { is_ok result ≡ is_some (running_at self.old.threads thread) }
-        ensures code_stays { KeepsCode (patched self.old).pieces (patched self.new).pieces }
-        ensures text_stays { KeepsCode self.old.pieces self.new.pieces }
+        ensures after { self.new.machine ≡ after_event self.old.machine (Step thread) }
+        ensures runs { is_ok result ≡ is_some (running_at self.old.machine.threads thread) }
+        ensures code_stays { KeepsCode (patched self.old.machine).pieces (patched self.new.machine).pieces }
+        ensures text_stays { KeepsCode self.old.machine.pieces self.new.machine.pieces }
     {
         Ok(self.step_traced(thread)?.outcome)
     }
@@ -155,23 +164,25 @@ impl<S: Space> System<S> {
     /// Steps the running thread of a number, as [`System::step`] does, and answers what it wrote and how many bytes it
     /// fetched beside what it came to. At the home of a replaced function these are the five of the jump.
     pub fn step_traced(&mut self, thread: u32) -> Result<Traced, Refusal>
+        requires done { self.old.phase ≡ Done }
         ensures answered { MatchResult result
-            (λ traced. answered self.old (Step thread) ≡ Ok (happened self.new (Stepped traced.outcome)))
-            (λ refusal. answered self.old (Step thread) ≡ Err refusal) }
+            (λ traced. answered self.old.machine (Step thread) ≡ Ok (happened self.new.machine (Stepped traced.outcome)))
+            (λ refusal. answered self.old.machine (Step thread) ≡ Err refusal) }
         ensures written { IfOk result (λ traced.
-            self.new.pieces ≡ (after_store (contents_of self.old) traced.store).pieces) }
-        ensures clear { IfOk result (λ traced. store_fault (contents_of self.old) traced.store ≡ None) }
-        ensures store { IfOk result (λ traced. IsSomeAnd (running_at self.old.threads thread)
-            (λ running. traced.store ≡ stored (patched self.old) running)) }
-        ensures fetched { IfOk result (λ traced. IsSomeAnd (running_at self.old.threads thread)
-            (λ running. traced.fetched ≡ fetched_count (patched self.old) running)) }
-        ensures text { IfOk result (λ traced. IsSomeAnd (running_at self.old.threads thread)
-            (λ running. traced.fetched ≡ fetched_count (contents_of self.old) running)) }
+            self.new.machine.pieces ≡ (after_store (contents_of self.old.machine) traced.store).pieces) }
+        ensures clear { IfOk result (λ traced. store_fault (contents_of self.old.machine) traced.store ≡ None) }
+        ensures store { IfOk result (λ traced. IsSomeAnd (running_at self.old.machine.threads thread)
+            (λ running. traced.store ≡ stored (patched self.old.machine) running)) }
+        ensures fetched { IfOk result (λ traced. IsSomeAnd (running_at self.old.machine.threads thread)
+            (λ running. traced.fetched ≡ fetched_count (patched self.old.machine) running)) }
+        ensures text { IfOk result (λ traced. IsSomeAnd (running_at self.old.machine.threads thread)
+            (λ running. traced.fetched ≡ fetched_count (contents_of self.old.machine) running)) }
+        ensures phase { self.new.phase ≡ self.old.phase }
         ensures refused { OnErr result (self.new ≡ self.old) }
-        ensures after { self.new ≡ after_event self.old (Step thread) }
-        ensures runs { is_ok result ≡ is_some (running_at self.old.threads thread) }
-        ensures code_stays { KeepsCode (patched self.old).pieces (patched self.new).pieces }
-        ensures text_stays { KeepsCode self.old.pieces self.new.pieces }
+        ensures after { self.new.machine ≡ after_event self.old.machine (Step thread) }
+        ensures runs { is_ok result ≡ is_some (running_at self.old.machine.threads thread) }
+        ensures code_stays { KeepsCode (patched self.old.machine).pieces (patched self.new.machine).pieces }
+        ensures text_stays { KeepsCode self.old.machine.pieces self.new.machine.pieces }
     {
         // The law says that a step leaves code as it is where the machine is built, and the program stands for such a one.
         threads_leave_code();
@@ -181,7 +192,10 @@ impl<S: Space> System<S> {
 
     /// Steps a thread of the program.
     fn step_program(&mut self, thread: u32) -> Result<Traced, Refusal>
-        ensures { ComesOfStep self.old self.new thread result }
+        requires done { self.old.phase ≡ Done }
+        ensures comes { ComesOfStep self.old.machine self.new.machine thread result }
+        ensures phase { self.new.phase ≡ self.old.phase }
+        ensures refused { OnErr result (self.new ≡ self.old) }
     {
         // The laws say that the machine makes the same step, and that what is reported of it is so of the machine's
         // memory.
@@ -215,11 +229,14 @@ impl<S: Space> System<S> {
     /// [`Refusal::Memory`] may come in place of any answer, but only if memory runs out; all is then as before: the memory
     /// piece by piece, with the jumps that stand in it, its retired ranges and the symbols.
     pub fn apply(&mut self, name: &Name, pre: &[u8], post: &[u8]) -> Result<Report, Refusal>
+        requires done { self.old.phase ≡ Done }
         ensures answered { MatchResult result
-            (λ report. answered self.old (Apply name.now pre.now post.now) ≡ Ok (happened self.new (Applied report)))
-            (λ refusal. refusal ≢ Memory → answered self.old (Apply name.now pre.now post.now) ≡ Err refusal) }
+            (λ report. answered self.old.machine (Apply name.now pre.now post.now)
+            ≡ Ok (happened self.new.machine (Applied report)))
+            (λ refusal. refusal ≢ Memory → answered self.old.machine (Apply name.now pre.now post.now) ≡ Err refusal) }
+        ensures phase { self.new.phase ≡ self.old.phase }
         ensures refused { OnErr result (self.new ≡ self.old) }
-        ensures untouched { OnErr result (IsUntouched self.old self.new) }
+        ensures untouched { OnErr result (IsUntouched self.old.machine self.new.machine) }
     {
         let plan = self.plan(name, pre, post)?;
         self.check_threads(&plan)?;
@@ -236,9 +253,11 @@ impl<S: Space> System<S> {
     /// - a running thread stands in one of its pieces, or its ESP is outside its stack ([`Refusal::Busy`],
     ///   [`Refusal::StackOut`]).
     pub fn undo(&mut self) -> Result<Name, Refusal>
+        requires done { self.old.phase ≡ Done }
         ensures answered { MatchResult result
-            (λ name. answered self.old Undo ≡ Ok (happened self.new (Undone name)))
-            (λ refusal. answered self.old Undo ≡ Err refusal) }
+            (λ name. answered self.old.machine Undo ≡ Ok (happened self.new.machine (Undone name)))
+            (λ refusal. answered self.old.machine Undo ≡ Err refusal) }
+        ensures phase { self.new.phase ≡ self.old.phase }
         ensures refused { OnErr result (self.new ≡ self.old) }
     {
         // The machine's updates lie each on what was there without it, so nothing is later than the newest.
@@ -264,11 +283,13 @@ impl<S: Space> System<S> {
     /// [`Refusal::Memory`] may come in place of the first three, which tell names, but only if memory runs out; all is then
     /// as before. Otherwise it takes no memory.
     pub fn undo_named(&mut self, name: &Name) -> Result<(), Refusal>
+        requires done { self.old.phase ≡ Done }
         ensures answered { MatchResult result
-            (λ _. answered self.old (UndoNamed name.now) ≡ Ok (happened self.new (Undone name.now)))
-            (λ refusal. refusal ≢ Memory → answered self.old (UndoNamed name.now) ≡ Err refusal) }
+            (λ _. answered self.old.machine (UndoNamed name.now) ≡ Ok (happened self.new.machine (Undone name.now)))
+            (λ refusal. refusal ≢ Memory → answered self.old.machine (UndoNamed name.now) ≡ Err refusal) }
         ensures memory { OnErr result (result_err result ≡ Some Memory
-            → is_refused_by_name (undone_named self.old name.now) ≡ true) }
+            → is_refused_by_name (undone_named self.old.machine name.now) ≡ true) }
+        ensures phase { self.new.phase ≡ self.old.phase }
         ensures refused { OnErr result (self.new ≡ self.old) }
     {
         let Some(at) = self.place_of(name) else {
@@ -284,8 +305,9 @@ impl<S: Space> System<S> {
     /// The place of the newest update among the live ones.
     fn newest(&self) -> Result<usize, Refusal>
         ensures { MatchResult result
-            (λ at. (at < length self.now.updates) × (slice_get self.now.updates at ≡ newest_update self.now))
-            (λ refusal. (refusal ≡ NothingApplied) × (newest_update self.now ≡ None)) }
+            (λ at. (at < length self.now.machine.updates)
+            × (slice_get self.now.machine.updates at ≡ newest_update self.now.machine))
+            (λ refusal. (refusal ≡ NothingApplied) × (newest_update self.now.machine ≡ None)) }
     {
         match self.updates.len().checked_sub(1) {
             None => Err(Refusal::NothingApplied),
@@ -295,21 +317,23 @@ impl<S: Space> System<S> {
 
     /// The place of the update of a name among the live ones.
     fn place_of(&self, name: &Name) -> Option<usize>
-        ensures { MatchOption result (named self.now name.now ≡ None)
-            (λ at. (at < length self.now.updates) × (slice_get self.now.updates at ≡ named self.now name.now)) }
+        ensures { MatchOption result (named self.now.machine name.now ≡ None)
+            (λ at. (at < length self.now.machine.updates)
+            × (slice_get self.now.machine.updates at ≡ named self.now.machine name.now)) }
     {
         place_of(self.updates.as_slice(), name)
     }
 
     /// Whether no later update retired code of the one at a place, or needs an address in its pieces.
     fn check_later(&self, at: usize) -> Result<(), Refusal>
-        requires { at < length self.now.updates }
-        ensures found { (update : Live) → slice_get self.now.updates at ≡ Some update → MatchResult result
-            (λ _. (cover_refusal self.now update ≡ None) × (need_refusal self.now update ≡ None))
+        requires done { self.now.phase ≡ Done }
+        requires place { at < length self.now.machine.updates }
+        ensures found { (update : Live) → slice_get self.now.machine.updates at ≡ Some update → MatchResult result
+            (λ _. (cover_refusal self.now.machine update ≡ None) × (need_refusal self.now.machine update ≡ None))
             (λ refusal. refusal ≢ Memory →
-            first_of (cover_refusal self.now update) (need_refusal self.now update) ≡ Some refusal) }
-        ensures told { (update : Live) → slice_get self.now.updates at ≡ Some update → OnErr result
-            (is_some (first_of (cover_refusal self.now update) (need_refusal self.now update)) ≡ true) }
+            first_of (cover_refusal self.now.machine update) (need_refusal self.now.machine update) ≡ Some refusal) }
+        ensures told { (update : Live) → slice_get self.now.machine.updates at ≡ Some update → OnErr result
+            (is_some (first_of (cover_refusal self.now.machine update) (need_refusal self.now.machine update)) ≡ true) }
     {
         let updates = behind(self.updates.as_slice(), at);
         let kept = behind(self.kept.as_slice(), at);
@@ -320,9 +344,11 @@ impl<S: Space> System<S> {
 
     /// Whether no thread stands in a piece of the update at a place.
     fn check_threads_in(&self, at: usize) -> Result<(), Refusal>
-        requires { at < length self.now.updates }
-        ensures { (update : Live) → slice_get self.now.updates at ≡ Some update →
-            result_err result ≡ thread_refusal self.now.pieces (ranges_in self.now update) self.now.threads }
+        requires done { self.now.phase ≡ Done }
+        requires place { at < length self.now.machine.updates }
+        ensures { (update : Live) → slice_get self.now.machine.updates at ≡ Some update →
+            result_err result
+            ≡ thread_refusal self.now.machine.pieces (ranges_in self.now.machine update) self.now.machine.threads }
     {
         // The law says that the answer is the same in whichever order the ranges are.
         order_has_no_say();
@@ -331,11 +357,13 @@ impl<S: Space> System<S> {
 
     /// Takes the update at a place back, which no later one covers, and answers its name. It takes no memory.
     fn take_back_at(&mut self, at: usize) -> Name
-        requires place { at < length self.old.updates }
-        requires uncovered { (update : Live) → slice_get self.old.updates at ≡ Some update →
-            cover_refusal self.old update ≡ None }
-        ensures { (update : Live) → slice_get self.old.updates at ≡ Some update →
-            (result ≡ update.name) × (self.new ≡ withdrawn self.old update) }
+        requires done { self.old.phase ≡ Done }
+        requires place { at < length self.old.machine.updates }
+        requires uncovered { (update : Live) → slice_get self.old.machine.updates at ≡ Some update →
+            cover_refusal self.old.machine update ≡ None }
+        ensures withdrawn { (update : Live) → slice_get self.old.machine.updates at ≡ Some update →
+            (result ≡ update.name) × (self.new.machine ≡ withdrawn self.old.machine update) }
+        ensures phase { self.new.phase ≡ self.old.phase }
     {
         // The law says that what is kept of the update can be taken away, and what holds then.
         updates_are_taken_back();
@@ -347,9 +375,10 @@ impl<S: Space> System<S> {
 
     /// What an update would do, or the first refusal but those of the threads.
     fn plan(&self, name: &Name, pre: &[u8], post: &[u8]) -> Result<Plan, Refusal>
-        ensures planned { Gives (λ plan. plan) result (planned_in self.now name.now pre.now post.now) }
-        ensures sound { IfOk result (λ plan. CanBeMade (contents_of self.now) plan) }
-        ensures newest { IfOk result (λ plan. AllReplaceNewest (bodies_in self.now.table) plan) }
+        requires done { self.now.phase ≡ Done }
+        ensures planned { Gives (λ plan. plan) result (planned_in self.now.machine name.now pre.now post.now) }
+        ensures sound { IfOk result (λ plan. CanBeMade (contents_of self.now.machine) plan) }
+        ensures newest { IfOk result (λ plan. AllReplaceNewest (bodies_in self.now.machine.table) plan) }
     {
         if self.updates.len() >= MOST_UPDATES {
             return Err(Refusal::TooMany);
@@ -363,10 +392,12 @@ impl<S: Space> System<S> {
 
     /// The same where the update's name doesn't matter.
     fn plan_beside(&self, pre: &[u8], post: &[u8]) -> Result<Plan, Refusal>
+        requires done { self.now.phase ≡ Done }
         ensures planned { Gives (λ plan. plan) result
-            (planned (running_of self.now) (retired_of self.now) (gaps_of self.now) pre.now post.now) }
-        ensures sound { IfOk result (λ plan. CanBeMade (contents_of self.now) plan) }
-        ensures newest { IfOk result (λ plan. AllReplaceNewest (bodies_in self.now.table) plan) }
+            (planned (running_of self.now.machine) (retired_of self.now.machine) (gaps_of self.now.machine)
+            pre.now post.now) }
+        ensures sound { IfOk result (λ plan. CanBeMade (contents_of self.now.machine) plan) }
+        ensures newest { IfOk result (λ plan. AllReplaceNewest (bodies_in self.now.machine.table) plan) }
     {
         // The laws say that what is planned can be carried out, what it replaces, and that jumps don't matter for a plan.
         plans_can_be_made();
@@ -389,7 +420,9 @@ impl<S: Space> System<S> {
 
     /// Whether no thread stands in the way of a plan.
     fn check_threads(&self, plan: &Plan) -> Result<(), Refusal>
-        ensures { Finds Refusal.Memory result (thread_refusal self.now.pieces plan.now.guarded self.now.threads) }
+        requires done { self.now.phase ≡ Done }
+        ensures { Finds Refusal.Memory result
+            (thread_refusal self.now.machine.pieces plan.now.guarded self.now.machine.threads) }
     {
         let ranges = sorted(self.alloc, plan.guarded.as_slice())?;
         // The law says that the answer is the same when the ranges are sorted.
@@ -399,7 +432,8 @@ impl<S: Space> System<S> {
 
     /// Whether no thread stands in one of some ranges.
     fn check_ranges(&self, ranges: &[Range]) -> Result<(), Refusal>
-        ensures { result_err result ≡ thread_refusal self.now.pieces ranges.now self.now.threads }
+        requires done { self.now.phase ≡ Done }
+        ensures { result_err result ≡ thread_refusal self.now.machine.pieces ranges.now self.now.machine.threads }
     {
         // The law says that jumps don't matter for where a thread stands.
         jumps_change_their_bytes_alone();
@@ -409,11 +443,13 @@ impl<S: Space> System<S> {
 
     /// Carries a plan out, and answers its report. `Err` comes only if memory runs out, and all is then as before.
     fn carry_out(&mut self, name: &Name, mut plan: Plan) -> Result<Report, AllocError>
-        requires can { CanBeMade (contents_of self.old) plan }
-        requires newest { AllReplaceNewest (bodies_in self.old.table) plan }
-        requires new { list_any (has_name name.now) self.old.updates ≡ false }
+        requires done { self.old.phase ≡ Done }
+        requires can { CanBeMade (contents_of self.old.machine) plan }
+        requires newest { AllReplaceNewest (bodies_in self.old.machine.table) plan }
+        requires new { list_any (has_name name.now) self.old.machine.updates ≡ false }
         ensures report { IfOk result (λ report. report ≡ plan.report) }
-        ensures committed { OnOk result (self.new ≡ committed self.old name.now plan) }
+        ensures committed { OnOk result (self.new.machine ≡ committed self.old.machine name.now plan) }
+        ensures phase { self.new.phase ≡ self.old.phase }
         ensures refused { OnErr result (self.new ≡ self.old) }
     {
         // The laws say that the plan fits, and what comes of it.

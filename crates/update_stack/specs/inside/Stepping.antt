@@ -1,5 +1,5 @@
 -- What a step of a system comes to, and what is reported of it, part by part.
-use Rattle.std.specs.Prelude.{◌≡◌, ℕ, None, Result, Ok, Err, MatchResult, IfOk, OnErr, IsSomeAnd, is_some}
+use Rattle.std.specs.Prelude.{◌≡◌, ℕ, None, Result, Ok, Err, MatchResult, IfOk, IsSomeAnd, is_some}
 use Rattle.std.specs.Result.{is_ok}
 use Rattle.ks_base.specs.declared.refusals.Refusal.{Refusal}
 use Rattle.ia32_step.specs.declared.types.Traced.{Traced}
@@ -23,6 +23,5 @@ pub record ComesOfStep (old new : AbstractMachine) (thread : ℕ) (result : Resu
       (λ running. traced.fetched ≡ fetched_count (patched old) running))
   pub text : IfOk result (λ traced. IsSomeAnd (running_at old.threads thread)
       (λ running. traced.fetched ≡ fetched_count (contents_of old) running))
-  pub refused : OnErr result (new ≡ old)
   pub after : new ≡ after_event old (Step thread)
   pub runs : is_ok result ≡ is_some (running_at old.threads thread)

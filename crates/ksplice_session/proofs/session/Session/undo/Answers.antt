@@ -1,4 +1,4 @@
-use Rattle.std.proofs.Common.{◌≡◌, sym, subst}
+use Rattle.std.proofs.Common.{◌≡◌, sym, ◌∙◌, subst}
 use Rattle.update_stack.specs.Events.{Undo, Undone, happened}
 use Rattle.ksplice_session.specs.Answers.{watched}
 use Rattle.ksplice_session.specs.Watching.{Watched, watched_after}
@@ -10,21 +10,24 @@ use Rattle.ksplice_session.proofs.session.Session.undo.Goals as goal
 
 pub invariant_of-self-2 : goal.invariant_of-self-2
 invariant_of-self-2 c =
-    let k = c.self.inside.system in
-    let now = c.undo.new.self in
+    let k = c.self.inside.system.machine in
+    let now = c.undo.new.self.machine in
     let left = happened now (Undone c.in_ok-name.name) in
     let answered = c.in_ok-name.ensures.answered in
     let undone = undo_gives k left answered in
-    subst (IsInStep now) (sym c.note_update.ensures)
-    (kept_in_step k now c.self.inside.watch
-    (c.updates_keep_slots.ensures.undone_threads k Undo undone.update left undone.taken answered)
-    (c.updates_keep_slots.ensures.undos k Undo undone.update left c.machine.ensures.built
-    c.machine-machine.ensures.built undone.taken answered)
-    (placed_of c.machine.result.now k c.machine.ensures.stands c.threads-threads.ensures.placed) c.self.invariant)
+    record {
+      done = c.undo.ensures.phase ∙ c.self.invariant.done;
+      in_step = subst (IsInStep now) (sym c.note_update.ensures)
+          (kept_in_step k now c.self.inside.watch
+          (c.updates_keep_slots.ensures.undone_threads k Undo undone.update left undone.taken answered)
+          (c.updates_keep_slots.ensures.undos k Undo undone.update left c.program.ensures.built
+          c.program-machine.ensures.built undone.taken answered)
+          (placed_of c.program.result.now k c.program.ensures.stands c.threads-threads.ensures.placed) c.self.invariant.in_step);
+    }
 
 pub returns-clause-noted : goal.returns-clause-noted
 returns-clause-noted c =
-    let now = c.undo.new.self in
+    let now = c.undo.new.self.machine in
     subst (λ (s : Watched). watched now c.note_update.new.self ≡ watched_after s Undo) c.self.view_is
-    (undo_watched (watched c.self.inside.system c.self.inside.watch) Undo now c.note_update.new.self c.in_ok-name.name
+    (undo_watched (watched c.self.inside.system.machine c.self.inside.watch) Undo now c.note_update.new.self c.in_ok-name.name
     c.in_ok-name.ensures.answered c.note_update.ensures)

@@ -15,28 +15,35 @@ use Rattle.update_stack.specs.Apply.{has_name, committed}
 use Rattle.update_stack.specs.inside.Carrying.{shown_as, FitsIn, HasHomeCode, IsCarriedOut}
 use Rattle.update_stack.specs.inside.Carrying.{HoldsAfter, IsPrepared}
 use Rattle.update_stack.proofs.CarryLaws.{seen_carried}
+use Rattle.update_stack.proofs.PhaseLaws.{done_again, done_holds, machine_seen}
 use Rattle.update_stack.proofs.system.System.carry_out.Goals as goal
 
 pub prepare-requires-clause-ends : goal.prepare-requires-clause-ends
 prepare-requires-clause-ends g c =
     let inside = c.self.inside in
+    let holds = done_holds inside.machine inside.arena inside.updates inside.kept c.self.view_is c.requires.done
+    c.self.invariant in
     let k = machine_of inside.machine inside.arena inside.updates inside.kept in
     let can : CanBeMade (contents_of k) c.args.plan =
-    subst (λ (m : AbstractMachine). CanBeMade (contents_of m) c.args.plan) (sym c.self.view_is) c.requires.can in
+    subst (λ (m : AbstractMachine). CanBeMade (contents_of m) c.args.plan) (sym (machine_seen c.self.view_is))
+    c.requires.can in
     c.plans_are_carried_out.ensures.ends inside.machine inside.arena inside.updates inside.kept c.args.plan
-    c.self.invariant can
+    holds can
 
 pub change-requires-clause-addable : goal.change-requires-clause-addable
 change-requires-clause-addable g c =
     let inside = c.self.inside in
+    let holds = done_holds inside.machine inside.arena inside.updates inside.kept c.self.view_is c.requires.done
+    c.self.invariant in
     let plan = c.args.plan in
     let made = c.in_ok-made.made in
     let k = machine_of inside.machine inside.arena inside.updates inside.kept in
     let can : CanBeMade (contents_of k) plan =
-    subst (λ (m : AbstractMachine). CanBeMade (contents_of m) plan) (sym c.self.view_is) c.requires.can in
+    subst (λ (m : AbstractMachine). CanBeMade (contents_of m) plan) (sym (machine_seen c.self.view_is))
+    c.requires.can in
     let fits : FitsIn inside.machine.contents plan made.jumps =
     c.plans_are_carried_out.ensures.fits inside.machine inside.arena inside.updates inside.kept plan
-    made.jumps c.self.invariant can c.in_ok-made.ensures.prepared.rows in
+    made.jumps holds can c.in_ok-made.ensures.prepared.rows in
     subst (λ (left : Plan). AreAddable c.prepare.new.machine.contents left.pieces) (sym c.prepare.ensures.rest)
     (subst (λ (m : Contents). AreAddable m plan.pieces)
     (sym (ap (λ (s : Seen). s.contents) c.prepare.ensures.seen)) fits.addable)
@@ -44,14 +51,17 @@ change-requires-clause-addable g c =
 pub change-requires-clause-retirable : goal.change-requires-clause-retirable
 change-requires-clause-retirable g c =
     let inside = c.self.inside in
+    let holds = done_holds inside.machine inside.arena inside.updates inside.kept c.self.view_is c.requires.done
+    c.self.invariant in
     let plan = c.args.plan in
     let made = c.in_ok-made.made in
     let k = machine_of inside.machine inside.arena inside.updates inside.kept in
     let can : CanBeMade (contents_of k) plan =
-    subst (λ (m : AbstractMachine). CanBeMade (contents_of m) plan) (sym c.self.view_is) c.requires.can in
+    subst (λ (m : AbstractMachine). CanBeMade (contents_of m) plan) (sym (machine_seen c.self.view_is))
+    c.requires.can in
     let fits : FitsIn inside.machine.contents plan made.jumps =
     c.plans_are_carried_out.ensures.fits inside.machine inside.arena inside.updates inside.kept plan
-    made.jumps c.self.invariant can c.in_ok-made.ensures.prepared.rows in
+    made.jumps holds can c.in_ok-made.ensures.prepared.rows in
     let fences = c.as_slice.result.now in
     subst (λ (left : Plan). AreRetirable (with_pieces c.prepare.new.machine.contents left.pieces) fences)
     (sym c.prepare.ensures.rest)
@@ -63,14 +73,17 @@ change-requires-clause-retirable g c =
 pub change-requires-clause-code : goal.change-requires-clause-code
 change-requires-clause-code g c =
     let inside = c.self.inside in
+    let holds = done_holds inside.machine inside.arena inside.updates inside.kept c.self.view_is c.requires.done
+    c.self.invariant in
     let plan = c.args.plan in
     let made = c.in_ok-made.made in
     let k = machine_of inside.machine inside.arena inside.updates inside.kept in
     let can : CanBeMade (contents_of k) plan =
-    subst (λ (m : AbstractMachine). CanBeMade (contents_of m) plan) (sym c.self.view_is) c.requires.can in
+    subst (λ (m : AbstractMachine). CanBeMade (contents_of m) plan) (sym (machine_seen c.self.view_is))
+    c.requires.can in
     let fits : FitsIn inside.machine.contents plan made.jumps =
     c.plans_are_carried_out.ensures.fits inside.machine inside.arena inside.updates inside.kept plan
-    made.jumps c.self.invariant can c.in_ok-made.ensures.prepared.rows in
+    made.jumps holds can c.in_ok-made.ensures.prepared.rows in
     let fences = c.as_slice.result.now in
     let jumps = c.as_slice-2.result.now in
     subst (λ (left : Plan). All (HasHomeCode
@@ -88,11 +101,14 @@ change-requires-clause-code g c =
 pub invariant_of-self-2 : goal.invariant_of-self-2
 invariant_of-self-2 g c =
     let inside = c.self.inside in
+    let holds = done_holds inside.machine inside.arena inside.updates inside.kept c.self.view_is c.requires.done
+    c.self.invariant in
     let plan = c.args.plan in
     let made = c.in_ok-made.made in
     let k = machine_of inside.machine inside.arena inside.updates inside.kept in
     let can : CanBeMade (contents_of k) plan =
-    subst (λ (m : AbstractMachine). CanBeMade (contents_of m) plan) (sym c.self.view_is) c.requires.can in
+    subst (λ (m : AbstractMachine). CanBeMade (contents_of m) plan) (sym (machine_seen c.self.view_is))
+    c.requires.can in
     let is : IsPrepared inside.machine.contents c.args.name.now plan made = c.in_ok-made.ensures.prepared in
     let carried : IsCarriedOut inside.machine c.change.new.machine plan made.jumps = record {
       seen_after =
@@ -106,24 +122,31 @@ invariant_of-self-2 g c =
     let after : HoldsAfter inside.machine c.change.new.machine inside.arena inside.updates inside.kept
     c.args.name.now plan made.kept =
     c.plans_are_carried_out.ensures.holds inside.machine c.change.new.machine inside.arena inside.updates
-    inside.kept c.args.name.now plan made.jumps made.kept c.self.invariant can
-    (subst (λ (m : AbstractMachine). AllReplaceNewest (bodies_in m.table) plan) (sym c.self.view_is) c.requires.newest)
-    (subst (λ (m : AbstractMachine). list_any (has_name c.args.name.now) m.updates ≡ false) (sym c.self.view_is)
+    inside.kept c.args.name.now plan made.jumps made.kept holds can
+    (subst (λ (m : AbstractMachine). AllReplaceNewest (bodies_in m.table) plan) (sym (machine_seen c.self.view_is))
+    c.requires.newest)
+    (subst (λ (m : AbstractMachine). list_any (has_name c.args.name.now) m.updates ≡ false) (sym (machine_seen
+    c.self.view_is))
     c.requires.new) carried is.kept_of_plan in
     let updates : c.push_both.new.updates ≡ inside.updates ++ shown ∷ [] =
     c.in_ok-push_both.ensures.updates ∙ ap (λ (u : Shown). inside.updates ++ u ∷ []) is.shown in
-    subst (λ (us : List Shown). Holds c.change.new.machine inside.arena us c.push_both.new.kept) (sym updates)
+    done_again c.change.new.machine inside.arena c.push_both.new.updates c.push_both.new.kept c.self.view_is
+    c.requires.done
+    (subst (λ (us : List Shown). Holds c.change.new.machine inside.arena us c.push_both.new.kept) (sym updates)
     (subst (Holds c.change.new.machine inside.arena (inside.updates ++ shown ∷ [])) (sym c.in_ok-push_both.ensures.kept)
-    after.holds)
+    after.holds))
 
 pub returns-clause-committed : goal.returns-clause-committed
 returns-clause-committed g c =
     let inside = c.self.inside in
+    let holds = done_holds inside.machine inside.arena inside.updates inside.kept c.self.view_is c.requires.done
+    c.self.invariant in
     let plan = c.args.plan in
     let made = c.in_ok-made.made in
     let k = machine_of inside.machine inside.arena inside.updates inside.kept in
     let can : CanBeMade (contents_of k) plan =
-    subst (λ (m : AbstractMachine). CanBeMade (contents_of m) plan) (sym c.self.view_is) c.requires.can in
+    subst (λ (m : AbstractMachine). CanBeMade (contents_of m) plan) (sym (machine_seen c.self.view_is))
+    c.requires.can in
     let is : IsPrepared inside.machine.contents c.args.name.now plan made = c.in_ok-made.ensures.prepared in
     let carried : IsCarriedOut inside.machine c.change.new.machine plan made.jumps = record {
       seen_after =
@@ -137,12 +160,14 @@ returns-clause-committed g c =
     let after : HoldsAfter inside.machine c.change.new.machine inside.arena inside.updates inside.kept
     c.args.name.now plan made.kept =
     c.plans_are_carried_out.ensures.holds inside.machine c.change.new.machine inside.arena inside.updates
-    inside.kept c.args.name.now plan made.jumps made.kept c.self.invariant can
-    (subst (λ (m : AbstractMachine). AllReplaceNewest (bodies_in m.table) plan) (sym c.self.view_is) c.requires.newest)
-    (subst (λ (m : AbstractMachine). list_any (has_name c.args.name.now) m.updates ≡ false) (sym c.self.view_is)
+    inside.kept c.args.name.now plan made.jumps made.kept holds can
+    (subst (λ (m : AbstractMachine). AllReplaceNewest (bodies_in m.table) plan) (sym (machine_seen c.self.view_is))
+    c.requires.newest)
+    (subst (λ (m : AbstractMachine). list_any (has_name c.args.name.now) m.updates ≡ false) (sym (machine_seen
+    c.self.view_is))
     c.requires.new) carried is.kept_of_plan in
     let updates : c.push_both.new.updates ≡ inside.updates ++ shown ∷ [] =
     c.in_ok-push_both.ensures.updates ∙ ap (λ (u : Shown). inside.updates ++ u ∷ []) is.shown in
     ap (λ (us : List Shown). machine_of c.change.new.machine inside.arena us c.push_both.new.kept) updates
     ∙ ap (machine_of c.change.new.machine inside.arena (inside.updates ++ shown ∷ [])) c.in_ok-push_both.ensures.kept
-    ∙ after.same ∙ ap (λ (m : AbstractMachine). committed m c.args.name.now plan) c.self.view_is
+    ∙ after.same ∙ ap (λ (m : AbstractMachine). committed m c.args.name.now plan) (machine_seen c.self.view_is)

@@ -13,6 +13,7 @@ use Rattle.update_stack.specs.Apply.{has_name, planned_in, running_of, retired_o
 use Rattle.update_stack.proofs.ApplyLaws.{too_many, name_taken, name_free}
 use Rattle.update_stack.proofs.FreshLaws.{live_length}
 use Rattle.update_stack.proofs.LiveLaws.{named_live}
+use Rattle.update_stack.proofs.PhaseLaws.{machine_seen}
 use Rattle.update_stack.proofs.system.System.plan.Goals as goal
 
 pub returns-then-len-ge-MOST_UPDATES-clause-planned :
@@ -28,7 +29,7 @@ returns-then-len-ge-MOST_UPDATES-clause-planned g c =
       c.if-len-ge-MOST_UPDATES.true,
     ) in
     λ other. ap (λ (m : AbstractMachine). planned_in m c.args.name.now c.args.pre.now c.args.post.now)
-    (sym c.self.view_is)
+    (sym (machine_seen c.self.view_is))
     ∙ too_many k c.args.name.now c.args.pre.now c.args.post.now many
 
 pub returns-then-is_taken-clause-planned : goal.returns-then-is_taken-clause-planned
@@ -47,7 +48,7 @@ returns-then-is_taken-clause-planned g c =
     ∙ ap (list_any (λ (update : Shown). same_bytes update.name c.args.name.now)) (sym c.as_slice.ensures)
     ∙ sym c.is_taken.ensures ∙ c.if-is_taken.true in
     λ other. ap (λ (m : AbstractMachine). planned_in m c.args.name.now c.args.pre.now c.args.post.now)
-    (sym c.self.view_is)
+    (sym (machine_seen c.self.view_is))
     ∙ name_taken k c.args.name.now c.args.pre.now c.args.post.now few has
     ∙ ap (λ (name : List ℕ). let r : Result Plan Refusal = Err (NameTaken name) in r)
     (sym (c.in_ok-name.ensures ∙ c.as_slice-then-is_taken.ensures))
@@ -70,7 +71,7 @@ returns-clause-planned g c =
     let P : AbstractMachine → Type 0 = λ m. Gives (λ (plan : Plan). plan) c.plan_beside.result
     (planned (running_of m) (retired_of m) (gaps_of m) c.args.pre.now c.args.post.now) in
     subst (λ (m : AbstractMachine). Gives (λ (plan : Plan). plan) c.plan_beside.result
-    (planned_in m c.args.name.now c.args.pre.now c.args.post.now)) c.self.view_is
+    (planned_in m c.args.name.now c.args.pre.now c.args.post.now)) (machine_seen c.self.view_is)
     (subst (Gives (λ (plan : Plan). plan) c.plan_beside.result)
     (sym (name_free k c.args.name.now c.args.pre.now c.args.post.now few none))
-    (subst P (sym c.self.view_is) c.plan_beside.ensures.planned))
+    (subst P (sym (machine_seen c.self.view_is)) c.plan_beside.ensures.planned))

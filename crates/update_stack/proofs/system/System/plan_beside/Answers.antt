@@ -19,16 +19,19 @@ use Rattle.update_stack.specs.laws.StackedLaws.{built_sound}
 use Rattle.update_stack.proofs.LiveLaws.{retired_live}
 use Rattle.update_stack.proofs.PlanLaws.{gaps_ascend, memory_of, bodies_spliced, IsBeside, PlanLaws, plan_beside}
 use Rattle.update_stack.proofs.PlanLaws.{plan_sound, plan_replaces}
+use Rattle.update_stack.proofs.PhaseLaws.{done_holds, machine_seen}
 use Rattle.update_stack.proofs.system.System.plan_beside.Goals as goal
 
 pub plan-requires-clause-spliced : goal.plan-requires-clause-spliced
 plan-requires-clause-spliced g c =
     let inside = c.self.inside in
+    let holds = done_holds inside.machine inside.arena inside.updates inside.kept c.self.view_is c.requires.done
+    c.self.invariant in
     let machine = inside.machine in
     let k = machine_of machine inside.arena inside.updates inside.kept in
     bodies_spliced c.homes_stay_spliced.ensures.jumped k (g.S.Space.contents c.space-space.result.now)
     c.in_ok-bodies.bodies (built_sound k c.self.invariant.built)
-    (c.space-space.ensures.contents ∙ memory_of machine k c.self.invariant.stands)
+    (c.space-space.ensures.contents ∙ memory_of machine k holds.stands)
     (subst (λ (us : List Shown). IsPermutation (bodies_in (table_of us)) c.in_ok-bodies.bodies) c.as_slice.ensures
     c.in_ok-bodies.ensures.rows)
 
@@ -45,6 +48,8 @@ plan-requires-clause-gaps g c =
 pub returns-clause-planned : goal.returns-clause-planned
 returns-clause-planned g c =
     let inside = c.self.inside in
+    let holds = done_holds inside.machine inside.arena inside.updates inside.kept c.self.view_is c.requires.done
+    c.self.invariant in
     let machine = inside.machine in
     let k = machine_of machine inside.arena inside.updates inside.kept in
     let contents = g.S.Space.contents c.space-space.result.now in
@@ -61,7 +66,7 @@ returns-clause-planned g c =
     } in
     let beside : IsBeside k contents symbols bodies retired c.in_ok-gaps.gaps = record {
       built = c.self.invariant.built;
-      memory = c.space-space.ensures.contents ∙ memory_of machine k c.self.invariant.stands;
+      memory = c.space-space.ensures.contents ∙ memory_of machine k holds.stands;
       symbols_are = ap (λ (t : Table). t.symbols) c.symbols-symbols.ensures;
       newest_are = λ home.
           c.in_ok-bodies.ensures.newest home
@@ -81,15 +86,17 @@ returns-clause-planned g c =
     (plan_beside laws k contents symbols bodies retired c.in_ok-gaps.gaps c.args.pre.now c.args.post.now beside)
     c.plan.ensures in
     subst (λ (m : AbstractMachine). Gives (λ (plan : Plan). plan) c.plan.result
-    (planned (running_of m) (retired_of m) (gaps_of m) c.args.pre.now c.args.post.now)) c.self.view_is given
+    (planned (running_of m) (retired_of m) (gaps_of m) c.args.pre.now c.args.post.now)) (machine_seen
+    c.self.view_is) given
 
 pub returns-clause-sound : goal.returns-clause-sound
 returns-clause-sound g c =
     plan_sound c.plans_can_be_made.ensures c.gaps_are_free.ensures.ascend c.gaps_are_free.ensures.below
-    c.gaps_are_free.ensures.apart c.args.self.now c.args.pre.now c.args.post.now c.plan.result
-    (subst IsBuilt c.self.view_is c.self.invariant.built) (returns-clause-planned g c)
+    c.gaps_are_free.ensures.apart c.args.self.now.machine c.args.pre.now c.args.post.now c.plan.result
+    (subst IsBuilt (machine_seen c.self.view_is) c.self.invariant.built) (returns-clause-planned g c)
 
 pub returns-clause-newest : goal.returns-clause-newest
 returns-clause-newest g c =
-    plan_replaces c.plans_replace_the_newest.ensures c.args.self.now c.args.pre.now c.args.post.now c.plan.result
-    (subst IsBuilt c.self.view_is c.self.invariant.built) (returns-clause-planned g c)
+    plan_replaces c.plans_replace_the_newest.ensures c.args.self.now.machine c.args.pre.now c.args.post.now
+    c.plan.result
+    (subst IsBuilt (machine_seen c.self.view_is) c.self.invariant.built) (returns-clause-planned g c)

@@ -4,8 +4,8 @@ use Rattle.update_stack.specs.AbstractMachine.{AbstractMachine}
 use Rattle.update_stack.specs.Events.{Spawn, Spawned, happened, answered}
 use Rattle.update_stack.specs.Systems.{machine_of}
 use Rattle.update_stack.proofs.HoldsLaws.{Laws}
-use Rattle.update_stack.proofs.SeenLaws.{program_stacks}
-use Rattle.update_stack.proofs.SpawnLaws.{spawn_holds, spawn_seen}
+use Rattle.update_stack.proofs.PhaseLaws.{machine_seen, phase_stacks}
+use Rattle.update_stack.proofs.PhaseSpawnLaws.{phase_spawn_holds, phase_spawn_seen}
 use Rattle.update_stack.proofs.system.System.spawn.Goals as goal
 
 pub invariant_of-self : goal.invariant_of-self
@@ -19,9 +19,9 @@ invariant_of-self g c =
       there = c.code_that_stays.ensures.code;
     } in
     let inside = c.self.inside in
-    spawn_holds inside.arena inside.updates inside.kept laws inside.machine c.spawn.new.self c.args.name.now
-    c.args.argument c.spawn.result c.self.invariant c.threads-threads.ensures.placed.bounds c.spawn.ensures.started
-    c.spawn.ensures.refused
+    phase_spawn_holds laws inside.phase inside.arena inside.updates inside.kept inside.machine c.spawn.new.self
+    c.args.name.now c.args.argument c.spawn.result c.self.invariant c.threads-threads.ensures.placed.bounds
+    c.spawn.ensures.started c.spawn.ensures.number c.spawn.ensures.refused
 
 pub returns-clause-answered : goal.returns-clause-answered
 returns-clause-answered g c =
@@ -38,13 +38,14 @@ returns-clause-answered g c =
     (λ number. answered k (Spawn c.args.name.now c.args.argument)
     ≡ Ok (happened (machine_of c.spawn.new.self inside.arena inside.updates inside.kept) (Spawned number)))
     (λ refusal. refusal ≢ Memory → answered k (Spawn c.args.name.now c.args.argument) ≡ Err refusal) in
-    subst P c.self.view_is
-    (spawn_seen inside.arena inside.updates inside.kept laws inside.machine c.spawn.new.self c.args.name.now
-    c.args.argument c.spawn.result c.self.invariant c.threads-threads.ensures.placed.bounds c.spawn.ensures.started
-    c.spawn.ensures.number)
+    subst P (machine_seen c.self.view_is)
+    (phase_spawn_seen laws inside.phase inside.arena inside.updates inside.kept inside.machine c.spawn.new.self
+    c.args.name.now c.args.argument c.spawn.result c.self.invariant c.threads-threads.ensures.placed.bounds
+    c.spawn.ensures.started c.spawn.ensures.number)
 
 pub spawn-requires : goal.spawn-requires
 spawn-requires g c =
     let inside = c.self.inside in
-    program_stacks inside.machine inside.arena inside.updates inside.kept c.self.invariant
-    c.jumps_change_their_bytes_alone.ensures.kinds c.jumps_change_their_bytes_alone.ensures.ranges
+    phase_stacks inside.phase inside.arena inside.updates inside.kept
+    c.jumps_change_their_bytes_alone.ensures.kinds c.jumps_change_their_bytes_alone.ensures.ranges inside.machine
+    c.self.invariant
