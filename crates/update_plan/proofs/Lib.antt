@@ -5,6 +5,7 @@ mod GuardLaws
 pub mod InUse
 pub mod InUseOlds
 pub mod NewCodes
+pub mod OneFunctions
 pub mod OnePlan
 mod Orders
 mod Planned

@@ -113,7 +113,7 @@ is_replacing olds x one made =
     replacing olds x one x.role (replaced_by x.role olds x.section.name) refl refl made
 
 -- a section that is changed takes the place of the one of its name, where there is one
-has_replaced : (olds : List OldFunction) (x : AtPlace) (old : OldFunction) → x.role ≡ Changed → Has olds old →
+pub has_replaced : (olds : List OldFunction) (x : AtPlace) (old : OldFunction) → x.role ≡ Changed → Has olds old →
     old.section ≡ x.section.name → (one : Replaced) × (replaced_of olds x ≡ Some one)
 has_replaced olds x old role among named =
     let (other, is) = has_found (named_as x.section.name) olds old among

@@ -1,5 +1,5 @@
 //! What holds of every plan.
-ghost use Rattle.std.specs.Prelude.{◌≡◌, ℕ, false, List, map, Ok};
+ghost use Rattle.std.specs.Prelude.{◌≡◌, ℕ, false, true, List, map, Ok};
 ghost use Rattle.std.specs.List.{All, list_any};
 ghost use Rattle.ks_base.specs.declared.places.Range.{Range};
 ghost use Rattle.i386_reloc.specs.declared.types.NormalSection.{NormalSection};
@@ -22,6 +22,7 @@ ghost use Rattle.update_plan.specs.Addresses.{AreSteps, HasAddresses};
 ghost use Rattle.update_plan.specs.Placing.{parts_of};
 ghost use Rattle.update_plan.specs.Sound.{AllReplaceNewest, AreGaps, AreListed, CanBeMade, IsCode};
 ghost use Rattle.update_plan.specs.NewCode.{BringsNewCode};
+ghost use Rattle.update_plan.specs.OneFunction.{ReportsOne, extract_of, is_one_changed};
 
 use extract_post::placed_sections_bring_what_they_name;
 use i386_reloc::sections_are_whole;
@@ -155,4 +156,18 @@ pub fn replaced_functions_have_new_code()
     replaced_functions_have_new_text();
     places_keep_the_order();
     places_are_found();
+}
+
+/// A plan between objects that differ in one function, with none added and none dropped, reports that this function is
+/// replaced, and no other.
+pub fn single_changes_are_reported()
+    ensures { (running : Running) (retired gaps : List Range) (pre_file post_file : List ℕ) (extract : Lists)
+        (plan : Plan) → IsValid running.contents → Ascends (λ range. range) 0 gaps
+        → extract_of pre_file post_file ≡ Ok extract → is_one_changed extract ≡ true
+        → planned running retired gaps pre_file post_file ≡ Ok plan → ReportsOne plan.report }
+{
+    // Nothing is done here: the laws say that each function of the old object was found, and that each new section has
+    // its place.
+    answers_tell_each_body();
+    places_lie_apart();
 }
