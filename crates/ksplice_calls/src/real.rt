@@ -149,7 +149,7 @@ fn read_at_most<S: Read + Drop>(source: S, limit: u32, into: &mut Vec<u8>) -> Re
     ensures longer { IsErrOf result FileFault.TooLong → IfSome (S.remaining source) (λ left. limit < length left) }
 {
     let mut front = source.take(u64::from(limit) + 1);
-    match front.read_to_end(into) {
+    match io::copy(&mut front, into) {
         Ok(_) if into.len() > limit as usize => Err(FileFault::TooLong),
         Ok(_) => Ok(()),
         Err(error) => Err(fault_of(&error)),

@@ -5,7 +5,7 @@ use Rattle.ksplice_calls.proofs.real.read_at_most.Goals as goal
 
 pub returns-in-Ok-2-clause-whole : goal.returns-in-Ok-2-clause-whole
 returns-in-Ok-2-clause-whole g c =
-    let read = c.read_to_end.new.buf in
+    let read = c.copy.new.writer in
     let len : vec_len read ≡ length read.items = search rules in
     whole_read g.S.Read.remaining
     c.args.source c.take-front.result c.args.limit c.from.result c.args.into.now.items read.items
