@@ -1,6 +1,6 @@
 -- Live updates, and what is kept of them, with one among the others: the text, the table and the updates with it and
 -- without it.
-use Rattle.std.proofs.Common.{◌≡◌, ◌≢◌, ℕ, zero, suc, ◌+◌, ◌≤◌, ◌<◌, take, List, [], ◌∷◌, ◌++◌, map, length, get_or, refl, sym, ◌∙◌, ap, arith}
+use Rattle.std.proofs.Common.{◌≡◌, ◌≢◌, ℕ, zero, suc, ◌+◌, ◌≤◌, ◌<◌, take, List, [], ◌∷◌, ◌++◌, length, get_or, refl, sym, ◌∙◌, ap, arith}
 use Rattle.std.proofs.Common.{length-append}
 use Rattle.std.specs.List.{All, AllPairs, flat_map, fold}
 use Rattle.std.proofs.lemmas.List.Elements.{All-head, All-tail, All-append}
@@ -12,14 +12,13 @@ use Rattle.image_memory.specs.Contents.{piece_range}
 use Rattle.symbol_table.specs.declared.symbols.Symbol.{Symbol}
 use Rattle.splice_jump.specs.Jumps.{unjumped}
 use Rattle.update_memory.specs.Rows.{olds_of}
-use Rattle.update_memory.specs.Withdrawn.{without_pieces}
 use Rattle.update_stack.specs.declared.updates.Update.{Update as Shown}
 use Rattle.update_stack.specs.declared.updates.Kept.{Kept}
 use Rattle.update_stack.specs.AbstractMachine.{Row, Update, with_replaced}
 use Rattle.update_stack.specs.Undo.{without_base, symbols_of}
 use Rattle.update_stack.specs.Uncovered.{HasOtherHomes}
 use Rattle.update_stack.specs.Systems.{text_of, replaced_by, table_of, live_update, live_updates}
-use Rattle.update_stack.proofs.TableLaws.{IsTable, first_table, table_stays, table_back}
+use Rattle.update_stack.proofs.TableLaws.{first_table, table_stays, table_back}
 use Rattle.update_stack.proofs.ApartLaws.{AllAway, writes_swapped}
 use Rattle.update_stack.proofs.PastLaws.{replaced_past}
 use Rattle.update_stack.proofs.StandingLaws.{ascends_after}

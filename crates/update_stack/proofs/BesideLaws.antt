@@ -94,7 +94,7 @@ bytes_same ps qs a (suc n) same =
     ∙ ap (λ (bs : List ℕ). byte_at qs a ∷ bs)
     (bytes_same ps qs (a + 1) n (λ k low high. same k (omega arith) (omega arith)))
 
-five_stays : (contents : Contents) (start : ℕ) (bytes : List ℕ) (rows : List (ℕ × ℕ)) (home : ℕ) → IsValid contents
+pub five_stays : (contents : Contents) (start : ℕ) (bytes : List ℕ) (rows : List (ℕ × ℕ)) (home : ℕ) → IsValid contents
     → AvoidsCode start (length bytes) contents.pieces → HasCode contents.pieces home 5
     → five_at (jumped rows (written start bytes contents.pieces)) home ≡ five_at (jumped rows contents.pieces) home
 five_stays contents start bytes rows home valid avoids code =

@@ -37,7 +37,7 @@ module _ (start : ℕ) (bytes : List ℕ) where
       keeps.each i old at (subst (λ (p : Piece). IsTrue (is_code p.kind)) (sym same) code) in
       slice_get-map over after i ∙ ap (option_map over) there ∙ ap Some same
 
-  written_kept : (before after : List Piece) → KeepsCode before after
+  pub written_kept : (before after : List Piece) → KeepsCode before after
       → KeepsCode (written start bytes before) (written start bytes after)
   written_kept before after keeps = record {
     each = λ i piece at code. each_kept before after keeps i piece (slice_get before i) refl

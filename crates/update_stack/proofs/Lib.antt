@@ -1,3 +1,4 @@
+pub mod AcceptedLaws
 pub mod AddedLaws
 pub mod AmongLaws
 pub mod AtLaws
@@ -50,3 +51,7 @@ pub mod UndoLaws
 pub mod UndoneLaws
 pub mod PhaseLaws
 pub mod PhaseSpawnLaws
+pub mod OpenHomeLaws
+pub mod PhaseWriteLaws
+pub mod PhaseStepLaws
+pub mod OpenStepLaws

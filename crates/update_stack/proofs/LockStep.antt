@@ -45,24 +45,24 @@ displacement_small : (home base : ℕ) → displacement home base < 2 ^ 32
 displacement_small home base = omega arith
 
 -- what carrying it out comes to
-jump_carried_out : (pieces : List Piece) (context : _) (n : ℕ)
+pub jump_carried_out : (pieces : List Piece) (context : _) (n : ℕ)
     → change_by pieces context (Some (jump_by n)) ≡ Ok (goes_on (at_address (above (above context.pc 5) n) context))
 unfolding executed is_stepped refuses_prefixes change_of
 jump_carried_out pieces context n = refl
 
 -- what is fetched is what was shown
-fetched_is : (bytes : List ℕ) → fetched (shown bytes) ≡ bytes
+pub fetched_is : (bytes : List ℕ) → fetched (shown bytes) ≡ bytes
 fetched_is bytes = take-append_seam bytes (replicate (15 - length bytes) 0)
 
 -- the laws of other crates that are used here
-abbrev Decodes : Type 0
+abbrev pub Decodes : Type 0
 Decodes = (n : ℕ) (rest : List ℕ) → n < 2 ^ 32 → decoded_from (0xE9 ∷ (to_le_bytes w32 n ++ rest)) ≡ Some (jump_by n)
 
-abbrev NoSay : Type 0
+abbrev pub NoSay : Type 0
 NoSay = (a b : List Piece) → SameData a b → (context : _) (decoded : Option Decoded) →
     change_by a context decoded ≡ change_by b context decoded
 
-abbrev NoFaultSay : Type 0
+abbrev pub NoFaultSay : Type 0
 NoFaultSay = (a b : Contents) → SameData a.pieces b.pieces → (store : _) → store_fault a store ≡ store_fault b store
 
 -- what is written where all is data is written beside the jumps
@@ -72,7 +72,7 @@ WritesBeside contents rows = (start : ℕ) (bytes : List ℕ)
     written start bytes (jumped rows contents.pieces) ≡ jumped rows (written start bytes contents.pieces)
 
 -- the jump at a home, decoded
-jump_is_met : Decodes → (home base : ℕ) → decoded_from (jump_bytes home base) ≡ Some (jump_by (displacement home base))
+pub jump_is_met : Decodes → (home base : ℕ) → decoded_from (jump_bytes home base) ≡ Some (jump_by (displacement home base))
 jump_is_met decodes home base = decodes (displacement home base) [] (displacement_small home base)
 
 -- what a change leaves, beside the jumps
@@ -141,7 +141,7 @@ by_view decodes say faults contents rows same beside thread base AtHome home =
     (jump_leads thread.pc base (home refl).1)
 
 -- the jump that is met at a home, and where it leads
-home_jump : (k : AbstractMachine) (pc : ℕ)
+pub home_jump : (k : AbstractMachine) (pc : ℕ)
     → All (λ row. jump_at (jumped (bodies_in k.table) k.pieces) row.0 ≡ jump_bytes row.0 row.1) (bodies_in k.table)
     → All (λ row. row.1 < 2 ^ 32) (bodies_in k.table) → is_home k.table pc ≡ true
     → (jump_at (jumped (bodies_in k.table) k.pieces) pc ≡ jump_bytes pc (base_of k pc)) × (base_of k pc < 2 ^ 32)
@@ -220,16 +220,16 @@ step_stands decodes say faults k same beside thread views jumps spliced low =
     ∙ met_alike k thread.pc spliced.each) (home_jump k thread.pc jumps low))
 
 -- jumps change no data
-abbrev WrittenCode : Type 0
+abbrev pub WrittenCode : Type 0
 WrittenCode = (pieces : List Piece) (start : ℕ) (bytes : List ℕ) → ArePlaced pieces →
     ((a : ℕ) → start ≤ a → a < start + length bytes → option_map kind_of (holding pieces a) ≡ Some Code)
     → SameData (written start bytes pieces) pieces
 
-abbrev CodeHeld : Type 0
+abbrev pub CodeHeld : Type 0
 CodeHeld = (contents : Contents) (start count address : ℕ) → IsValid contents → HasCode contents.pieces start count →
     start ≤ address → address < start + count → option_map kind_of (holding contents.pieces address) ≡ Some Code
 
-abbrev StaysValid : Type 0
+abbrev pub StaysValid : Type 0
 StaysValid = (contents : Contents) (rows : List (ℕ × ℕ)) → IsValid contents → IsValid (jumped_memory rows contents)
 
 abbrev StaysSpliced : Type 0

@@ -1,25 +1,22 @@
 -- The old code that is kept of live updates stands at the homes of each, apart from that of updates with other homes.
-use Rattle.std.proofs.Common.{◌≡◌, ◌≢◌, ℕ, ◌<◌, Bool, true, List, [], ◌∷◌, ◌++◌, map, length, get_or, Some, refl, sym, ◌∙◌}
+use Rattle.std.proofs.Common.{◌≡◌, ℕ, ◌<◌, List, [], ◌∷◌, ◌++◌, length, get_or, refl, sym, ◌∙◌}
 use Rattle.std.proofs.Common.{ap, arith, subst, length-append}
-use Rattle.std.specs.List.{All, AllPairs, Contains}
+use Rattle.std.specs.List.{All, Contains}
 use Rattle.std.proofs.lemmas.List.{length-map, get_or-map}
-use Rattle.std.proofs.lemmas.List.Elements.{All-head, All-tail, All-cons, Contains-get_or}
+use Rattle.std.proofs.lemmas.List.Elements.{All-head, All-tail, All-cons}
 use Rattle.ks_base.specs.declared.reports.Replaced.{Replaced}
 use Rattle.image_memory.specs.declared.types.Piece.{Piece}
-use Rattle.image_memory.specs.Contents.{Contents, IsValid}
 use Rattle.image_memory.specs.Access.{bytes_at}
-use Rattle.splice_jump.specs.Jump.{five_at}
-use Rattle.splice_jump.specs.Jumps.{old_at, olds_at, IsSpliced, AreSpliced}
+use Rattle.splice_jump.specs.Jumps.{old_at, olds_at, IsSpliced}
 use Rattle.update_memory.specs.Rows.{olds_of}
 use Rattle.update_stack.specs.declared.updates.Kept.{Kept}
-use Rattle.update_stack.specs.AbstractMachine.{AbstractMachine, Update, is_home, bodies_in, contents_of, jump_row, jump_rows}
-use Rattle.update_stack.specs.Undo.{without_last, withdrawn, newest_update}
+use Rattle.update_stack.specs.AbstractMachine.{AbstractMachine, Update, contents_of, jump_row, jump_rows}
+use Rattle.update_stack.specs.Undo.{without_last, withdrawn}
 use Rattle.update_stack.specs.Uncovered.{HasOtherHomes}
 use Rattle.update_stack.specs.Stacked.{IsBuilt, AreKept, NoneKept, OneKept}
-use Rattle.update_stack.specs.laws.StackedLaws.{HasNewest, built_newest, built_sound}
+use Rattle.update_stack.specs.laws.StackedLaws.{built_newest, built_sound}
 use Rattle.update_stack.proofs.PlaceLaws.{last_parted, updates_left}
 use Rattle.update_stack.proofs.ApartLaws.{AllAway}
-use Rattle.update_stack.proofs.PastLaws.{IsAmong}
 use Rattle.update_stack.proofs.SiftLaws.{listed_parts}
 use Rattle.update_stack.proofs.ThereLaws.{built_names, listed_among}
 use Rattle.update_stack.proofs.StillKeptLaws.{live_homes}

@@ -181,7 +181,7 @@ all_last : {X : Type 0} (P : X → Type 0) (xs : List X) (x : X) → All P (xs +
 all_last P [] x all = All-head P x [] all
 all_last P (y ∷ ys) x all = all_last P ys x (All-tail P y (ys ++ x ∷ []) all)
 
-code_of_five : (kept : List Kept) (home : ℕ) (old five : List ℕ) (pieces : List Piece) → KeepsFive kept home old
+pub code_of_five : (kept : List Kept) (home : ℕ) (old five : List ℕ) (pieces : List Piece) → KeepsFive kept home old
     → length five ≡ length old → HasOldCode kept pieces → HasCode pieces home (length five)
 code_of_five kept home old five pieces keeps same code =
     let Each : Kept → Type 0 = λ one. All (HasJumpCode pieces) one.jumps in

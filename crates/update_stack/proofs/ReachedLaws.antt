@@ -77,18 +77,18 @@ seen_home homes ranges pc (Some code) some is =
     ap (λ (b : Bool). cond b AtHome
     (cond (list_any (lies_in pc) ranges) Stray (Bytes (window_of ranges pc code)))) is
 
-home_of_row : (k : AbstractMachine) (home : ℕ) → IsSound k → is_home k.table home ≡ true
+pub home_of_row : (k : AbstractMachine) (home : ℕ) → IsSound k → is_home k.table home ≡ true
     → IsSpliced (contents_of k) home
 home_of_row k home sound is =
     home_row k.table home (λ row. IsSpliced (contents_of k) row.0) sound.jumps.spliced.each is
 
-home_met : (k : AbstractMachine) (home : ℕ) → IsSound k → is_home k.table home ≡ true → view_in k home ≡ AtHome
+pub home_met : (k : AbstractMachine) (home : ℕ) → IsSound k → is_home k.table home ≡ true → view_in k home ≡ AtHome
 unfolding view_in view
 home_met k home sound is =
     seen_home (is_home k.table) k.retired home (code_from k.pieces home) (home_of_row k home sound is).code is
 
 -- one step leads on from there
-home_left : (k : AbstractMachine) (home base : ℕ) → IsSound k → is_home k.table home ≡ true → base_of k home ≡ base
+pub home_left : (k : AbstractMachine) (home base : ℕ) → IsSound k → is_home k.table home ≡ true → base_of k home ≡ base
     → (thread : Thread) → thread.pc ≡ home
     → step_in k thread ≡ left_by (contents_of k) (record thread { pc = base }) (Moved Plain)
 unfolding step_in

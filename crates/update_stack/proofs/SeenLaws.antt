@@ -3,28 +3,22 @@ use Rattle.std.proofs.Common.{◌≡◌, ℕ, ◌-◌, Bool, false, ◌&&◌, �
 use Rattle.std.proofs.Common.{get_or, Some, None}
 use Rattle.std.proofs.Common.{refl, sym, ◌∙◌, ap, subst, arith}
 use Rattle.std.specs.List.{last_or, slice_get}
-use Rattle.std.specs.List.Sorted.{IsPermutation}
 use Rattle.ks_base.specs.declared.places.Range.{Range}
-use Rattle.ks_base.specs.declared.refusals.Refusal.TheVariants.{NothingApplied}
 use Rattle.image_memory.specs.declared.types.Kind.{Kind}
 use Rattle.image_memory.specs.declared.types.Piece.{Piece}
 use Rattle.image_memory.specs.Ranges.{are_same}
 use Rattle.image_memory.specs.Contents.{piece_range}
 use Rattle.image_memory.specs.Access.{kind_of}
-use Rattle.ia32_step.specs.declared.types.Thread.{Thread}
 use Rattle.image_threads.specs.Program.{Program, WellPlaced}
 use Rattle.image_threads.specs.Spawning.{is_writable, is_stack, AreStacks}
 use Rattle.splice_jump.specs.Jumps.{jumped}
 use Rattle.stack_scan.specs.Standing.{thread_refusal}
 use Rattle.update_stack.specs.declared.updates.Update.{Update as Shown}
 use Rattle.update_stack.specs.declared.updates.Kept.{Kept}
-use Rattle.update_stack.specs.AbstractMachine.{AbstractMachine, Update, bodies_in, contents_of}
+use Rattle.update_stack.specs.AbstractMachine.{AbstractMachine, bodies_in, contents_of}
 use Rattle.update_stack.specs.StandsFor.{Seen, patched}
-use Rattle.update_stack.specs.Undo.{ranges_in, newest_update}
 use Rattle.update_stack.specs.Systems.{machine_of, Holds}
-use Rattle.update_stack.specs.Stacked.{IsKept, AreKept, NoneKept, OneKept}
 use Rattle.update_stack.specs.laws.StackedLaws.{built_sound}
-use Rattle.update_stack.proofs.LastLaws.{last_more}
 use Rattle.update_stack.proofs.FreshLaws.{all_have_stacks}
 use Rattle.update_stack.proofs.ThreadLaws.{DataStay, threads_stay}
 

@@ -1,31 +1,25 @@
 -- An update that stands among the live ones of a machine that is built, where no later one replaced a function that it
 -- replaced: its jumps are written over those of the machine without it, and no range that stays retired is one of its
 -- homes' alone.
-use Rattle.std.proofs.Common.{◌≡◌, ◌≢◌, ℕ, zero, suc, ◌+◌, ◌≤◌, ◌<◌, ◌||◌, Bool, true, false, not, List, [], ◌∷◌, ◌++◌, map}
-use Rattle.std.proofs.Common.{length, get_or, Some, None, refl, sym, ◌∙◌, ap, arith, subst, ◌⊎◌, inl, inr}
-use Rattle.std.specs.List.{All, AllPairs, Any, Contains, filter, fold, last_or, list_any}
+use Rattle.std.proofs.Common.{◌≡◌, ◌≢◌, ℕ, zero, suc, ◌+◌, ◌≤◌, ◌<◌, List, [], ◌∷◌, map}
+use Rattle.std.proofs.Common.{length, get_or, refl, sym, ◌∙◌, ap, arith, subst, ◌⊎◌}
+use Rattle.std.specs.List.{All, AllPairs, fold}
 use Rattle.std.proofs.lemmas.List.{length-map, get_or-map}
-use Rattle.std.proofs.lemmas.List.Elements.{All-contains, Contains-get_or}
-use Rattle.std.proofs.lemmas.List.Folds.{list_any-from_Any}
-use Rattle.std.proofs.lemmas.Bool.{false≢true}
-use Rattle.ks_base.specs.declared.places.Range.{Range}
 use Rattle.ks_base.specs.declared.reports.Replaced.{Replaced}
 use Rattle.image_memory.specs.declared.types.Piece.{Piece}
-use Rattle.image_memory.specs.declared.types.Fence.{Fence}
-use Rattle.image_memory.specs.Ranges.{Ascends, are_same, is_one_of}
-use Rattle.image_memory.specs.Contents.{Contents, IsValid, piece_range, fence_range}
+use Rattle.image_memory.specs.Ranges.{Ascends}
+use Rattle.image_memory.specs.Contents.{Contents, IsValid, piece_range}
 use Rattle.image_memory.specs.Access.{written}
 use Rattle.image_memory.specs.laws.AccessLaws.{Ascends-written}
-use Rattle.splice_jump.specs.Jumps.{jumped, unjumped, IsFenced, IsSpliced, AreSpliced}
-use Rattle.splice_jump.specs.laws.WriteLaws.{Away, jump_of, jumps_of, jumped_as}
+use Rattle.splice_jump.specs.Jumps.{jumped, unjumped, IsSpliced, AreSpliced}
+use Rattle.splice_jump.specs.laws.WriteLaws.{jump_of, jumps_of, jumped_as}
 use Rattle.splice_jump.specs.laws.RowLaws.{writes_apart}
-use Rattle.update_memory.specs.Withdrawn.{ranges_but}
-use Rattle.update_stack.specs.AbstractMachine.{AbstractMachine, Row, Update, is_home, bodies_in, fence_in, contents_of}
+use Rattle.update_stack.specs.AbstractMachine.{AbstractMachine, Row, Update, bodies_in}
 use Rattle.update_stack.specs.AbstractMachine.{with_replaced, jump_row, jump_rows}
-use Rattle.update_stack.specs.Undo.{without_base, withdrawn, newest_update}
+use Rattle.update_stack.specs.Undo.{without_base, withdrawn}
 use Rattle.update_stack.specs.Uncovered.{HasOtherHomes}
-use Rattle.update_stack.specs.laws.StackedLaws.{HasNewest, built_sound}
-use Rattle.update_stack.specs.laws.TableLaws.{all_read, homes_after, homes_spliced}
+use Rattle.update_stack.specs.laws.StackedLaws.{HasNewest}
+use Rattle.update_stack.specs.laws.TableLaws.{all_read, homes_spliced}
 use Rattle.update_stack.proofs.TableLaws.{IsTable, JumpsAdded, JumpsReplaced, table_stays, table_spliced, spliced_before}
 use Rattle.update_stack.proofs.TableLaws.{spliced_new, all_homes_more, jumps_stacked}
 use Rattle.update_stack.proofs.BuiltLaws.{built_table}

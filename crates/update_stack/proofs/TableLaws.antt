@@ -475,7 +475,7 @@ spliced_new contents table replaced once spliced = record {
   once = pairs_map jump_row (λ (a b : ℕ × ℕ). a.0 ≢ b.0) replaced once;
 }
 
-home_listed : (table : List Row) (home : ℕ) → is_home table home ≡ true
+pub home_listed : (table : List Row) (home : ℕ) → is_home table home ≡ true
     → Any (λ (row : ℕ × ℕ). row.0 ≡ home) (bodies_in table)
 home_listed table home there = read (Any-from_list_any (λ row. row.home == home) table there)
   where

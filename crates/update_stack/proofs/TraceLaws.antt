@@ -54,7 +54,7 @@ store_clear arena updates kept old (Some s) clear =
     clear_text s.address (byte_count s.width) kept old.contents.pieces clear
 
 -- five bytes are fetched at a spliced home
-five_fetched : (contents : Contents) (pc : ℕ) → IsSpliced contents pc → length (jump_at contents.pieces pc) ≡ 5
+pub five_fetched : (contents : Contents) (pc : ℕ) → IsSpliced contents pc → length (jump_at contents.pieces pc) ≡ 5
 five_fetched contents pc spliced = length-take-le 5 (unwrap_or (code_from contents.pieces pc) []) spliced.code
 
 -- as many bytes are fetched from memories in which the same is met, where at a home as many are

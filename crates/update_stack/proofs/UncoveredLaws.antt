@@ -154,7 +154,7 @@ own_put (new ∷ more) base (suc i) d once l =
     (λ j m e less within. once (suc j) (suc m) e (omega arith) (omega arith)) (omega arith)
 
 -- the newest update's bases are the last
-newest_leads : (k : AbstractMachine) (update : Update) → IsOnTop k update → All (LeadsThere k) update.report.replaced
+pub newest_leads : (k : AbstractMachine) (update : Update) → IsOnTop k update → All (LeadsThere k) update.report.replaced
 newest_leads k update top i d l =
     let one = get_or update.report.replaced i d in
     ap (λ t. newest_base (bodies_in t) one.home) top.table

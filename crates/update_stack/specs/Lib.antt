@@ -1,20 +1,23 @@
 -- Public clauses cite the abstract machine (AbstractMachine and its Events, by Steps, Apply and Undo), that new code is
--- reached (Reached) and stays so (Stays), that undoing restores what was (TakenBack), what stands for the machine
--- (StandsFor), also in each phase of its newest update (Phases), its steps beside those of a memory with its jumps
--- (Jumps), and a system seen as it (Systems), with what holds of it and of what it keeps (Stacked) and of updates that
--- can be taken out from among others (Uncovered). What `inside` holds is the code's own.
+-- reached (Reached) and stays so (Stays), what an accepted update lies on (Accepted), that undoing restores what was
+-- (TakenBack), what stands for the machine (StandsFor), its steps beside those of a memory with its jumps (Jumps), both
+-- also in each phase of its newest update (Phases and PhaseSteps), and a system seen as it (Systems), with what holds of
+-- it and of what it keeps (Stacked) and of updates that can be taken out from among others (Uncovered). What `inside`
+-- holds is the code's own.
 pub mod AbstractMachine
 pub mod Steps
 pub mod Apply
 pub mod Undo
 pub mod Events
 pub mod Reached
+pub mod Accepted
 pub mod Stays
 pub mod TakenBack
 pub mod StandsFor
 pub mod Jumps
 pub mod Stacked
 pub mod Phases
+pub mod PhaseSteps
 pub mod Uncovered
 pub mod Systems
 pub mod inside

@@ -64,3 +64,9 @@ pub record ReplacedOne (k : AbstractMachine) (home : ℕ) : Type 0 where
 -- a home that is open is that of the newest update
 abbrev pub IsOpenAt : Phase → AbstractMachine → Type 0
 IsOpenAt phase k = IfSome (open_home phase) (ReplacedOne k)
+
+-- A phase that a system may be put into: the newest update replaced one function, and the phase names no other home.
+pub record MayBecome (phase : Phase) (k : AbstractMachine) : Type 0 where
+  pub home : ℕ
+  pub replaced : ReplacedOne k home
+  pub named : IfSome (open_home phase) (λ other. other ≡ home)

@@ -13,6 +13,7 @@ ghost use Rattle.update_stack.specs.AbstractMachine.{AbstractMachine, contents_o
 ghost use Rattle.update_stack.specs.Apply.{planned_in, committed, applied};
 ghost use Rattle.update_stack.specs.Events.{Event, Step, Happened, answered, after_event};
 ghost use Rattle.update_stack.specs.Jumps.{CanJump, StepsStand};
+ghost use Rattle.update_stack.specs.PhaseSteps.{PhasesLeaveViews, StepsStandIn, OpenHomesLeadOn};
 ghost use Rattle.update_stack.specs.Reached.{LeadsTo, AreReached};
 ghost use Rattle.update_stack.specs.Stacked.{IsBuilt};
 ghost use Rattle.update_stack.specs.StandsFor.{patched};
@@ -24,8 +25,8 @@ use ia32_step::{code_bytes_have_no_say, steps_leave_code};
 use image_memory::pieces_stay_placed;
 use link_post::gaps_are_free;
 use splice_jump::{
-    code_stays_code, data_are_written_past_jumps, homes_stay_spliced, jumps_leave_views,
-    jumps_stand,
+    code_stays_code, data_are_written_past_jumps, homes_are_not_looked_at, homes_stay_spliced,
+    jumps_leave_views, jumps_stand,
 };
 use update_memory::{changes_are_withdrawn, pieces_are_added, ranges_are_retired};
 use update_plan::{plans_can_be_made, plans_replace_the_newest, replaced_functions_have_new_code};
@@ -45,6 +46,38 @@ pub fn steps_stand()
     code_stays_code();
     homes_stay_spliced();
 }
+
+/// In each phase of the newest update's jump a thread meets at each address what it meets on the machine: whatever five
+/// bytes stand at the home that is open, they aren't looked at.
+pub fn phases_leave_views()
+    ensures { PhasesLeaveViews }
+{
+    // Nothing is done here: the laws say that neither jumps nor the bytes at one of their homes change what is met.
+    jumps_leave_views();
+    homes_are_not_looked_at();
+    homes_stay_spliced();
+}
+
+/// In each phase of the newest update a thread that doesn't stand at the home that is open steps over the memory of that
+/// phase as on the machine: what is left is what the machine's step leaves, with the jumps and the phase's bytes.
+pub fn steps_stand_in()
+    ensures { StepsStandIn }
+{
+    // Nothing is done here: the laws say that a step stands where all the jumps do, and that whatever bytes stand at a
+    // home none looks at them, nor does an instruction that is carried out.
+    steps_stand();
+    code_bytes_have_no_say();
+    data_are_written_past_jumps();
+    code_stays_code();
+    homes_stay_spliced();
+    homes_are_not_looked_at();
+    jumps_leave_views();
+}
+
+/// At the home that is open the machine's step goes on at the newest version, and nothing else changes.
+pub fn open_homes_lead_on()
+    ensures { OpenHomesLeadOn }
+{}
 
 /// Whatever a thread does, its step leaves each piece of code, and each byte in it, as they were: those of the machine's
 /// text, and those of the memory that stands for it, with the jumps.

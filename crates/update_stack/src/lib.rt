@@ -2,6 +2,7 @@
 //! is never patched.
 #![tactic(auto)]
 
+mod accepted;
 mod carrying;
 mod covering;
 mod laws;
@@ -12,9 +13,10 @@ mod uncovered;
 mod updates;
 mod withdrawing;
 
+pub use crate::accepted::{accepted_updates_lie_on_top, retired_code_is_not_met};
 pub use crate::laws::{
-    accepted_code_is_reached, reached_code_stays, steps_stand, threads_leave_code,
-    updates_can_be_made,
+    accepted_code_is_reached, open_homes_lead_on, phases_leave_views, reached_code_stays,
+    steps_stand, steps_stand_in, threads_leave_code, updates_can_be_made,
 };
 pub use crate::taking_back::{machines_are_built, undo_restores};
 pub use crate::uncovered::uncovered_updates_can_go;

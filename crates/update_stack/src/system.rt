@@ -21,11 +21,12 @@ ghost use Rattle.update_stack.specs.Events.{Applied, Spawned, Stepped, Undone};
 ghost use Rattle.update_stack.specs.Events.{answered, after_event};
 ghost use Rattle.update_stack.specs.Stacked.{IsBuilt};
 ghost use Rattle.update_stack.specs.StandsFor.{patched, IsUntouched};
-ghost use Rattle.update_stack.specs.Phases.{StandsIn, phased};
+ghost use Rattle.update_stack.specs.Phases.{StandsIn, phased, patched_in, IsOpenAt, MayBecome};
 ghost use Rattle.splice_jump.specs.declared.phase.Phase.TheVariants.{Done};
+ghost use Rattle.splice_jump.specs.Phases.{open_home};
 ghost use Rattle.update_stack.specs.Undo.{newest_update, ranges_in, cover_refusal, need_refusal, withdrawn};
 ghost use Rattle.update_stack.specs.Undo.{named, undone_named, is_refused_by_name};
-ghost use Rattle.update_stack.specs.inside.Stepping.{ComesOfStep};
+ghost use Rattle.update_stack.specs.inside.Stepping.{ComesOfStep, StandsAway, StandsOpen, is_at};
 ghost use Rattle.i386_reloc.specs.Below.{first_of};
 ghost use Rattle.update_stack.specs.AbstractMachine.{Update as Live};
 
@@ -37,14 +38,16 @@ use crate::live::{
 };
 use crate::updates::{KeptList, Updates};
 use crate::withdrawing::{take_back, take_out, updates_are_taken_back};
-use ia32_step::{Outcome, Traced};
+use ia32_decode::jumps_decode;
+use ia32_step::{Outcome, State, Thread, Traced, code_bytes_have_no_say, steps_write_one_number};
 use image_memory::{Space, sorted};
 use image_threads::Machine;
 use ks_base::{Name, Range, Refusal, Report};
 use link_post::gaps_are_free;
 use splice_jump::{
-    Phase, code_stays_code, data_are_written_past_jumps, homes_stay_spliced,
-    jumps_change_their_bytes_alone, jumps_leave_views,
+    Phase, code_stays_code, data_are_written_past_jumps, homes_are_not_looked_at,
+    homes_stay_spliced, jumps_are_added_and_replaced, jumps_change_their_bytes_alone,
+    jumps_leave_views, jumps_stand, open_home, phase_bytes, restore,
 };
 use stack_scan::{check_threads, order_has_no_say};
 use std::alloc::{AllocError, Global};
@@ -113,6 +116,30 @@ impl<S: Space> System<S> {
         &self.machine
     }
 
+    /// The phase in which the jump of the newest update is written. A home that is open is the only one which that update
+    /// replaced.
+    pub fn phase(&self) -> Phase
+        ensures phase { result ≡ self.now.phase }
+        ensures opened { IsOpenAt self.now.phase self.now.machine }
+    {
+        self.phase
+    }
+
+    /// Writes the jump of the newest update, which replaced one function, as far as a phase says: the five bytes of that
+    /// phase stand at the function's home then. Nothing else changes. It takes no memory.
+    pub fn set_phase(&mut self, phase: Phase)
+        requires replaced { MayBecome phase self.old.machine }
+        ensures { self.new ≡ phased self.old.machine phase }
+    {
+        // The law says that the jump stays where it stands when it is written there again.
+        jumps_are_added_and_replaced();
+        let at = self.kept.len() - 1;
+        let jump = self.kept.as_slice()[at].jumps.as_slice()[0];
+        let bytes = phase_bytes(phase, jump.home, jump.base, jump.old);
+        restore(self.machine.space_mut(), jump.home, bytes);
+        self.phase = phase;
+    }
+
     /// The live updates, the oldest first.
     pub fn updates(&self) -> &Updates
         ensures { result.now ≡ map shown_update self.now.machine.updates }
@@ -161,10 +188,30 @@ impl<S: Space> System<S> {
         Ok(self.step_traced(thread)?.outcome)
     }
 
+    /// Steps the running thread of a number in any phase, as [`System::step`] does where no home is open. A thread that
+    /// stands at the open home goes on at the newest version, as it does at any home.
+    ///
+    /// Whatever the thread does, each piece of code and each byte in it stay as they are, the bytes of jumps and those of
+    /// the phase among them.
+    pub fn step_phased(&mut self, thread: u32) -> Result<Outcome, Refusal>
+        ensures answered { MatchResult result
+            (λ outcome. answered self.old.machine (Step thread) ≡ Ok (happened self.new.machine (Stepped outcome)))
+            (λ refusal. answered self.old.machine (Step thread) ≡ Err refusal) }
+        ensures phase { self.new.phase ≡ self.old.phase }
+        ensures refused { OnErr result (self.new ≡ self.old) }
+        ensures after { self.new.machine ≡ after_event self.old.machine (Step thread) }
+        ensures runs { is_ok result ≡ is_some (running_at self.old.machine.threads thread) }
+        ensures code_stays { KeepsCode (patched_in self.old.phase self.old.machine).pieces
+            (patched_in self.new.phase self.new.machine).pieces }
+        ensures text_stays { KeepsCode self.old.machine.pieces self.new.machine.pieces }
+    {
+        Ok(self.step_traced(thread)?.outcome)
+    }
+
     /// Steps the running thread of a number, as [`System::step`] does, and answers what it wrote and how many bytes it
-    /// fetched beside what it came to. At the home of a replaced function these are the five of the jump.
+    /// fetched beside what it came to, in any phase. At the home of a replaced function these are the five of the jump, also
+    /// where that isn't wholly written.
     pub fn step_traced(&mut self, thread: u32) -> Result<Traced, Refusal>
-        requires done { self.old.phase ≡ Done }
         ensures answered { MatchResult result
             (λ traced. answered self.old.machine (Step thread) ≡ Ok (happened self.new.machine (Stepped traced.outcome)))
             (λ refusal. answered self.old.machine (Step thread) ≡ Err refusal) }
@@ -181,29 +228,85 @@ impl<S: Space> System<S> {
         ensures refused { OnErr result (self.new ≡ self.old) }
         ensures after { self.new.machine ≡ after_event self.old.machine (Step thread) }
         ensures runs { is_ok result ≡ is_some (running_at self.old.machine.threads thread) }
-        ensures code_stays { KeepsCode (patched self.old.machine).pieces (patched self.new.machine).pieces }
+        ensures code_stays { KeepsCode (patched_in self.old.phase self.old.machine).pieces
+            (patched_in self.new.phase self.new.machine).pieces }
         ensures text_stays { KeepsCode self.old.machine.pieces self.new.machine.pieces }
     {
-        // The law says that a step leaves code as it is where the machine is built, and the program stands for such a one.
+        // The law says that a step leaves code as it is where the machine is built. The program stands for such a one, in
+        // a phase whose open home is that of its newest update.
         threads_leave_code();
         let _program = self.machine();
+        let _phase = self.phase;
         self.step_program(thread)
     }
 
     /// Steps a thread of the program.
     fn step_program(&mut self, thread: u32) -> Result<Traced, Refusal>
-        requires done { self.old.phase ≡ Done }
         ensures comes { ComesOfStep self.old.machine self.new.machine thread result }
         ensures phase { self.new.phase ≡ self.old.phase }
         ensures refused { OnErr result (self.new ≡ self.old) }
     {
-        // The laws say that the machine makes the same step, and that what is reported of it is so of the machine's
-        // memory.
+        match self.open_base(thread) {
+            Some(base) => self.step_on(thread, base),
+            None => self.step_away(thread),
+        }
+    }
+
+    /// The newest version, where the running thread of a number stands at the home that is open.
+    fn open_base(&self, thread: u32) -> Option<u32>
+        ensures { MatchOption result
+            (StandsAway self.now.phase self.now.machine.threads thread)
+            (StandsOpen self.now.phase self.now.machine thread) }
+    {
+        let home = open_home(self.phase)?;
+        if !stands_at(self.machine.threads().as_slice(), thread, home) {
+            return None;
+        }
+        let at = self.updates.len() - 1;
+        Some(self.updates.as_slice()[at].report.replaced.as_slice()[0].base)
+    }
+
+    /// Sends a thread on from the open home to the newest version, as the jump will once it stands there.
+    fn step_on(&mut self, thread: u32, base: u32) -> Result<Traced, Refusal>
+        requires open { StandsOpen self.old.phase self.old.machine thread base }
+        ensures comes { ComesOfStep self.old.machine self.new.machine thread result }
+        ensures phase { self.new.phase ≡ self.old.phase }
+        ensures refused { OnErr result (self.new ≡ self.old) }
+    {
+        // The laws say that over the memory with all the jumps a step comes to the same.
         steps_stand();
         jumps_leave_views();
         data_are_written_past_jumps();
         code_stays_code();
         homes_stay_spliced();
+        code_that_stays();
+        jumps_decode();
+        jumps_stand();
+        let outcome = self.machine.jump_thread(thread, base)?;
+        Ok(Traced {
+            outcome,
+            store: None,
+            fetched: 5,
+        })
+    }
+
+    /// Steps a thread that doesn't stand at an open home.
+    fn step_away(&mut self, thread: u32) -> Result<Traced, Refusal>
+        requires away { StandsAway self.old.phase self.old.machine.threads thread }
+        ensures comes { ComesOfStep self.old.machine self.new.machine thread result }
+        ensures phase { self.new.phase ≡ self.old.phase }
+        ensures refused { OnErr result (self.new ≡ self.old) }
+    {
+        // The laws say that the machine makes the same step, that the bytes at the open home have no say in it, and that
+        // what is reported of it is so of the machine's memory.
+        steps_stand();
+        steps_write_one_number();
+        jumps_leave_views();
+        data_are_written_past_jumps();
+        code_stays_code();
+        homes_stay_spliced();
+        homes_are_not_looked_at();
+        code_bytes_have_no_say();
         code_that_stays();
         self.machine.step_traced(thread)
     }
@@ -472,5 +575,15 @@ impl<S: Space> System<S> {
             symbols,
         );
         Ok(report)
+    }
+}
+
+/// Whether the running thread of a number stands at an address.
+fn stands_at(threads: &[Thread], number: u32, address: u32) -> bool
+    ensures { result ≡ is_at address (running_at threads.now number) }
+{
+    match threads.get(number as usize) {
+        Some(thread) => thread.state == State::Running && thread.pc == address,
+        None => false,
     }
 }

@@ -1,6 +1,6 @@
 -- What taking an update back comes to, part by part. It is told by its place among the live ones: those before it, it
 -- itself, and those after it.
-use Rattle.std.specs.Prelude.{◌≡◌, ◌≢◌, ℕ, ◌+◌, ◌-◌, ◌≤◌, false, List, ◌∷◌, ◌++◌, length, Option, Some, None}
+use Rattle.std.specs.Prelude.{◌≡◌, ◌≢◌, ℕ, ◌-◌, ◌≤◌, false, List, ◌∷◌, ◌++◌, length, Option, Some, None}
 use Rattle.std.specs.Prelude.{Result, Ok, Err}
 use Rattle.std.specs.List.{All, AllPairs, flat_map}
 use Rattle.ks_base.specs.declared.places.Range.{Range}
