@@ -1,0 +1,6 @@
+pub mod ByteLaws
+pub mod ChangeLaws
+pub mod EventLaws
+pub mod LiveLaws
+pub mod MarkLaws
+pub mod SystemLaws
