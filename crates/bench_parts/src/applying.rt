@@ -24,7 +24,13 @@ fn session_after(alloc: Global, image: &[u8], script: &[u8]) -> Result<Session, 
 
 /// Replaces functions of a program, and tries it once more, on what it is then, where memory ran out.
 fn tried(session: Session, name: &Name, pre: &[u8], post: &[u8]) -> Tried {
-    let (mut system, _watch) = session.into_parts();
+    let (mut live, _watch) = session.into_parts();
+    if let Err(refusal) = live.check_closed() {
+        return (Err(refusal), 1);
+    }
+    let Some(system) = live.system_mut() else {
+        unreachable!()
+    };
     match system.apply(name, pre, post) {
         Err(Refusal::Memory) => (system.apply(name, pre, post), 2),
         came => (came, 1),

@@ -28,7 +28,7 @@ alike_back p q x alike = record {
   byte = λ good. sym (alike.byte (ap unreadable (sym alike.kind) ∙ good));
 }
 
-faults_same : (p q : List Piece) (a n : ℕ)
+pub faults_same : (p q : List Piece) (a n : ℕ)
     → AreAlikeFrom p q a n → first_fault (read_fault p) a n ≡ first_fault (read_fault q) a n
 unfolding first_fault
 faults_same p q a zero alike = refl
@@ -68,7 +68,7 @@ holds_same p q a value alike =
     by (Some fault) is = refl
     by None is = ap (λ (n : ℕ). n == value) (dword_same p q a alike is)
 
-kinds_written : (start : ℕ) (bytes : List ℕ) (pieces : List Piece) (x : ℕ)
+pub kinds_written : (start : ℕ) (bytes : List ℕ) (pieces : List Piece) (x : ℕ)
     → option_map kind_of (holding (written start bytes pieces) x) ≡ option_map kind_of (holding pieces x)
 kinds_written start bytes [] x = refl
 kinds_written start bytes (p ∷ ps) x =

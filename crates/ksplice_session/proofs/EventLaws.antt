@@ -21,7 +21,7 @@ use Rattle.frame_watch.specs.declared.types.Verdict.TheVariants.{Disciplined}
 use Rattle.frame_watch.specs.Frames.{Watched as WatchedThread, Watching, started, with_started, watched_at}
 use Rattle.frame_watch.specs.Frames.{frames_in, frames_at, keeps_slots}
 use Rattle.frame_watch.specs.Discipline.{spawn_noted}
-use Rattle.ksplice_session.specs.Answers.{watched}
+use Rattle.ksplice_session.proofs.WatchedLaws.{watched}
 use Rattle.ksplice_session.specs.Watching.{Watched, sight_in}
 use Rattle.ksplice_session.specs.Safety.{frames_of}
 use Rattle.ksplice_session.proofs.Lookups.{IsOneOf, is_contained, All-of_list_all, All-at, read_last, read_more}
@@ -44,7 +44,7 @@ agree_by o p a b same_thread same_watch agree =
     (subst (λ (y : Option WatchedThread). Agree o y) (sym same_watch) agree)
 
 pub same_windows : (s : Watched) (now : AbstractMachine) (w : Watching) → SameWindows s.machine now → (address : ℕ)
-    → Keeps s (watched now w) address
+    → Keeps s (watched s now w) address
 same_windows s now w same address has = same address ∙ has
 
 module _ (s : Watched) (event : Event) (moment : IsMoment s) where
@@ -65,9 +65,9 @@ module _ (s : Watched) (event : Event) (moment : IsMoment s) where
       → KeepsSlots s.machine now → KeepsWindows ranges s.machine now
       → ((n : ℕ) (thread : Thread) → running_at s.machine.threads n ≡ Some thread
       → IsOutside ranges thread (frames_of s n))
-      → ((n : ℕ) → event ≡ Step n → ⊥) → Next s event (watched now w)
+      → ((n : ℕ) → event ≡ Step n → ⊥) → Next s event (watched s now w)
   update_next now ranges w threads stacks same_watch same_verdict slots windows outside no_step =
-      let same_frames : (n : ℕ) → frames_of (watched now w) n ≡ frames_of s n =
+      let same_frames : (n : ℕ) → frames_of (watched s now w) n ≡ frames_of s n =
       (λ n. ap (λ (ts : List WatchedThread). frames_at ts n) same_watch) in
       let same_runs : (n : ℕ) → running_at now.threads n ≡ running_at s.machine.threads n =
       (λ n. ap (λ (ts : List Thread). running_at ts n) threads) in
@@ -128,7 +128,7 @@ module _ (s : Watched) (event : Event) (moment : IsMoment s) where
       → now.stacks ≡ s.machine.stacks → thread.number ≡ length s.machine.threads → runs thread ≡ true
       → IsOneOf s.machine.stacks thread.stack → SameWindows s.machine now → ((n : ℕ) → event ≡ Step n → ⊥)
       → (spawn_noted (sight_in now) thread s.watch).verdict ≡ Disciplined
-      → Next s event (watched now (spawn_noted (sight_in now) thread s.watch))
+      → Next s event (watched s now (spawn_noted (sight_in now) thread s.watch))
   start_next now thread threads stacks number starts listed windows no_step unbroken = (
     record {
       unbroken = unbroken;
@@ -143,7 +143,7 @@ module _ (s : Watched) (event : Event) (moment : IsMoment s) where
       slots = subst (KeepRule now.pieces) (sym goes.1.kept) goes.1.slots;
     },
     record {
-      changes = here_or_not (Change s (watched now new) event) thread.number
+      changes = here_or_not (Change s (watched s now new) event) thread.number
           (Begins (esp_of thread) thread rested (no_frames s.watch.threads thread.number unwatched) run_here
           (ap frames_in watch_here) goes.0)
           (λ n differ. Stays (λ steps. absurd (no_step n steps)) (run_there n differ)

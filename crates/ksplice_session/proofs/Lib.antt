@@ -3,6 +3,7 @@ pub mod Ranges
 pub mod WatchedLaws
 pub mod RunLaws
 pub mod AnswerLaws
+pub mod LiveAnswers
 pub mod TryLaws
 pub mod SessionLaws
 pub mod Lookups
@@ -24,5 +25,7 @@ pub mod StackLaws
 pub mod MoveLaws
 pub mod StartLaws
 pub mod UpdateLaws
+pub mod NewestLaws
+pub mod PhaseLaws
 pub mod PremiseLaws
 pub mod RanLaws

@@ -9,7 +9,7 @@ use Rattle.ks_base.specs.declared.places.Range.{Range}
 use Rattle.ks_base.specs.declared.refusals.Refusal.{Refusal}
 use Rattle.image_memory.specs.declared.types.Piece.{Piece}
 use Rattle.image_memory.specs.Ranges.{meets}
-use Rattle.image_memory.specs.Contents.{Contents, IsValid, ArePlaced}
+use Rattle.image_memory.specs.Contents.{Contents, ArePlaced}
 use Rattle.ia32_decode.specs.declared.types.Decoded.{Decoded}
 use Rattle.ia32_decode.specs.Widths.{byte_count}
 use Rattle.ia32_step.specs.declared.types.Flow.TheVariants.{Call}
@@ -24,11 +24,12 @@ use Rattle.ia32_step.specs.Step.{Left, after_store, stepped, fetched_count}
 use Rattle.ia32_step.specs.Threads.{esp_of}
 use Rattle.ia32_step.specs.laws.OperandLaws.{length-spelled}
 use Rattle.image_threads.specs.Program.{if_running, running_at, AreNumbered}
-use Rattle.splice_jump.specs.Jumps.{jumped_memory}
+use Rattle.splice_jump.specs.declared.phase.Phase.{Phase}
 use Rattle.update_stack.specs.AbstractMachine.{AbstractMachine, bodies_in, contents_of}
 use Rattle.update_stack.specs.Events.{Step, Stepped, happened, step_answered, answered}
 use Rattle.update_stack.specs.Jumps.{CanJump, StepsStand, jumped_left}
 use Rattle.update_stack.specs.Stacked.{IsBuilt}
+use Rattle.update_stack.specs.Phases.{patched_in, IsOpenAt}
 use Rattle.update_stack.specs.StandsFor.{patched}
 use Rattle.update_stack.specs.Steps.{step_in, after_step, moved_by, moved}
 use Rattle.update_stack.specs.laws.StackedLaws.{built_sound}
@@ -36,12 +37,12 @@ use Rattle.update_safety.specs.Windows.{StepsKeepWindows, FetchedHaveWindows}
 use Rattle.frame_watch.specs.Conditions.{HasPushed, IsStepOf, IsStep, touches, HoldBut, HaveWindows}
 use Rattle.frame_watch.specs.Discipline.{sight_of, step_noted}
 use Rattle.frame_watch.specs.Frames.{Watched as WatchedThread, Watching, without_thread, keeps_slots}
-use Rattle.ksplice_session.specs.Answers.{watched}
+use Rattle.ksplice_session.proofs.WatchedLaws.{watched}
 use Rattle.ksplice_session.specs.Watching.{Watched, sight_in, step_seen, watched_by, watched_after}
 use Rattle.ksplice_session.specs.inside.InStep.{IsInStep}
 use Rattle.ksplice_session.proofs.ByteLaws.{holds_same, alike_written}
 use Rattle.ksplice_session.proofs.SightLaws.{step_alike}
-use Rattle.ksplice_session.proofs.SeenLaws.{JumpLaws, jumps_alike}
+use Rattle.ksplice_session.proofs.SeenLaws.{JumpLaws, phases_alike, phase_readable}
 use Rattle.ksplice_session.proofs.StackLaws.{frames_hold}
 use Rattle.ksplice_session.proofs.TestedLaws.{step_left}
 use Rattle.ksplice_session.proofs.WatchLaws.{RunsIn, runs_in, slots_in, left_in_step, its_thread}
@@ -58,7 +59,6 @@ pub record StepLaws : Type 0 where
   pub falls : (thread : Thread) (call : Decoded) (after : Left)
       → IsCalled thread call after → ArePlaced after.contents.pieces
       → esp_of thread < 2 ^ 32 → esp_of after.thread + 4 ≡ esp_of thread
-  pub valid : (contents : Contents) (rows : List (ℕ × ℕ)) → IsValid contents → IsValid (jumped_memory rows contents)
 
 -- what a step wrote meets no slot outside it
 outside : (a n slot x : ℕ) → meets (let r : Range = record { low = a; high = a + n } in r)
@@ -84,7 +84,7 @@ pub record IsMade (memory : Contents) (k now : AbstractMachine)
   pub kept : IsInStep now (step_noted (sight_in now) before after outcome w)
 
 module _
-    (jumps : JumpLaws) (laws : StepLaws) (k : AbstractMachine) (w : Watching) (n : ℕ) (before : Thread)
+    (jumps : JumpLaws) (laws : StepLaws) (phase : Phase) (k : AbstractMachine) (w : Watching) (n : ℕ) (before : Thread)
     (built : IsBuilt k)
     (in_step : IsInStep k w) (numbered : AreNumbered 0 k.threads) (got : slice_get k.threads n ≡ Some before)
     (was : running_at k.threads n ≡ Some before)
@@ -118,20 +118,32 @@ module _
           subst (IsCalled before call) stands is in
           record {
             esp = laws.falls before call (jumped_left (bodies_in k.table) left) called
-                (laws.valid (contents_of now) (bodies_in k.table) (built_sound now built_now).jumps.valid).placed esp;
+                (jumps.valid (contents_of now) (bodies_in k.table) (built_sound now built_now).jumps.valid).placed esp;
             readable = called.readable;
           }
 
-  is_step : IsBuilt now → IsStep (patched now).pieces before left.thread left.outcome w.threads
-  is_step built_now = record {
+  -- and it can be read in each phase
+  pushed_in : IsBuilt now → IsOpenAt phase now → left.outcome ≡ Moved Call
+      → HasPushed (patched_in phase now).pieces before left.thread
+  pushed_in built_now opened is =
+      let there = pushed built_now is in
+      record {
+        esp = there.esp;
+        readable = phase_readable jumps now built_now phase (esp_of left.thread) opened there.readable;
+      }
+
+  is_step : IsBuilt now → IsOpenAt phase now
+      → IsStep (patched_in phase now).pieces before left.thread left.outcome w.threads
+  is_step built_now opened = record {
     number = kept.number;
     stepped = All-weaker (RunsIn k.threads) (λ watched. watched.thread ≡ before.number
-        → IsStepOf (patched now).pieces before left.thread left.outcome watched)
+        → IsStepOf (patched_in phase now).pieces before left.thread left.outcome watched)
         each w.threads (runs_in k w in_step);
   }
     where
       each : (watched : WatchedThread) → RunsIn k.threads watched
-          → watched.thread ≡ before.number → IsStepOf (patched now).pieces before left.thread left.outcome watched
+          → watched.thread ≡ before.number
+          → IsStepOf (patched_in phase now).pieces before left.thread left.outcome watched
       each watched is of =
           let r = its_thread k.threads watched is in
           let same : before ≡ r.thread =
@@ -139,27 +151,28 @@ module _
           record {
             stack = r.same.stack ∙ ap (λ (t : Thread). t.stack) (sym same);
             esp = r.same.esp ∙ ap esp_of (sym same);
-            pushed = pushed built_now;
+            pushed = pushed_in built_now opened;
           }
 
-  is_held : IsBuilt now → (store : Option Store) → now.pieces ≡ (after_store (contents_of k) store).pieces
-      → HoldBut (patched now).pieces w.threads store
-  is_held built_now store wrote =
+  is_held : IsBuilt now → IsOpenAt phase now → (store : Option Store)
+      → now.pieces ≡ (after_store (contents_of k) store).pieces
+      → HoldBut (patched_in phase now).pieces w.threads store
+  is_held built_now opened store wrote =
       All-weaker (λ watched. IsTrue (keeps_slots k.pieces watched)) (λ watched. All (λ (frame : Frame).
-      touches store frame.slot ≡ false → holds_dword (patched now).pieces frame.slot frame.address ≡ true)
+      touches store frame.slot ≡ false → holds_dword (patched_in phase now).pieces frame.slot frame.address ≡ true)
       watched.frames)
       (λ watched keeps. All-weaker (λ (frame : Frame). (is_slot watched.stack watched.esp frame.slot ≡ true)
       × (holds_dword k.pieces frame.slot frame.address ≡ true))
       (λ (frame : Frame). touches store frame.slot ≡ false
-      → holds_dword (patched now).pieces frame.slot frame.address ≡ true)
+      → holds_dword (patched_in phase now).pieces frame.slot frame.address ≡ true)
       (each watched.stack watched.esp) watched.frames (frames_hold k.pieces watched keeps)) w.threads
       (slots_in k w in_step)
     where
       each : (s : Range) (e : ℕ) (frame : Frame)
           → (is_slot s e frame.slot ≡ true) × (holds_dword k.pieces frame.slot frame.address ≡ true)
-          → touches store frame.slot ≡ false → holds_dword (patched now).pieces frame.slot frame.address ≡ true
+          → touches store frame.slot ≡ false → holds_dword (patched_in phase now).pieces frame.slot frame.address ≡ true
       each s e frame is apart =
-          (jumps_alike jumps now built_now).holds frame.slot frame.address
+          (phases_alike jumps now built_now phase opened).holds frame.slot frame.address
           ∙ ap (λ (pieces : List Piece). holds_dword pieces frame.slot frame.address) wrote
           ∙ untouched (contents_of k) store frame.slot frame.address apart ∙ is.1
 
@@ -175,14 +188,16 @@ module _
       (sym (kept.number ∙ own))
       (without_runs k.threads n left.thread w.threads (runs_in k w in_step))))
 
-  is_made : IsBuilt now → (store : Option Store) → now.pieces ≡ (after_store (contents_of k) store).pieces
-      → IsMade (patched now) k now w before left.thread left.outcome store
-  is_made built_now store wrote = record {
-    step = is_step built_now;
-    held = is_held built_now store wrote;
+  is_made : IsBuilt now → IsOpenAt phase now → (store : Option Store)
+      → now.pieces ≡ (after_store (contents_of k) store).pieces
+      → IsMade (patched_in phase now) k now w before left.thread left.outcome store
+  is_made built_now opened store wrote = record {
+    step = is_step built_now opened;
+    held = is_held built_now opened store wrote;
     same = step_alike
-        (sight_of (patched now)) (sight_in now) (jumps_alike jumps now built_now) before left.thread left.outcome w
-        (λ is. (pushed built_now is).readable);
+        (sight_of (patched_in phase now)) (sight_in now) (phases_alike jumps now built_now phase opened)
+        before left.thread left.outcome w
+        (λ is. (pushed_in built_now opened is).readable);
     kept = is_kept;
   }
 
@@ -214,40 +229,46 @@ after_got k now n before outcome got of =
 
 -- Where more than five bytes were fetched there is a window at each of them after the step, in memory with its jumps.
 pub fetched_windows : JumpLaws → StepsKeepWindows
-    → FetchedHaveWindows → (k now : AbstractMachine) (n : ℕ) (before : Thread) (outcome : Outcome) (count : ℕ)
+    → FetchedHaveWindows
+    → (phase : Phase) (k now : AbstractMachine) (n : ℕ) (before : Thread) (outcome : Outcome) (count : ℕ)
     → IsBuilt k
-    → IsBuilt now → slice_get k.threads n ≡ Some before → answered k (Step n) ≡ Ok (happened now (Stepped outcome))
+    → IsBuilt now → IsOpenAt phase now → slice_get k.threads n ≡ Some before
+    → answered k (Step n) ≡ Ok (happened now (Stepped outcome))
     → IsSomeAnd (running_at k.threads n) (λ running. count ≡ fetched_count (contents_of k) running)
-    → 5 < count → HaveWindows (patched now) before.pc count
-fetched_windows jumps stay fetched k now n before outcome count built built_now got is told many address from to =
+    → 5 < count → HaveWindows (patched_in phase now) before.pc count
+fetched_windows jumps stay fetched phase k now n before outcome count built built_now opened got is told many address
+    from to =
     let of = step_of k now n before outcome got is in
     let same : count ≡ fetched_count (contents_of k) before =
     subst (λ (o : Option Thread). IsSomeAnd o (λ running. count ≡ fetched_count (contents_of k) running)) of.was told in
-    (jumps_alike jumps now built_now).windows address ∙ stay k n (happened now (Stepped outcome)) is address
+    (phases_alike jumps now built_now phase opened).windows address
+    ∙ stay k n (happened now (Stepped outcome)) is address
     ∙ fetched k before address built (subst (λ (m : ℕ). 5 < m) same many) from
     (subst (λ (m : ℕ). address < before.pc + m) same to)
 
-pub step_made : JumpLaws → StepLaws
+pub step_made : JumpLaws → StepLaws → (phase : Phase)
     → (k now : AbstractMachine) (w : Watching) (n : ℕ) (before after : Thread) (outcome : Outcome)
     (store : Option Store)
     (memory : Contents)
-    → IsBuilt k → IsBuilt now → IsInStep k w → AreNumbered 0 k.threads → slice_get k.threads n ≡ Some before
+    → IsBuilt k → IsBuilt now → IsOpenAt phase now → IsInStep k w → AreNumbered 0 k.threads
+    → slice_get k.threads n ≡ Some before
     → answered k (Step n) ≡ Ok (happened now (Stepped outcome)) → slice_get now.threads n ≡ Some after
     → length before.registers ≡ 8 → esp_of before < 2 ^ 32 → now.pieces ≡ (after_store (contents_of k) store).pieces
-    → memory ≡ patched now → IsMade memory k now w before after outcome store
-step_made jumps laws k now
-    w n before after outcome store memory built built_now in_step numbered got is got_after registers esp wrote there =
+    → memory ≡ patched_in phase now → IsMade memory k now w before after outcome store
+step_made jumps laws phase k now
+    w n before after outcome store memory built built_now opened in_step numbered got is got_after registers esp wrote
+    there =
     let of = step_of k now n before outcome got is in
     let left = step_in k before in
     let next = after_step k n left in
     let same : left.thread ≡ after =
     same_Some left.thread after (sym (after_got k now n before outcome got of) ∙ got_after) in
     subst (λ (m : Contents). IsMade m k now w before after outcome store) (sym there)
-    (subst (λ (m : AbstractMachine). IsMade (patched m) k m w before after outcome store) (sym of.left)
-    (subst (λ (o : Outcome). IsMade (patched next) k next w before after o store) (sym of.came)
-    (subst (λ (t : Thread). IsMade (patched next) k next w before t left.outcome store) same
-    (is_made jumps laws k w n before built in_step numbered got of.was registers esp
-    (subst IsBuilt of.left built_now) store
+    (subst (λ (m : AbstractMachine). IsMade (patched_in phase m) k m w before after outcome store) (sym of.left)
+    (subst (λ (o : Outcome). IsMade (patched_in phase next) k next w before after o store) (sym of.came)
+    (subst (λ (t : Thread). IsMade (patched_in phase next) k next w before t left.outcome store) same
+    (is_made jumps laws phase k w n before built in_step numbered got of.was registers esp
+    (subst IsBuilt of.left built_now) (subst (IsOpenAt phase) of.left opened) store
     (ap (λ (m : AbstractMachine). m.pieces) (sym of.left) ∙ wrote)))))
 
 -- a step that was made has its thread after it
@@ -262,10 +283,10 @@ pub step_watched : (s : Watched) (now : AbstractMachine) (v : Watching) (n : ℕ
     (outcome : Outcome)
     → answered s.machine (Step n) ≡ Ok (happened now (Stepped outcome)) → slice_get s.machine.threads n ≡ Some before
     → slice_get now.threads n ≡ Some after → v ≡ step_noted (sight_in now) before after outcome s.watch
-    → watched now v ≡ watched_after s (Step n)
+    → watched s now v ≡ watched_after s (Step n)
 unfolding watched_after
 step_watched s now v n before after outcome is got got_after noted =
-    ap (watched now)
+    ap (watched s now)
     (noted ∙ sym (ap (λ (o : Option Thread). step_seen (sight_in now) o (Some after) outcome s.watch) got)
     ∙ sym (ap
     (λ (o : Option Thread). step_seen (sight_in now) (slice_get s.machine.threads n) o outcome s.watch) got_after))

@@ -18,7 +18,7 @@ use Rattle.update_safety.specs.Clear.{newest_retired}
 use Rattle.frame_watch.specs.declared.types.Verdict.TheVariants.{Disciplined}
 use Rattle.frame_watch.specs.Frames.{Watching}
 use Rattle.frame_watch.specs.Discipline.{spawn_noted, step_noted, counted}
-use Rattle.ksplice_session.specs.Answers.{watched}
+use Rattle.ksplice_session.proofs.WatchedLaws.{watched}
 use Rattle.ksplice_session.specs.Watching.{Watched, sight_in, start_seen, step_seen, seen, watched_by, watched_after}
 use Rattle.ksplice_session.specs.Safety.{frames_of, outcome_in, outcome_by, step_outcome}
 use Rattle.ksplice_session.proofs.Lookups.{set_here, read_last, found_at}
@@ -50,7 +50,7 @@ module _ (laws : Premises) (s : Watched) (moment : IsMoment s) (built : IsBuilt 
       ≡ spawn_noted (sight_in now.machine) thread s.watch =
       ap (λ (a : Answer). seen s.machine event now.machine a s.watch) gives.answer
       ∙ ap (λ (o : Option Thread). start_seen (sight_in now.machine) o s.watch) at in
-      subst (λ (w : Watching). Next s event (watched now.machine w)) (sym same)
+      subst (λ (w : Watching). Next s event (watched s now.machine w)) (sym same)
       (start_next s event moment now.machine thread (ap (λ (k : AbstractMachine). k.threads) gives.machine)
       (ap (λ (k : AbstractMachine). k.stacks) gives.machine) refl refl
       (found_at (λ range. not (is_taken s.machine.threads range)) s.machine.stacks gives.stack gives.free)
@@ -100,7 +100,7 @@ module _ (laws : Premises) (s : Watched) (moment : IsMoment s) (built : IsBuilt 
             (ap outcome_by is ∙ ap outcome_in gives.answer);
         windows = laws.steps s.machine n now is;
       } in
-      subst (λ (w : Watching). Next s (Step n) (watched now.machine w)) (sym same)
+      subst (λ (w : Watching). Next s (Step n) (watched s now.machine w)) (sym same)
       (step_next s (Step n) moment gives.before left.thread left.outcome now.machine step
       (subst (λ (w : Watching). w.verdict ≡ Disciplined) same unbroken))
 
@@ -111,7 +111,7 @@ module _ (laws : Premises) (s : Watched) (moment : IsMoment s) (built : IsBuilt 
       let event = Apply name pre post in
       let gives = apply_gives s.machine name pre post now is in
       let same = gives.seen event s.watch in
-      subst (λ (w : Watching). Next s event (watched now.machine w)) (sym same)
+      subst (λ (w : Watching). Next s event (watched s now.machine w)) (sym same)
       (update_next s event moment now.machine (newest_retired now.machine) (counted s.watch) gives.threads gives.stacks
       refl refl (laws.update_slots s.machine name pre post now built later is)
       (laws.updates s.machine name pre post now built is)
@@ -130,7 +130,7 @@ module _ (laws : Premises) (s : Watched) (moment : IsMoment s) (built : IsBuilt 
       let update = undone.update in
       let left = undone.left in
       let same = left.seen event s.watch in
-      subst (λ (w : Watching). Next s event (watched now.machine w)) (sym same)
+      subst (λ (w : Watching). Next s event (watched s now.machine w)) (sym same)
       (update_next s event moment now.machine (ranges_in s.machine update) (counted s.watch) left.threads left.stacks
       refl refl (laws.undo_slots s.machine event update now built later undone.taken is)
       (laws.undos s.machine event update now built undone.taken is)

@@ -11,19 +11,21 @@ use Rattle.ksplice_session.specs.Replies.{told_of}
 use Rattle.ksplice_session.specs.Lines.{watch_line}
 use Rattle.ksplice_session.specs.Session.{Ran, Played, nothing_played, play_line, played, events_along}
 use Rattle.ksplice_session.specs.Premise.{TellsDiscipline}
-use Rattle.ksplice_session.proofs.WatchedLaws.{watched_after_both}
+use Rattle.ksplice_session.proofs.PhaseLaws.{unphased, turned_unphased, onward}
 
+-- but for the phase
 lines_leave : (p : Played) (ran : List Ran)
-    → (fold play_line p ran).session ≡ watched_after_all p.session (events_along p.session ran)
+    → unphased (fold play_line p ran).session ≡ unphased (watched_after_all p.session (events_along p.session ran))
 unfolding watched_after_all events_along
 lines_leave p [] = refl
 lines_leave p (one ∷ later) =
+    let told = told_of p.session one.line one.held in
     lines_leave (play_line p one) later
-    ∙ sym (watched_after_both p.session (told_of p.session one.line one.held).events
-    (events_along (play_line p one).session later))
+    ∙ onward p.session (play_line p one).session told.events (events_along (play_line p one).session later)
+    (turned_unphased told.turns (watched_after_all p.session told.events))
 
 pub lines_are_their_events : (k : Watched) (ran : List Ran)
-    → (played k ran).session ≡ watched_after_all k (events_along k ran)
+    → unphased (played k ran).session ≡ unphased (watched_after_all k (events_along k ran))
 unfolding played
 lines_are_their_events k ran = lines_leave (nothing_played k) ran
 
@@ -43,7 +45,8 @@ tells_discipline k before held =
     let left = lines_are_their_events k before in
     let both = verdict_told (played k before).session.watch.verdict in
     record {
-      left = left;
+      machine = ap (λ (s : Watched). s.machine) left;
+      watch = ap (λ (s : Watched). s.watch) left;
       told = (
         λ is. sym (ap (λ (s : Watched). s.watch.verdict) left) ∙ both.0 is,
         λ is. both.1 (ap (λ (s : Watched). s.watch.verdict) left ∙ is),

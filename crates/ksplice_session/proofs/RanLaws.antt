@@ -5,17 +5,20 @@ use Rattle.std.specs.List.{fold}
 use Rattle.ks_io.specs.declared.types.FileFault.{FileFault}
 use Rattle.image_file.specs.Reading.{Contents as Image, image_of}
 use Rattle.script_lines.specs.declared.types.Command.{Command}
+use Rattle.splice_jump.specs.declared.phase.Phase.{Phase}
 use Rattle.update_stack.specs.Events.{Event, Spawn, Step, after_events}
 use Rattle.ksplice_session.specs.declared.types.SessionEnd.{SessionEnd}
 use Rattle.ksplice_session.specs.Watching.{Watched, first_watched, watched_after_all, IsDisciplined}
 use Rattle.ksplice_session.specs.Replies.{told_of}
-use Rattle.ksplice_session.specs.Answers.{MadeFront, Noted, Unnoted}
+use Rattle.ksplice_session.specs.Answers.{MadeFront, Noted, Unnoted, told_after}
 use Rattle.ksplice_session.specs.Session.{Ran, Played, nothing_played, play_line, played, ran_by}
 use Rattle.ksplice_session.specs.Session.{events_along, script_events, session_played, At, told_at}
 use Rattle.ksplice_session.specs.Session.{Ends, AllDone, AllRun, FileStopped, SinkStopped, SinkAtFile, MemoryInLine}
 use Rattle.ksplice_session.specs.Session.{MemoryAfterLine, MemoryAtFile}
 use Rattle.ksplice_session.specs.Safety.{OpenFramesKeepWindows, NoReturnIsLost, IsSafe, HasStartedMore, RanSafely}
-use Rattle.ksplice_session.proofs.WatchedLaws.{machine_after_all, watched_after_both}
+use Rattle.ksplice_session.proofs.WatchedLaws.{machine_after_all}
+use Rattle.ksplice_session.proofs.PhaseLaws.{unphased, before_unphased, onward}
+use Rattle.ksplice_session.proofs.PremiseLaws.{lines_are_their_events}
 use Rattle.ksplice_session.proofs.OpenFrames.{front_disciplined}
 
 -- the events that were noted, and made, as a prefix of others
@@ -26,8 +29,8 @@ record Made (s now : Watched) (events : List Event) : Type 0 where
   watch : now.watch ≡ (watched_after_all s noted).watch
   machine : (now.machine ≡ after_events s.machine noted) ⊎ HasStartedMore s.machine noted rest now.machine
 
-all_made : (s now : Watched) (made rest events : List Event) → made ++ rest ≡ events → now ≡ watched_after_all s made
-    → Made s now events
+all_made : (s now : Watched) (made rest events : List Event) → made ++ rest ≡ events
+    → unphased now ≡ unphased (watched_after_all s made) → Made s now events
 all_made s now made rest events front is =
     record {
       noted = made;
@@ -47,19 +50,18 @@ between before made left events rest whole front is =
     ∙ is
 
 -- a prefix of some events that were made after others
-front_made : (s mid now : Watched) (before events rest whole : List Event) → before ++ (events ++ rest) ≡ whole
-    → mid ≡ watched_after_all s before → MadeFront mid events now → Made s now whole
-front_made s mid now before events rest whole of there (Noted made left front is) =
+front_made : (s mid now : Watched) (before events : List Event) (turns : Option Phase) (rest whole : List Event)
+    → before ++ (events ++ rest) ≡ whole
+    → unphased mid ≡ unphased (watched_after_all s before) → MadeFront mid events turns now → Made s now whole
+front_made s mid now before events turns rest whole of there (Noted made left front is) =
     all_made s now (before ++ made) (left ++ rest) whole (between before made left events rest whole front of)
-    (is ∙ ap (λ (x : Watched). watched_after_all x made) there ∙ sym (watched_after_both s before made))
-front_made s mid now before events rest whole of there (Unnoted made left name argument front is) =
+    (ap unphased is ∙ before_unphased left turns (watched_after_all mid made) ∙ onward s mid before made there)
+front_made s mid now before events turns rest whole of there (Unnoted made left name argument front is) =
     record {
       noted = before ++ made;
       rest = Spawn name argument ∷ (left ++ rest);
       front = between before made (Spawn name argument ∷ left) events rest whole front of;
-      watch = ap (λ (x : Watched). x.watch) is
-          ∙ ap (λ (x : Watched). (watched_after_all x made).watch) there
-          ∙ ap (λ (x : Watched). x.watch) (sym (watched_after_both s before made));
+      watch = ap (λ (x : Watched). x.watch) is ∙ ap (λ (x : Watched). x.watch) (onward s mid before made there);
       machine =
           inr (record { name = name; argument = argument; behind = left ++ rest; next = refl; machine = started });
     }
@@ -70,48 +72,30 @@ front_made s mid now before events rest whole of there (Unnoted made left name a
     started : now.machine ≡ after_events s.machine ((before ++ made) ++ Spawn name argument ∷ [])
     started =
         ap (λ (x : Watched). x.machine) is ∙ sym (machine_after_all mid more)
-        ∙ ap (λ (x : Watched). (watched_after_all x more).machine) there
-        ∙ ap (λ (x : Watched). x.machine) (sym (watched_after_both s before more))
+        ∙ ap (λ (x : Watched). x.machine) (onward s mid before more there)
         ∙ machine_after_all s (before ++ more)
         ∙ ap (after_events s.machine) (sym (append_assoc before made (Spawn name argument ∷ [])))
 
--- what lines leave is what their events leave
-fold_events : (p : Played) (ran : List Ran)
-    → (fold play_line p ran).session ≡ watched_after_all p.session (events_along p.session ran)
-unfolding events_along watched_after_all
-fold_events p [] = refl
-fold_events p (r ∷ ran) =
-    let told = told_of p.session r.line r.held in
-    fold_events (play_line p r) ran
-    ∙ sym (watched_after_both p.session told.events (events_along (play_line p r).session ran))
-
-played_events : (k : Watched) (ran : List Ran) → (played k ran).session ≡ watched_after_all k (events_along k ran)
-unfolding played
-played_events k ran = fold_events (nothing_played k) ran
-
 -- the events of lines, and of those after them
-along-append : (k : Watched) (ran later : List Ran)
-    → events_along k (ran ++ later)
-    ≡ events_along k ran ++ events_along (watched_after_all k (events_along k ran)) later
-unfolding events_along watched_after_all
-along-append k [] later = refl
-along-append k (r ∷ ran) later =
-    let made = (told_of k r.line r.held).events in
-    let mid = watched_after_all k made in
-    let more = events_along mid ran in
-    ap (λ (l : List Event). made ++ l) (along-append mid ran later)
-    ∙ sym (append_assoc made more (events_along (watched_after_all mid more) later))
-    ∙ ap (λ (x : Watched). (made ++ more) ++ events_along x later) (sym (watched_after_both k made more))
+along-append : (p : Played) (ran later : List Ran)
+    → events_along p.session (ran ++ later)
+    ≡ events_along p.session ran ++ events_along (fold play_line p ran).session later
+unfolding events_along
+along-append p [] later = refl
+along-append p (r ∷ ran) later =
+    let made = (told_of p.session r.line r.held).events in
+    let next = play_line p r in
+    ap (λ (l : List Event). made ++ l) (along-append next ran later)
+    ∙ sym (append_assoc made (events_along next.session ran) (events_along (fold play_line next ran).session later))
 
 -- the events of lines are those before one of them, those of that line, and those after it
 along-at : (k : Watched) {ran : List Ran} (at : At ran)
     → events_along k at.before ++ ((told_at k at).events
-    ++ events_along (watched_after_all (played k at.before).session (told_at k at).events) at.behind)
+    ++ events_along (told_after (played k at.before).session (told_at k at)) at.behind)
     ≡ events_along k ran
-unfolding events_along
+unfolding events_along played
 along-at k at =
-    ap (λ (x : Watched). events_along k at.before ++ events_along x (at.line ∷ at.behind)) (played_events k at.before)
-    ∙ sym (along-append k at.before (at.line ∷ at.behind)) ∙ ap (events_along k) at.whole
+    sym (along-append (nothing_played k) at.before (at.line ∷ at.behind)) ∙ ap (events_along k) at.whole
 
 module _ (k now : Watched) (script : List Command) (held : List (List ℕ)) (lost : Option FileFault)
     (old new : Option (List ℕ)) where
@@ -121,15 +105,15 @@ module _ (k now : Watched) (script : List Command) (held : List (List ℕ)) (los
   after_played : now ≡ (session_played k script held).session → Made k now (events_along k ran)
   after_played is =
       all_made k now (events_along k ran) [] (events_along k ran) (append-nil (events_along k ran))
-      (is ∙ played_events k ran)
+      (ap unphased is ∙ lines_are_their_events k ran)
 
-  in_line : (at : At ran) → MadeFront (played k at.before).session (told_at k at).events now
+  in_line : (at : At ran) → MadeFront (played k at.before).session (told_at k at).events (told_at k at).turns now
       → Made k now (events_along k ran)
   in_line at front =
-      front_made k (played k at.before).session now (events_along k at.before) (told_at k at).events _
-      (events_along k ran) (along-at k at) (played_events k at.before) front
+      front_made k (played k at.before).session now (events_along k at.before) (told_at k at).events
+      (told_at k at).turns _ (events_along k ran) (along-at k at) (lines_are_their_events k at.before) front
 
-  after_line : (at : At ran) → now ≡ watched_after_all (played k at.before).session (told_at k at).events
+  after_line : (at : At ran) → now ≡ told_after (played k at.before).session (told_at k at)
       → Made k now (events_along k ran)
   after_line at is = in_line at (Noted (told_at k at).events [] (append-nil (told_at k at).events) is)
 

@@ -27,7 +27,7 @@ use Rattle.ks_io.specs.declared.types.FileFault.TheVariants.{Missing, TooLong, F
 use Rattle.ks_io.specs.declared.types.SinkFault.{SinkFault}
 use Rattle.ks_io.specs.declared.types.SinkFault.TheVariants.{SinkFailed, Memory as SinkMemory}
 use Rattle.script_lines.specs.declared.types.Command.{Command}
-use Rattle.ksplice_session.specs.Watching.{Watched, watched_after_all}
+use Rattle.ksplice_session.specs.Watching.{Watched}
 use Rattle.ksplice_session.specs.declared.types.SessionEnd.{SessionEnd}
 use Rattle.ksplice_session.specs.declared.types.SessionEnd.TheVariants.{Done, SomeRefused}
 use Rattle.ksplice_session.specs.Replies.{Told, told_of, files_of}
@@ -36,7 +36,7 @@ use Rattle.ksplice_session.specs.Session.{files_along, ran_by, lacking, file_lin
 use Rattle.ksplice_session.specs.Session.{At, Ends, AllDone, AllRun, FileStopped, SinkStopped, SinkAtFile}
 use Rattle.ksplice_session.specs.Session.{MemoryInLine, MemoryAfterLine, MemoryAtFile, SessionEnds}
 use Rattle.ksplice_session.specs.declared.types.Answer.{Answer}
-use Rattle.ksplice_session.specs.Answers.{MadeFront, answer_of}
+use Rattle.ksplice_session.specs.Answers.{MadeFront, told_after, answer_of}
 use Rattle.ksplice_session.specs.inside.LineEnds.{LineEnds, ToldEnds, FileEnds, written_end, file_end}
 use Rattle.ksplice_session.specs.inside.LineEnds.{CutAt, SinkCut, MemoryCut, EventsCut, LostAt, LineWritten}
 use Rattle.ksplice_session.specs.inside.LineEnds.{SinkLost, MemoryLost, WasRun, EndedBy, AtLine, AtFile}
@@ -172,8 +172,8 @@ one_run files k script line before between after old new new' now now' refused m
           ∙ grown-append old (played k run.ran).output told.reply
           ∙ ap (λ (t : Told). grown old ((played k run.ran).output ++ t.reply)) (sym same)
           ∙ sym (ap (λ (p : Played). grown old p.output) (played-one k run.ran r));
-      session = one.replied.session ∙ ap (λ (n : Watched). watched_after_all n told.events) run.session
-          ∙ ap (λ (t : Told). watched_after_all (played k run.ran).session t.events) (sym same)
+      session = one.replied.session ∙ ap (λ (n : Watched). told_after n told) run.session
+          ∙ ap (λ (t : Told). told_after (played k run.ran).session t) (sym same)
           ∙ sym (ap (λ (p : Played). p.session) (played-one k run.ran r));
     }
 
@@ -234,10 +234,10 @@ module _ (files : ToldFiles)
     here : At (ran_by whole total)
     here = record { before = run.ran; line = r; behind = ran_by behind []; whole = ran_is }
 
-    events_made : (now' : Watched) → now' ≡ watched_after_all now (told_of now line held).events
-        → now' ≡ watched_after_all (played k run.ran).session (told_of (played k run.ran).session line held).events
+    events_made : (now' : Watched) → now' ≡ told_after now (told_of now line held)
+        → now' ≡ told_after (played k run.ran).session (told_of (played k run.ran).session line held)
     events_made now' is =
-        subst (λ (n : Watched). now' ≡ watched_after_all n (told_of n line held).events) run.session is
+        subst (λ (n : Watched). now' ≡ told_after n (told_of n line held)) run.session is
 
     part_of : (new' : Option (List ℕ)) → TookPart new (told_of now line held).reply new'
         → TookPart (grown old (played k run.ran).output) (told_of (played k run.ran).session line held).reply new'
@@ -286,7 +286,8 @@ module _ (files : ToldFiles)
         let same = untouched ∙ run.taken in
         cut_by new' now' _
         (MemoryInLine here none_behind same
-        (subst (λ (n : Watched). MadeFront n (told_of n line held).events now') run.session made))
+        (subst (λ (n : Watched). MadeFront n (told_of n line held).events (told_of n line held).turns now') run.session
+        made))
         (subst (TookFront (grown old (played k run.ran).output)
         (told_of (played k run.ran).session line held).reply) (sym same)
         (nothing_taken (grown old (played k run.ran).output) (told_of (played k run.ran).session line held).reply))
@@ -493,7 +494,7 @@ file_exit file fault written old new outside ok part = ends written ok part
 -- what comes of a line that has its files
 pub reply_written : (k now : Watched)
     (told : Told) (answer : Answer) (old new : Option (List ℕ)) (w : Result (Unit {0}) SinkFault)
-    → answer ≡ answer_of told → now ≡ watched_after_all k told.events
+    → answer ≡ answer_of told → now ≡ told_after k told
     → OnOk w (new ≡ grown old answer.line) → OnErr w (TookPart old answer.line new)
     → ToldEnds k told old new now (written_end w answer.refused)
 reply_written k now told answer old new (Ok u) is machine ok part =

@@ -19,19 +19,21 @@ use Rattle.ia32_step.specs.Threads.{runs}
 use Rattle.image_threads.specs.Program.{if_running, IsStackRange, WellPlaced}
 use Rattle.image_threads.specs.Spawning.{is_taken, free_stack, first_top, first_bytes, first_thread}
 use Rattle.image_threads.specs.laws.StackLaws.{length-first_bytes}
+use Rattle.splice_jump.specs.declared.phase.Phase.{Phase}
 use Rattle.update_stack.specs.AbstractMachine.{AbstractMachine}
 use Rattle.update_stack.specs.Events.{Spawn, Spawned, happened, answered, machine_after, after_event, after_events}
 use Rattle.update_stack.specs.Stacked.{IsBuilt}
-use Rattle.update_stack.specs.StandsFor.{patched}
+use Rattle.update_stack.specs.Phases.{patched_in, IsOpenAt}
 use Rattle.frame_watch.specs.Conditions.{IsStart, MayStart, touches, HoldBut}
 use Rattle.frame_watch.specs.Discipline.{sight_of, spawn_noted}
 use Rattle.frame_watch.specs.Frames.{Watched as WatchedThread, Watching, stack_of, started, is_of, keeps_slots}
-use Rattle.ksplice_session.specs.Answers.{MadeFront, Unnoted, watched}
+use Rattle.ksplice_session.specs.Answers.{MadeFront, Unnoted}
+use Rattle.ksplice_session.proofs.WatchedLaws.{watched}
 use Rattle.ksplice_session.specs.Watching.{Watched, sight_in, start_seen, watched_by, watched_after, watched_after_all}
 use Rattle.ksplice_session.specs.inside.InStep.{Runs, IsInStep}
 use Rattle.ksplice_session.proofs.ByteLaws.{holds_same, alike_written}
 use Rattle.ksplice_session.proofs.SightLaws.{spawn_alike}
-use Rattle.ksplice_session.proofs.SeenLaws.{JumpLaws, jumps_alike}
+use Rattle.ksplice_session.proofs.SeenLaws.{JumpLaws, phases_alike}
 use Rattle.ksplice_session.proofs.StackLaws.{none_passes, slot_within, slots_stay, frames_hold, same_or_apart}
 use Rattle.ksplice_session.proofs.TestedLaws.{spawn_left}
 use Rattle.ksplice_session.proofs.WatchLaws.{RunsIn, runs_in, slots_in, left_in_step, its_thread}
@@ -66,7 +68,7 @@ pub record IsBegun (memory : Contents) (k now : AbstractMachine) (w : Watching) 
   pub kept : IsInStep now (spawn_noted (sight_in now) thread w)
   pub unnoted : IsInStep now w
 
-module _ (jumps : JumpLaws) (k : AbstractMachine) (w : Watching) (stack : Range) (pc argument : ℕ)
+module _ (jumps : JumpLaws) (phase : Phase) (k : AbstractMachine) (w : Watching) (stack : Range) (pc argument : ℕ)
     (in_step : IsInStep k w)
     (placed : WellPlaced k.stacks k.threads) (free : free_stack k.stacks k.threads ≡ Some stack) where
   abbrev thread : Thread
@@ -148,26 +150,26 @@ module _ (jumps : JumpLaws) (k : AbstractMachine) (w : Watching) (stack : Range)
   both : All (λ watched. RunsIn k.threads watched × IsTrue (keeps_slots k.pieces watched)) w.threads
   both i d less = (runs_in k w in_step i d less, slots_in k w in_step i d less)
 
-  is_held : IsBuilt now → HoldBut (patched now).pieces w.threads None
-  is_held built_now =
+  is_held : IsBuilt now → IsOpenAt phase now → HoldBut (patched_in phase now).pieces w.threads None
+  is_held built_now opened =
       All-weaker (λ watched. RunsIn k.threads watched × IsTrue (keeps_slots k.pieces watched))
       (λ watched. All (λ (frame : Frame).
-      touches None frame.slot ≡ false → holds_dword (patched now).pieces frame.slot frame.address ≡ true)
+      touches None frame.slot ≡ false → holds_dword (patched_in phase now).pieces frame.slot frame.address ≡ true)
       watched.frames)
       each w.threads both
     where
       each : (watched : WatchedThread)
           → RunsIn k.threads watched × IsTrue (keeps_slots k.pieces watched) → All (λ (frame : Frame).
-          touches None frame.slot ≡ false → holds_dword (patched now).pieces frame.slot frame.address ≡ true)
+          touches None frame.slot ≡ false → holds_dword (patched_in phase now).pieces frame.slot frame.address ≡ true)
           watched.frames
       each watched (is, keeps) =
           All-weaker (λ (frame : Frame). (is_slot watched.stack watched.esp frame.slot ≡ true)
           × (holds_dword k.pieces frame.slot frame.address ≡ true))
           (λ (frame : Frame). touches None frame.slot ≡ false
-          → holds_dword (patched now).pieces frame.slot frame.address ≡ true)
+          → holds_dword (patched_in phase now).pieces frame.slot frame.address ≡ true)
           (λ (frame : Frame) p untouched.
           let within = slot_within watched.stack watched.esp frame.slot p.0 in
-          (jumps_alike jumps now built_now).holds frame.slot frame.address
+          (phases_alike jumps now built_now phase opened).holds frame.slot frame.address
           ∙ stays watched is frame.slot frame.address within.0 within.1 ∙ p.1) watched.frames
           (frames_hold k.pieces watched keeps)
 
@@ -191,11 +193,12 @@ module _ (jumps : JumpLaws) (k : AbstractMachine) (w : Watching) (stack : Range)
       (All-weaker (RunsIn k.threads)
       (RunsIn now.threads) (runs_push k.threads thread) w.threads (runs_in k w in_step))))
 
-  is_begun : IsBuilt now → IsBegun (patched now) k now w thread
-  is_begun built_now = record {
+  is_begun : IsBuilt now → IsOpenAt phase now → IsBegun (patched_in phase now) k now w thread
+  is_begun built_now opened = record {
     start = λ well. is_start;
-    held = is_held built_now;
-    same = spawn_alike (sight_of (patched now)) (sight_in now) (jumps_alike jumps now built_now) thread w;
+    held = is_held built_now opened;
+    same = spawn_alike (sight_of (patched_in phase now)) (sight_in now)
+        (phases_alike jumps now built_now phase opened) thread w;
     kept = is_kept;
     unnoted = is_unnoted;
   }
@@ -212,24 +215,24 @@ thread_there k now argument number gives =
     ∙ ap (slice_get (k.threads ++ first ∷ [])) count
     ∙ read_last k.threads first
 
-pub spawn_begun : JumpLaws
+pub spawn_begun : JumpLaws → (phase : Phase)
     → (k now : AbstractMachine) (w : Watching) (name : List ℕ) (argument number : ℕ) (thread : Thread)
     (memory : Contents)
-    → IsBuilt now → IsInStep k w
+    → IsBuilt now → IsOpenAt phase now → IsInStep k w
     → WellPlaced k.stacks k.threads → answered k (Spawn name argument) ≡ Ok (happened now (Spawned number))
-    → slice_get now.threads number ≡ Some thread → memory ≡ patched now → IsBegun memory k now w thread
-spawn_begun jumps k now w name argument number thread memory built_now in_step placed is got_after there =
+    → slice_get now.threads number ≡ Some thread → memory ≡ patched_in phase now → IsBegun memory k now w thread
+spawn_begun jumps phase k now w name argument number thread memory built_now opened in_step placed is got_after there =
     let gives = spawn_gives k name argument (happened now (Spawned number)) is in
     let first : Thread = first_thread (length k.threads) gives.stack gives.pc in
     let same : first ≡ thread = same_Some first thread (sym (thread_there k now argument number gives) ∙ got_after) in
     subst (λ (m : Contents). IsBegun m k now w thread) (sym there)
-    (subst (λ (m : AbstractMachine). IsBegun (patched m) k m w thread) (sym gives.machine)
+    (subst (λ (m : AbstractMachine). IsBegun (patched_in phase m) k m w thread) (sym gives.machine)
     (subst (λ (t : Thread). let m : AbstractMachine = record k {
       pieces = written gives.stack.low (first_bytes gives.stack argument) k.pieces;
       threads = k.threads ++ first ∷ [];
-    } in IsBegun (patched m) k m w t) same
-    (is_begun jumps k w gives.stack gives.pc argument in_step placed gives.free
-    (subst IsBuilt gives.machine built_now))))
+    } in IsBegun (patched_in phase m) k m w t) same
+    (is_begun jumps phase k w gives.stack gives.pc argument in_step placed gives.free
+    (subst IsBuilt gives.machine built_now) (subst (IsOpenAt phase) gives.machine opened))))
 
 pub started_within : (k now : AbstractMachine) (name : List ℕ) (argument number : ℕ)
     → answered k (Spawn name argument) ≡ Ok (happened now (Spawned number)) → number < length now.threads
@@ -249,17 +252,17 @@ pub spawn_watched : (s : Watched)
     (now : AbstractMachine) (v : Watching) (name : List ℕ) (argument number : ℕ) (thread : Thread)
     → answered s.machine (Spawn name argument) ≡ Ok (happened now (Spawned number))
     → slice_get now.threads number ≡ Some thread
-    → v ≡ spawn_noted (sight_in now) thread s.watch → watched now v ≡ watched_after s (Spawn name argument)
+    → v ≡ spawn_noted (sight_in now) thread s.watch → watched s now v ≡ watched_after s (Spawn name argument)
 unfolding watched_after
 spawn_watched s now v name argument number thread is got_after noted =
-    ap (watched now) (noted ∙ sym (ap (λ (o : Option Thread). start_seen (sight_in now) o s.watch) got_after))
+    ap (watched s now) (noted ∙ sym (ap (λ (o : Option Thread). start_seen (sight_in now) o s.watch) got_after))
     ∙ sym (ap (watched_by s (Spawn name argument)) is)
 
 -- a start that the watch lacks
 pub spawn_unnoted : (s : Watched) (now : AbstractMachine) (name : List ℕ) (argument number : ℕ)
     → answered s.machine (Spawn name argument) ≡ Ok (happened now (Spawned number))
-    → MadeFront s (Spawn name argument ∷ []) (watched now s.watch)
+    → MadeFront s (Spawn name argument ∷ []) None (watched s now s.watch)
 unfolding watched_after_all after_events after_event
 spawn_unnoted s now name argument number is =
-    Unnoted [] [] name argument refl (ap (λ (k : AbstractMachine). watched k s.watch)
+    Unnoted [] [] name argument refl (ap (λ (k : AbstractMachine). watched s k s.watch)
     (sym (ap (machine_after s.machine) is)))

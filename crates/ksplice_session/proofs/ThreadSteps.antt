@@ -19,7 +19,7 @@ use Rattle.frame_watch.specs.declared.types.Verdict.TheVariants.{Disciplined}
 use Rattle.frame_watch.specs.Frames.{Watched as WatchedThread, Watching, frame, watched_at, frames_in, frames_at}
 use Rattle.frame_watch.specs.Frames.{with_frames, without_thread, opened, closed}
 use Rattle.frame_watch.specs.Discipline.{pops, step_noted}
-use Rattle.ksplice_session.specs.Answers.{watched}
+use Rattle.ksplice_session.proofs.WatchedLaws.{watched}
 use Rattle.ksplice_session.specs.Watching.{Watched, sight_in}
 use Rattle.ksplice_session.specs.Safety.{frames_of, step_outcome}
 use Rattle.ksplice_session.specs.inside.InStep.{IsSame}
@@ -98,7 +98,7 @@ module _ (s : Watched) (event : Event) (moment : IsMoment s) (before after : Thr
     watch_is n = ap (λ (ts : List WatchedThread). watched_at ts n) goes.kept
 
     next_by : Agree (running_at now.threads after.number) (watched_at threads after.number)
-        → Change s (watched now new) event after.number → Next s event (watched now new)
+        → Change s (watched s now new) event after.number → Next s event (watched s now new)
     next_by agree change = (
       record {
         unbroken = unbroken;
@@ -113,7 +113,7 @@ module _ (s : Watched) (event : Event) (moment : IsMoment s) (before after : Thr
         slots = subst (KeepRule now.pieces) (sym goes.kept) goes.slots;
       },
       record {
-        changes = here_or_not (Change s (watched now new) event) after.number change
+        changes = here_or_not (Change s (watched s now new) event) after.number change
             (λ n differ. Stays (λ steps. absurd (differ (other_step n steps))) (ap if_running (elsewhere n differ))
             (ap frames_in (watch_is n ∙ others n differ)));
         frames = λ n i one is. same_windows s now new step.windows one.address;
@@ -132,9 +132,9 @@ module _ (s : Watched) (event : Event) (moment : IsMoment s) (before after : Thr
   next_with : (new : Watching) (frames : List Frame)
       → GoesOn now.pieces (with_frames s.watch.threads after frames) new → new.verdict ≡ Disciplined
       → runs after ≡ true
-      → (running_at now.threads after.number ≡ Some after → frames_of (watched now new) after.number ≡ frames
-      → Change s (watched now new) event after.number)
-      → Next s event (watched now new)
+      → (running_at now.threads after.number ≡ Some after → frames_of (watched s now new) after.number ≡ frames
+      → Change s (watched s now new) event after.number)
+      → Next s event (watched s now new)
   next_with new frames goes unbroken runs_on change =
       let threads = with_frames s.watch.threads after frames in
       let now_is = it_has s.watch.threads after frames was_watched.0 was_watched.1 in
@@ -148,9 +148,9 @@ module _ (s : Watched) (event : Event) (moment : IsMoment s) (before after : Thr
 
   next_without : (new : Watching) → GoesOn now.pieces (without_thread s.watch.threads after.number) new
       → new.verdict ≡ Disciplined → runs after ≡ false
-      → (running_at now.threads after.number ≡ None → frames_of (watched now new) after.number ≡ []
-      → Change s (watched now new) event after.number)
-      → Next s event (watched now new)
+      → (running_at now.threads after.number ≡ None → frames_of (watched s now new) after.number ≡ []
+      → Change s (watched s now new) event after.number)
+      → Next s event (watched s now new)
   next_without new goes unbroken rests change =
       let threads = without_thread s.watch.threads after.number in
       let now_is = it_is_gone s.watch.threads after.number in
@@ -164,7 +164,7 @@ module _ (s : Watched) (event : Event) (moment : IsMoment s) (before after : Thr
 by_outcome : (s : Watched) (event : Event) (moment : IsMoment s) (before after : Thread) (outcome : Outcome)
     (now : AbstractMachine) (step : IsStep s event before after outcome now) (new : Watching)
     → new.verdict ≡ Disciplined
-    → LeavesWatch (sight_in now) s.watch moment.unbroken before after outcome new → Next s event (watched now new)
+    → LeavesWatch (sight_in now) s.watch moment.unbroken before after outcome new → Next s event (watched s now new)
 by_outcome s event moment before after (Moved Plain) now step new unbroken leaves =
     next_with s event moment before after (Moved Plain) now step new (frames_at s.watch.threads before.number) leaves.1
     unbroken step.state
@@ -193,7 +193,7 @@ by_outcome s event moment before after (Stopped fault) now step new unbroken lea
 pub step_next : (s : Watched) (event : Event) (moment : IsMoment s) (before after : Thread) (outcome : Outcome)
     (now : AbstractMachine) → IsStep s event before after outcome now
     → (step_noted (sight_in now) before after outcome s.watch).verdict ≡ Disciplined
-    → Next s event (watched now (step_noted (sight_in now) before after outcome s.watch))
+    → Next s event (watched s now (step_noted (sight_in now) before after outcome s.watch))
 step_next s event moment before after outcome now step unbroken =
     by_outcome s event moment before after outcome now step (step_noted (sight_in now) before after outcome s.watch)
     unbroken (step_goes_on (sight_in now) s.watch moment.unbroken before after outcome unbroken)

@@ -10,7 +10,7 @@ use Rattle.update_stack.specs.Events.{Event, Apply, Applied, Undone, happened, a
 use Rattle.update_safety.specs.Slots.{KeepsSlots, SameThreads}
 use Rattle.frame_watch.specs.Discipline.{update_noted}
 use Rattle.frame_watch.specs.Frames.{Watching, keeps_slots}
-use Rattle.ksplice_session.specs.Answers.{watched}
+use Rattle.ksplice_session.proofs.WatchedLaws.{watched}
 use Rattle.ksplice_session.specs.Watching.{Watched, watched_by, watched_after}
 use Rattle.ksplice_session.specs.inside.InStep.{Runs, IsInStep}
 use Rattle.ksplice_session.proofs.StackLaws.{all_weaker}
@@ -33,13 +33,13 @@ kept_in_step k now w same keep placed in_step = record {
 -- the session after an update or an undo
 pub apply_watched : (s : Watched) (now : AbstractMachine) (v : Watching) (name pre post : List ℕ) (report : Report)
     → answered s.machine (Apply name pre post) ≡ Ok (happened now (Applied report)) → v ≡ update_noted s.watch
-    → watched now v ≡ watched_after s (Apply name pre post)
+    → watched s now v ≡ watched_after s (Apply name pre post)
 unfolding watched_after
 apply_watched s now v name pre post report is noted =
-    ap (watched now) noted ∙ sym (ap (watched_by s (Apply name pre post)) is)
+    ap (watched s now) noted ∙ sym (ap (watched_by s (Apply name pre post)) is)
 
 pub undo_watched : (s : Watched) (event : Event) (now : AbstractMachine) (v : Watching) (name : List ℕ)
     → answered s.machine event ≡ Ok (happened now (Undone name))
-    → v ≡ update_noted s.watch → watched now v ≡ watched_after s event
+    → v ≡ update_noted s.watch → watched s now v ≡ watched_after s event
 unfolding watched_after
-undo_watched s event now v name is noted = ap (watched now) noted ∙ sym (ap (watched_by s event) is)
+undo_watched s event now v name is noted = ap (watched s now) noted ∙ sym (ap (watched_by s event) is)

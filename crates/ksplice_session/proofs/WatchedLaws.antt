@@ -3,10 +3,16 @@ use Rattle.std.proofs.Common.{◌≡◌, List, [], ◌∷◌, ◌++◌, Result, 
 use Rattle.std.proofs.lemmas.List.Sums.{fold-append}
 use Rattle.ks_base.specs.declared.refusals.Refusal.{Refusal}
 use Rattle.image_threads.specs.declared.turns.Turn.{Turn}
+use Rattle.update_stack.specs.AbstractMachine.{AbstractMachine}
 use Rattle.update_stack.specs.Events.{Event, Step, Happened, answered, machine_after, after_event, after_events}
+use Rattle.frame_watch.specs.Frames.{Watching}
 use Rattle.ksplice_session.specs.Running.{after_taken}
 use Rattle.ksplice_session.specs.Watching.{Watched, watched_by, watched_after, watched_after_all}
 use Rattle.ksplice_session.specs.inside.InStep.{watched_taken}
+
+-- a session with another machine and watch, in its phase
+abbrev pub watched : Watched → AbstractMachine → Watching → Watched
+watched s machine watch = record s { machine = machine; watch = watch }
 
 pub machine_after_one : (s : Watched) (event : Event) → (watched_after s event).machine ≡ after_event s.machine event
 unfolding watched_after after_event

@@ -85,6 +85,19 @@ applied_lines name tries report =
     ++ flat_map added_line report.added
     ++ flat_map dropped_line report.dropped
 
+-- the first write of an update was made, and what the update replaced
+unfoldable pub marked_lines : List ℕ → Report → List ℕ
+marked_lines name report =
+    codes "marked " ++ shown_name name ++ 10 ∷ [] ++ flat_map replaced_line report.replaced
+
+-- its second write was made
+unfoldable pub tailed_line : List ℕ → List ℕ
+tailed_line name = codes "tailed " ++ shown_name name ++ 10 ∷ []
+
+-- its third write was made
+unfoldable pub sealed_line : List ℕ → List ℕ
+sealed_line name = codes "sealed " ++ shown_name name ++ 10 ∷ []
+
 -- an update was taken back
 unfoldable pub undone_line : List ℕ → List ℕ
 undone_line name = codes "undone " ++ shown_name name ++ 10 ∷ []

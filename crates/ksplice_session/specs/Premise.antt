@@ -10,8 +10,9 @@ use Rattle.ksplice_session.specs.Session.{Ran, played, events_along}
 abbrev pub watch_reply : Watched → List Ran → List (List ℕ) → List ℕ
 watch_reply k before held = (told_of (played k before).session Watch held).reply
 
--- Lines leave the machine and the watch that their events leave; and after them the line `watch` says
--- `watch disciplined` exactly where each of these events has kept the four rules.
+-- Lines leave the machine and the watch that their events leave, whatever phase they leave; and after them the line
+-- `watch` says `watch disciplined` exactly where each of these events has kept the four rules.
 pub record TellsDiscipline (k : Watched) (before : List Ran) (held : List (List ℕ)) : Type 0 where
-  pub left : (played k before).session ≡ watched_after_all k (events_along k before)
+  pub machine : (played k before).session.machine ≡ (watched_after_all k (events_along k before)).machine
+  pub watch : (played k before).session.watch ≡ (watched_after_all k (events_along k before)).watch
   pub told : (watch_reply k before held ≡ codes "watch disciplined\n") ↔ IsDisciplined k (events_along k before)

@@ -12,31 +12,45 @@ use Rattle.ia32_step.specs.declared.types.Thread.{Thread}
 use Rattle.image_threads.specs.Program.{running_at}
 use Rattle.script_lines.specs.declared.types.Command.{Command}
 use Rattle.script_lines.specs.declared.types.Command.TheVariants.{Spawn, Step, RoundRobin, Threads, Peek}
-use Rattle.script_lines.specs.declared.types.Command.TheVariants.{Apply, Undo, UndoNamed, ListUpdates, Watch}
+use Rattle.script_lines.specs.declared.types.Command.TheVariants.{Apply, Poke, Tail, Seal, Undo, UndoNamed}
+use Rattle.script_lines.specs.declared.types.Command.TheVariants.{ListUpdates, Watch}
+use Rattle.splice_jump.specs.declared.phase.Phase.{Phase}
 use Rattle.update_stack.specs.AbstractMachine.{AbstractMachine, shown_update}
 use Rattle.update_stack.specs.Events.{Event, Spawn as SpawnEvent, Apply as ApplyEvent, Undo as UndoEvent}
 use Rattle.update_stack.specs.Events.{UndoNamed as UndoNamedEvent, after_events}
 use Rattle.update_stack.specs.Steps.{spawned}
 use Rattle.update_stack.specs.Apply.{applied}
 use Rattle.update_stack.specs.Undo.{undone, undone_named}
-use Rattle.update_stack.specs.StandsFor.{patched}
+use Rattle.update_stack.specs.Phases.{Phased, phased, patched_in}
+use Rattle.live_poke.specs.Poke.{open_refusal, newest_name, marked, tailed, sealed}
 use Rattle.frame_watch.specs.declared.types.Verdict.{Verdict}
 use Rattle.ksplice_session.specs.Watching.{Watched}
 use Rattle.ksplice_session.specs.Lines.{spawned_line, stepped_line, turns_line, threads_lines, peek_line}
-use Rattle.ksplice_session.specs.Lines.{applied_lines, undone_line, list_lines, watch_line}
+use Rattle.ksplice_session.specs.Lines.{applied_lines, marked_lines, tailed_line, sealed_line, undone_line}
+use Rattle.ksplice_session.specs.Lines.{list_lines, watch_line}
 use Rattle.ksplice_session.specs.Running.{thread_steps, round_robin}
 
--- a line's events in order, its reply, and whether that is a refusal
+-- a line's events in order; the phase that it leaves, where it changes it; its reply, and whether that is a refusal
 pub record Told : Type 0 where
   pub events : List Event
+  pub turns : Option Phase
   pub reply : List ℕ
   pub refused : Bool
 
 abbrev pub replied : List Event → List ℕ → Told
-replied events reply = record { events = events; reply = reply; refused = false }
+replied events reply = record { events = events; turns = None; reply = reply; refused = false }
 
 abbrev pub refused_after : List Event → Refusal → Told
-refused_after events refusal = record { events = events; reply = refusal_line refusal; refused = true }
+refused_after events refusal =
+    record { events = events; turns = None; reply = refusal_line refusal; refused = true }
+
+-- what a line tells that leaves a phase
+abbrev pub turning : Phase → Told → Told
+turning phase told = record told { turns = Some phase }
+
+abbrev pub told_unless : Option Refusal → Told → Told
+told_unless None told = told
+told_unless (Some refusal) told = refused_after [] refusal
 
 -- what a thread of a machine shows
 abbrev pub shown_by : AbstractMachine → (List Symbol → Thread → List ℕ) → Option Thread → List ℕ
@@ -91,7 +105,7 @@ is_busy _ = false
 
 -- steps, and then what a line does
 abbrev pub after_gap : List Event → Told → Told
-after_gap gap told = record { events = gap ++ told.events; reply = told.reply; refused = told.refused }
+after_gap gap told = record told { events = gap ++ told.events }
 
 -- The tries of an update from the one numbered `try` on, with `left` more allowed after it. Where a thread stands in
 -- the way and another try is allowed, the threads make at most `gap` steps in turn, one at a time, and the update is
@@ -110,25 +124,55 @@ apply_told k name tries gap (pre ∷ post ∷ []) =
     tried (record { name = name; pre = pre; post = post }) gap 1 (tries - 1) k
 apply_told k name tries gap _ = replied [] []
 
--- what a line of a machine does and replies, once its files are held with these bytes
-abbrev pub line_told : AbstractMachine → Verdict → Command → List (List ℕ) → Told
-line_told k verdict (Spawn name argument) held =
-    spawn_told (SpawnEvent name argument) (length k.threads) (spawned k name argument)
-line_told k verdict (Step thread n) held =
-    if is_some (running_at k.threads thread)
-    then step_told k thread (thread_steps k thread n)
+-- what a line tells, unless an update that is being written stands in its way
+abbrev pub unless_open : Phased → Told → Told
+unless_open live told = told_unless (open_refusal live) told
+
+-- a line that makes the first write of an update, by what that comes to
+abbrev pub mark_told : Event → List ℕ → Result (Phased × Report) Refusal → Told
+mark_told event name (Err refusal) = refused_after [] refusal
+mark_told event name (Ok left) = turning left.0.phase (replied (event ∷ []) (marked_lines name left.1))
+
+-- a line that makes the second or the third, which is no event of the machine
+abbrev pub write_told : (List ℕ → List ℕ) → Result Phased Refusal → Told
+write_told line (Err refusal) = refused_after [] refusal
+write_told line (Ok now) = turning now.phase (replied [] (line (newest_name now.machine)))
+
+-- an update from the first of two files to the second, in separate writes; a line has both its files when it is run, so
+-- the last case doesn't occur
+abbrev pub poke_told : Phased → (name : List ℕ) → List (List ℕ) → Told
+poke_told live name (pre ∷ post ∷ []) = mark_told (ApplyEvent name pre post) name (marked live name pre post)
+poke_told live name _ = replied [] []
+
+-- what a line of a machine in a phase does and replies, once its files are held with these bytes
+abbrev pub line_told : Phased → Verdict → Command → List (List ℕ) → Told
+line_told live verdict (Spawn name argument) held =
+    spawn_told (SpawnEvent name argument) (length live.machine.threads) (spawned live.machine name argument)
+line_told live verdict (Step thread n) held =
+    if is_some (running_at live.machine.threads thread)
+    then step_told live.machine thread (thread_steps live.machine thread n)
     else refused_after [] (NoThread thread)
-line_told k verdict (RoundRobin quantum n) held = turns_told (round_robin k quantum n)
-line_told k verdict Threads held = replied [] (threads_lines k.symbols k.threads)
-line_told k verdict (Peek address count) held = replied [] (peek_line (patched k).pieces address count)
-line_told k verdict (Apply name pre post tries gap) held = apply_told k name tries gap held
-line_told k verdict Undo held = undo_told UndoEvent (undone k)
-line_told k verdict (UndoNamed name) held = undo_told (UndoNamedEvent name) (undone_named k name)
-line_told k verdict ListUpdates held = replied [] (list_lines (map shown_update k.updates))
-line_told k verdict Watch held = replied [] (watch_line verdict)
+line_told live verdict (RoundRobin quantum n) held = turns_told (round_robin live.machine quantum n)
+line_told live verdict Threads held = replied [] (threads_lines live.machine.symbols live.machine.threads)
+line_told live verdict (Peek address count) held =
+    replied [] (peek_line (patched_in live.phase live.machine).pieces address count)
+line_told live verdict (Apply name pre post tries gap) held =
+    unless_open live (apply_told live.machine name tries gap held)
+line_told live verdict (Poke name pre post) held = poke_told live name held
+line_told live verdict Tail held = write_told tailed_line (tailed live)
+line_told live verdict Seal held = write_told sealed_line (sealed live)
+line_told live verdict Undo held = unless_open live (undo_told UndoEvent (undone live.machine))
+line_told live verdict (UndoNamed name) held =
+    unless_open live (undo_told (UndoNamedEvent name) (undone_named live.machine name))
+line_told live verdict ListUpdates held = replied [] (list_lines (map shown_update live.machine.updates))
+line_told live verdict Watch held = replied [] (watch_line verdict)
+
+-- the machine of a session with its phase
+abbrev pub live_of : Watched → Phased
+live_of s = phased s.machine s.phase
 
 unfoldable pub told_of : Watched → Command → List (List ℕ) → Told
-told_of s command held = line_told s.machine s.watch.verdict command held
+told_of s command held = line_told (live_of s) s.watch.verdict command held
 
 -- the most bytes that an object file may have
 abbrev pub object_limit : ℕ
@@ -145,6 +189,9 @@ files_of (RoundRobin quantum n) = []
 files_of Threads = []
 files_of (Peek address count) = []
 files_of (Apply name pre post tries gap) = object_file pre ∷ object_file post ∷ []
+files_of (Poke name pre post) = object_file pre ∷ object_file post ∷ []
+files_of Tail = []
+files_of Seal = []
 files_of Undo = []
 files_of (UndoNamed name) = []
 files_of ListUpdates = []

@@ -8,20 +8,20 @@ use Rattle.ks_io.specs.Loads.{Needed, Told as ToldFiles, CameTo, first_lacking}
 use Rattle.ks_io.specs.declared.types.FileFault.{FileFault}
 use Rattle.ks_io.specs.declared.types.FileFault.TheVariants.{Missing, TooLong, Failed, Memory}
 use Rattle.script_lines.specs.declared.types.Command.{Command}
-use Rattle.ksplice_session.specs.Watching.{Watched, watched_after_all}
+use Rattle.ksplice_session.specs.Watching.{Watched}
 use Rattle.ksplice_session.specs.declared.types.SessionEnd.{SessionEnd}
 use Rattle.ksplice_session.specs.declared.types.SessionEnd.TheVariants.{Done, SomeRefused, FileEnd, SinkEnd, MemoryEnd}
 use Rattle.update_stack.specs.Events.{Event}
 use Rattle.ksplice_session.specs.Replies.{Told, told_of, files_of}
-use Rattle.ksplice_session.specs.Answers.{MadeFront}
+use Rattle.ksplice_session.specs.Answers.{MadeFront, told_after}
 
 -- a line that was run, and the bytes of its files
 pub record Ran : Type 0 where
   pub line : Command
   pub held : List (List ℕ)
 
--- What was done of a script: the machine with its watch that the lines leave, their replies together, and whether one
--- was refused.
+-- What was done of a script: the machine with its phase and its watch that the lines leave, their replies together, and
+-- whether one was refused.
 pub record Played : Type 0 where
   pub session : Watched
   pub output : List ℕ
@@ -32,7 +32,7 @@ nothing_played k = record { session = k; output = []; refused = false }
 
 abbrev pub with_told : Played → Told → Played
 with_told p told = record {
-  session = watched_after_all p.session told.events;
+  session = told_after p.session told;
   output = p.output ++ told.reply;
   refused = p.refused || told.refused;
 }
@@ -55,8 +55,8 @@ played k ran = fold play_line (nothing_played k) ran
 unfoldable pub events_along : Watched → List Ran → List Event
 events_along k [] = []
 events_along k (one ∷ later) =
-    let events = (told_of k one.line one.held).events in
-    events ++ events_along (watched_after_all k events) later
+    let told = told_of k one.line one.held in
+    told.events ++ events_along (told_after k told) later
 
 -- all files of a script, in order
 unfoldable pub files_along : List Command → List Needed
@@ -121,7 +121,7 @@ pub record NoneBehind (held : List (List ℕ)) (lost : Option FileFault) {ran : 
   pub none_lost : lost ≡ None
 
 -- How a session ends that began at k, given the files that were held and the fault for which the next was not: what
--- came out, and the machine with its watch that it leaves.
+-- came out, and the machine with its phase and its watch that it leaves.
 pub data Ends
     (k : Watched)
     (script : List Command)
@@ -153,7 +153,7 @@ pub data Ends
   SinkStopped : (at : At (ran_by script held)) →
       NoneBehind held lost at →
       TookPart (grown old (before_line k at).output) (told_at k at).reply new →
-      now ≡ watched_after_all (before_line k at).session (told_at k at).events →
+      now ≡ told_after (before_line k at).session (told_at k at) →
       Ends k script held lost old new now SinkEnd
   -- or at the line of a file; the lines before it were run
   SinkAtFile : (file : Needed) (fault : FileFault) →
@@ -166,13 +166,13 @@ pub data Ends
   MemoryInLine : (at : At (ran_by script held)) →
       NoneBehind held lost at →
       new ≡ grown old (before_line k at).output →
-      MadeFront (before_line k at).session (told_at k at).events now →
+      MadeFront (before_line k at).session (told_at k at).events (told_at k at).turns now →
       Ends k script held lost old new now MemoryEnd
   -- Or when it had been run, before its reply was wholly written.
   MemoryAfterLine : (at : At (ran_by script held)) →
       NoneBehind held lost at →
       TookPart (grown old (before_line k at).output) (told_at k at).reply new →
-      now ≡ watched_after_all (before_line k at).session (told_at k at).events →
+      now ≡ told_after (before_line k at).session (told_at k at) →
       Ends k script held lost old new now MemoryEnd
   -- Or at a load, or in the line of the file that wasn't loaded; the lines before it were run.
   MemoryAtFile : (file : Needed) →

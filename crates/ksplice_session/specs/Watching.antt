@@ -1,23 +1,26 @@
--- The machine and the watch over its events: which lists of events are disciplined.
+-- The machine, the phase of its newest update, and the watch over its events: which lists of events are disciplined.
 use Rattle.std.specs.Prelude.{◌≡◌, ℕ, List, Option, Some, None, Result, Ok, Err}
 use Rattle.std.specs.List.{fold, slice_get}
 use Rattle.ks_base.specs.declared.refusals.Refusal.{Refusal}
 use Rattle.image_file.specs.Reading.{Contents as Image}
 use Rattle.ia32_step.specs.declared.types.Thread.{Thread}
 use Rattle.ia32_step.specs.declared.types.Outcome.{Outcome}
+use Rattle.splice_jump.specs.declared.phase.Phase.{Phase}
+use Rattle.splice_jump.specs.declared.phase.Phase.TheVariants.{Done}
 use Rattle.update_stack.specs.AbstractMachine.{AbstractMachine, view_in, first_machine}
 use Rattle.update_stack.specs.Events.{Event, Step, Answer, Spawned, Stepped, Applied, Undone, Happened, answered}
 use Rattle.frame_watch.specs.declared.types.Verdict.TheVariants.{Disciplined}
 use Rattle.frame_watch.specs.Frames.{Watching, first_watching}
 use Rattle.frame_watch.specs.Discipline.{Sight, spawn_noted, step_noted, update_noted}
 
--- the machine, and what was seen of its events
+-- the machine, the phase in which a system stands for it, and what was seen of its events
 pub record Watched : Type 0 where
   pub machine : AbstractMachine
+  pub phase : Phase
   pub watch : Watching
 
 abbrev pub first_watched : Image → Watched
-first_watched image = record { machine = first_machine image; watch = first_watching }
+first_watched image = record { machine = first_machine image; phase = Done; watch = first_watching }
 
 -- what is met at each address of the machine, and its memory
 abbrev pub sight_in : AbstractMachine → Sight
@@ -49,9 +52,9 @@ seen k event now (Undone name) w = update_noted w
 abbrev pub watched_by : Watched → Event → Result Happened Refusal → Watched
 watched_by s event (Err refusal) = s
 watched_by s event (Ok now) =
-    record { machine = now.machine; watch = seen s.machine event now.machine now.answer s.watch }
+    record s { machine = now.machine; watch = seen s.machine event now.machine now.answer s.watch }
 
--- the machine and the watch after an event; one that is refused is none
+-- The machine and the watch after an event; one that is refused is none. No event of the machine changes the phase.
 unfoldable pub watched_after : Watched → Event → Watched
 watched_after s event = watched_by s event (answered s.machine event)
 

@@ -4,20 +4,25 @@ ghost use Rattle.std.specs.Prelude.{Ok, Err, true, false, IfOk};
 ghost use Rattle.ks_base.specs.declared.refusals.Refusal.TheVariants.{Memory};
 ghost use Rattle.ks_base.specs.Refusals.{refusal_line};
 ghost use Rattle.script_lines.specs.declared.types.Command.TheVariants.{Spawn, Step, RoundRobin, Threads, Peek};
-ghost use Rattle.script_lines.specs.declared.types.Command.TheVariants.{Undo, UndoNamed, ListUpdates, Watch};
+ghost use Rattle.script_lines.specs.declared.types.Command.TheVariants.{Tail, Seal, Undo, UndoNamed, ListUpdates};
+ghost use Rattle.script_lines.specs.declared.types.Command.TheVariants.{Watch};
 ghost use Rattle.update_stack.specs.AbstractMachine.{shown_update};
 ghost use Rattle.script_lines.specs.Allowed.{IsAllowed};
-ghost use Rattle.update_stack.specs.StandsFor.{patched};
+ghost use Rattle.splice_jump.specs.declared.phase.Phase.TheVariants.{Done};
+ghost use Rattle.update_stack.specs.Phases.{patched_in};
+ghost use Rattle.live_poke.specs.Poke.{newest_name};
 ghost use Rattle.ks_io.specs.Loads.{bytes_of};
 ghost use Rattle.ksplice_session.specs.Lines.{spawned_line, turns_line, threads_lines, peek_line};
-ghost use Rattle.ksplice_session.specs.Lines.{applied_lines, undone_line, list_lines, watch_line};
-ghost use Rattle.ksplice_session.specs.Replies.{told_of, files_of, apply_told, tried, is_busy, shown, stepped_line_of};
+ghost use Rattle.ksplice_session.specs.Lines.{applied_lines, marked_lines, tailed_line, sealed_line, undone_line};
+ghost use Rattle.ksplice_session.specs.Lines.{list_lines, watch_line};
+ghost use Rattle.ksplice_session.specs.Replies.{told_of, files_of, apply_told, poke_told, unless_open, live_of, tried};
+ghost use Rattle.ksplice_session.specs.Replies.{is_busy, shown, stepped_line_of};
 ghost use Rattle.ksplice_session.specs.Answers.{Answers};
 ghost use Rattle.ksplice_session.specs.inside.Trying.{trial_of, IsTryAnswer};
 
 use crate::lines::{
-    put_applied, put_peek, put_spawned, put_stepped, put_threads, put_turns, put_undone,
-    put_updates, put_watch,
+    put_applied, put_marked, put_peek, put_sealed, put_spawned, put_stepped, put_tailed,
+    put_threads, put_turns, put_undone, put_updates, put_watch,
 };
 use crate::session::{Session, program};
 use crate::types::{Answer, Trial};
@@ -50,6 +55,9 @@ pub fn answer(
             gap,
             ..
         } => answer_apply(alloc, session, name, *tries, *gap, held),
+        Command::Poke { name, .. } => answer_poke(alloc, session, name, held),
+        Command::Tail => answer_tail(alloc, session),
+        Command::Seal => answer_seal(alloc, session),
         Command::Undo => answer_undo(alloc, session),
         Command::UndoNamed { name } => answer_undo_named(alloc, session, name),
         Command::ListUpdates => answer_list(alloc, session),
@@ -120,6 +128,9 @@ fn answer_peek(
 fn answer_undo(alloc: Global, session: &mut Session) -> Result<Answer, AllocError>
     ensures { Answers session.old (told_of session.old Undo []) session.new result }
 {
+    if let Err(refusal) = session.check_closed() {
+        return refused(alloc, &refusal);
+    }
     match session.undo() {
         Ok(name) => told(undone_reply(alloc, &name)),
         Err(refusal) => refused(alloc, &refusal),
@@ -133,6 +144,9 @@ fn answer_undo_named(
 ) -> Result<Answer, AllocError>
     ensures { Answers session.old (told_of session.old (UndoNamed name.now) []) session.new result }
 {
+    if let Err(refusal) = session.check_closed() {
+        return refused(alloc, &refusal);
+    }
     match session.undo_named(name) {
         Ok(()) => told(undone_reply(alloc, name)),
         Err(refusal) => refused(alloc, &refusal),
@@ -161,9 +175,12 @@ fn answer_apply(
 ) -> Result<Answer, AllocError>
     requires tries { 1 ≤ tries }
     requires files { length held.now ≡ 2 }
-    ensures { Answers session.old
-        (apply_told session.old.machine name.now tries gap (bytes_of held.now)) session.new result }
+    ensures { Answers session.old (unless_open (live_of session.old)
+        (apply_told session.old.machine name.now tries gap (bytes_of held.now))) session.new result }
 {
+    if let Err(refusal) = session.check_closed() {
+        return refused(alloc, &refusal);
+    }
     let [pre, post] = held else { unreachable!() };
     let trial = Trial {
         name,
@@ -181,7 +198,8 @@ fn answer_trial(
     tries: u32,
     gap: u32,
 ) -> Result<Answer, AllocError>
-    requires { 1 ≤ tries }
+    requires tries { 1 ≤ tries }
+    requires done { session.old.phase ≡ Done }
     ensures { Answers session.old
         (tried (trial_of trial.now) gap 1 (tries - 1) session.old.machine) session.new result }
 {
@@ -194,6 +212,40 @@ fn answer_trial(
     }
     let outcome = session.apply(trial.name, trial.pre, trial.post);
     answer_outcome(alloc, trial.name, tries, outcome)
+}
+
+fn answer_poke(
+    alloc: Global,
+    session: &mut Session,
+    name: &Name,
+    held: &[Vec<u8>],
+) -> Result<Answer, AllocError>
+    requires { length held.now ≡ 2 }
+    ensures { Answers session.old (poke_told (live_of session.old) name.now (bytes_of held.now)) session.new result }
+{
+    let [pre, post] = held else { unreachable!() };
+    match session.mark(name, pre.as_slice(), post.as_slice()) {
+        Ok(report) => told(marked_reply(alloc, name, &report)),
+        Err(refusal) => refused(alloc, &refusal),
+    }
+}
+
+fn answer_tail(alloc: Global, session: &mut Session) -> Result<Answer, AllocError>
+    ensures { Answers session.old (told_of session.old Tail []) session.new result }
+{
+    match session.tail() {
+        Ok(()) => told(tailed_reply(alloc, session)),
+        Err(refusal) => refused(alloc, &refusal),
+    }
+}
+
+fn answer_seal(alloc: Global, session: &mut Session) -> Result<Answer, AllocError>
+    ensures { Answers session.old (told_of session.old Seal []) session.new result }
+{
+    match session.seal() {
+        Ok(()) => told(sealed_reply(alloc, session)),
+        Err(refusal) => refused(alloc, &refusal),
+    }
 }
 
 /// Whether a thread stood in the way.
@@ -300,10 +352,11 @@ fn peek_reply(
     count: u32,
 ) -> Result<Line, AllocError>
     requires { address + count ≤ 2 ^ 32 }
-    ensures { IfOk result (λ line. line ≡ peek_line (patched session.now.machine).pieces address count) }
+    ensures { IfOk result (λ line. line
+        ≡ peek_line (patched_in session.now.phase session.now.machine).pieces address count) }
 {
     let mut line = Line::new(alloc);
-    put_peek(&mut line, program(&session.system).space(), address, count)?;
+    put_peek(&mut line, program(&session.live).space(), address, count)?;
     Ok(line)
 }
 
@@ -317,6 +370,30 @@ fn applied_reply(
 {
     let mut line = Line::new(alloc);
     put_applied(&mut line, name, number, report)?;
+    Ok(line)
+}
+
+fn marked_reply(alloc: Global, name: &Name, report: &Report) -> Result<Line, AllocError>
+    ensures { IfOk result (λ line. line ≡ marked_lines name.now report.now) }
+{
+    let mut line = Line::new(alloc);
+    put_marked(&mut line, name, report)?;
+    Ok(line)
+}
+
+fn tailed_reply(alloc: Global, session: &Session) -> Result<Line, AllocError>
+    ensures { IfOk result (λ line. line ≡ tailed_line (newest_name session.now.machine)) }
+{
+    let mut line = Line::new(alloc);
+    put_tailed(&mut line, &session.newest_name(alloc)?)?;
+    Ok(line)
+}
+
+fn sealed_reply(alloc: Global, session: &Session) -> Result<Line, AllocError>
+    ensures { IfOk result (λ line. line ≡ sealed_line (newest_name session.now.machine)) }
+{
+    let mut line = Line::new(alloc);
+    put_sealed(&mut line, &session.newest_name(alloc)?)?;
     Ok(line)
 }
 

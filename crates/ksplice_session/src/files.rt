@@ -39,11 +39,15 @@ pub(crate) fn files_of(command: &Command) -> Loads<'_>
         | Command::RoundRobin { .. }
         | Command::Threads
         | Command::Peek { .. }
+        | Command::Tail
+        | Command::Seal
         | Command::Undo
         | Command::UndoNamed { .. }
         | Command::ListUpdates
         | Command::Watch => no_files(),
-        Command::Apply { pre, post, .. } => object_files(pre, post),
+        Command::Apply { pre, post, .. } | Command::Poke { pre, post, .. } => {
+            object_files(pre, post)
+        }
     }
 }
 

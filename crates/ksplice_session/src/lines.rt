@@ -4,6 +4,7 @@ ghost use Rattle.std.specs.List.{flat_map, range_with_len};
 ghost use Rattle.ksplice_session.specs.Lines.{spawned_line, stepped_line, turns_line};
 ghost use Rattle.ksplice_session.specs.Lines.{thread_line, count_line, threads_lines, peeked, peeked_at, peek_line};
 ghost use Rattle.ksplice_session.specs.Lines.{replaced_line, added_line, dropped_line, applied_line, applied_lines};
+ghost use Rattle.ksplice_session.specs.Lines.{marked_lines, tailed_line, sealed_line};
 ghost use Rattle.ksplice_session.specs.Lines.{undone_line, update_line, updates_line, list_lines};
 ghost use Rattle.frame_watch.specs.declared.types.Verdict.TheVariants.{Broken};
 ghost use Rattle.ksplice_session.specs.Lines.{rule_text, verdict_text, watch_line};
@@ -249,6 +250,38 @@ pub fn put_applied(
     put_each_replaced(line, report.replaced.as_slice())?;
     put_each_added(line, report.added.as_slice())?;
     put_each_dropped(line, report.dropped.as_slice())
+}
+
+/// The first write of an update was made: `marked` and its name; then a line for each function that it replaced, as
+/// [`put_applied`] has it.
+#[tactic(auto, unfolding(crate::specs::Lines::marked_lines))]
+pub fn put_marked(line: &mut Line, name: &Name, report: &Report) -> Result<(), AllocError>
+    ensures { OnOk result (line.new ≡ line.old ++ marked_lines name.now report.now) }
+{
+    line.put_text("marked ")?;
+    line.put_name(name)?;
+    line.put_text("\n")?;
+    put_each_replaced(line, report.replaced.as_slice())
+}
+
+/// The second write of an update was made: `tailed` and its name.
+#[tactic(auto, unfolding(crate::specs::Lines::tailed_line))]
+pub fn put_tailed(line: &mut Line, name: &Name) -> Result<(), AllocError>
+    ensures { OnOk result (line.new ≡ line.old ++ tailed_line name.now) }
+{
+    line.put_text("tailed ")?;
+    line.put_name(name)?;
+    line.put_text("\n")
+}
+
+/// The third write of an update was made: `sealed` and its name.
+#[tactic(auto, unfolding(crate::specs::Lines::sealed_line))]
+pub fn put_sealed(line: &mut Line, name: &Name) -> Result<(), AllocError>
+    ensures { OnOk result (line.new ≡ line.old ++ sealed_line name.now) }
+{
+    line.put_text("sealed ")?;
+    line.put_name(name)?;
+    line.put_text("\n")
 }
 
 /// An update was taken back: `undone` and its name.

@@ -10,7 +10,9 @@ ghost use Rattle.ksplice_session.specs.inside.InStep.{watched_taken};
 use crate::session::{Session, program};
 use ia32_step::{ESP, calls_and_returns};
 use image_threads::Turns;
-use splice_jump::{homes_stay_spliced, jumps_change_their_bytes_alone, jumps_leave_views};
+use splice_jump::{
+    homes_are_not_looked_at, homes_stay_spliced, jumps_change_their_bytes_alone, jumps_leave_views,
+};
 use update_safety::{fetched_bytes_have_windows, threads_keep_windows};
 use update_stack::steps_stand;
 
@@ -23,20 +25,22 @@ impl Session {
         let Some(before) = self.thread(thread) else {
             return false;
         };
-        // The laws say what a step does, which windows stay, and that jumps don't matter for what is seen of a machine.
+        // The laws say what a step does, which windows stay, and that jumps, whole or not, don't matter for what is seen
+        // of a machine.
         steps_stand();
         calls_and_returns();
         jumps_leave_views();
         jumps_change_their_bytes_alone();
+        homes_are_not_looked_at();
         homes_stay_spliced();
         threads_keep_windows();
         fetched_bytes_have_windows();
         registers_fit(&before.registers);
-        let _threads = program(&self.system).threads();
-        let Ok(traced) = self.system.step_traced(thread) else {
+        let _threads = program(&self.live).threads();
+        let Ok(traced) = self.live.step_traced(thread) else {
             return false;
         };
-        let machine = program(&self.system);
+        let machine = program(&self.live);
         let Some(after) = machine.threads().get(thread as usize) else {
             unreachable!()
         };
@@ -64,7 +68,7 @@ impl Session {
         ensures after { self.new ≡ watched_taken self.old (next_turn turns.old self.old.machine.threads) }
         ensures schedule { turns.new ≡ after_turn turns.old (next_turn turns.old self.old.machine.threads) }
     {
-        match turns.next(program(&self.system)) {
+        match turns.next(program(&self.live)) {
             Some(thread) => {
                 self.step(thread);
                 true

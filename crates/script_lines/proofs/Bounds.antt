@@ -8,12 +8,13 @@ use Rattle.std.proofs.lemmas.Bool.Decides.{nat_tests}
 use Rattle.std.proofs.lemmas.List.Elements.{All-nil, All-cons, All-append, All-same}
 use Rattle.ks_base.specs.declared.refusals.Refusal.TheVariants.{BadLine}
 use Rattle.script_lines.specs.declared.types.Command.{Command}
-use Rattle.script_lines.specs.declared.types.Command.TheVariants.{Threads, Peek, ListUpdates, Watch}
+use Rattle.script_lines.specs.declared.types.Command.TheVariants.{Threads, Peek, Tail, Seal, ListUpdates, Watch}
 use Rattle.script_lines.specs.Lines.{words_of, is_plain, lines_of, IsPrintable}
 use Rattle.script_lines.specs.Numbers.{when, number_of}
-use Rattle.script_lines.specs.Forms.{◌>>=◌, number_within, only, two, first_three, alone, spawn_of}
+use Rattle.script_lines.specs.Forms.{◌>>=◌, number_within, only, two, three, first_three, alone, spawn_of}
 use Rattle.script_lines.specs.Forms.{step_of, round_robin_of, peek_of, are_tries_words, tries_of}
-use Rattle.script_lines.specs.Forms.{tries_or_one, apply_of, undo_of, command_of, is_comment, asked_by, asked_in}
+use Rattle.script_lines.specs.Forms.{tries_or_one, apply_of, poke_of, undo_of, update_command_of, command_of}
+use Rattle.script_lines.specs.Forms.{is_comment, asked_by, asked_in}
 use Rattle.script_lines.specs.Script.{commands_of, lines_before_bad, script_of}
 use Rattle.script_lines.specs.Allowed.{IsAllowed}
 use Rattle.script_lines.proofs.Words.{Each, words_printable}
@@ -116,10 +117,32 @@ apply_allowed words each =
     (λ given printable. made AreBounded IsAllowed (tries_or_one given.3) _ (tries_or_one_bounded given.3)
     (λ tries bounded. (printable.0, printable.1, printable.2, bounded.0, bounded.1, bounded.2)))
 
+-- each of three words is printable
+all_printable : (words : List (List ℕ)) → Each IsPrintable words
+    → IfSome (three words) (λ given. IsPrintable given.0 × IsPrintable given.1 × IsPrintable given.2)
+all_printable [] each = tt
+all_printable (first ∷ []) each = tt
+all_printable (first ∷ second ∷ []) each = tt
+all_printable (first ∷ second ∷ third ∷ []) each = (each.0, each.1.0, each.1.1.0)
+all_printable (first ∷ second ∷ third ∷ more ∷ rest) each = tt
+
+poke_allowed : (words : List (List ℕ)) → Each IsPrintable words → IfSome (poke_of words) IsAllowed
+poke_allowed words each = made _ IsAllowed (three words) _ (all_printable words each) (λ given printable. printable)
+
 undo_allowed : (words : List (List ℕ)) → Each IsPrintable words → IfSome (undo_of words) IsAllowed
 undo_allowed [] each = tt
 undo_allowed (name ∷ []) each = each.0
 undo_allowed (name ∷ more ∷ words) each = tt
+
+update_allowed : (word : List ℕ) (words : List (List ℕ)) → Each IsPrintable words
+    → IfSome (update_command_of word words) IsAllowed
+update_allowed word words each =
+    chosen IsAllowed (bytes_eq word (codes "apply")) _ _ (apply_allowed words each)
+    (chosen IsAllowed (bytes_eq word (codes "poke")) _ _ (poke_allowed words each)
+    (chosen IsAllowed (bytes_eq word (codes "tail")) _ _ (alone_allowed Tail words tt)
+    (chosen IsAllowed (bytes_eq word (codes "seal")) _ _ (alone_allowed Seal words tt)
+    (chosen IsAllowed (bytes_eq word (codes "undo")) _ _ (undo_allowed words each)
+    (chosen IsAllowed (bytes_eq word (codes "list")) _ _ (alone_allowed ListUpdates words tt) tt)))))
 
 command_allowed : (word : List ℕ) (words : List (List ℕ)) → Each IsPrintable words
     → IfSome (command_of word words) IsAllowed
@@ -129,10 +152,8 @@ command_allowed word words each =
     (chosen IsAllowed (bytes_eq word (codes "rr")) _ _ (round_robin_allowed words)
     (chosen IsAllowed (bytes_eq word (codes "threads")) _ _ (alone_allowed Threads words tt)
     (chosen IsAllowed (bytes_eq word (codes "peek")) _ _ (peek_allowed words)
-    (chosen IsAllowed (bytes_eq word (codes "apply")) _ _ (apply_allowed words each)
-    (chosen IsAllowed (bytes_eq word (codes "undo")) _ _ (undo_allowed words each)
-    (chosen IsAllowed (bytes_eq word (codes "list")) _ _ (alone_allowed ListUpdates words tt)
-    (chosen IsAllowed (bytes_eq word (codes "watch")) _ _ (alone_allowed Watch words tt) tt))))))))
+    (chosen IsAllowed (bytes_eq word (codes "watch")) _ _ (alone_allowed Watch words tt)
+    (update_allowed word words each))))))
 
 -- of what a line asks for, the command, if there is one, keeps the bounds
 abbrev Keeps : Option Command → Type 0

@@ -1,8 +1,9 @@
 //! The forms of a line.
 ghost use Rattle.std.specs.Prelude.{◌≡◌, IfOk, option_map, bytes_eq};
 ghost use Rattle.script_lines.specs.Lines.{words_of};
-ghost use Rattle.script_lines.specs.Forms.{only, two, first_three, alone, spawn_of, step_of, round_robin_of, peek_of};
-ghost use Rattle.script_lines.specs.Forms.{tries_of, tries_or_one, apply_of, undo_of, command_of, is_comment, asked_in};
+ghost use Rattle.script_lines.specs.Forms.{only, two, three, first_three, alone, spawn_of, step_of};
+ghost use Rattle.script_lines.specs.Forms.{round_robin_of, peek_of, tries_of, tries_or_one, apply_of, poke_of, undo_of};
+ghost use Rattle.script_lines.specs.Forms.{update_command_of, command_of, is_comment, asked_in};
 
 use crate::lines::{first_word, is_plain};
 use crate::numbers::{number_of, number_within};
@@ -68,17 +69,33 @@ fn command_of(alloc: Global, word: &[u8], text: &[u8]) -> Result<Option<Command>
     if is(word, b"peek") {
         return Ok(peek_of(text));
     }
+    if is(word, b"watch") {
+        return Ok(alone(Command::Watch, text));
+    }
+    update_command_of(alloc, word, text)
+}
+
+/// The command on updates of a first word and the text after it.
+fn update_command_of(alloc: Global, word: &[u8], text: &[u8]) -> Result<Option<Command>, AllocError>
+    ensures { IfOk result (λ command. command ≡ update_command_of word.now (words_of text.now)) }
+{
     if is(word, b"apply") {
         return apply_of(alloc, text);
+    }
+    if is(word, b"poke") {
+        return poke_of(alloc, text);
+    }
+    if is(word, b"tail") {
+        return Ok(alone(Command::Tail, text));
+    }
+    if is(word, b"seal") {
+        return Ok(alone(Command::Seal, text));
     }
     if is(word, b"undo") {
         return undo_of(alloc, text);
     }
     if is(word, b"list") {
         return Ok(alone(Command::ListUpdates, text));
-    }
-    if is(word, b"watch") {
-        return Ok(alone(Command::Watch, text));
     }
     Ok(None)
 }
@@ -168,6 +185,19 @@ fn apply_of(alloc: Global, text: &[u8]) -> Result<Option<Command>, AllocError>
     }))
 }
 
+/// `poke NAME PRE POST`
+fn poke_of(alloc: Global, text: &[u8]) -> Result<Option<Command>, AllocError>
+    ensures { IfOk result (λ command. command ≡ poke_of (words_of text.now)) }
+{
+    let Some((name, pre, post)) = three(text) else {
+        return Ok(None);
+    };
+    let name = Name::from_slice(alloc, name)?;
+    let pre = Name::from_slice(alloc, pre)?;
+    let post = Name::from_slice(alloc, post)?;
+    Ok(Some(Command::Poke { name, pre, post }))
+}
+
 /// `undo`, or `undo NAME`
 fn undo_of(alloc: Global, text: &[u8]) -> Result<Option<Command>, AllocError>
     ensures { IfOk result (λ command. command ≡ undo_of (words_of text.now)) }
@@ -225,6 +255,15 @@ fn two(text: &[u8]) -> Option<(&[u8], &[u8])>
     let (first, rest) = first_word(text)?;
     let second = only(rest)?;
     Some((first, second))
+}
+
+/// The three words of a text that has no more and no fewer.
+fn three(text: &[u8]) -> Option<(&[u8], &[u8], &[u8])>
+    ensures { option_map (λ words. (words.0.now, words.1.now, words.2.now)) result ≡ three (words_of text.now) }
+{
+    let (first, rest) = first_word(text)?;
+    let (second, third) = two(rest)?;
+    Some((first, second, third))
 }
 
 /// The first three words of a text, and what follows them.

@@ -47,6 +47,19 @@ pub enum Command {
         /// How many instructions the threads run in turn between two tries; with `tries` at most 16,777,216 in all.
         gap: u32,
     },
+    /// Replace one function of the program in separate writes, and make the first of them.
+    Poke {
+        /// The update's name.
+        name: Name,
+        /// The file of the object built before the change.
+        pre: Name,
+        /// The file of the object built after it.
+        post: Name,
+    },
+    /// Make the second of these writes.
+    Tail,
+    /// Make the last of these writes.
+    Seal,
     /// Take the newest update back.
     Undo,
     /// Take the update of a name back.

@@ -17,7 +17,10 @@ apply fix a b tries 0x3E8 gap 16777
 undo
 undo fix
 list
-watch";
+watch
+poke fix old.o new.o
+tail
+seal";
 
 /// The numbers of a command, of `apply` with its tries and its gap.
 fn numbers_of(command: &Command) -> (u32, u32, u32) {
@@ -32,10 +35,13 @@ fn numbers_of(command: &Command) -> (u32, u32, u32) {
         Command::UndoNamed { .. } => (8, 0, 0),
         Command::ListUpdates => (9, 0, 0),
         Command::Watch => (10, 0, 0),
+        Command::Poke { .. } => (11, 0, 0),
+        Command::Tail => (12, 0, 0),
+        Command::Seal => (13, 0, 0),
     }
 }
 
-const NUMBERS: [(u32, u32, u32); 11] = [
+const NUMBERS: [(u32, u32, u32); 14] = [
     (1, 16, 0),
     (4, 0, 0),
     (3, 2, 100),
@@ -47,6 +53,9 @@ const NUMBERS: [(u32, u32, u32); 11] = [
     (8, 0, 0),
     (9, 0, 0),
     (10, 0, 0),
+    (11, 0, 0),
+    (12, 0, 0),
+    (13, 0, 0),
 ];
 
 fn is_name(name: &Name, text: &str) -> bool {
@@ -62,7 +71,10 @@ fn has_names(command: &Command, others: (&str, &str)) -> bool {
             pre,
             post,
             ..
-        } => is_name(name, "fix") && is_name(pre, others.0) && is_name(post, others.1),
+        }
+        | Command::Poke { name, pre, post } => is_name(name, "fix")
+            && is_name(pre, others.0)
+            && is_name(post, others.1),
         Command::UndoNamed { name } => is_name(name, "fix"),
         _ => true,
     }
@@ -94,5 +106,7 @@ fn lines_of_a_script(rt: HostRuntime) -> Result<(), Fail> {
     assert!(rt; are_wanted(script.as_slice()) && script.len() == NUMBERS.len());
     assert!(rt; bad_line(rt.alloc(), "threads\n\n\r\n# \t\n") == Some(3));
     assert!(rt; bad_line(rt.alloc(), "undo u1\nundo u1 u2\n") == Some(2));
+    assert!(rt; bad_line(rt.alloc(), "poke u1 a b\npoke u1 a b tries 1 gap 0\n") == Some(2));
+    assert!(rt; bad_line(rt.alloc(), "seal\ntail u1\n") == Some(2));
     Ok(())
 }

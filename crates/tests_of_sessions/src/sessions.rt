@@ -86,6 +86,46 @@ applied one tries 2
  replaced f 0x00100000 0x00800000 6
 ";
 
+/// A thread comes to `f` when the first byte of the jump there is written, and goes on at the new version.
+const POKING: &str = "poke one pre.o post.o
+peek 0x00100000 6
+spawn main 7
+step 0 2
+undo
+undo one
+apply two pre.o post.o
+poke two pre.o post.o
+seal
+tail
+peek 0x00100000 6
+tail
+seal
+peek 0x00100000 6
+step 0 9
+undo
+watch
+";
+
+const POKED: &str = "marked one
+ replaced f 0x00100000 0x00800000 6
+0x00100000: cc 01 00 00 00 c3
+spawned 0 0x00100010 main+0x0
+stepped 0 2 running 0x00800000
+refused 43 poke open one
+refused 43 poke open one
+refused 43 poke open one
+refused 43 poke open one
+refused 44 no poke
+tailed one
+0x00100000: cc fb ff 6f 00 c3
+refused 44 no poke
+sealed one
+0x00100000: e9 fb ff 6f 00 c3
+stepped 0 4 exited 0x00000002
+undone one
+watch disciplined
+";
+
 /// How a session ended, whether these are its replies, and the updates, the threads and the verdict that it left.
 type Left = (SessionEnd, bool, usize, usize, Verdict);
 
@@ -113,8 +153,8 @@ fn ran(alloc: Global, script: &str, replies: &str) -> Option<Left> {
     let end = run_session(alloc, &mut session, &script, &mut files, &mut sink);
     let same = sink.taken() == replies.as_bytes();
     let updates = session.system().updates().len();
-    let (system, watch) = session.into_parts();
-    let threads = system.machine().threads().len();
+    let (live, watch) = session.into_parts();
+    let threads = live.system().machine().threads().len();
     Some((end, same, updates, threads, watch.verdict()))
 }
 
@@ -129,6 +169,13 @@ fn updates_a_function_and_takes_it_back(rt: HostRuntime) -> Result<(), Fail> {
 fn updates_where_no_line_is_refused(rt: HostRuntime) -> Result<(), Fail> {
     let left = ran(rt.alloc(), STEPPING, STEPPED).ok_or("not run")?;
     assert!(rt; left == (SessionEnd::Done, true, 1, 1, Verdict::Disciplined));
+    Ok(())
+}
+
+#[test]
+fn updates_a_function_in_separate_writes(rt: HostRuntime) -> Result<(), Fail> {
+    let left = ran(rt.alloc(), POKING, POKED).ok_or("not run")?;
+    assert!(rt; left == (SessionEnd::SomeRefused, true, 0, 1, Verdict::Disciplined));
     Ok(())
 }
 

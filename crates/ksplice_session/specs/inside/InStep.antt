@@ -5,9 +5,7 @@ use Rattle.ia32_step.specs.declared.types.Thread.{Thread}
 use Rattle.ia32_step.specs.Threads.{esp_of}
 use Rattle.image_threads.specs.Program.{running_at}
 use Rattle.image_threads.specs.declared.turns.Turn.{Turn}
-use Rattle.splice_jump.specs.declared.phase.Phase.TheVariants.{Done}
 use Rattle.update_stack.specs.AbstractMachine.{AbstractMachine}
-use Rattle.update_stack.specs.Phases.{Phased}
 use Rattle.update_stack.specs.Events.{Step}
 use Rattle.frame_watch.specs.declared.types.Verdict.{Verdict}
 use Rattle.frame_watch.specs.declared.types.Verdict.TheVariants.{Disciplined, Broken}
@@ -32,11 +30,6 @@ IsStopped (Broken event thread rule) threads = threads ≡ []
 pub record IsInStep (k : AbstractMachine) (watch : Watching) : Type 0 where
   pub each : All (Runs k) watch.threads
   pub stopped : IsStopped watch.verdict watch.threads
-
--- What holds of a session's system and its watch: no update is being written, and the watch is in step with the machine.
-pub record IsWatched (system : Phased) (watch : Watching) : Type 0 where
-  pub done : system.phase ≡ Done
-  pub in_step : IsInStep system.machine watch
 
 -- the session after the step of a turn
 abbrev pub watched_taken : Watched → Option Turn → Watched

@@ -7,19 +7,19 @@ use Rattle.ks_io.specs.declared.types.SinkFault.TheVariants.{SinkFailed, Memory}
 use Rattle.ks_io.specs.declared.types.Wanted.{Wanted}
 use Rattle.ks_io.specs.declared.types.FileFault.{FileFault}
 use Rattle.script_lines.specs.declared.types.Command.{Command}
-use Rattle.ksplice_session.specs.Watching.{Watched, watched_after_all}
+use Rattle.ksplice_session.specs.Watching.{Watched}
 use Rattle.ksplice_session.specs.declared.types.SessionEnd.{SessionEnd}
 use Rattle.ksplice_session.specs.declared.types.SessionEnd.TheVariants.{FileEnd, SinkEnd, MemoryEnd}
 use Rattle.ksplice_session.specs.Replies.{Told, told_of, files_of}
-use Rattle.ksplice_session.specs.Answers.{MadeFront}
+use Rattle.ksplice_session.specs.Answers.{MadeFront, told_after}
 use Rattle.ksplice_session.specs.Session.{file_line, lost_line}
 
 -- How a line ends the session that has its files: the sink failed at its reply, or memory ran out, before its reply or
 -- in it.
 pub data CutAt (k : Watched) (told : Told) (old new : Option (List ℕ)) (now : Watched) : SessionEnd → Type 0 where
-  SinkCut : TookPart old told.reply new → now ≡ watched_after_all k told.events → CutAt k told old new now SinkEnd
-  MemoryCut : TookPart old told.reply new → now ≡ watched_after_all k told.events → CutAt k told old new now MemoryEnd
-  EventsCut : new ≡ old → MadeFront k told.events now → CutAt k told old new now MemoryEnd
+  SinkCut : TookPart old told.reply new → now ≡ told_after k told → CutAt k told old new now SinkEnd
+  MemoryCut : TookPart old told.reply new → now ≡ told_after k told → CutAt k told old new now MemoryEnd
+  EventsCut : new ≡ old → MadeFront k told.events told.turns now → CutAt k told old new now MemoryEnd
 
 -- How a line ends the session that lacks a file.
 pub data LostAt (file : Needed) (lost : Option FileFault) (old new : Option (List ℕ)) : SessionEnd → Type 0 where
@@ -43,7 +43,7 @@ pub record Replied
     : Type 0 where
   pub marked : refused ≡ told.refused
   pub taken : new ≡ grown old told.reply
-  pub session : now ≡ watched_after_all k told.events
+  pub session : now ≡ told_after k told
 
 -- A line was run with its files, and its reply written.
 pub record WasRun

@@ -5,7 +5,8 @@ use Rattle.update_stack.specs.Events.{after_events}
 use Rattle.ksplice_session.specs.Watching.{Watched}
 use Rattle.ksplice_session.specs.Running.{thread_steps}
 use Rattle.ksplice_session.specs.Replies.{told_of}
-use Rattle.ksplice_session.proofs.AnswerLaws.{told_answers, refused_answers, none_made, told_stepped, told_step_refused}
+use Rattle.ksplice_session.proofs.AnswerLaws.{told_answers, told_stepped, told_step_refused}
+use Rattle.ksplice_session.proofs.LiveAnswers.{write_refused}
 use Rattle.ksplice_session.proofs.WatchedLaws.{machine_after_all}
 use Rattle.ksplice_session.proofs.RunLaws.{steps_leave}
 use Rattle.ksplice_session.proofs.answers.answer_step.Goals as goal
@@ -13,10 +14,9 @@ use Rattle.ksplice_session.proofs.answers.answer_step.Goals as goal
 pub returns-then-not-runs : goal.returns-then-not-runs
 returns-then-not-runs c =
     let k = c.args.session.now in
-    refused_answers k k
-    (told_of k (Step c.args.thread c.args.count) []) (NoThread c.args.thread) c.refused.result (λ _. refl)
-    (λ _. told_step_refused k c.args.thread c.args.count (sym c.runs.ensures ∙ c.if-not-runs.true))
-    (none_made k k (told_of k (Step c.args.thread c.args.count) []).events refl) c.refused.ensures
+    write_refused k k
+    (told_of k (Step c.args.thread c.args.count) []) (NoThread c.args.thread) c.refused.result refl
+    (told_step_refused k c.args.thread c.args.count (sym c.runs.ensures ∙ c.if-not-runs.true)) c.refused.ensures
 
 pub stepped_reply-requires : goal.stepped_reply-requires
 stepped_reply-requires c =
