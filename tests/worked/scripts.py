@@ -96,9 +96,10 @@ ROWS = [
     bad("line-with-a-word-too-many", "threads 1"),
     bad("line-with-a-word-too-few", "spawn main"),
     bad("undo-takes-one-name", "undo u1 u2", files=FIRST_TO_SECOND),
-    bad("poke-is-no-line", "poke u1 pre.o post.o", files=FIRST_TO_SECOND),
-    bad("tail-is-no-line", "tail", files=FIRST_TO_SECOND),
-    bad("seal-is-no-line", "seal", files=FIRST_TO_SECOND),
+    bad("poke-without-a-second-file", "poke u1 pre.o", files=FIRST_TO_SECOND),
+    bad("poke-with-tries", "poke u1 pre.o post.o tries 2 gap 1", files=FIRST_TO_SECOND),
+    bad("tail-with-a-name", "tail u1", files=FIRST_TO_SECOND),
+    bad("seal-with-a-name", "seal u1", files=FIRST_TO_SECOND),
     bad("hooks-is-no-line", "hooks u1 pre.o post.o", files=FIRST_TO_SECOND),
 
     # numbers
