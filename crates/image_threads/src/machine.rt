@@ -241,11 +241,10 @@ impl<S: Space> Machine<S> {
         ensures stacks { AreStacks self.old.contents.pieces self.old.stacks
             → AreStacks self.new.contents.pieces self.new.stacks }
     {
-        let Some(mut running) = self.threads.running_at(thread) else {
+        let Some(running) = self.threads.running_at(thread) else {
             return Err(Refusal::NoThread(thread));
         };
-        running.pc = pc;
-        self.threads.put(running);
+        self.threads.send(running, pc);
         Ok(Outcome::Moved(Flow::Plain))
     }
 }

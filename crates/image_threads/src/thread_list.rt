@@ -119,6 +119,16 @@ impl ThreadList {
         Ok(number)
     }
 
+    /// Puts a thread that runs in the place of the running thread of its number, but at an address. It takes no memory.
+    pub(crate) fn send(&mut self, thread: Thread, pc: u32)
+        requires listed { IsSome (running_at self.old thread.number) }
+        requires running { thread.state ≡ Running }
+        ensures { self.new ≡ set self.old thread.number (record thread { pc = pc }) }
+    {
+        self.threads
+            .set(thread.number as usize, Thread { pc, ..thread });
+    }
+
     /// Puts a thread in the place of the running thread of its number. It takes no memory.
     pub(crate) fn put(&mut self, thread: Thread)
         requires { IsSome (running_at self.old thread.number) }

@@ -11,5 +11,5 @@ invariant_of-self g c =
     let W : List Thread → Type 0 = λ threads. WellPlaced c.self.inside.stacks threads in
     let was : running_at c.self.inside.threads after.number ≡ Some before =
     ap (running_at c.self.inside.threads) c.in-Some.ensures.number ∙ sym c.in-Some.ensures.thread in
-    subst W (sym c.put.ensures)
+    subst W (sym c.send.ensures)
     (placed_set c.self.inside.stacks c.self.inside.threads after.number before after c.self.invariant was refl)
