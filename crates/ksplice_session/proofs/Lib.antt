@@ -25,7 +25,6 @@ pub mod StackLaws
 pub mod MoveLaws
 pub mod StartLaws
 pub mod UpdateLaws
-pub mod NewestLaws
 pub mod PhaseLaws
 pub mod PremiseLaws
 pub mod RanLaws

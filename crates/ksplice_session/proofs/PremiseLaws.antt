@@ -5,7 +5,6 @@ use Rattle.std.specs.Prelude.{◌↔◌, codes, take, drop}
 use Rattle.std.specs.List.{fold, list_any}
 use Rattle.frame_watch.specs.declared.types.Verdict.{Verdict}
 use Rattle.frame_watch.specs.declared.types.Verdict.TheVariants.{Disciplined, Broken}
-use Rattle.script_lines.specs.declared.types.Command.TheVariants.{Watch}
 use Rattle.ksplice_session.specs.Watching.{Watched, watched_after_all}
 use Rattle.ksplice_session.specs.Replies.{told_of}
 use Rattle.ksplice_session.specs.Lines.{watch_line}

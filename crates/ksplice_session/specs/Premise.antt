@@ -3,7 +3,6 @@ use Rattle.std.specs.Prelude.{◌≡◌, ◌↔◌, ℕ, List, codes}
 use Rattle.script_lines.specs.declared.types.Command.TheVariants.{Watch}
 use Rattle.ksplice_session.specs.Watching.{Watched, watched_after_all, IsDisciplined}
 use Rattle.ksplice_session.specs.Replies.{told_of}
-use Rattle.ksplice_session.specs.Lines.{watch_line}
 use Rattle.ksplice_session.specs.Session.{Ran, played, events_along}
 
 -- what the line `watch` replies after some lines

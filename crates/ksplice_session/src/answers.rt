@@ -385,7 +385,7 @@ fn tailed_reply(alloc: Global, session: &Session) -> Result<Line, AllocError>
     ensures { IfOk result (λ line. line ≡ tailed_line (newest_name session.now.machine)) }
 {
     let mut line = Line::new(alloc);
-    put_tailed(&mut line, &session.newest_name(alloc)?)?;
+    put_tailed(&mut line, &session.newest_name()?)?;
     Ok(line)
 }
 
@@ -393,7 +393,7 @@ fn sealed_reply(alloc: Global, session: &Session) -> Result<Line, AllocError>
     ensures { IfOk result (λ line. line ≡ sealed_line (newest_name session.now.machine)) }
 {
     let mut line = Line::new(alloc);
-    put_sealed(&mut line, &session.newest_name(alloc)?)?;
+    put_sealed(&mut line, &session.newest_name()?)?;
     Ok(line)
 }
 

@@ -261,13 +261,10 @@ impl Session {
     }
 
     /// The name of the newest update, empty where none is live.
-    pub(crate) fn newest_name(&self, alloc: Global) -> Result<Name, AllocError>
+    pub(crate) fn newest_name(&self) -> Result<Name, AllocError>
         ensures { IfOk result (λ name. name ≡ newest_name self.now.machine) }
     {
-        match self.updates().last() {
-            Some(update) => Name::from_slice(alloc, update.name.as_slice()),
-            None => Ok(Name::new(alloc)),
-        }
+        self.live.newest_name()
     }
 
     /// The threads in the order of their numbers, from 0 on.

@@ -89,8 +89,8 @@ impl<S: Space> LiveSystem<S> {
         Err(Refusal::PokeOpen(self.newest_name()?))
     }
 
-    /// The name of the newest update, empty where none is live.
-    fn newest_name(&self) -> Result<Name, AllocError>
+    /// The name of the newest update, empty where none is live. `Err` comes only if memory runs out.
+    pub fn newest_name(&self) -> Result<Name, AllocError>
         ensures { IfOk result (λ name. name ≡ newest_name self.now.machine) }
     {
         match self.system.updates().as_slice().last() {
