@@ -13,6 +13,8 @@ ghost use Rattle.update_stack.specs.AbstractMachine.{AbstractMachine, contents_o
 ghost use Rattle.update_stack.specs.Apply.{planned_in, committed, applied};
 ghost use Rattle.update_stack.specs.Events.{Event, Step, Happened, answered, after_event};
 ghost use Rattle.update_stack.specs.Jumps.{CanJump, StepsStand};
+ghost use Rattle.splice_jump.specs.declared.phase.Phase.{Phase};
+ghost use Rattle.update_stack.specs.Phases.{IsOpenAt, patched_in};
 ghost use Rattle.update_stack.specs.PhaseSteps.{PhasesLeaveViews, StepsStandIn, OpenHomesLeadOn};
 ghost use Rattle.update_stack.specs.Reached.{LeadsTo, AreReached};
 ghost use Rattle.update_stack.specs.Stacked.{IsBuilt};
@@ -80,12 +82,14 @@ pub fn open_homes_lead_on()
 {}
 
 /// Whatever a thread does, its step leaves each piece of code, and each byte in it, as they were: those of the machine's
-/// text, and those of the memory that stands for it, with the jumps.
+/// text, and those of the memory that stands for it, with the jumps, in whichever phase the newest of these is.
 pub fn threads_leave_code()
     ensures text { (k : AbstractMachine) (number : ℕ) → IsBuilt k →
         KeepsCode k.pieces (after_event k (Step number)).pieces }
     ensures memory { (k : AbstractMachine) (number : ℕ) → IsBuilt k →
         KeepsCode (patched k).pieces (patched (after_event k (Step number))).pieces }
+    ensures phases { (phase : Phase) (k : AbstractMachine) (number : ℕ) → IsBuilt k → IsOpenAt phase k →
+        KeepsCode (patched_in phase k).pieces (patched_in phase (after_event k (Step number))).pieces }
 {
     // Nothing is done here: the law says that whatever an instruction may do leaves code as it was.
     steps_leave_code();

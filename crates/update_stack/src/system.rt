@@ -236,16 +236,7 @@ impl<S: Space> System<S> {
         // a phase whose open home is that of its newest update.
         threads_leave_code();
         let _program = self.machine();
-        let _phase = self.phase;
-        self.step_program(thread)
-    }
-
-    /// Steps a thread of the program.
-    fn step_program(&mut self, thread: u32) -> Result<Traced, Refusal>
-        ensures comes { ComesOfStep self.old.machine self.new.machine thread result }
-        ensures phase { self.new.phase ≡ self.old.phase }
-        ensures refused { OnErr result (self.new ≡ self.old) }
-    {
+        let _phase = self.phase();
         match self.open_base(thread) {
             Some(base) => self.step_on(thread, base),
             None => self.step_away(thread),
