@@ -1,5 +1,6 @@
 """Runs a program and says how long it took and how much memory it used, for the scripts here."""
 import os
+import re
 import resource
 import subprocess
 import tempfile
@@ -45,6 +46,13 @@ def timed(command, folder, out, clock=time.perf_counter):
         if took > LONG:
             break
     return best, done
+
+
+def counted(command, folder):
+    """How many instructions a run has, by valgrind, and what it wrote."""
+    done = subprocess.run(["valgrind", "--tool=callgrind", "--callgrind-out-file=callgrind.out"] + command, cwd=folder,
+                          stdout=subprocess.PIPE, stderr=subprocess.PIPE, text=True, check=False)
+    return int(re.search(r"Collected : (\d+)", done.stderr).group(1)), done.stdout
 
 
 def peak(command, folder):
