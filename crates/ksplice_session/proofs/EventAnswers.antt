@@ -27,7 +27,7 @@ use Rattle.update_stack.specs.Plan.{unless}
 use Rattle.update_stack.specs.AbstractMachine.{AbstractMachine, Update, contents_of, view_in, base_of}
 use Rattle.update_stack.specs.Steps.{step_at, step_in, after_step, moved_by, moved, after_start, spawned}
 use Rattle.update_stack.specs.Apply.{planned_in, committed, applied}
-use Rattle.update_stack.specs.Undo.{withdrawn, withdrawal_refusal, newest_update, named}
+use Rattle.update_stack.specs.Undo.{withdrawn, withdrawal_refusal}
 use Rattle.update_stack.specs.Undo.{taken_back, undone_by, undone, undone_named}
 use Rattle.update_stack.specs.Events.{Event, Spawn, Step, Apply, Undo, UndoNamed, Spawned, Stepped}
 use Rattle.update_stack.specs.Events.{Happened, happened, spawn_answered, step_answered, apply_answered}

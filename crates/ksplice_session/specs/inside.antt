@@ -3,5 +3,4 @@ pub mod LineEnds
 pub mod Loading
 pub mod InStep
 pub mod ScriptEnds
-pub mod Stacks
 pub mod Trying

@@ -2,7 +2,7 @@
 ghost use Rattle.std.specs.Prelude.{◌≡◌, OnOk, IfOk};
 ghost use Rattle.image_memory.specs.Contents.{ArePlaced};
 ghost use Rattle.update_stack.specs.AbstractMachine.{stack_piece, all_pieces};
-ghost use Rattle.ksplice_session.specs.inside.Stacks.{FitAmong};
+ghost use Rattle.update_stack.specs.laws.FirstPieces.{FitAmong};
 
 use image_memory::{Kind, Piece, Pieces, pieces_stay_placed, put_piece};
 use ks_base::{Bytes, Range, Ranges};

@@ -1,5 +1,5 @@
 -- The ranges that are kept of a live update, wherever it stands among the others, are those of its pieces.
-use Rattle.std.proofs.Common.{◌≡◌, ℕ, List, [], ◌∷◌, ◌++◌, length, length-append, refl, sym, ◌∙◌, ap, arith, subst, ◌⊎◌}
+use Rattle.std.proofs.Common.{◌≡◌, List, [], ◌∷◌, ◌++◌, length, length-append, sym, ◌∙◌, ap, arith, subst}
 use Rattle.std.proofs.Common.{inl, inr}
 use Rattle.std.specs.List.Sorted.{IsPermutation, IsNonDecreasingBy}
 use Rattle.ks_base.specs.declared.places.Range.{Range}

@@ -1,9 +1,9 @@
 -- What later updates have to do with one at a place, told by what is kept of it.
-use Rattle.std.proofs.Common.{◌≡◌, ℕ, ◌+◌, ◌≤◌, ◌<◌, Bool, true, false, not, cond, List, [], ◌∷◌, ◌++◌, map, length, take, drop}
-use Rattle.std.proofs.Common.{slice_get, length-append, Option, Some, None, refl, sym, ◌∙◌, ap, arith, subst, suc, zero}
+use Rattle.std.proofs.Common.{◌≡◌, ℕ, ◌+◌, ◌≤◌, ◌<◌, Bool, true, false, cond, List, [], ◌∷◌, map, length, take, drop}
+use Rattle.std.proofs.Common.{slice_get, Option, Some, None, refl, sym, ◌∙◌, ap, arith, subst, suc, zero}
 use Rattle.std.proofs.Common.{◌≢◌, Result, Ok, Err, MatchResult, OnErr}
 use Rattle.std.specs.Option.{option_map, is_some}
-use Rattle.std.specs.List.{Any, Contains, filter, find, list_any}
+use Rattle.std.specs.List.{Any, filter, find, list_any}
 use Rattle.std.specs.List.Sorted.{IsPermutation}
 use Rattle.std.proofs.lemmas.Bool.{false≢true}
 use Rattle.std.proofs.lemmas.List.Folds.{Any-from_list_any}
@@ -23,14 +23,14 @@ use Rattle.update_memory.specs.Withdrawn.{is_based_at}
 use Rattle.update_stack.specs.declared.updates.Update.{Update as Shown}
 use Rattle.update_stack.specs.declared.updates.Kept.{Kept}
 use Rattle.update_stack.specs.AbstractMachine.{AbstractMachine, Update}
-use Rattle.update_stack.specs.Undo.{ranges_in, is_code_of, code_ranges_in, later_than, meets_one, retires_in, covered_by}
+use Rattle.update_stack.specs.Undo.{ranges_in, is_code_of, code_ranges_in, later_than, retires_in, covered_by}
 use Rattle.update_stack.specs.Undo.{cover_refusal, needed_at, first_need, need_refusal}
 use Rattle.update_stack.specs.Systems.{live_update, live_updates, machine_of, Holds}
 use Rattle.update_stack.specs.laws.StackedLaws.{built_sound}
 use Rattle.update_stack.proofs.SiftLaws.{one_passes}
 use Rattle.update_stack.proofs.PastLaws.{IsAmong, later_among}
 use Rattle.update_stack.proofs.ThereLaws.{built_names, listed_among}
-use Rattle.update_stack.proofs.AtLaws.{length_live, live_at, parts_at, length_front, within}
+use Rattle.update_stack.proofs.AtLaws.{live_at, parts_at, length_front, within}
 use Rattle.update_stack.proofs.OrderLaws.{ascends_sorted}
 use Rattle.update_stack.proofs.KeptAtLaws.{KeptRanges, kept_ranges}
 

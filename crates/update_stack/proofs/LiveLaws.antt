@@ -1,7 +1,7 @@
 -- What the calls find of live updates is what the machine has of them.
 use Rattle.std.proofs.Common.{◌≡◌, ◌≢◌, ℕ, suc, ◌+◌, ◌<◌, ◌==◌, ◌||◌, Bool, true, false, cond, nat_eq, refl, sym, ◌∙◌}
 use Rattle.std.proofs.Common.{List, [], ◌∷◌, ◌++◌, map, length, take, get_or, Option, None, ap, arith, ne_eqb, subst}
-use Rattle.std.proofs.Common.{zero, ◌≤◌, nat_lt, slice_get, Some, MatchOption}
+use Rattle.std.proofs.Common.{◌≤◌, nat_lt, slice_get, Some, MatchOption}
 use Rattle.std.specs.Option.{unwrap_or}
 use Rattle.std.specs.List.{All, AllPairs, find, fold, flat_map, list_any, position, position_or_len, IsDistinct}
 use Rattle.std.specs.List.{AllByRecursion}

@@ -3,3 +3,4 @@ pub mod StackedLaws
 pub mod TableLaws
 pub mod StepLaws
 pub mod ViewLaws
+pub mod FirstPieces

@@ -4,7 +4,8 @@ use Rattle.ks_base.specs.declared.places.Range.{Range}
 use Rattle.image_memory.specs.declared.types.Piece.{Piece}
 use Rattle.image_memory.specs.Contents.{ArePlaced}
 use Rattle.image_memory.specs.Changes.{with_piece}
-use Rattle.ksplice_session.proofs.MemoryLaws.{no_stacks, one_stack, fit_later, placed_with_stacks}
+use Rattle.ksplice_session.proofs.MemoryLaws.{no_stacks, one_stack, fit_later}
+use Rattle.update_stack.specs.laws.FirstPieces.{placed_with_stacks}
 use Rattle.ksplice_session.proofs.memory.+put_stacks.Goals as goal
 
 pub returns-in-empty : goal.returns-in-empty

@@ -1,4 +1,4 @@
-use Rattle.std.proofs.Common.{◌++◌, take, arith, length-append}
+use Rattle.std.proofs.Common.{take, arith, length-append}
 use Rattle.std.specs.List.{flat_map}
 use Rattle.update_stack.specs.declared.updates.Kept.{Kept}
 use Rattle.update_stack.proofs.AmongLaws.{part_of_all}

@@ -6,7 +6,8 @@ use Rattle.image_threads.specs.Program.{Program}
 use Rattle.image_threads.specs.Spawning.{AreStacks}
 use Rattle.update_stack.specs.Sound.{AreGaps}
 use Rattle.update_stack.specs.Systems.{gaps_in}
-use Rattle.ksplice_session.proofs.MemoryLaws.{image_fits, placed_with_stacks, image_stacks, arena_gaps}
+use Rattle.ksplice_session.proofs.MemoryLaws.{image_fits, image_stacks, arena_gaps}
+use Rattle.update_stack.specs.laws.FirstPieces.{placed_with_stacks}
 use Rattle.ksplice_session.proofs.session.Session.new.Goals as goal
 
 pub all_pieces-requires-clause-stacks : goal.all_pieces-requires-clause-stacks
