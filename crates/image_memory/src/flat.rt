@@ -172,6 +172,11 @@ impl Space for FlatSpace {
         Some((piece.kind, byte))
     }
 
+    fn piece(&self, i: u32) -> Option<(Kind, Range)> {
+        let piece = self.pieces.as_slice().get(i as usize)?;
+        Some((piece.kind, piece.range()))
+    }
+
     fn read(&self, address: u32, into: &mut [u8]) -> Result<(), Fault> {
         let address = u64::from(address);
         if let Some(fault) = self.first_fault(Access::Read, address, into.len()) {

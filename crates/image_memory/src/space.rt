@@ -1,8 +1,9 @@
 //! What every representation of memory offers.
 ghost use Rattle.std.specs.Prelude.{◌≡◌, ◌≤◌, ◌<◌, ◌-◌, [], length, map, OnOk, OnErr, IfOk, MatchResult};
-ghost use Rattle.std.specs.List.{All};
+ghost use Rattle.std.specs.List.{All, slice_get};
+ghost use Rattle.std.specs.Option.{option_map};
 ghost use Rattle.image_memory.specs.Ranges.{MeetsNone};
-ghost use Rattle.image_memory.specs.Contents.{Contents, Room, IsValid, piece_range, fence_range, look_at, spliced_at};
+ghost use Rattle.image_memory.specs.Contents.{Contents, Room, IsValid, piece_range, shape_of, fence_range, look_at, spliced_at};
 ghost use Rattle.image_memory.specs.Access.{first_fault, read_fault, write_fault, bytes_at, after_write};
 ghost use Rattle.image_memory.specs.Fetch.{window_at, HasCode, TellsView};
 ghost use Rattle.image_memory.specs.Changes.{ArePlaceable, FitsSpare, HasPiece, IsRetired, without_first};
@@ -25,6 +26,11 @@ pub trait Space {
     /// address.
     fn look(&self, address: u32) -> Option<(Kind, u8)>
         ensures { result ≡ look_at (contents self.now).pieces address };
+
+    /// The kind and the range of the piece at index `i`, counted from 0 in ascending order; `None` exactly where there is
+    /// none.
+    fn piece(&self, i: u32) -> Option<(Kind, Range)>
+        ensures { result ≡ option_map shape_of (slice_get (contents self.now).pieces i) };
 
     /// Reads the bytes from an address on as data. [`Fault::Unmapped`] or [`Fault::CodeAccess`] exactly
     /// where the first byte that can't be read has no piece or is code; `into` is then as before.

@@ -1,11 +1,12 @@
 //! A list in order, which clauses see as the list of its items.
 ghost use Rattle.std.specs.Prelude.{◌≡◌, ◌++◌, ◌<◌, ◌==◌, [], ◌∷◌, length, set, OnOk};
 ghost use Rattle.std.specs.Prelude.{OnErr, IfOk, IsNone, ◌↔◌, option_to_list};
-ghost use Rattle.std.specs.Option.{option_copied};
+ghost use Rattle.std.specs.Option.{option_copied, option_map};
 ghost use Rattle.std.specs.List.{slice_get};
 ghost use Rattle.std.specs.Cmp.{on_equiv, on_total, on_po, on_per};
 ghost use Rattle.std.specs.Cmp.Lexicographic.{pointwise, slice_cmp, slice_partial_cmp, lists_equiv};
 ghost use Rattle.std.specs.Cmp.Lexicographic.{lists_agrees, lists_total, lists_ties, lists_po, lists_per};
+ghost use Rattle.std.specs.Borrow.{LendsIf, sem};
 ghost use Rattle.std.specs.Hash as fed;
 ghost use Rattle.std.specs.Hash.{items_Alike};
 
@@ -30,6 +31,8 @@ impl<T> Model for ListOf<T> {
 }
 
 impl<T> ListOf<T> {
+    ghost use Rattle.ks_base.specs.contracts.list.ListOf.{the_row};
+
     /// The empty list. It takes no memory; `alloc` is kept for what is pushed later.
     pub fn new(alloc: Global) -> Self
         ensures { result ≡ [] }
@@ -101,6 +104,14 @@ impl<T> ListOf<T> {
         ensures { option_copied result ≡ slice_get self.now i }
     {
         self.items.as_slice().get(i)
+    }
+
+    /// The item at index `i`, to be changed where it stands, `None` exactly where there is none. It takes no memory.
+    pub fn get_mut(&mut self, i: usize) -> Option<&mut T>
+        ensures* changed { sem 𝓛 (LendsIf (the_row T.row) T.row self.entry result (set self.old i) self.old) }
+        ensures item { option_map (λ item. item.now) result ≡ slice_get self.old i }
+    {
+        self.items.get_mut(i)
     }
 
     /// All items as a slice.

@@ -137,7 +137,7 @@ pub struct ConflictName {
 }
 
 /// Why a request is refused. Each has a number and a text; for [`Refusal::Memory`] no reply is written. Nothing is
-/// refused with 33, 34 or 39 to 48 yet: they are for calls that are still to be written.
+/// refused with 46 to 48 yet: they are for a call that is still to be written.
 #[derive(Drop)]
 pub enum Refusal {
     /// 1: the object doesn't begin with the ELF magic.

@@ -8,7 +8,7 @@ ghost use Rattle.paged_memory.specs.Pages.{extent_range, extent_of, extent_fault
 
 use crate::types::Extent;
 use image_memory::{Access, Piece};
-use ks_base::Fault;
+use ks_base::{Fault, Range};
 
 impl Extent {
     /// Where a piece lies.
@@ -20,6 +20,17 @@ impl Extent {
             kind: piece.kind,
             base: piece.base,
             length: piece.bytes.len() as u32,
+        }
+    }
+
+    /// The addresses of the piece.
+    pub(crate) fn range(&self) -> Range
+        requires { (extent_range self.now).high < 2 ^ 32 }
+        ensures { result ≡ extent_range self.now }
+    {
+        Range {
+            low: self.base,
+            high: self.base + self.length,
         }
     }
 

@@ -79,6 +79,10 @@ impl Space for PagedSpace {
         self.table.look_at(address)
     }
 
+    fn piece(&self, i: u32) -> Option<(Kind, Range)> {
+        self.table.shape_at(i)
+    }
+
     fn read(&self, address: u32, into: &mut [u8]) -> Result<(), Fault> {
         self.table.read(address, into)
     }

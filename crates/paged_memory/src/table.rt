@@ -1,10 +1,11 @@
 //! The bytes of pieces in pages.
 ghost use Rattle.std.specs.Prelude.{◌≡◌, ◌+◌, ◌-◌, ◌*◌, ◌/◌, ◌≤◌, ◌<◌, ◌^◌, List, [], ◌∷◌, length, max};
 ghost use Rattle.std.specs.Prelude.{vec_len, vec_capacity, None, MatchOption, Some, IfOk, OnOk, OnErr, MatchResult};
-ghost use Rattle.std.specs.List.{All, AllWithin, Any, Contains};
+ghost use Rattle.std.specs.List.{All, AllWithin, Any, Contains, slice_get};
+ghost use Rattle.std.specs.Option.{option_map};
 ghost use Rattle.ks_base.specs.declared.places.Range.{Range};
 ghost use Rattle.image_memory.specs.Ranges.{Ascends, Ascends-prop, MeetsNone};
-ghost use Rattle.image_memory.specs.Contents.{ArePlaced, look_at, piece_range};
+ghost use Rattle.image_memory.specs.Contents.{ArePlaced, look_at, piece_range, shape_of};
 ghost use Rattle.image_memory.specs.Changes.{with_piece, without_piece, IsPlaceable};
 ghost use Rattle.image_memory.specs.Access.{first_fault, read_fault, write_fault, bytes_at, written};
 ghost use Rattle.image_memory.specs.Fetch.{window_at, HasCode};
@@ -208,6 +209,14 @@ impl PageTable {
         let spot = self.spot_at(address)?;
         let byte = self.pages[spot.page].byte(address);
         Some((self.extents[spot.extent].kind, byte))
+    }
+
+    /// The kind and the range of the piece at an index, `None` exactly where there is none.
+    pub(crate) fn shape_at(&self, i: u32) -> Option<(Kind, Range)>
+        ensures { result ≡ option_map shape_of (slice_get (pieces_of self.now.extents.items self.now.pages.items) i) }
+    {
+        let extent = self.extents.as_slice().get(i as usize)?;
+        Some((extent.kind, extent.range()))
     }
 
     /// Reads the bytes from an address on as data.

@@ -1,6 +1,6 @@
 //! Callers of the lists with clauses over lists, and the texts of a reply.
-ghost use Rattle.std.specs.Prelude.{◌≡◌, ◌++◌, ◌∷◌, [], OnOk, OnErr, IfOk, IsTrue, ◌↔◌, Contains, option_to_list};
-ghost use Rattle.std.specs.Option.{option_copied};
+ghost use Rattle.std.specs.Prelude.{◌≡◌, ◌++◌, ◌∷◌, [], OnOk, OnErr, IfOk, IsTrue, ◌↔◌, Contains, option_to_list, set};
+ghost use Rattle.std.specs.Option.{option_copied, option_map, unwrap_or};
 ghost use Rattle.std.specs.List.{slice_get};
 ghost use Rattle.std.specs.Ordering.{nat_cmp};
 ghost use Rattle.std.specs.Cmp.Lexicographic.{slice_cmp};
@@ -53,6 +53,16 @@ fn first(names: &Names) -> Option<&Name>
     ensures { option_copied result ≡ slice_get names.now 0 }
 {
     names.get(0)
+}
+
+/// Puts another address at the high of a list's range, where it has one.
+fn widen(ranges: &mut Ranges, i: usize, high: u32)
+    ensures { ranges.new ≡ unwrap_or (option_map (λ range. set ranges.old i (record range { high = high }))
+        (slice_get ranges.old i)) ranges.old }
+{
+    if let Some(range) = ranges.get_mut(i) {
+        range.high = high;
+    }
 }
 
 fn has(names: &Names, name: &Name) -> bool
@@ -111,6 +121,19 @@ fn last_range_is_taken(rt: HostRuntime) -> Result<(), Fail> {
     assert_eq!(rt; take_last(&mut ranges), Some(range));
     assert_eq!(rt; take_last(&mut ranges), None);
     assert_eq!(rt; ranges.into_vec().len(), 0);
+    Ok(())
+}
+
+#[test]
+fn range_is_changed_where_it_stands(rt: HostRuntime) -> Result<(), Fail> {
+    let narrow = Range { low: 16, high: 32 };
+    let mut ranges = Ranges::from_slice(rt.alloc(), &[narrow, narrow])?;
+    widen(&mut ranges, 1, 48);
+    widen(&mut ranges, 2, 64);
+    assert_eq!(rt;
+        ranges.as_slice(),
+        [narrow, Range { low: 16, high: 48 }].as_slice()
+    );
     Ok(())
 }
 

@@ -203,6 +203,30 @@ fn placement(rt: HostRuntime) -> Result<(), Fail> {
     Ok(())
 }
 
+/// A piece's kind and range.
+fn shape(kind: Kind, low: u32, high: u32) -> Option<(Kind, Range)> {
+    Some((kind, Range { low, high }))
+}
+
+/// The kinds and ranges of the example's pieces.
+fn shapes<S: Space>(space: &S) -> bool {
+    let found = [
+        space.piece(0),
+        space.piece(3),
+        space.piece(4),
+        space.piece(5),
+        space.piece(u32::MAX),
+    ];
+    let wanted = [
+        shape(Kind::Code, 0x0010_0000, 0x0010_0006),
+        shape(Kind::Writable, 0x0020_0003, 0x0020_0007),
+        shape(Kind::Writable, 0xfffe_ffff, 0xffff_0000),
+        None,
+        None,
+    ];
+    found == wanted
+}
+
 /// What is seen of the example: single bytes, and whether its start is a spliced home.
 fn looks<S: Space>(space: &S) -> bool {
     space.look(0x0010_0000) == Some((Kind::Code, 0xb8))
@@ -260,16 +284,17 @@ fn all_written<S: Space>(space: &mut S) -> bool {
         && reads(space, 0x0020_0000) == (Ok(()), [1, 2, 3, 4])
 }
 
-/// Whether the example is seen, fetched, read and written as it should be.
+/// Whether the example's pieces and bytes are seen, fetched, read and written as they should be.
 fn serves_example<S: FromPieces>(alloc: Global) -> Result<bool, Fail> {
     let mut space: S = memory_of(alloc, example(alloc)?)?;
     let found = [
+        shapes(&space),
         looks(&space),
         windows(&space),
         all_read(&space),
         all_written(&mut space),
     ];
-    Ok(found == [true; 4])
+    Ok(found == [true; 5])
 }
 
 #[test]
