@@ -5,6 +5,8 @@ use Rattle.std.proofs.Common.{Option, Some, None, refl, sym, ◌∙◌, ap, arit
 use Rattle.std.proofs.Math.ListN.{length-set}
 use Rattle.std.specs.List.{filter, slice_get}
 use Rattle.std.proofs.lemmas.Bool.Decides.{nat_tests}
+use Rattle.std.proofs.lemmas.List.{set-get_or}
+use Rattle.std.proofs.lemmas.Option.{get_or_from_slice_get}
 use Rattle.ia32_step.specs.declared.types.Thread.{Thread}
 use Rattle.ia32_step.specs.Threads.{runs}
 use Rattle.image_threads.specs.Program.{if_running, running_at, number_of, running_numbers, AreNumbered}
@@ -131,27 +133,27 @@ listed_on threads later running also t h few number r grown on =
     rw grown (numbered, (rw (on, before) (sym numbers), omega (arith, length-append threads (t ∷ []))))
 
 -- a running thread in the place of the running one of its number
-pub listed_running : (threads : List Thread) (running : List ℕ) (t : Thread)
-    → AreListed threads running → IsSome (running_at threads t.number)
-    → runs t ≡ true → AreListed (set threads t.number t) running
-listed_running threads running t h some r =
-    let at = is_running_at threads t.number some in
-    let numbers = running_set 0 threads t.number at.thread t h.0 at.there at.running (omega arith) r in
-    let long = length-set threads t.number t in
+pub listed_running : (threads : List Thread) (running : List ℕ) (n : ℕ) (t : Thread)
+    → AreListed threads running → IsSome (running_at threads n) → t.number ≡ n
+    → runs t ≡ true → AreListed (set threads n t) running
+listed_running threads running n t h some is r =
+    let at = is_running_at threads n some in
+    let numbers = running_set 0 threads n at.thread t h.0 at.there at.running (omega arith) r in
+    let long = length-set threads n t in
     let few = h.1.1 in
-    (numbered_set 0 threads t.number t h.0 (omega arith), (h.1.0 ∙ sym numbers, omega arith))
+    (numbered_set 0 threads n t h.0 (omega arith), (h.1.0 ∙ sym numbers, omega arith))
 
 -- and one that runs no more
-pub listed_ended : (threads : List Thread) (running less : List ℕ) (t : Thread)
-    → AreListed threads running → IsSome (running_at threads t.number)
-    → runs t ≡ false → less ≡ filter (is_other t.number) running → AreListed (set threads t.number t) less
-listed_ended threads running less t h some r e =
-    let at = is_running_at threads t.number some in
-    let numbers = running_less 0 threads t.number t.number at.thread t h.0 at.there at.running (omega arith) r in
-    let long = length-set threads t.number t in
+pub listed_ended : (threads : List Thread) (running less : List ℕ) (n : ℕ) (t : Thread)
+    → AreListed threads running → IsSome (running_at threads n) → t.number ≡ n
+    → runs t ≡ false → less ≡ filter (is_other n) running → AreListed (set threads n t) less
+listed_ended threads running less n t h some is r e =
+    let at = is_running_at threads n some in
+    let numbers = running_less 0 threads n n at.thread t h.0 at.there at.running (omega arith) r in
+    let long = length-set threads n t in
     let few = h.1.1 in (
-      numbered_set 0 threads t.number t h.0 (omega arith),
-      (e ∙ ap (filter (is_other t.number)) h.1.0 ∙ sym numbers, omega arith),
+      numbered_set 0 threads n t h.0 (omega arith),
+      (e ∙ ap (filter (is_other n)) h.1.0 ∙ sym numbers, omega arith),
     )
 
 pub number_at : (threads : List Thread) (n : ℕ) (found : Option Thread)
@@ -161,3 +163,7 @@ number_at threads n None h e = tt
 number_at threads n (Some t) h e =
     let number = number_found 0 threads n t h (sym e) in
     omega arith
+
+-- what stands at a number put there again
+pub set_back : (threads : List Thread) (n : ℕ) (t : Thread) → slice_get threads n ≡ Some t → set threads n t ≡ threads
+set_back threads n t at = ap (set threads n) (sym (get_or_from_slice_get threads n t t at)) ∙ set-get_or threads n t

@@ -15,9 +15,7 @@ ghost use Rattle.image_threads.specs.Stepping.{moved, sent};
 use crate::first::first_bytes;
 use crate::stacks::fill_stack;
 use crate::thread_list::ThreadList;
-use ia32_step::{
-    Flow, Outcome, Thread, Threads, Traced, step_traced, steps_keep, steps_write_one_number,
-};
+use ia32_step::{Flow, Outcome, Thread, Threads, Traced, steps_write_one_number};
 use image_file::Image;
 use image_memory::Space;
 use ks_base::{Name, Range, Ranges, Refusal};
@@ -221,12 +219,11 @@ impl<S: Space> Machine<S> {
         ensures stacks { AreStacks self.old.contents.pieces self.old.stacks
             → AreStacks self.new.contents.pieces self.new.stacks }
     {
-        let Some(mut running) = self.threads.running_at(thread) else {
-            return Err(Refusal::NoThread(thread));
-        };
-        let traced = step_numbered(&mut self.space, &mut running);
-        self.threads.put(running);
-        Ok(traced)
+        steps_write_one_number(); // does nothing: the law says that a step writes what it tells
+        match self.threads.step(thread, &mut self.space) {
+            Some(traced) => Ok(traced),
+            None => Err(Refusal::NoThread(thread)),
+        }
     }
 
     /// Sends the running thread of a number to an address, as a jump there does, and answers that it moved.
@@ -254,25 +251,4 @@ fn free_among(stacks: &[Range], threads: &ThreadList) -> Option<Range>
     ensures { result ≡ free_stack stacks.now threads.now }
 {
     stacks.iter().copied().find(|stack| !threads.has(*stack))
-}
-
-/// Steps a running thread, which keeps its number and its stack.
-fn step_numbered<S: Space>(space: &mut S, thread: &mut Thread) -> Traced
-    requires running { thread.old.state ≡ Running }
-    ensures left { left_by (S.contents space.new) thread.new result.outcome
-        ≡ stepped (S.contents space.old) thread.old }
-    ensures written { S.contents space.new ≡ after_store (S.contents space.old) result.store }
-    ensures clear { store_fault (S.contents space.old) result.store ≡ None }
-    ensures store { result.store ≡ stored (S.contents space.old) thread.old }
-    ensures fetched { result.fetched ≡ fetched_count (S.contents space.old) thread.old }
-    ensures room { S.room space.new ≡ S.room space.old }
-    ensures number { thread.new.number ≡ thread.old.number }
-    ensures stack { thread.new.stack ≡ thread.old.stack }
-    ensures shapes { map shape_of (S.contents space.new).pieces ≡ map shape_of (S.contents space.old).pieces }
-{
-    // Nothing is done here: the laws say that a step keeps the thread's number and stack, and the shapes of the pieces,
-    // and writes what it tells.
-    steps_keep();
-    steps_write_one_number();
-    step_traced(space, thread)
 }

@@ -1,15 +1,19 @@
 //! The threads of a program in the order of their numbers.
-ghost use Rattle.std.specs.Prelude.{◌≡◌, ◌<◌, ◌≤◌, ◌++◌, [], ◌∷◌, length, nat_le};
-ghost use Rattle.std.specs.Prelude.{set, OnOk, OnErr, IfOk, IsSome, IfSome, Some};
+ghost use Rattle.std.specs.Prelude.{◌≡◌, ◌<◌, ◌≤◌, ◌++◌, List, [], ◌∷◌, length, map, nat_le};
+ghost use Rattle.std.specs.Prelude.{set, OnOk, OnErr, IfOk, IsSome, IfSome, IsSomeAnd, IsNone, Some, is_some};
 ghost use Rattle.std.specs.List.{slice_get, list_any};
 ghost use Rattle.ia32_step.specs.declared.types.State.TheVariants.{Running};
+ghost use Rattle.ia32_step.specs.Step.{stepped, stored, fetched_count};
 ghost use Rattle.ia32_step.specs.Threads.{is_running};
-ghost use Rattle.image_threads.specs.Program.{AreNumbered, running_at, running_numbers, if_running};
+ghost use Rattle.image_threads.specs.Program.{AreNumbered, WellPlaced, running_at, running_numbers, if_running};
+ghost use Rattle.ks_base.specs.declared.places.Range.{Range};
 ghost use Rattle.image_memory.specs.Ranges.{are_same};
+ghost use Rattle.image_memory.specs.Contents.{shape_of};
 ghost use Rattle.image_threads.specs.Spawning.{is_taken, has_stack, first_thread};
 
 use crate::first::first_thread;
-use ia32_step::{State, Thread, Threads};
+use ia32_step::{State, Thread, Threads, Traced, step_traced, steps_keep};
+use image_memory::Space;
 use ks_base::Range;
 use std::alloc::{AllocError, Global};
 use std::marker::Model;
@@ -129,16 +133,37 @@ impl ThreadList {
             .set(thread.number as usize, Thread { pc, ..thread });
     }
 
-    /// Puts a thread in the place of the running thread of its number. It takes no memory.
-    pub(crate) fn put(&mut self, thread: Thread)
-        requires { IsSome (running_at self.old thread.number) }
-        ensures { self.new ≡ set self.old thread.number thread }
+    /// Steps the running thread of a number over a memory, where it stands in the list, and answers what the step came
+    /// to, wrote and fetched; `None` exactly where no running thread has the number, and all is then as before. It takes
+    /// no memory.
+    pub(crate) fn step<S: Space>(&mut self, number: u32, space: &mut S) -> Option<Traced>
+        ensures runs { is_some result ≡ is_some (running_at self.old number) }
+        ensures threads { IfSome result (λ _. IsSomeAnd (running_at self.old number)
+            (λ thread. self.new ≡ set self.old number (stepped (S.contents space.old) thread).thread)) }
+        ensures contents { IfSome result (λ _. IsSomeAnd (running_at self.old number)
+            (λ thread. S.contents space.new ≡ (stepped (S.contents space.old) thread).contents)) }
+        ensures outcome { IfSome result (λ traced. IsSomeAnd (running_at self.old number)
+            (λ thread. traced.outcome ≡ (stepped (S.contents space.old) thread).outcome)) }
+        ensures store { IfSome result (λ traced. IsSomeAnd (running_at self.old number)
+            (λ thread. traced.store ≡ stored (S.contents space.old) thread)) }
+        ensures fetched { IfSome result (λ traced. IsSomeAnd (running_at self.old number)
+            (λ thread. traced.fetched ≡ fetched_count (S.contents space.old) thread)) }
+        ensures refused { IsNone result → (self.new ≡ self.old) × (S.contents space.new ≡ S.contents space.old) }
+        ensures placed { (stacks : List Range) → WellPlaced stacks self.old → WellPlaced stacks self.new }
+        ensures shapes { map shape_of (S.contents space.new).pieces ≡ map shape_of (S.contents space.old).pieces }
+        ensures room { S.room space.new ≡ S.room space.old }
     {
-        let number = thread.number;
-        self.threads.set(number as usize, thread);
+        // Nothing is done here: the law says that a step keeps the thread's number and stack, and the shapes of pieces.
+        steps_keep();
+        let thread = self.threads.get_mut(number as usize)?;
+        if !is_running(thread.state) {
+            return None;
+        }
+        let traced = step_traced(space, thread);
         if !is_running(thread.state) {
             self.running.retain(|other| *other != number);
         }
+        Some(traced)
     }
 }
 
