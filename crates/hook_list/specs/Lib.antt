@@ -1,0 +1,2 @@
+-- Public clauses cite Listed: which functions an object lists.
+pub mod Listed

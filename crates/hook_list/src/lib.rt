@@ -1,0 +1,7 @@
+//! The functions that an object lists, to be run at an update to it.
+#![tactic(auto)]
+
+mod entries;
+mod list;
+
+pub use crate::list::{HookList, read_hooks};
