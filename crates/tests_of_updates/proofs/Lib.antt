@@ -1,1 +1,2 @@
 pub mod SmallLaws
+mod SavedLaws

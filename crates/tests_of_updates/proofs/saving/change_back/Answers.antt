@@ -1,0 +1,14 @@
+use Rattle.std.proofs.Common.{List, [], ◌∷◌, sym, subst}
+use Rattle.image_memory.specs.declared.types.Piece.{Piece}
+use Rattle.image_memory.specs.Contents.{Contents}
+use Rattle.image_memory.specs.Access.{after_write}
+use Rattle.saved_data.specs.Saved.{LieInData}
+use Rattle.tests_of_updates.specs.Small.{filled}
+use Rattle.tests_of_updates.proofs.SavedLaws.{fits}
+use Rattle.tests_of_updates.proofs.saving.change_back.Goals as goal
+
+pub put_back-requires : goal.put_back-requires
+put_back-requires c =
+    subst (λ (contents : Contents). LieInData contents.pieces c.args.saved.now) (sym c.requires.written)
+    (subst (λ (pieces : List Piece). LieInData (after_write filled 0x0080_0020 (5 ∷ 6 ∷ [])).pieces pieces)
+    (sym c.requires.saved) fits)
