@@ -1,11 +1,9 @@
-//! Tests of objects and their difference: `elf32_object`, `i386_reloc`, `section_equal`, `extract_post`, `hook_list`,
-//! `link_post`. They stand apart so that those crates are proved once, and not once more for their tests.
+//! Tests of objects and their difference: `elf32_object`, `i386_reloc`, `section_equal`, `extract_post`, `link_post`.
+//! They stand apart so that those crates are proved once, and not once more for their tests.
 #![tactic(auto)]
 
 #[cfg(test)]
 mod extracts;
-#[cfg(test)]
-mod hooks;
 #[cfg(test)]
 mod link_post_files;
 #[cfg(test)]

@@ -1,2 +1,1 @@
 pub mod SmallLaws
-mod SavedLaws

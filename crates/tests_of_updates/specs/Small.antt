@@ -1,6 +1,6 @@
--- A small memory, and the pieces and the retired range that an update adds to it; and a memory of data.
+-- A small memory, and the pieces and the retired range that an update adds to it.
 use Rattle.std.specs.Prelude.{true, List, [], ◌∷◌}
-use Rattle.image_memory.specs.declared.types.Kind.TheVariants.{Code, ReadOnly, Writable}
+use Rattle.image_memory.specs.declared.types.Kind.TheVariants.{Code, Writable}
 use Rattle.image_memory.specs.declared.types.Piece.{Piece}
 use Rattle.image_memory.specs.declared.types.Fence.{Fence}
 use Rattle.image_memory.specs.Contents.{Contents}
@@ -25,13 +25,3 @@ body = record { range = record { low = 0x0010_0000; high = 0x0010_0006 }; jump =
 
 abbrev pub retired : List Fence
 retired = body ∷ []
-
--- a constant and three bytes of data
-abbrev pub constant : Piece
-constant = record { kind = ReadOnly; base = 0x0020_0000; bytes = 1 ∷ [] }
-
-abbrev pub numbers : Piece
-numbers = record { kind = Writable; base = 0x0080_0020; bytes = 7 ∷ 8 ∷ 9 ∷ [] }
-
-unfoldable pub filled : Contents
-filled = record { pieces = constant ∷ numbers ∷ []; fences = [] }

@@ -16,12 +16,7 @@ const HOME: u32 = 0x0010_0000;
 
 const BASE: u32 = 0x0080_0010;
 
-pub(crate) fn piece_of(
-    alloc: Global,
-    kind: Kind,
-    base: u32,
-    bytes: &[u8],
-) -> Result<Piece, AllocError>
+fn piece_of(alloc: Global, kind: Kind, base: u32, bytes: &[u8]) -> Result<Piece, AllocError>
     ensures { IfOk result (λ piece. piece ≡ record { kind = kind; base = base; bytes = bytes.now }) }
 {
     let bytes = Bytes::from_slice(alloc, bytes)?;

@@ -7,7 +7,7 @@ use Rattle.image_memory.specs.Access.{after_write, overlaid}
 use Rattle.image_memory.specs.Contents.{piece_range}
 use Rattle.image_threads.specs.Spawning.{is_stack}
 use Rattle.saved_data.specs.Saved.{LieInData, writable_pieces}
-use Rattle.tests_of_updates.specs.Small.{numbers, filled}
+use Rattle.tests_of_hooks.specs.Data.{numbers, filled}
 
 pub fits : LieInData (after_write filled 0x0080_0020 (5 ∷ 6 ∷ [])).pieces (writable_pieces filled.pieces)
 unfolding filled overlaid

@@ -1,10 +1,17 @@
 //! Lists of functions that objects want to be run.
 
-use crate::normals::normal_of;
+use elf32_object::read_object;
 use hook_list::read_hooks;
+use i386_reloc::{Normal, normalise};
 use object_builder::{ABSOLUTE, Kind, Section, object};
 use std::alloc::Global;
 use std::test::Fail;
+
+/// The sections of an object.
+fn normal_of(alloc: Global, file: &[u8]) -> Result<Normal<'_>, Fail> {
+    let object = read_object(alloc, file).ok().ok_or("not read")?;
+    Ok(normalise(alloc, &object).ok().ok_or("no sections")?)
+}
 
 /// What an object lists.
 #[derive(Clone, Copy, PartialEq, Eq)]

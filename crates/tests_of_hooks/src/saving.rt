@@ -2,19 +2,26 @@
 ghost use Rattle.std.specs.Prelude.{◌≡◌, ◌∷◌, [], IfOk, OnOk};
 ghost use Rattle.image_memory.specs.Access.{after_write};
 ghost use Rattle.saved_data.specs.Saved.{writable_pieces};
-ghost use Rattle.tests_of_updates.specs.Small.{filled};
+ghost use Rattle.tests_of_hooks.specs.Data.{filled};
 
-use crate::changing::piece_of;
-use image_memory::{FlatSpace, Kind, Pieces, Space, are_placed};
+use image_memory::{FlatSpace, Kind, Piece, Pieces, Space, are_placed};
+use ks_base::Bytes;
 use saved_data::{put_back, save};
-use std::alloc::Global;
+use std::alloc::{AllocError, Global};
 use std::process::Abort;
 use std::test::Fail;
 
 const DATA: u32 = 0x0080_0020;
 
+fn piece_of(alloc: Global, kind: Kind, base: u32, bytes: &[u8]) -> Result<Piece, AllocError>
+    ensures { IfOk result (λ piece. piece ≡ record { kind = kind; base = base; bytes = bytes.now }) }
+{
+    let bytes = Bytes::from_slice(alloc, bytes)?;
+    Ok(Piece { kind, base, bytes })
+}
+
 /// A memory of a constant and of three bytes of data.
-#[tactic(auto, unfolding(crate::specs::Small::filled))]
+#[tactic(auto, unfolding(crate::specs::Data::filled))]
 fn filled(rt: &impl Abort, alloc: Global) -> Result<FlatSpace, Fail>
     ensures { IfOk result (λ space. ⟦<FlatSpace as Space>⟧.contents space ≡ filled) }
 {

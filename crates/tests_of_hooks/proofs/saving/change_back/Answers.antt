@@ -3,9 +3,9 @@ use Rattle.image_memory.specs.declared.types.Piece.{Piece}
 use Rattle.image_memory.specs.Contents.{Contents}
 use Rattle.image_memory.specs.Access.{after_write}
 use Rattle.saved_data.specs.Saved.{LieInData}
-use Rattle.tests_of_updates.specs.Small.{filled}
-use Rattle.tests_of_updates.proofs.SavedLaws.{fits}
-use Rattle.tests_of_updates.proofs.saving.change_back.Goals as goal
+use Rattle.tests_of_hooks.specs.Data.{filled}
+use Rattle.tests_of_hooks.proofs.SavedLaws.{fits}
+use Rattle.tests_of_hooks.proofs.saving.change_back.Goals as goal
 
 pub put_back-requires : goal.put_back-requires
 put_back-requires c =

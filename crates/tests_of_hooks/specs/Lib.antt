@@ -1,0 +1,2 @@
+-- Clauses of the tests cite Data.
+pub mod Data
