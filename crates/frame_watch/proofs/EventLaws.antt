@@ -20,7 +20,7 @@ use Rattle.frame_watch.specs.declared.types.Verdict.TheVariants.{Disciplined, Br
 use Rattle.frame_watch.specs.Frames.{Watched, Watching, frames_at, with_frames}
 use Rattle.frame_watch.specs.Frames.{with_started, opened, closed, keeps_slots}
 use Rattle.frame_watch.specs.Discipline.{Sight, counted, broken, pops, breaking, least, slot_broken, slots_tested}
-use Rattle.frame_watch.specs.Discipline.{after_start, after_outcome, unless_broken, spawn_noted, step_noted}
+use Rattle.frame_watch.specs.Discipline.{after_start, after_outcome, unless_broken, spawn_noted, step_noted, hooks_noted}
 use Rattle.frame_watch.specs.inside.Kept.{AreInPlace, StopsAt, is_in_place}
 use Rattle.frame_watch.specs.inside.Events.{broken_unless, ruled, step_ruled, start_ruled, advanced, begun}
 use Rattle.frame_watch.proofs.LeastLaws.{all_pass}
@@ -79,6 +79,16 @@ spawn_is sight thread w stops = by_verdict w.verdict stops
     by_verdict Disciplined stops =
         sym (ruled_tested sight (has_window (sight.view thread.pc)) rules.Start thread.number
         (with_started w.threads thread) (counted w))
+    by_verdict (Broken event thread rule) stops = untested sight (counted w) stops
+
+pub hooks_are : (sight : Sight) (w : Watching) → StopsAt w.verdict w.threads
+    → slots_tested sight (counted w) ≡ hooks_noted sight w
+unfolding hooks_noted
+hooks_are sight w stops = by_verdict w.verdict stops
+  where
+    by_verdict : (v : Verdict) → StopsAt v w.threads
+        → slots_tested sight (counted w) ≡ unless_broken v (slots_tested sight) (counted w)
+    by_verdict Disciplined stops = refl
     by_verdict (Broken event thread rule) stops = untested sight (counted w) stops
 
 -- ---- after the test all slots are such

@@ -1,6 +1,6 @@
 -- What is known where an event is noted.
-use Rattle.std.specs.Prelude.{◌≡◌, ℕ, ◌+◌, ◌≤◌, ◌<◌, Bool, true, false, List, Option, Some, None}
-use Rattle.std.specs.List.{All, list_any}
+use Rattle.std.specs.Prelude.{◌≡◌, ℕ, ◌+◌, ◌≤◌, ◌<◌, Bool, true, false, IsTrue, List, Option, Some, None}
+use Rattle.std.specs.List.{All, Any, list_any}
 use Rattle.image_memory.specs.declared.types.Piece.{Piece}
 use Rattle.image_memory.specs.Ranges.{meets, MeetsNone}
 use Rattle.image_memory.specs.Access.{first_fault, read_fault}
@@ -14,7 +14,7 @@ use Rattle.ia32_step.specs.declared.types.Flow.TheVariants.{Call}
 use Rattle.ia32_step.specs.declared.types.Outcome.{Outcome}
 use Rattle.ia32_step.specs.declared.types.Outcome.TheVariants.{Moved}
 use Rattle.ia32_step.specs.Frames.{is_slot, holds_dword}
-use Rattle.ia32_step.specs.Threads.{esp_of}
+use Rattle.ia32_step.specs.Threads.{esp_of, runs}
 use Rattle.frame_watch.specs.declared.types.Verdict.TheVariants.{Disciplined}
 use Rattle.frame_watch.specs.Frames.{Watched, Watching, is_of, stack_of}
 
@@ -48,6 +48,22 @@ pub record IsStep (pieces : List Piece) (before after : Thread) (outcome : Outco
 -- a step may be noted; nothing is asked once a rule was broken
 abbrev pub MayStep : List Piece → (before after : Thread) → Outcome → Watching → Type 0
 MayStep pieces before after outcome w = w.verdict ≡ Disciplined → IsStep pieces before after outcome w.threads
+
+-- A thread that is watched runs, with the stack and the ESP that the watch has for it.
+pub record IsWatchedAs (watched : Watched) (thread : Thread) : Type 0 where
+  pub number : watched.thread ≡ thread.number
+  pub running : IsTrue (runs thread)
+  pub stack : watched.stack ≡ thread.stack
+  pub esp : watched.esp ≡ esp_of thread
+
+-- the running ones of some threads are those that are watched
+pub record AreWatched (watching : List Watched) (threads : List Thread) : Type 0 where
+  pub each : All (λ watched. Any (IsWatchedAs watched) threads) watching
+  pub all : All (λ thread. IsTrue (runs thread) → Any (λ watched. IsWatchedAs watched thread) watching) threads
+
+-- their slots may be looked at; nothing is asked once a rule was broken
+abbrev pub MayTestSlots : Watching → List Thread → Type 0
+MayTestSlots w threads = w.verdict ≡ Disciplined → AreWatched w.threads threads
 
 -- whether what was written shares an address with the four bytes of a slot
 abbrev pub touches : Option Store → ℕ → Bool

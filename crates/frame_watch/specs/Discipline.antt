@@ -108,3 +108,8 @@ step_noted sight before after outcome w =
 
 abbrev pub update_noted : Watching → Watching
 update_noted w = counted w
+
+-- Functions were run at an update that was accepted, and may have written any stack: the slots of all threads are looked
+-- at.
+unfoldable pub hooks_noted : Sight → Watching → Watching
+hooks_noted sight w = unless_broken w.verdict (slots_tested sight) (counted w)

@@ -1,15 +1,15 @@
 //! What is reported to a watch, and what it says.
 ghost use Rattle.std.specs.Prelude.{◌≡◌, OnOk, OnErr, None};
 ghost use Rattle.frame_watch.specs.Frames.{first_watching};
-ghost use Rattle.frame_watch.specs.Discipline.{sight_of, spawn_noted, step_noted, update_noted};
-ghost use Rattle.frame_watch.specs.Conditions.{MayStart, MayStep, MayHoldBut, MayHaveFetched};
+ghost use Rattle.frame_watch.specs.Discipline.{sight_of, spawn_noted, step_noted, update_noted, hooks_noted};
+ghost use Rattle.frame_watch.specs.Conditions.{MayStart, MayStep, MayHoldBut, MayHaveFetched, MayTestSlots};
 ghost use Rattle.frame_watch.specs.inside.Kept as inside;
 
 use crate::memory::esp_of;
 use crate::notes::Notes;
 use crate::types::Verdict;
 use ia32_decode::Width;
-use ia32_step::{Outcome, RETURN_ADDRESS, Store, Thread, Traced};
+use ia32_step::{Outcome, RETURN_ADDRESS, Store, Thread, Threads, Traced};
 use image_memory::Space;
 use std::alloc::{AllocError, Global};
 use std::marker::Model;
@@ -115,6 +115,15 @@ impl Watch {
         ensures { self.new ≡ update_noted self.old }
     {
         self.notes.count();
+    }
+
+    /// An update was accepted and functions were run at it, which may have written any stack. This looks at each open
+    /// frame, and takes no memory. The running ones of `_threads` are those that are watched.
+    pub fn note_hooks<S: Space>(&mut self, _threads: &Threads, space: &S)
+        requires { MayTestSlots self.old _threads.now }
+        ensures { self.new ≡ hooks_noted (sight_of (S.contents space.now)) self.old }
+    {
+        self.notes.count_and_test_all(space);
     }
 
     /// Whether the run has kept the rules so far.

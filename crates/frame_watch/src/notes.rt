@@ -3,7 +3,7 @@ ghost use Rattle.std.specs.Prelude.{◌≡◌, [], List, Option, None, Some, OnO
 ghost use Rattle.image_memory.specs.declared.types.Piece.{Piece};
 ghost use Rattle.ia32_step.specs.declared.types.Store.{Store};
 ghost use Rattle.frame_watch.specs.Frames.{first_watching};
-ghost use Rattle.frame_watch.specs.Discipline.{sight_of, counted, broken, slot_broken, slots_tested};
+ghost use Rattle.frame_watch.specs.Discipline.{sight_of, counted, broken, hooks_noted, slot_broken, slots_tested};
 ghost use Rattle.frame_watch.specs.Conditions.{MayHaveFetched, MayHoldBut, MayStart, MayStep};
 ghost use Rattle.frame_watch.specs.inside.Kept.{AreInPlace, IsTouched, StopsAt, first_store};
 ghost use Rattle.frame_watch.specs.inside.Events.{advanced, begun};
@@ -56,7 +56,8 @@ impl Notes {
 
     /// One event more.
     pub(crate) fn count(&mut self)
-        ensures { self.new ≡ counted self.old }
+        ensures counted { self.new ≡ counted self.old }
+        ensures stops { StopsAt self.old.verdict self.old.threads }
     {
         self.events = self.events.saturating_add(1);
     }
@@ -155,6 +156,15 @@ impl Notes {
     {
         let found = self.threads.least_broken(space);
         self.end_at(found);
+    }
+
+    /// One event more, after which the slot rule is tested at all frames.
+    pub(crate) fn count_and_test_all<S: Space>(&mut self, space: &S)
+        ensures noted { self.new ≡ hooks_noted (sight_of (S.contents space.now)) self.old }
+        ensures in_place { AreInPlace self.new.threads }
+    {
+        self.count();
+        self.test_all(space);
     }
 
     /// Tests the slot rule where only one thread, which may be displaced, and what was written can have broken it.

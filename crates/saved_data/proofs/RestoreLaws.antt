@@ -15,7 +15,7 @@ use Rattle.image_memory.specs.Access.{written, overlaid, overlaid_piece}
 use Rattle.image_memory.specs.laws.AccessLaws.{length-overlaid, get_or-overlaid, new_inside, piece_apart}
 use Rattle.image_threads.specs.Spawning.{is_writable, is_stack}
 use Rattle.saved_data.proofs.ReadLaws.{is_there, piece_is}
-use Rattle.saved_data.specs.Saved.{writable_pieces, unwritable_pieces, with_bytes, put_back, LieInData, DiffersInData}
+use Rattle.saved_data.specs.Saved.{writable_pieces, unwritable_pieces, with_bytes, put_back, CanBePutBack, DiffersInData}
 
 -- as many bytes, written over all of them
 all_new : (start : ℕ) (bytes xs : List ℕ) → length bytes ≡ length xs → overlaid start bytes start xs ≡ bytes
@@ -154,7 +154,7 @@ writable_have P (p ∷ ps) have =
       | false ↦ λ is. rest
     ] refl
 
-lie_alike : (xs ys : List Piece) → map shape_of xs ≡ map shape_of ys → LieInData xs (writable_pieces ys)
+lie_alike : (xs ys : List Piece) → map shape_of xs ≡ map shape_of ys → CanBePutBack xs (writable_pieces ys)
 lie_alike xs ys same =
     All-map (λ (range : Range). IsTrue (is_stack xs range)) piece_range (writable_pieces ys)
     (writable_have (λ (p : Piece). IsTrue (is_stack xs (piece_range p))) ys (λ k d l writable.
@@ -162,7 +162,7 @@ lie_alike xs ys same =
     ∙ is_there ys k (get_or ys k d) (slice_get-get_or ys k d l) writable))
 
 pub saved_fit : (before after : Contents) → IsValid before → DiffersInData before after
-    → LieInData after.pieces (writable_pieces before.pieces)
+    → CanBePutBack after.pieces (writable_pieces before.pieces)
 saved_fit before after valid differs = lie_alike after.pieces before.pieces differs.shapes
 
 pub saved_same : (before after : Contents) → IsValid before → DiffersInData before after
@@ -190,14 +190,14 @@ pub next_folded : (pieces saved rest : List Piece) (p : Piece) → saved ≡ p �
     → fold with_bytes (with_bytes pieces p) rest ≡ fold with_bytes pieces saved
 next_folded pieces saved rest p e = rw e refl
 
-pub next_lies : (pieces saved rest : List Piece) (p : Piece) → saved ≡ p ∷ rest → LieInData pieces saved
+pub next_lies : (pieces saved rest : List Piece) (p : Piece) → saved ≡ p ∷ rest → CanBePutBack pieces saved
     → is_stack pieces (piece_range p) ≡ true
 next_lies pieces saved rest p e lie =
     let lies = rw e at lie in
     All-head (λ (range : Range). IsTrue (is_stack pieces range)) (piece_range p) (map piece_range rest) lies
 
-pub rest_lie : (pieces saved rest : List Piece) (p : Piece) → saved ≡ p ∷ rest → LieInData pieces saved
-    → LieInData (with_bytes pieces p) rest
+pub rest_lie : (pieces saved rest : List Piece) (p : Piece) → saved ≡ p ∷ rest → CanBePutBack pieces saved
+    → CanBePutBack (with_bytes pieces p) rest
 rest_lie pieces saved rest p e lie =
     let lies = rw e at lie in
     All-weaker (λ (range : Range). IsTrue (is_stack pieces range))

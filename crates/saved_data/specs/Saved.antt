@@ -12,9 +12,9 @@ writable_pieces pieces = filter (λ (piece : Piece). is_writable piece.kind) pie
 abbrev pub unwritable_pieces : List Piece → List Piece
 unwritable_pieces pieces = filter (λ (piece : Piece). not (is_writable piece.kind)) pieces
 
--- each of some saved pieces lies where a writable piece does
-abbrev pub LieInData : (pieces saved : List Piece) → Type 0
-LieInData pieces saved = AreStacks pieces (map piece_range saved)
+-- Pieces that can be put back: each begins and ends where a writable piece does.
+abbrev pub CanBePutBack : (pieces saved : List Piece) → Type 0
+CanBePutBack pieces saved = AreStacks pieces (map piece_range saved)
 
 -- the bytes of saved pieces, written one piece after another where they begin
 abbrev pub with_bytes : List Piece → Piece → List Piece

@@ -3,13 +3,13 @@ ghost use Rattle.std.specs.Prelude.{◌≡◌, IsTrue};
 ghost use Rattle.image_memory.specs.Access.{after_write};
 ghost use Rattle.image_memory.specs.Contents.{piece_range};
 ghost use Rattle.image_threads.specs.Spawning.{is_stack};
-ghost use Rattle.saved_data.specs.Saved.{LieInData, put_back};
+ghost use Rattle.saved_data.specs.Saved.{CanBePutBack, put_back};
 
 use image_memory::{Piece, Pieces, Space};
 
 /// Writes the bytes of saved pieces where they lie, one piece after another. Nothing else changes. It takes no memory.
 pub fn put_back<S: Space>(space: &mut S, saved: &Pieces)
-    requires { LieInData (S.contents space.old).pieces saved.now }
+    requires { CanBePutBack (S.contents space.old).pieces saved.now }
     ensures contents { S.contents space.new ≡ put_back (S.contents space.old) saved.now }
     ensures room { S.room space.new ≡ S.room space.old }
 {

@@ -55,3 +55,4 @@ pub mod OpenHomeLaws
 pub mod PhaseWriteLaws
 pub mod PhaseStepLaws
 pub mod OpenStepLaws
+pub mod PutBackLaws

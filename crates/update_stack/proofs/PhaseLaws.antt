@@ -190,7 +190,7 @@ code_of_five kept home old five pieces keeps same code =
     subst (HasCode pieces home) (sym same) (code_of_olds pieces keeps.one.jumps home old keeps.olds own)
 
 -- stacks are pieces of it
-kinds_written : (start : ℕ) (bytes : List ℕ) (pieces : List Piece)
+pub kinds_written : (start : ℕ) (bytes : List ℕ) (pieces : List Piece)
     → map kind_of (written start bytes pieces) ≡ map kind_of pieces
 kinds_written start bytes [] = refl
 kinds_written start bytes (p ∷ ps) = ap (λ (ks : List Kind). p.kind ∷ ks) (kinds_written start bytes ps)

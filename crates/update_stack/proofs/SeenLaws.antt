@@ -58,13 +58,16 @@ module _ (program : Program) (arena : Range) (updates : List Shown) (kept : List
   abbrev k : AbstractMachine
   k = machine_of program arena updates kept
 
-  pub program_stacks : KindsStay → PlacesStay → AreStacks program.contents.pieces program.stacks
+  pub program_data : KindsStay → PlacesStay → (ranges : List Range) → AreStacks k.pieces ranges
+      → AreStacks program.contents.pieces ranges
   unfolding patched
-  program_stacks kinds places =
+  program_data kinds places ranges are =
       let rows = bodies_in k.table in
-      subst (λ (s : Seen). AreStacks s.contents.pieces program.stacks) (sym holds.stands)
-      (same_stacks (jumped rows k.pieces) k.pieces program.stacks (kinds rows k.pieces) (places rows k.pieces)
-      (built_sound k holds.built).stacks)
+      subst (λ (s : Seen). AreStacks s.contents.pieces ranges) (sym holds.stands)
+      (same_stacks (jumped rows k.pieces) k.pieces ranges (kinds rows k.pieces) (places rows k.pieces) are)
+
+  pub program_stacks : KindsStay → PlacesStay → AreStacks program.contents.pieces program.stacks
+  program_stacks kinds places = program_data kinds places program.stacks (built_sound k holds.built).stacks
 
   pub refusal_seen : DataStay → (ranges : List Range) → WellPlaced program.stacks program.threads
       → thread_refusal program.contents.pieces ranges program.threads ≡ thread_refusal k.pieces ranges k.threads

@@ -1,5 +1,5 @@
 //! A running program with its updates.
-ghost use Rattle.std.specs.Prelude.{◌≡◌, ◌≢◌, [], map, IfOk, IsSomeAnd, OnOk, OnErr, MatchResult, None, Ok, Err};
+ghost use Rattle.std.specs.Prelude.{◌≡◌, ◌≢◌, [], map, IfOk, IfSome, IsSome, IsSomeAnd, OnOk, OnErr, MatchResult, None, Ok, Err};
 ghost use Rattle.std.specs.Prelude.{false, true, is_some, Some, ◌<◌, length, slice_get, MatchOption};
 ghost use Rattle.std.specs.List.{list_any};
 ghost use Rattle.std.specs.Result.{is_ok, result_err};
@@ -19,6 +19,8 @@ ghost use Rattle.update_stack.specs.Apply.{committed, gaps_of, has_name, planned
 ghost use Rattle.update_stack.specs.Events.{Apply, Spawn, Step, Undo, UndoNamed, happened};
 ghost use Rattle.update_stack.specs.Events.{Applied, Spawned, Stepped, Undone};
 ghost use Rattle.update_stack.specs.Events.{answered, after_event};
+ghost use Rattle.saved_data.specs.Saved.{CanBePutBack};
+ghost use Rattle.update_stack.specs.PutBack.{with_saved};
 ghost use Rattle.update_stack.specs.Stacked.{IsBuilt};
 ghost use Rattle.update_stack.specs.StandsFor.{patched, IsUntouched};
 ghost use Rattle.update_stack.specs.Phases.{StandsIn, phased, patched_in, IsOpenAt, MayBecome};
@@ -40,10 +42,11 @@ use crate::updates::{KeptList, Updates};
 use crate::withdrawing::{take_back, take_out, updates_are_taken_back};
 use ia32_decode::jumps_decode;
 use ia32_step::{Outcome, State, Thread, Traced, code_bytes_have_no_say, steps_write_one_number};
-use image_memory::{Space, sorted};
+use image_memory::{Pieces, Space, sorted};
 use image_threads::Machine;
 use ks_base::{Name, Range, Refusal, Report};
 use link_post::gaps_are_free;
+use saved_data::put_back;
 use splice_jump::{
     Phase, code_stays_code, data_are_written_past_jumps, homes_are_not_looked_at,
     homes_stay_spliced, jumps_are_added_and_replaced, jumps_change_their_bytes_alone,
@@ -394,6 +397,39 @@ impl<S: Space> System<S> {
         self.check_threads_in(at)?;
         self.take_back_at(at);
         Ok(())
+    }
+
+    /// Takes the newest update back, as [`System::undo`] does, wherever threads stand. It takes no memory.
+    pub fn withdraw(&mut self)
+        requires done { self.old.phase ≡ Done }
+        requires live { IsSome (newest_update self.old.machine) }
+        ensures withdrawn { IfSome (newest_update self.old.machine)
+            (λ update. self.new.machine ≡ withdrawn self.old.machine update) }
+        ensures phase { self.new.phase ≡ self.old.phase }
+    {
+        // The machine's updates lie each on what was there without it, so nothing is later than the newest.
+        let _program = self.machine();
+        let Ok(at) = self.newest() else {
+            unreachable!()
+        };
+        self.take_back_at(at);
+    }
+
+    /// Writes the bytes of saved pieces back, one piece after another: each lies where a piece of writable memory does.
+    /// Nothing else changes. It takes no memory.
+    pub fn put_back(&mut self, saved: &Pieces)
+        requires done { self.old.phase ≡ Done }
+        requires fit { CanBePutBack self.old.machine.pieces saved.now }
+        ensures data { self.new.machine ≡ with_saved self.old.machine saved.now }
+        ensures phase { self.new.phase ≡ self.old.phase }
+    {
+        // The laws say that what is written, which is data, leaves the jumps and what is seen past them.
+        data_are_written_past_jumps();
+        code_stays_code();
+        homes_stay_spliced();
+        code_that_stays();
+        jumps_change_their_bytes_alone();
+        put_back(self.machine.space_mut(), saved);
     }
 
     /// The place of the newest update among the live ones.

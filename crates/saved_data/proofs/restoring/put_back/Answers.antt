@@ -3,7 +3,7 @@ use Rattle.std.specs.List.{fold}
 use Rattle.std.proofs.lemmas.List.{drop_all}
 use Rattle.image_memory.specs.declared.types.Piece.{Piece}
 use Rattle.image_memory.specs.Contents.{Contents}
-use Rattle.saved_data.specs.Saved.{LieInData, with_bytes, put_back}
+use Rattle.saved_data.specs.Saved.{CanBePutBack, with_bytes, put_back}
 use Rattle.saved_data.proofs.RestoreLaws.{next_left, next_folded, next_lies, rest_lie, contents_are}
 use Rattle.saved_data.proofs.restoring.put_back.Goals as goal
 
@@ -31,7 +31,7 @@ loop-piece-preserved g c =
       fences = ap (λ (contents : Contents). contents.fences) c.write_over.ensures.contents
           ∙ c.loop-piece.invariant.fences;
       room = c.write_over.ensures.room ∙ c.loop-piece.invariant.room;
-      lie = subst (λ (ps : List Piece). LieInData ps rest) (sym written)
+      lie = subst (λ (ps : List Piece). CanBePutBack ps rest) (sym written)
           (rest_lie before.pieces left rest p is c.loop-piece.invariant.lie);
     }
 
