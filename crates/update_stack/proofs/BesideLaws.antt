@@ -1,5 +1,5 @@
 -- Data are written beside code: what is kept of updates is what it was.
-use Rattle.std.proofs.Common.{◌≡◌, ℕ, zero, suc, ◌+◌, ◌-◌, ◌<◌, ◌≤◌, Bool, true, false, cond, List, [], ◌∷◌, map}
+use Rattle.std.proofs.Common.{not, ◌≡◌, ℕ, zero, suc, ◌+◌, ◌-◌, ◌<◌, ◌≤◌, Bool, true, false, cond, List, [], ◌∷◌, map}
 use Rattle.std.proofs.Common.{length}
 use Rattle.std.proofs.Common.{Option, Some, None, refl, sym, ◌∙◌, ap, subst, arith, ◌⊎◌, inl, inr}
 use Rattle.std.specs.Option.{option_map, unwrap_or}
@@ -29,6 +29,7 @@ use Rattle.update_stack.specs.declared.updates.Kept.{Kept}
 use Rattle.update_stack.specs.AbstractMachine.{AbstractMachine, Row, Update, bodies_in, contents_of, jump_rows}
 use Rattle.update_stack.specs.Apply.{gaps_of}
 use Rattle.update_stack.specs.Undo.{withdrawn, is_code_of}
+use Rattle.update_stack.specs.Scratch.{pieces_but, unscratched}
 use Rattle.update_stack.specs.Stacked.{IsBuilt, AreKept, NoneKept, OneKept}
 use Rattle.update_stack.specs.laws.StackedLaws.{built_newest}
 use Rattle.update_stack.proofs.TableLaws.{spliced_new}
@@ -179,9 +180,14 @@ unfolding withdrawn
 table_wrote k update start bytes threads = refl
 
 free_wrote : (k : AbstractMachine) (start : ℕ) (bytes : List ℕ) (threads : List Thread)
-    → gaps_of k ≡ gaps_of (wrote start bytes threads k)
-free_wrote k start bytes threads =
-    ap (fold without (unless_empty k.arena)) (sym (ranges_stay start bytes k.pieces))
+    → gaps_of (unscratched k) ≡ gaps_of (unscratched (wrote start bytes threads k))
+free_wrote k start bytes threads = ap (fold without (unless_empty k.arena)) (sym (by_scratch k.scratch))
+  where
+    by_scratch : (o : Option Range)
+        → map piece_range (pieces_but o (written start bytes k.pieces)) ≡ map piece_range (pieces_but o k.pieces)
+    by_scratch None = ranges_stay start bytes k.pieces
+    by_scratch (Some range) =
+        passed_ranges (λ (piece : Piece). not (is_based_at (range.low ∷ []) piece)) start bytes (λ piece. refl) k.pieces
 
 pub kept_write : CodeWasThere → (k : AbstractMachine) (kept : List Kept) (start : ℕ)
     (bytes : List ℕ) (threads : List Thread) → AvoidsCode start (length bytes) k.pieces → IsBuilt k

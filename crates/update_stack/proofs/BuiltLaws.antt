@@ -1,7 +1,7 @@
 -- What holds of the machine at every moment: before and after an update, and after a write.
 use Rattle.std.proofs.Common.{◌≡◌, ◌≢◌, ℕ, suc, ◌^◌, ◌<◌, ◌≤◌, ◌==◌, ◌&&◌, ◌||◌, Bool, true, false, not, cond, nat_lt}
 use Rattle.std.proofs.Common.{List, [], ◌∷◌, ◌++◌, map, length, get_or, Some, None, refl, sym, ◌∙◌, ap, arith, subst}
-use Rattle.std.proofs.Common.{IsTrue, ne_eqb}
+use Rattle.std.proofs.Common.{IsTrue, IfSome, Option, ne_eqb}
 use Rattle.std.proofs.Common.{length-append, ◌⊎◌, inl, inr}
 use Rattle.std.specs.List.{All, Any, Contains, fold, flat_map, list_any}
 use Rattle.std.proofs.lemmas.List.{length-map, get_or-map}
@@ -34,10 +34,12 @@ use Rattle.update_stack.specs.AbstractMachine.{AbstractMachine, Row, Update, is_
 use Rattle.update_stack.specs.AbstractMachine.{with_replaced, contents_of}
 use Rattle.update_stack.specs.Apply.{has_name, with_new_piece, update_as, committed, retired_of}
 use Rattle.update_stack.specs.Undo.{without_last, withdrawn, newest_update}
+use Rattle.update_stack.specs.Scratch.{IsScratch, HasScratch, LeavesScratch, is_among}
 use Rattle.update_stack.specs.Stacked.{IsSound, IsVersionOf, IsOnTop, IsBuilt, Untouched, Updated}
 use Rattle.update_stack.specs.laws.StackedLaws.{built_sound, last_more}
 use Rattle.update_stack.specs.laws.TableLaws.{homes_after, homes_spliced}
 use Rattle.update_stack.specs.laws.ViewLaws.{ranges_back}
+use Rattle.update_stack.proofs.ScratchLaws.{same_ends, scratch_stays, based_apart}
 use Rattle.update_stack.proofs.TableLaws.{IsTable, first_table, table_stays, table_back, last_back}
 use Rattle.update_stack.proofs.TableLaws.{pairs_map, all_homes_more, bases_after, table_spliced}
 use Rattle.update_stack.proofs.PlaceLaws.{last_parted, without_newest, withdrawn_newest, updates_left}
@@ -116,15 +118,16 @@ built_table _ (Updated k update sound newest above built) =
 
 -- a machine by its parts
 pub machine_is : (a b : AbstractMachine) → a.pieces ≡ b.pieces → a.table ≡ b.table → a.retired ≡ b.retired
-    → a.symbols ≡ b.symbols → a.stacks ≡ b.stacks → a.arena ≡ b.arena → a.threads ≡ b.threads
-    → a.updates ≡ b.updates → a ≡ b
-machine_is a b pieces table retired symbols stacks arena threads updates = λ i. record {
+    → a.symbols ≡ b.symbols → a.stacks ≡ b.stacks → a.arena ≡ b.arena → a.scratch ≡ b.scratch
+    → a.threads ≡ b.threads → a.updates ≡ b.updates → a ≡ b
+machine_is a b pieces table retired symbols stacks arena scratch threads updates = λ i. record {
   pieces = pieces i;
   table = table i;
   retired = retired i;
   symbols = symbols i;
   stacks = stacks i;
   arena = arena i;
+  scratch = scratch i;
   threads = threads i;
   updates = updates i;
 }
@@ -279,7 +282,7 @@ committed_back laws k name plan built can new =
     ∙ laws.ranges_back contents plan.fences valid (plain_fit contents plan can)
     ∙ ranges_back k.table k.retired)
     (last_back k.symbols plan.symbols)
-    refl refl refl
+    refl refl refl refl
     (last_back k.updates (update_as name plan ∷ []))
 
 -- stacks among pieces, when a piece is put in
@@ -521,6 +524,29 @@ module _ (laws : MemoryLaws) (k : AbstractMachine) (name : List ℕ) (plan : Pla
       (subst (λ (pieces : List Piece). All (λ (fence : Fence). IsCode pieces fence.range) text_after.fences)
       pieces_after fences_code))
 
+  -- the scratch piece stays, and none of the update's is it
+  scratch_after : HasScratch (committed k name plan)
+  unfolding committed
+  scratch_after =
+      scratch_stays k.scratch k.pieces (fold with_new_piece k.pieces plan.pieces) k.stacks
+      (stacks_stay k.pieces plan.pieces) sound.scratch
+
+  scratch_left : LeavesScratch (committed k name plan) (update_as name plan)
+  unfolding committed
+  scratch_left = by_scratch k.scratch sound.scratch
+    where
+      bases : List ℕ
+      bases = map (λ (p : Piece). p.base) plan.pieces
+
+      by_scratch : (o : Option Range) → IfSome o (IsScratch k.pieces k.stacks)
+          → IfSome o (λ range. is_among bases range.low ≡ false)
+      by_scratch None is = tt
+      by_scratch (Some range) is =
+          based_apart bases added.pieces range
+          (subst (λ (ps : List Piece). is_stack ps range ≡ true)
+          (sym (laws.pieces_back contents plan.pieces sound.jumps.valid can.placeable (pieces_fit contents plan can)))
+          is.piece)
+
   sound_after : IsSound (committed k name plan)
   unfolding committed
   sound_after = record {
@@ -532,6 +558,7 @@ module _ (laws : MemoryLaws) (k : AbstractMachine) (name : List ℕ) (plan : Pla
     stacks = λ i d l. stacks_stay k.pieces plan.pieces (get_or k.stacks i d) (sound.stacks i d l);
     arena = sound.arena;
     retired = retired_code;
+    scratch = scratch_after;
   }
 
   full_piece : (piece : Piece) → Contains plan.pieces piece → (piece_range piece).low < (piece_range piece).high
@@ -607,6 +634,7 @@ module _ (laws : MemoryLaws) (k : AbstractMachine) (name : List ℕ) (plan : Pla
             (λ i d l. any_mapped (BeginsAt (base_of k (get_or replaced i d).home)) fence_range plan.fences
             (replace i d l).over);
         name = name_made k name plan new;
+        scratch = scratch_left;
       }
 
   -- what holds of a machine at every moment holds after an update
@@ -675,6 +703,9 @@ sound_written k start bytes threads sound = record {
       (sound.stacks i d l);
   arena = sound.arena;
   retired = λ i d l a lies. code_written k.pieces start bytes a 1 (sound.retired i d l a lies);
+  scratch =
+      scratch_stays k.scratch k.pieces (written start bytes k.pieces) k.stacks
+      (λ range is. stack_written start bytes k.pieces range ∙ is) sound.scratch;
 }
 
 piece_written : (start : ℕ) (bytes : List ℕ) (pieces : List Piece) (base : ℕ) → Any (λ piece. piece.base ≡ base) pieces
@@ -708,6 +739,7 @@ on_top_written k update start bytes threads is = record {
       };
   over = is.over;
   name = is.name;
+  scratch = is.scratch;
 }
 
 -- what holds of a machine at every moment holds after any write, and when threads went on
@@ -722,23 +754,6 @@ built_write _ start bytes threads (Updated k update sound newest above built) =
     (built_write (withdrawn k update) start bytes threads built))
 
 -- a range of a list is one of some or is kept when these are taken away
-pub same_ends : (a b : Range) → are_same a b ≡ true → a ≡ b
-same_ends a b same = ends (a.low == b.low) (a.high == b.high) refl refl same
-  where
-    is : a.low ≡ b.low → a.high ≡ b.high → a ≡ b
-    is low high = λ i. record { low = low i; high = high i }
-
-    low_is : (a.low == b.low) ≡ true → a.low ≡ b.low
-    low_is test = grind (arith, nat_tests)
-
-    high_is : (a.high == b.high) ≡ true → a.high ≡ b.high
-    high_is test = grind (arith, nat_tests)
-
-    ends : (c d : Bool) → (a.low == b.low) ≡ c → (a.high == b.high) ≡ d → (c && d) ≡ true → a ≡ b
-    ends true true low high both = is (low_is low) (high_is high)
-    ends true false low high both = absurd (cc)
-    ends false d low high both = absurd (cc)
-
 pub contains_first : {X : Type 0} (x : X) (xs : List X) → Contains (x ∷ xs) x
 contains_first x xs = (0, omega arith, refl)
 

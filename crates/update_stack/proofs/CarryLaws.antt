@@ -28,6 +28,7 @@ use Rattle.update_memory.specs.Withdrawn.{without_pieces}
 use Rattle.image_threads.specs.Program.{Program}
 use Rattle.update_plan.specs.declared.types.Plan.{Plan}
 use Rattle.update_plan.specs.Sound.{IsCode, IsJumpTo, AllReplaceNewest, CanBeMade}
+use Rattle.update_stack.specs.declared.updates.Arena.{Arena}
 use Rattle.update_stack.specs.declared.updates.Update.{Update as Shown}
 use Rattle.update_stack.specs.declared.updates.Kept.{Kept}
 use Rattle.update_stack.specs.AbstractMachine.{AbstractMachine, Row, Update, bodies_in, with_replaced, contents_of}
@@ -174,7 +175,7 @@ update_is name plan jumps kept is = λ i. record {
 }
 
 -- a system, and a plan that can be made on its machine
-module _ (laws : Laws) (before : Program) (arena : Range) (updates : List Shown) (kept : List Kept)
+module _ (laws : Laws) (before : Program) (arena : Arena) (updates : List Shown) (kept : List Kept)
     (holds : Holds before arena updates kept) (plan : Plan)
     (can : CanBeMade (contents_of (machine_of before arena updates kept)) plan) where
   abbrev k : AbstractMachine
@@ -384,7 +385,7 @@ module _ (laws : Laws) (before : Program) (arena : Range) (updates : List Shown)
       unfolding committed
       same_now =
           machine_is now after_it pieces_now (table_more updates shown) ranges_now
-          (ap (λ (s : Seen). s.symbols) is.seen_after) (ap (λ (s : Seen). s.stacks) is.seen_after) refl
+          (ap (λ (s : Seen). s.symbols) is.seen_after) (ap (λ (s : Seen). s.stacks) is.seen_after) refl refl
           (ap (λ (s : Seen). s.threads) is.seen_after)
           (live_more updates shown kept one holds.paired
           ∙ ap (λ (u : Update). live_updates updates kept ++ u ∷ []) (update_is name plan jumps one has))

@@ -1,5 +1,5 @@
 -- The machine at the start of an image that was read: the image's stacks fit among its regions.
-use Rattle.std.proofs.Common.{◌≡◌, ℕ, zero, suc, ◌+◌, ◌-◌, ◌%◌, ◌≤◌, ◌<◌, nat_le, true, false}
+use Rattle.std.proofs.Common.{◌≡◌, ℕ, zero, suc, ◌+◌, ◌%◌, ◌≤◌, ◌<◌, nat_le, true, false}
 use Rattle.std.proofs.Common.{List, [], ◌∷◌, ◌++◌, length, Result, Ok, refl, subst, arith}
 use Rattle.std.specs.List.{All}
 use Rattle.std.proofs.lemmas.Bool.Decides.{nat_tests}
@@ -294,6 +294,7 @@ starts_well law file image is =
             stacks = stacks_there image.pieces image.stacks read.stacks.fit.each;
             arena = read.arena;
             retired = λ i d l. absurd (omega arith);
+            scratch = tt;
           }) refl refl refl;
       stacks = read.stacks.bounds;
     }

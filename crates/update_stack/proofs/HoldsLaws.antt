@@ -14,11 +14,12 @@ use Rattle.image_threads.specs.Program.{Program}
 use Rattle.image_threads.specs.Spawning.{AreStacks}
 use Rattle.splice_jump.specs.Jumps.{jumped, jumped_memory, AreSpliced}
 use Rattle.update_plan.specs.Sound.{AreGaps, IsCode}
+use Rattle.update_stack.specs.declared.updates.Arena.{Arena}
 use Rattle.update_stack.specs.declared.updates.Update.{Update as Shown}
 use Rattle.update_stack.specs.declared.updates.Kept.{Kept}
 use Rattle.update_stack.specs.AbstractMachine.{AbstractMachine, fence_in, bodies_in, shown_update}
 use Rattle.update_stack.specs.StandsFor.{Seen, StandsFor, patched}
-use Rattle.update_stack.specs.Systems.{text_of, table_of, machine_of, live_updates, gaps_in, Holds}
+use Rattle.update_stack.specs.Systems.{bare, text_of, table_of, machine_of, live_updates, gaps_in, Holds}
 use Rattle.update_stack.specs.Stacked.{IsBuilt, Untouched, AreKept, NoneKept}
 use Rattle.update_stack.specs.laws.StackedLaws.{built_sound}
 use Rattle.update_stack.proofs.TextLaws.{PastOldCode, CodeStays, IsClear, HasOldCode, placed_stays}
@@ -79,7 +80,7 @@ over_threads laws k kept threads over =
     subst (λ (ps : List Piece). IsKeptOver kept (record k { pieces = ps; threads = threads }))
     (written_nothing k.pieces) (over_wrote laws k kept 0 [] threads (none_avoids k.pieces) over)
 
-pub sound_of : (program : Program) (arena : Range) (updates : List Shown) (kept : List Kept)
+pub sound_of : (program : Program) (arena : Arena) (updates : List Shown) (kept : List Kept)
     → Holds program arena updates kept → Sound updates kept program.contents
 unfolding patched
 sound_of program arena updates kept holds =
@@ -91,11 +92,11 @@ sound_of program arena updates kept holds =
       code = holds.code;
     }
 
-pub over_of : (program : Program) (arena : Range) (updates : List Shown) (kept : List Kept)
+pub over_of : (program : Program) (arena : Arena) (updates : List Shown) (kept : List Kept)
     → Holds program arena updates kept → IsKeptOver kept (machine_of program arena updates kept)
 over_of program arena updates kept holds = record { built = holds.built; are_kept = holds.are_kept }
 
-stands_by : (program : Program) (arena : Range) (updates : List Shown) (kept : List Kept)
+stands_by : (program : Program) (arena : Arena) (updates : List Shown) (kept : List Kept)
     → program.contents ≡ jumped_memory (rows_in updates) (machine_memory updates kept program.contents)
     → StandsFor program (machine_of program arena updates kept)
 unfolding patched
@@ -108,7 +109,7 @@ stands_by program arena updates kept same =
     } in s) same
 
 -- a program with memory of which it holds
-pub holds_again : (program : Program) (arena : Range) (updates : List Shown) (kept : List Kept)
+pub holds_again : (program : Program) (arena : Arena) (updates : List Shown) (kept : List Kept)
     → length kept ≡ length updates → Sound updates kept program.contents
     → IsKeptOver kept (machine_of program arena updates kept) → Holds program arena updates kept
 holds_again program arena updates kept paired sound over = record {
@@ -214,7 +215,7 @@ follows_write laws updates kept k contents sound over pieces start bytes clear =
     }
 
 -- the machine by its pieces and its retired ranges
-abbrev pub machine_by : Program → Range → List Shown → List Kept → List Piece → List Range → AbstractMachine
+abbrev pub machine_by : Program → Arena → List Shown → List Kept → List Piece → List Range → AbstractMachine
 machine_by program arena updates kept pieces retired =
     record {
       pieces = pieces;
@@ -222,7 +223,8 @@ machine_by program arena updates kept pieces retired =
       retired = retired;
       symbols = program.table.symbols;
       stacks = program.stacks;
-      arena = arena;
+      arena = arena.range;
+      scratch = arena.scratch;
       threads = program.threads;
       updates = live_updates updates kept;
     }
@@ -251,15 +253,15 @@ full_arena arena limit low full =
 
 pub holds_at_first : (program : Program) (arena : Range) → IsValid program.contents → program.contents.fences ≡ []
     → AreStacks program.contents.pieces program.stacks → AreGaps program.contents (gaps_in arena)
-    → Holds program arena [] []
+    → Holds program (bare arena) [] []
 unfolding jumped
 holds_at_first program arena valid none stacks gaps =
     let same : program.contents ≡ machine_memory [] [] program.contents =
     ap (λ (fences : List Fence). let c : Contents = record program.contents { fences = fences } in c)
     (none ∙ sym (ap (λ (fences : List Fence). map (fence_in []) (map fence_range fences)) none)) in
-    let k = machine_of program arena [] [] in
+    let k = machine_of program (bare arena) [] [] in
     record {
-      stands = stands_by program arena [] [] same;
+      stands = stands_by program (bare arena) [] [] same;
       opened = tt;
       built =
           Untouched k (record {
@@ -273,6 +275,7 @@ holds_at_first program arena valid none stacks gaps =
             retired =
                 subst (All (IsCode program.contents.pieces)) (sym (ap (map fence_range) none))
                 (λ i d below. absurd (omega arith));
+            scratch = tt;
           }) refl refl (ap (map fence_range) none);
       are_kept = NoneKept k [] refl refl (arena_free program.contents arena gaps);
       code = λ i d below. absurd (omega arith);

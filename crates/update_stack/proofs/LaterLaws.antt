@@ -20,6 +20,7 @@ use Rattle.image_threads.specs.Program.{Program}
 use Rattle.link_post.specs.declared.types.Need.{Need}
 use Rattle.link_post.specs.declared.types.Needs.{Needs}
 use Rattle.update_memory.specs.Withdrawn.{is_based_at}
+use Rattle.update_stack.specs.declared.updates.Arena.{Arena}
 use Rattle.update_stack.specs.declared.updates.Update.{Update as Shown}
 use Rattle.update_stack.specs.declared.updates.Kept.{Kept}
 use Rattle.update_stack.specs.AbstractMachine.{AbstractMachine, Update}
@@ -101,7 +102,7 @@ pub record IsTold (k : AbstractMachine) (update : Update) (ranges code_ranges : 
   pub ascend : Ascends (λ range. range) 0 ranges
   pub code_ascend : Ascends (λ range. range) 0 code_ranges
 
-pub told_at : (program : Program) (arena : Range) (updates : List Shown) (kept : List Kept)
+pub told_at : (program : Program) (arena : Arena) (updates : List Shown) (kept : List Kept)
     → Holds program arena updates kept → (i : ℕ) (update : Update) (one : Kept)
     → slice_get (machine_of program arena updates kept).updates i ≡ Some update → slice_get kept i ≡ Some one
     → IsTold (machine_of program arena updates kept) update one.ranges one.code_ranges
@@ -139,7 +140,7 @@ told_at program arena updates kept holds i update one here there =
     }
 
 -- the same of what a system is seen as
-pub told_of : (program : Program) (arena : Range) (updates : List Shown) (kept : List Kept)
+pub told_of : (program : Program) (arena : Arena) (updates : List Shown) (kept : List Kept)
     → Holds program arena updates kept → (k : AbstractMachine) → machine_of program arena updates kept ≡ k
     → (i : ℕ) (update : Update) (one : Kept) (ranges code_ranges : List Range) (later : List Shown)
     (later_kept : List Kept)
@@ -170,7 +171,7 @@ some_at [] i less = absurd (omega arith)
 some_at (x ∷ xs) zero less = (x, refl)
 some_at (x ∷ xs) (suc i) less = some_at xs i (omega arith)
 
-pub ascending_at : (program : Program) (arena : Range) (updates : List Shown) (kept : List Kept)
+pub ascending_at : (program : Program) (arena : Arena) (updates : List Shown) (kept : List Kept)
     → Holds program arena updates kept → (i : ℕ) (one : Kept) → i < length updates → slice_get kept i ≡ Some one
     → Ascending one
 ascending_at program arena updates kept holds i one less there =

@@ -28,11 +28,13 @@ use Rattle.update_stack.specs.AbstractMachine.{contents_of, is_text, with_replac
 use Rattle.update_stack.specs.Apply.{has_name}
 use Rattle.update_stack.specs.Undo.{without_last, without_base, symbols_of, withdrawn, newest_update, retires_in}
 use Rattle.update_stack.specs.Undo.{ranges_in, is_code_of, code_ranges_in}
+use Rattle.update_stack.specs.Scratch.{HasScratch, LeavesScratch}
 use Rattle.update_stack.specs.Stacked.{IsSound, IsBuilt, Untouched, Updated, IsOnTop, IsVersionOf}
 use Rattle.update_stack.specs.Uncovered.{HasOtherHomes, UncoveredCanGo}
 use Rattle.update_stack.specs.laws.StackedLaws.{last_more, built_sound}
 use Rattle.update_stack.specs.laws.TableLaws.{homes_after, homes_spliced}
 use Rattle.update_stack.specs.laws.ViewLaws.{ranges_back}
+use Rattle.update_stack.proofs.ScratchLaws.{scratch_stays}
 use Rattle.update_stack.proofs.BuiltLaws.{built_table, contains_mapped}
 use Rattle.update_stack.proofs.KeptLaws.{CodeWasThere, withdrawn_pieces}
 use Rattle.update_stack.proofs.PastLaws.{IsAmong, home_kept, newest_kept, replaced_past, updates_pass, last_stays}
@@ -301,6 +303,10 @@ module _ (k : AbstractMachine) (newest update : Update) (earlier between : List 
       one_passes (λ (r : Replaced). r.home == one.home) newest.report.replaced one
       (Contains-get_or newest.report.replaced i d l) equal
 
+  scratch_top : LeavesScratch left newest
+  unfolding withdrawn
+  scratch_top = is.top.scratch
+
   -- The newest lies on what is there without the other.
   pub on_top_left : IsOnTop left newest
   on_top_left = record {
@@ -317,6 +323,7 @@ module _ (k : AbstractMachine) (newest update : Update) (earlier between : List 
         subst (λ (base : ℕ). Any (BeginsAt base) newest.retired)
         (sym (base_stays (get_or newest.report.replaced i d).home (replaced_own i d l))) (is.top.over i d l);
     name = name_left;
+    scratch = scratch_top;
   }
 
   -- Code of other updates stays, and so does code in what the newest retired.
@@ -489,6 +496,12 @@ module _ (k : AbstractMachine) (newest update : Update) (earlier between : List 
         stack_before (λ (p : Piece). not (is_based_at newest.pieces p)) left.pieces (get_or k.stacks i d)
         (sound.stacks i d l)
 
+    scratch_left : HasScratch left
+    unfolding withdrawn
+    scratch_left =
+        scratch_stays k.scratch (without_pieces newest.pieces left.pieces) left.pieces k.stacks
+        (stack_before (λ (p : Piece). not (is_based_at newest.pieces p)) left.pieces) sound.scratch
+
     ranges_left : All (IsCode left.pieces) left.retired
     ranges_left i d l =
         by_test (get_or left.retired i d) (Contains-get_or left.retired i d l)
@@ -518,6 +531,7 @@ module _ (k : AbstractMachine) (newest update : Update) (earlier between : List 
       stacks = stacks_left;
       arena = is.sound.arena;
       retired = ranges_left;
+      scratch = scratch_left;
     }
 
 -- the newest update, which lies on all others

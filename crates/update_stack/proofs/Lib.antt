@@ -32,6 +32,7 @@ pub mod PastLaws
 pub mod PlaceLaws
 pub mod PlanLaws
 pub mod ReachedLaws
+pub mod ScratchLaws
 pub mod SeenLaws
 pub mod SiftLaws
 pub mod SpawnLaws

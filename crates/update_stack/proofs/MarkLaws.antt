@@ -20,7 +20,8 @@ use Rattle.update_stack.specs.AbstractMachine.{AbstractMachine, Row, Update, is_
 use Rattle.update_stack.specs.Undo.{without_last, shorter, without_base, withdrawn}
 use Rattle.update_stack.specs.laws.StackedLaws.{HasNewest, built_sound}
 use Rattle.update_stack.specs.laws.TableLaws.{homes_after, homes_spliced, equal}
-use Rattle.update_stack.proofs.BuiltLaws.{contains_mapped, same_ends}
+use Rattle.update_stack.proofs.BuiltLaws.{contains_mapped}
+use Rattle.update_stack.proofs.ScratchLaws.{same_ends}
 use Rattle.update_stack.proofs.SiftLaws.{listed_before, passes_kept, listed_kept}
 use Rattle.update_stack.proofs.StandingLaws.{Stands, OnTop, Under, table_past}
 

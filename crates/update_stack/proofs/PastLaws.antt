@@ -471,7 +471,7 @@ module _ (k : AbstractMachine) (update last : Update) (earlier between later : L
       (bases_pass k.table update.report.replaced last.report.replaced apart)
       (filters_pass (λ (range : Range). not (is_one_of last.retired range))
       (λ (range : Range). not (is_one_of update.retired range)) k.retired)
-      symbols_alike refl refl refl
+      symbols_alike refl refl refl refl
       (append_assoc earlier between later)
       ∙ sym (withdrawn_among without_last_one update earlier (between ++ later) first_left)
       ∙ sym (ap (λ (m : AbstractMachine). withdrawn m update)

@@ -22,6 +22,7 @@ use Rattle.splice_jump.specs.laws.CodeLaws.{code_written, code_unwritten}
 use Rattle.splice_jump.specs.laws.PhaseLaws.{last_stands, length-phase_bytes}
 use Rattle.update_memory.specs.declared.types.Jump.{Jump}
 use Rattle.update_memory.specs.Rows.{olds_of}
+use Rattle.update_stack.specs.declared.updates.Arena.{Arena}
 use Rattle.update_stack.specs.declared.updates.Update.{Update as Shown}
 use Rattle.update_stack.specs.declared.updates.Kept.{Kept}
 use Rattle.update_stack.specs.AbstractMachine.{AbstractMachine, Update, base_of, jump_rows}
@@ -46,13 +47,13 @@ pub phase_seen : {a b : Phased} → a ≡ b → a.phase ≡ b.phase
 phase_seen e = ap (λ (seen : Phased). seen.phase) e
 
 -- where no update is being written
-pub done_holds : (program : Program) (arena : Range) (updates : List Shown) (kept : List Kept) {phase : Phase}
+pub done_holds : (program : Program) (arena : Arena) (updates : List Shown) (kept : List Kept) {phase : Phase}
     {now : Phased} → phased (machine_of program arena updates kept) phase ≡ now → now.phase ≡ Done
     → HoldsIn phase program arena updates kept → Holds program arena updates kept
 done_holds program arena updates kept is done holds =
     subst (λ (phase : Phase). HoldsIn phase program arena updates kept) (phase_seen is ∙ done) holds
 
-pub done_again : (program : Program) (arena : Range) (updates : List Shown) (kept : List Kept) {k : AbstractMachine}
+pub done_again : (program : Program) (arena : Arena) (updates : List Shown) (kept : List Kept) {k : AbstractMachine}
     {phase : Phase} {now : Phased} → phased k phase ≡ now → now.phase ≡ Done
     → Holds program arena updates kept → HoldsIn phase program arena updates kept
 done_again program arena updates kept is done holds =
@@ -204,12 +205,12 @@ opened_stacks phase k contents stacks (Some home) are =
     (kinds_written home five contents.pieces) (ranges_stay home five contents.pieces) are
 
 -- what is open of one machine is open of another with the same updates
-still_open : (arena : Range) (updates : List Shown) (kept : List Kept) (old after : Program) (home : ℕ)
+still_open : (arena : Arena) (updates : List Shown) (kept : List Kept) (old after : Program) (home : ℕ)
     → ReplacedOne (machine_of old arena updates kept) home → ReplacedOne (machine_of after arena updates kept) home
 still_open arena updates kept old after home opened =
     record { update = opened.update; newest = opened.newest; only = opened.only }
 
-any_open : (arena : Range) (updates : List Shown) (kept : List Kept) (old after : Program) (o : Option ℕ)
+any_open : (arena : Arena) (updates : List Shown) (kept : List Kept) (old after : Program) (o : Option ℕ)
     → IfSome o (ReplacedOne (machine_of old arena updates kept))
     → IfSome o (ReplacedOne (machine_of after arena updates kept))
 any_open arena updates kept old after None opened = tt
@@ -219,7 +220,7 @@ any_open arena updates kept old after (Some home) opened = still_open arena upda
 abbrev seen_with : Program → Contents → Seen
 seen_with program contents = record (seen program) { contents = contents }
 
-module _ (phase : Phase) (arena : Range) (updates : List Shown) (kept : List Kept) where
+module _ (phase : Phase) (arena : Arena) (updates : List Shown) (kept : List Kept) where
   abbrev machine : Program → AbstractMachine
   machine program = machine_of program arena updates kept
 

@@ -14,6 +14,7 @@ use Rattle.image_threads.specs.Spawning.{first_bytes, first_thread, spawned}
 use Rattle.image_threads.specs.laws.StackLaws.{stack_listed}
 use Rattle.symbol_table.specs.Symbols.{function_named}
 use Rattle.splice_jump.specs.declared.phase.Phase.{Phase}
+use Rattle.update_stack.specs.declared.updates.Arena.{Arena}
 use Rattle.update_stack.specs.declared.updates.Update.{Update as Shown}
 use Rattle.update_stack.specs.declared.updates.Kept.{Kept}
 use Rattle.update_stack.specs.AbstractMachine.{AbstractMachine, contents_of}
@@ -112,7 +113,7 @@ not_spawned old name argument refusal is other = by_pc (function_named old.table
     by_pc (Err other_refusal) is = is
     by_pc (Ok pc) is = by_count pc (nat_le 4096 (length old.threads)) is
 
-module _ (laws : Laws) (phase : Phase) (arena : Range) (updates : List Shown) (kept : List Kept) where
+module _ (laws : Laws) (phase : Phase) (arena : Arena) (updates : List Shown) (kept : List Kept) where
   abbrev machine : Program → AbstractMachine
   machine program = machine_of program arena updates kept
 

@@ -5,7 +5,6 @@ use Rattle.std.specs.Option.{option_map}
 use Rattle.std.specs.List.{All, last_or}
 use Rattle.std.proofs.lemmas.Bool.{eqb-true}
 use Rattle.std.proofs.lemmas.List.Elements.{All-head}
-use Rattle.ks_base.specs.declared.places.Range.{Range}
 use Rattle.ks_base.specs.declared.refusals.Refusal.{Refusal}
 use Rattle.ks_base.specs.declared.reports.Replaced.{Replaced}
 use Rattle.image_memory.specs.Contents.{Contents}
@@ -20,6 +19,7 @@ use Rattle.image_threads.specs.Program.{Program, running_at}
 use Rattle.image_threads.specs.Stepping.{continued, moved_by, moved, sent_by, sent}
 use Rattle.splice_jump.specs.declared.phase.Phase.{Phase}
 use Rattle.splice_jump.specs.Phases.{open_home}
+use Rattle.update_stack.specs.declared.updates.Arena.{Arena}
 use Rattle.update_stack.specs.declared.updates.Update.{Update as Shown}
 use Rattle.update_stack.specs.declared.updates.Kept.{Kept}
 use Rattle.update_stack.specs.AbstractMachine.{AbstractMachine, base_of, shown_update}
@@ -66,7 +66,7 @@ tells_one k home (one ∷ rest) is leads =
     let leads_there : base_of k one.home ≡ one.base = All-head (LeadsThere k) one rest leads in
     record { full = omega arith; base = λ d. sym leads_there ∙ ap (base_of k) same }
 
-module _ (phase : Phase) (program : Program) (arena : Range) (updates : List Shown) (kept : List Kept)
+module _ (phase : Phase) (program : Program) (arena : Arena) (updates : List Shown) (kept : List Kept)
     (holds : HoldsIn phase program arena updates kept) where
   abbrev k : AbstractMachine
   k = machine_of program arena updates kept
@@ -125,7 +125,7 @@ pub record WriteLaws : Type 0 where
   pub all : (contents : Contents) (thread : Thread)
       → (stepped contents thread).contents ≡ after_store contents (stored contents thread)
 
-module _ (laws : Laws) (steps : AllSteps) (views : LeavesViews) (homes : LeavesHomes) (phase : Phase) (arena : Range)
+module _ (laws : Laws) (steps : AllSteps) (views : LeavesViews) (homes : LeavesHomes) (phase : Phase) (arena : Arena)
     (updates : List Shown) (kept : List Kept) where
   abbrev machine : Program → AbstractMachine
   machine program = machine_of program arena updates kept

@@ -3,7 +3,6 @@
 use Rattle.std.proofs.Common.{◌≡◌, ℕ, ◌+◌, ◌-◌, ◌<◌, List, [], ◌∷◌, length, length-append, get_or, IfSome, Option}
 use Rattle.std.proofs.Common.{Some, None, refl, sym, ◌∙◌, ap, arith, subst}
 use Rattle.std.specs.List.{last_or}
-use Rattle.ks_base.specs.declared.places.Range.{Range}
 use Rattle.image_memory.specs.declared.types.Piece.{Piece}
 use Rattle.image_memory.specs.Contents.{Contents, Room}
 use Rattle.image_memory.specs.Fetch.{HasCode}
@@ -14,6 +13,7 @@ use Rattle.splice_jump.specs.Phases.{phase_bytes, open_home}
 use Rattle.splice_jump.specs.laws.PhaseLaws.{last_stands}
 use Rattle.update_memory.specs.declared.types.Jump.{Jump}
 use Rattle.update_memory.specs.Rows.{rows_of, olds_of}
+use Rattle.update_stack.specs.declared.updates.Arena.{Arena}
 use Rattle.update_stack.specs.declared.updates.Update.{Update as Shown}
 use Rattle.update_stack.specs.declared.updates.Kept.{Kept}
 use Rattle.update_stack.specs.AbstractMachine.{AbstractMachine, base_of, jump_rows}
@@ -87,7 +87,7 @@ read_jump k kept home built are replaced items count one jumps same long is own 
     (sym (last_is kept) ∙ got_at kept (length kept - 1) one (omega (arith, many)) at))
 
 -- ---- the program with the five bytes there
-module _ (over : JumpsReplaced) (phase now : Phase) (arena : Range) (updates : List Shown) (kept : List Kept)
+module _ (over : JumpsReplaced) (phase now : Phase) (arena : Arena) (updates : List Shown) (kept : List Kept)
     (program : Program) (holds : HoldsIn phase program arena updates kept)
     (may : MayBecome now (machine_of program arena updates kept)) where
   abbrev k : AbstractMachine

@@ -1,15 +1,16 @@
 -- Data that are put back: the program and the machine that it stands for have the same.
-use Rattle.std.proofs.Common.{◌≡◌, ℕ, List, [], ◌∷◌, map, length, IsTrue, refl, sym, ◌∙◌, ap, subst}
+use Rattle.std.proofs.Common.{◌≡◌, List, [], ◌∷◌, map, length, IsTrue, refl, sym, ◌∙◌, ap, subst}
 use Rattle.std.specs.List.{fold}
 use Rattle.std.proofs.lemmas.List.Elements.{All-head, All-tail}
 use Rattle.ks_base.specs.declared.places.Range.{Range}
 use Rattle.image_memory.specs.declared.types.Piece.{Piece}
 use Rattle.image_memory.specs.Contents.{Contents, Room, piece_range}
-use Rattle.image_memory.specs.Access.{written, after_write}
+use Rattle.image_memory.specs.Access.{written}
 use Rattle.image_threads.specs.Program.{Program}
 use Rattle.image_threads.specs.Spawning.{is_stack}
 use Rattle.image_threads.specs.laws.StackLaws.{stack_written}
 use Rattle.saved_data.specs.Saved.{CanBePutBack, with_bytes, put_back}
+use Rattle.update_stack.specs.declared.updates.Arena.{Arena}
 use Rattle.update_stack.specs.declared.updates.Update.{Update as Shown}
 use Rattle.update_stack.specs.declared.updates.Kept.{Kept}
 use Rattle.update_stack.specs.AbstractMachine.{AbstractMachine, contents_of}
@@ -31,7 +32,7 @@ with_pieces program pieces =
 abbrev over_pieces : AbstractMachine → List Piece → AbstractMachine
 over_pieces k pieces = record k { pieces = pieces }
 
-module _ (laws : Laws) (arena : Range) (updates : List Shown) (kept : List Kept) where
+module _ (laws : Laws) (arena : Arena) (updates : List Shown) (kept : List Kept) where
   abbrev machine : Program → AbstractMachine
   machine program = machine_of program arena updates kept
 

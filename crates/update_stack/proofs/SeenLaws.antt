@@ -13,6 +13,7 @@ use Rattle.image_threads.specs.Program.{Program, WellPlaced}
 use Rattle.image_threads.specs.Spawning.{is_writable, is_stack, AreStacks}
 use Rattle.splice_jump.specs.Jumps.{jumped}
 use Rattle.stack_scan.specs.Standing.{thread_refusal}
+use Rattle.update_stack.specs.declared.updates.Arena.{Arena}
 use Rattle.update_stack.specs.declared.updates.Update.{Update as Shown}
 use Rattle.update_stack.specs.declared.updates.Kept.{Kept}
 use Rattle.update_stack.specs.AbstractMachine.{AbstractMachine, bodies_in, contents_of}
@@ -53,7 +54,7 @@ abbrev pub PlacesStay : Type 0
 PlacesStay = (rows : List (ℕ × ℕ)) (pieces : List Piece)
     → map piece_range (jumped rows pieces) ≡ map piece_range pieces
 
-module _ (program : Program) (arena : Range) (updates : List Shown) (kept : List Kept)
+module _ (program : Program) (arena : Arena) (updates : List Shown) (kept : List Kept)
     (holds : Holds program arena updates kept) where
   abbrev k : AbstractMachine
   k = machine_of program arena updates kept

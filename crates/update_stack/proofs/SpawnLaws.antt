@@ -15,6 +15,7 @@ use Rattle.image_threads.specs.Spawning.{started, started_at, started_on, with_s
 use Rattle.image_threads.specs.Spawning.{first_bytes, is_stack, AreStacks, first_thread, spawned as program_spawned}
 use Rattle.image_threads.specs.laws.StackLaws.{stack_written, length-first_bytes, stack_listed}
 use Rattle.symbol_table.specs.Symbols.{function_named}
+use Rattle.update_stack.specs.declared.updates.Arena.{Arena}
 use Rattle.update_stack.specs.declared.updates.Update.{Update as Shown}
 use Rattle.update_stack.specs.declared.updates.Kept.{Kept}
 use Rattle.update_stack.specs.AbstractMachine.{AbstractMachine, contents_of}
@@ -37,7 +38,7 @@ stack_clear contents stacks stack argument valid bounds are listed =
     (All-contains (λ (range : Range). IsTrue (is_stack contents.pieces range)) stacks stack are listed)
     (length-first_bytes stack argument (omega arith))
 
-module _ (arena : Range) (updates : List Shown) (kept : List Kept) where
+module _ (arena : Arena) (updates : List Shown) (kept : List Kept) where
   -- a program as the machine
   abbrev machine : Program → AbstractMachine
   machine program = machine_of program arena updates kept

@@ -12,6 +12,7 @@ use Rattle.ia32_step.specs.Step.{Left}
 use Rattle.ia32_step.specs.Step.{stepped}
 use Rattle.image_threads.specs.Program.{Program, running_at}
 use Rattle.image_threads.specs.Stepping.{continued, moved_by as program_moved_by, moved as program_moved}
+use Rattle.update_stack.specs.declared.updates.Arena.{Arena}
 use Rattle.update_stack.specs.declared.updates.Update.{Update as Shown}
 use Rattle.update_stack.specs.declared.updates.Kept.{Kept}
 use Rattle.update_stack.specs.AbstractMachine.{AbstractMachine}
@@ -30,7 +31,7 @@ use Rattle.update_stack.proofs.HoldsLaws.{follows_itself, follows_write, holds_a
 abbrev pub AllSteps : Type 0
 AllSteps = (k : AbstractMachine) (thread : Thread) → CanJump k → StepsStand k thread
 
-module _ (arena : Range) (updates : List Shown) (kept : List Kept) where
+module _ (arena : Arena) (updates : List Shown) (kept : List Kept) where
   -- a program as the machine
   abbrev machine : Program → AbstractMachine
   machine program = machine_of program arena updates kept

@@ -2,7 +2,6 @@
 use Rattle.std.proofs.Common.{◌≡◌, ℕ, ◌==◌, if◌then◌else◌, List, [], length, Option, Some, None, IsSomeAnd, unwrap_or}
 use Rattle.std.proofs.Common.{Result, Ok, Err, MatchResult, OnErr, IfOk, refl, sym, ap, ◌∙◌}
 use Rattle.std.proofs.lemmas.List.{length-take-le}
-use Rattle.ks_base.specs.declared.places.Range.{Range}
 use Rattle.ks_base.specs.declared.refusals.Refusal.{Refusal}
 use Rattle.image_memory.specs.Contents.{Contents, IsValid}
 use Rattle.image_memory.specs.Access.{first_fault, write_fault}
@@ -18,6 +17,7 @@ use Rattle.ia32_step.specs.Step.{store_fault, after_store, stored, window_length
 use Rattle.ia32_step.specs.laws.OperandLaws.{length-spelled}
 use Rattle.image_threads.specs.Program.{Program, running_at}
 use Rattle.image_threads.specs.Stepping.{moved}
+use Rattle.update_stack.specs.declared.updates.Arena.{Arena}
 use Rattle.update_stack.specs.declared.updates.Update.{Update as Shown}
 use Rattle.update_stack.specs.declared.updates.Kept.{Kept}
 use Rattle.update_stack.specs.AbstractMachine.{AbstractMachine, bodies_in, contents_of}
@@ -32,7 +32,7 @@ use Rattle.update_stack.proofs.StepLaws.{AllSteps, step_holds, step_seen, steppe
 use Rattle.update_stack.proofs.TextLaws.{clear_text}
 
 -- what a step wrote, it wrote to the machine's memory too
-store_seen : Laws → (arena : Range) (updates : List Shown) (kept : List Kept)
+store_seen : Laws → (arena : Arena) (updates : List Shown) (kept : List Kept)
     → (old new : Program) (store : Option Store) → Holds old arena updates kept
     → new.contents ≡ after_store old.contents store → store_fault old.contents store ≡ None
     → (machine_of new arena updates kept).pieces
@@ -47,7 +47,7 @@ store_seen laws arena updates kept old new (Some s) holds is clear =
     (ap (first_fault (write_fault old.contents.pieces) s.address) (length-spelled s.width s.value) ∙ clear)).text
 
 -- and there it can be written
-store_clear : (arena : Range) (updates : List Shown) (kept : List Kept) (old : Program) (store : Option Store)
+store_clear : (arena : Arena) (updates : List Shown) (kept : List Kept) (old : Program) (store : Option Store)
     → store_fault old.contents store ≡ None → store_fault (contents_of (machine_of old arena updates kept)) store ≡ None
 store_clear arena updates kept old None clear = clear
 store_clear arena updates kept old (Some s) clear =
@@ -106,7 +106,7 @@ retold : (X : Type 0) (told : X) (f g : Thread → X) → ((thread : Thread) →
 retold X told f g same None is = is
 retold X told f g same (Some running) is = is ∙ same running
 
-module _ (laws : Laws) (steps : AllSteps) (arena : Range) (updates : List Shown)
+module _ (laws : Laws) (steps : AllSteps) (arena : Arena) (updates : List Shown)
     (kept : List Kept) where
   -- a program as the machine
   abbrev machine : Program → AbstractMachine

@@ -24,6 +24,7 @@ use Rattle.update_memory.specs.declared.types.Jump.{Jump}
 use Rattle.update_memory.specs.Rows.{row_of, rows_of, old_of, olds_of}
 use Rattle.update_memory.specs.Withdrawn.{without_pieces, ranges_but, withdrawn_memory}
 use Rattle.image_threads.specs.Program.{Program}
+use Rattle.update_stack.specs.declared.updates.Arena.{Arena}
 use Rattle.update_stack.specs.declared.updates.Update.{Update as Shown}
 use Rattle.update_stack.specs.declared.updates.Kept.{Kept}
 use Rattle.update_stack.specs.AbstractMachine.{AbstractMachine, Row, Update, is_home, bodies_in, fence_in, contents_of}
@@ -278,7 +279,7 @@ pub record Leaves (k : AbstractMachine) (update : Update) (one : Kept) (earlier 
   pub is_kept : IsKept k update one
   pub apart : All (λ (other : Kept). AllAway (olds_of one.jumps) (olds_of other.jumps)) later
 
-module _ (laws : Laws) (program : Program) (arena : Range) (updates : List Shown) (kept : List Kept)
+module _ (laws : Laws) (program : Program) (arena : Arena) (updates : List Shown) (kept : List Kept)
     (at : AtUpdate updates kept) (holds : Holds program arena updates kept) where
   -- the machine, the update, the machine without it, and the other updates
   abbrev pub k : AbstractMachine
@@ -515,7 +516,7 @@ module _ (laws : Laws) (program : Program) (arena : Range) (updates : List Shown
           (ap (map fence_range) fences_now ∙ laws.ranges at.one.retired program.contents.fences)
           symbols_now
           (ap (λ (s : Seen). s.stacks) is)
-          refl
+          refl refl
           (ap (λ (s : Seen). s.threads) is)
           (live_joined at.earlier at.later at.kept_earlier at.kept_later at.beside)
           ∙ sym (withdrawn_among k live earlier later among)

@@ -1,7 +1,7 @@
 -- The abstract machine, whose code is never patched. A table says where the newest version of each replaced function
 -- begins, and a thread that comes to the function's home goes on there; the text of every version stays as it was
 -- placed.
-use Rattle.std.specs.Prelude.{ℕ, ◌-◌, Bool, ◌==◌, if◌then◌else◌, List, [], ◌∷◌, ◌++◌, map, replicate, None, unwrap_or}
+use Rattle.std.specs.Prelude.{ℕ, ◌-◌, Bool, ◌==◌, if◌then◌else◌, List, [], ◌∷◌, ◌++◌, map, replicate, Option, None, unwrap_or}
 use Rattle.std.specs.List.{list_any, last_or}
 use Rattle.ks_base.specs.declared.places.Range.{Range}
 use Rattle.ks_base.specs.declared.reports.Report.{Report}
@@ -36,8 +36,9 @@ pub record Update : Type 0 where
   pub needs : List Needs
 
 -- Text and data, ascending, the text being the pieces of code; the table; the retired ranges, ascending; the symbols;
--- the image's stacks in order and its arena, which never change; all threads by number, those that have ended among
--- them; and the live updates, oldest first.
+-- the image's stacks in order and its arena, which never change; the range of the scratch piece, if there is one, which is
+-- data that are there for a while only; all threads by number, those that have ended among them; and the live
+-- updates, oldest first.
 pub record AbstractMachine : Type 0 where
   pub pieces : List Piece
   pub table : List Row
@@ -45,6 +46,7 @@ pub record AbstractMachine : Type 0 where
   pub symbols : List Symbol
   pub stacks : List Range
   pub arena : Range
+  pub scratch : Option Range
   pub threads : List Thread
   pub updates : List Update
 
@@ -88,7 +90,7 @@ unfoldable pub all_pieces : List Piece → List Range → List Piece
 all_pieces regions [] = regions
 all_pieces regions (stack ∷ stacks) = with_piece (stack_piece stack) (all_pieces regions stacks)
 
--- the machine at its start: nothing was replaced, and there is no thread and no update
+-- the machine at its start: nothing was replaced, and there is no thread, no update and no scratch piece
 abbrev pub first_machine : Image → AbstractMachine
 first_machine image = record {
   pieces = all_pieces image.pieces image.stacks;
@@ -97,6 +99,7 @@ first_machine image = record {
   symbols = image.symbols;
   stacks = image.stacks;
   arena = image.arena;
+  scratch = None;
   threads = [];
   updates = [];
 }

@@ -1,10 +1,11 @@
 -- Public clauses cite the abstract machine (AbstractMachine and its Events, by Steps, Apply and Undo), that new code is
 -- reached (Reached) and stays so (Stays), what an accepted update lies on (Accepted), that undoing restores what was
--- (TakenBack), data that are put back (PutBack), what stands for the machine (StandsFor), its steps beside those of a memory with its jumps (Jumps), both
--- also in each phase of its newest update (Phases and PhaseSteps), and a system seen as it (Systems), with what holds of
--- it and of what it keeps (Stacked) and of updates that can be taken out from among others (Uncovered). What `inside`
--- holds is the code's own.
+-- (TakenBack), data that are put back (PutBack), what stands for the machine (StandsFor), its steps beside those of a
+-- memory with its jumps (Jumps), both also in each phase of its newest update (Phases and PhaseSteps), and a system seen
+-- as it (Systems), with what holds of it and of what it keeps (Stacked, with Scratch) and of updates that can be taken out
+-- from among others (Uncovered). What `inside` holds is the code's own.
 pub mod AbstractMachine
+pub mod Scratch
 pub mod Steps
 pub mod Apply
 pub mod Undo

@@ -17,16 +17,19 @@ use Rattle.update_stack.specs.declared.updates.Kept.{Kept}
 use Rattle.update_stack.specs.AbstractMachine.{AbstractMachine, Update, is_home, base_of, bodies_in, contents_of}
 use Rattle.update_stack.specs.AbstractMachine.{with_replaced, jump_rows}
 use Rattle.update_stack.specs.Apply.{has_name, gaps_of}
+use Rattle.update_stack.specs.Scratch.{unscratched, HasScratch, LeavesScratch}
 use Rattle.update_stack.specs.Jumps.{CanJump}
 use Rattle.update_stack.specs.Undo.{without_last, withdrawn, ranges_in, code_ranges_in, newest_update}
 
--- The jumps of a machine can stand in its memory, each stack is a piece of that, its arena ends where code may, and what
--- is retired is code.
+-- The jumps of a machine can stand in its memory, each stack is a piece of that, its arena ends where code may, what is
+-- retired is code, and its scratch piece, if it has one, is a piece of data and no
+-- stack.
 pub record IsSound (k : AbstractMachine) : Type 0 where
   pub jumps : CanJump k
   pub stacks : AreStacks k.pieces k.stacks
   pub arena : k.arena.low < k.arena.high → k.arena.high ≤ 0xFFFF_0000
   pub retired : All (IsCode k.pieces) k.retired
+  pub scratch : HasScratch k
 
 -- a base of an update is where one of its pieces of code begins
 pub record IsVersionOf (k : AbstractMachine) (update : Update) (one : Replaced) : Type 0 where
@@ -35,7 +38,8 @@ pub record IsVersionOf (k : AbstractMachine) (update : Update) (one : Replaced) 
 
 -- An update on what is there without it: its rows end with its bases, no other retired range is one of its homes',
 -- and what it added and retired is there, each once. Its bases are code of its own, and it retired what ran before
--- them: a range that begins where the newest version of each home did. No update before it has its name.
+-- them: a range that begins where the newest version of each home did. No update before it has its name, and the scratch
+-- piece is none of its pieces.
 pub record IsOnTop (k : AbstractMachine) (update : Update) : Type 0 where
   pub table : k.table ≡ fold with_replaced (withdrawn k update).table update.report.replaced
   pub once : AllPairs (λ (a b : Replaced). a.home ≢ b.home) update.report.replaced
@@ -50,6 +54,7 @@ pub record IsOnTop (k : AbstractMachine) (update : Update) : Type 0 where
   pub over : All (λ (one : Replaced). Any (BeginsAt (base_of (withdrawn k update) one.home)) update.retired)
       update.report.replaced
   pub name : list_any (has_name update.name) (without_last 1 k.updates) ≡ false
+  pub scratch : LeavesScratch k update
 
 -- a machine without updates, or with one on a machine of which this holds
 pub data IsBuilt : AbstractMachine → Type 0 where
@@ -72,10 +77,11 @@ pub record IsKept (k : AbstractMachine) (update : Update) (one : Kept) : Type 0 
   pub code_order : IsNonDecreasingBy (λ range. range.low) one.code_ranges
   pub count : one.symbol_count ≡ length update.symbols
 
--- What is kept of each live update, the newest last, over a machine of whose arena no piece takes anything.
+-- What is kept of each live update, the newest last, over a machine of whose arena no piece but the scratch piece takes
+-- anything.
 pub data AreKept : AbstractMachine → List Kept → Type 0 where
-  NoneKept : (k : AbstractMachine) (kept : List Kept) → k.updates ≡ [] → kept ≡ [] → gaps_of k ≡ unless_empty k.arena
-      → AreKept k kept
+  NoneKept : (k : AbstractMachine) (kept : List Kept) → k.updates ≡ [] → kept ≡ []
+      → gaps_of (unscratched k) ≡ unless_empty k.arena → AreKept k kept
   OneKept : (k : AbstractMachine) (update : Update) (earlier kept : List Kept) (one : Kept)
       → newest_update k ≡ Some update → kept ≡ earlier ++ one ∷ [] → IsKept k update one
       → AreKept (withdrawn k update) earlier → AreKept k kept

@@ -1,6 +1,6 @@
 -- A running system, seen as the abstract machine: the old code is put back over the jumps that its live updates wrote,
 -- and what they replaced makes the table.
-use Rattle.std.specs.Prelude.{◌≡◌, List, [], ◌∷◌, map, length}
+use Rattle.std.specs.Prelude.{◌≡◌, List, [], ◌∷◌, ◌++◌, map, length, None}
 use Rattle.std.specs.List.{fold, flat_map, All}
 use Rattle.ks_base.specs.declared.places.Range.{Range}
 use Rattle.ks_base.specs.declared.reports.Replaced.{Replaced}
@@ -14,10 +14,12 @@ use Rattle.update_memory.specs.declared.types.Jump.{Jump}
 use Rattle.update_memory.specs.Rows.{olds_of}
 use Rattle.link_post.specs.Places.{unless_empty, without}
 use Rattle.image_threads.specs.Program.{Program}
+use Rattle.update_stack.specs.declared.updates.Arena.{Arena}
 use Rattle.update_stack.specs.declared.updates.Update.{Update as Shown}
 use Rattle.update_stack.specs.declared.updates.Kept.{Kept}
 use Rattle.update_stack.specs.AbstractMachine.{AbstractMachine, Row, Update, with_replaced}
 use Rattle.update_stack.specs.Phases.{StandsIn, IsOpenAt}
+use Rattle.update_stack.specs.Scratch.{scratch_ranges}
 use Rattle.update_stack.specs.Stacked.{IsBuilt, AreKept}
 
 -- pieces with the old code of updates put back, that of the newest update first
@@ -50,7 +52,7 @@ live_updates (update ∷ updates) [] = []
 live_updates (update ∷ updates) (one ∷ kept) = live_update update one ∷ live_updates updates kept
 
 -- a program with its arena and its live updates, as the machine
-abbrev pub machine_of : Program → Range → List Shown → List Kept → AbstractMachine
+abbrev pub machine_of : Program → Arena → List Shown → List Kept → AbstractMachine
 machine_of program arena updates kept =
     record {
       pieces = text_of kept program.contents.pieces;
@@ -58,17 +60,26 @@ machine_of program arena updates kept =
       retired = map fence_range program.contents.fences;
       symbols = program.table.symbols;
       stacks = program.stacks;
-      arena = arena;
+      arena = arena.range;
+      scratch = arena.scratch;
       threads = program.threads;
       updates = live_updates updates kept;
     }
 
--- what is free of an arena in which nothing was placed, and what the pieces of live updates leave of it
+-- an arena in which nothing was placed, and that of a machine with its scratch piece; what is free of the first, and what
+-- the scratch piece and the pieces of live updates leave of the second
+abbrev pub bare : Range → Arena
+bare range = record { range = range; scratch = None }
+
+abbrev pub arena_of : AbstractMachine → Arena
+arena_of k = record { range = k.arena; scratch = k.scratch }
+
 abbrev pub gaps_in : Range → List Range
 gaps_in arena = unless_empty arena
 
-abbrev pub gaps_left : Range → List Kept → List Range
-gaps_left arena kept = fold without (gaps_in arena) (flat_map (λ one. one.ranges) kept)
+abbrev pub gaps_left : Arena → List Kept → List Range
+gaps_left arena kept =
+    fold without (gaps_in arena.range) (scratch_ranges arena.scratch ++ flat_map (λ one. one.ranges) kept)
 
 -- the old bytes of a jump have their place in one piece of code
 abbrev pub HasJumpCode : List Piece → Jump → Type 0
@@ -78,7 +89,7 @@ HasJumpCode pieces jump = HasCode pieces jump.home (length jump.old)
 -- the home that is open then is that of this update; the machine's updates lie one upon the other; with each is kept
 -- what taking it back needs; and the bytes that were kept have their place in code. The machine is the same in every
 -- phase, since the newest update's old bytes are put back over whatever five stand at its home.
-pub record HoldsIn (phase : Phase) (program : Program) (arena : Range) (updates : List Shown) (kept : List Kept)
+pub record HoldsIn (phase : Phase) (program : Program) (arena : Arena) (updates : List Shown) (kept : List Kept)
     : Type 0 where
   pub stands : StandsIn phase program (machine_of program arena updates kept)
   pub opened : IsOpenAt phase (machine_of program arena updates kept)
@@ -88,5 +99,5 @@ pub record HoldsIn (phase : Phase) (program : Program) (arena : Range) (updates 
   pub paired : length kept ≡ length updates
 
 -- the same where no update is being written
-abbrev pub Holds : Program → Range → List Shown → List Kept → Type 0
+abbrev pub Holds : Program → Arena → List Shown → List Kept → Type 0
 Holds program arena updates kept = HoldsIn Done program arena updates kept

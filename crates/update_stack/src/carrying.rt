@@ -16,8 +16,8 @@ ghost use Rattle.update_stack.specs.Systems.{Holds, machine_of};
 ghost use Rattle.update_stack.specs.inside.Carrying.{bare_jump, base_of_piece, EndsLow, FitsIn, HasHomeCode};
 ghost use Rattle.update_stack.specs.inside.Carrying.{HoldsAfter, IsCarriedOut, IsKeptOf, IsPrepared};
 ghost use Rattle.update_stack.specs.inside.Carrying.{shown_as};
+ghost use Rattle.update_stack.specs.declared.updates.Arena.{Arena as ArenaOf};
 ghost use Rattle.update_stack.specs.declared.updates.Kept.{Kept as KeptOf};
-ghost use Rattle.ks_base.specs.declared.places.Range.{Range as RangeOf};
 ghost use Rattle.image_threads.specs.Program.{Program};
 ghost use Rattle.update_memory.specs.declared.types.Jump.{Jump as Jumped};
 ghost use Rattle.update_plan.specs.declared.types.Plan.{Plan as Planned};
@@ -302,15 +302,15 @@ pub(crate) fn push_both(
 /// and when it is carried out, the system holds, as the machine after the update.
 pub(crate) fn plans_are_carried_out()
     ensures fits { (program : Program)
-        (arena : RangeOf) (updates : List Shown) (kept : List KeptOf)
+        (arena : ArenaOf) (updates : List Shown) (kept : List KeptOf)
         (plan : Planned) (jumps : List Jumped) → Holds program arena updates kept
         → CanBeMade (contents_of (machine_of program arena updates kept)) plan
         → rows_of jumps ≡ jump_rows plan.report.replaced → FitsIn program.contents plan jumps }
     ensures ends { (program : Program)
-        (arena : RangeOf) (updates : List Shown) (kept : List KeptOf)
+        (arena : ArenaOf) (updates : List Shown) (kept : List KeptOf)
         (plan : Planned) → Holds program arena updates kept
         → CanBeMade (contents_of (machine_of program arena updates kept)) plan → All EndsLow plan.report.replaced }
-    ensures holds { (before after : Program) (arena : RangeOf) (updates : List Shown)
+    ensures holds { (before after : Program) (arena : ArenaOf) (updates : List Shown)
         (kept : List KeptOf) (name : List ℕ) (plan : Planned) (jumps : List Jumped) (one : KeptOf)
         → Holds before arena updates kept → CanBeMade (contents_of (machine_of before arena updates kept)) plan
         → AllReplaceNewest (bodies_in (machine_of before arena updates kept).table) plan

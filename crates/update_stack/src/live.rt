@@ -8,11 +8,12 @@ ghost use Rattle.i386_reloc.specs.Normal.{same_bytes};
 ghost use Rattle.symbol_table.specs.Bodies.{newest};
 ghost use Rattle.update_stack.specs.AbstractMachine.{AbstractMachine, bodies_in, jump_rows};
 ghost use Rattle.update_stack.specs.Apply.{gaps_of};
-ghost use Rattle.update_stack.specs.Stacked.{AreKept};
-ghost use Rattle.update_stack.specs.Systems.{gaps_in, gaps_left, table_of};
+ghost use Rattle.update_stack.specs.Scratch.{scratch_ranges};
+ghost use Rattle.update_stack.specs.Stacked.{AreKept, IsBuilt};
+ghost use Rattle.update_stack.specs.Systems.{arena_of, gaps_in, gaps_left, table_of};
 ghost use Rattle.update_stack.specs.declared.updates.Kept.{Kept as KeptOf};
 
-use crate::updates::{Kept, Update};
+use crate::updates::{Arena, Kept, Update};
 use indexmap::IndexMap;
 use ks_base::{Name, Range, Ranges, Replaced};
 use link_post::{order_has_no_say, without_all};
@@ -77,12 +78,12 @@ pub(crate) fn retired_by(alloc: Global, kept: &[Kept]) -> Result<Ranges, AllocEr
     Ok(Ranges::from_vec(ranges))
 }
 
-/// What the pieces of live updates leave of an arena.
-pub(crate) fn gaps_left(alloc: Global, arena: Range, kept: &[Kept]) -> Result<Ranges, AllocError>
+/// What the scratch piece and the pieces of live updates leave of an arena.
+pub(crate) fn gaps_left(alloc: Global, arena: Arena, kept: &[Kept]) -> Result<Ranges, AllocError>
     ensures { IfOk result (λ gaps. gaps ≡ gaps_left arena kept.now) }
 {
-    let gaps = gaps_in(alloc, arena)?;
-    let taken = taken_by(alloc, kept)?;
+    let gaps = gaps_in(alloc, arena.range)?;
+    let taken = taken_by(alloc, arena.scratch, kept)?;
     without_all(alloc, &gaps, taken.as_slice())
 }
 
@@ -97,11 +98,15 @@ fn gaps_in(alloc: Global, arena: Range) -> Result<Ranges, AllocError>
     Ok(gaps)
 }
 
-/// The ranges of the pieces of live updates, those of the oldest first.
-fn taken_by(alloc: Global, kept: &[Kept]) -> Result<Vec<Range>, AllocError>
-    ensures { IfOk result (λ ranges. ranges.items ≡ flat_map (λ one. one.ranges) kept.now) }
+/// The ranges of the scratch piece, if there is one, and of the pieces of live updates, those of the oldest first.
+fn taken_by(alloc: Global, scratch: Option<Range>, kept: &[Kept]) -> Result<Vec<Range>, AllocError>
+    ensures { IfOk result (λ ranges.
+        ranges.items ≡ scratch_ranges scratch ++ flat_map (λ one. one.ranges) kept.now) }
 {
     let mut ranges = Vec::new(alloc);
+    if let Some(range) = scratch {
+        ranges.push(range)?;
+    }
     for one in kept {
         ranges.extend_from_slice(one.ranges.as_slice())?;
     }
@@ -110,7 +115,8 @@ fn taken_by(alloc: Global, kept: &[Kept]) -> Result<Vec<Range>, AllocError>
 
 /// What the ranges leave that are kept of live updates is what is free of the arena.
 pub(crate) fn kept_ranges_leave_the_gaps()
-    ensures { (k : AbstractMachine) (kept : List KeptOf) → AreKept k kept → gaps_left k.arena kept ≡ gaps_of k }
+    ensures { (k : AbstractMachine) (kept : List KeptOf) → IsBuilt k → AreKept k kept →
+        gaps_left (arena_of k) kept ≡ gaps_of k }
 {
     // Nothing is done here: the law says that the same is left in whichever order ranges are taken.
     order_has_no_say();

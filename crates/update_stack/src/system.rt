@@ -9,7 +9,7 @@ ghost use Rattle.ia32_step.specs.Step.{store_fault, after_store, stored, fetched
 ghost use Rattle.image_threads.specs.Program.{running_at};
 ghost use Rattle.image_threads.specs.Spawning.{AreStacks};
 ghost use Rattle.update_stack.specs.AbstractMachine.{bodies_in, contents_of, shown_update};
-ghost use Rattle.update_stack.specs.Systems.{gaps_in, machine_of};
+ghost use Rattle.update_stack.specs.Systems.{bare, gaps_in, machine_of};
 ghost use Rattle.ks_base.specs.Gives.{Gives};
 ghost use Rattle.i386_reloc.specs.Rule.{Finds};
 ghost use Rattle.stack_scan.specs.Standing.{thread_refusal};
@@ -38,7 +38,7 @@ use crate::laws::{steps_stand, threads_leave_code};
 use crate::live::{
     bodies_of, gaps_left, is_taken, kept_ranges_leave_the_gaps, place_of, retired_by,
 };
-use crate::updates::{KeptList, Updates};
+use crate::updates::{Arena, KeptList, Updates};
 use crate::withdrawing::{take_back, take_out, updates_are_taken_back};
 use ia32_decode::jumps_decode;
 use ia32_step::{Outcome, State, Thread, Traced, code_bytes_have_no_say, steps_write_one_number};
@@ -71,7 +71,7 @@ const MOST_UPDATES: usize = 64;
 pub struct System<S: Space> {
     alloc: Global,
     machine: Machine<S>,
-    arena: Range,
+    arena: Arena,
     updates: Updates,
     kept: KeptList,
     phase: Phase,
@@ -96,14 +96,17 @@ impl<S: Space> System<S> {
         requires none_retired { machine.contents.fences ≡ [] }
         requires stacks { AreStacks machine.contents.pieces machine.stacks }
         requires gaps { AreGaps machine.contents (gaps_in arena) }
-        ensures { IfOk result (λ system. system ≡ phased (machine_of machine arena [] []) Done) }
+        ensures { IfOk result (λ system. system ≡ phased (machine_of machine (bare arena) [] []) Done) }
     {
         // It runs over a memory.
         let _space = machine.space();
         Ok(System {
             alloc,
             machine,
-            arena,
+            arena: Arena {
+                range: arena,
+                scratch: None,
+            },
             updates: Updates::new(alloc),
             kept: KeptList::new(alloc),
             phase: Phase::Done,

@@ -1,5 +1,5 @@
 //! The updates of a running system.
-use ks_base::{ListOf, Name, Ranges, Report};
+use ks_base::{ListOf, Name, Range, Ranges, Report};
 use symbol_table::Addresses;
 use update_memory::Jumps;
 use update_pieces::NewSymbols;
@@ -36,6 +36,15 @@ pub(crate) struct Kept {
     pub(crate) needs: AllNeeds,
     /// The jumps that it wrote, with the code that stood there before.
     pub(crate) jumps: Jumps,
+}
+
+/// Where new pieces are placed.
+#[derive(Clone, Copy)]
+pub(crate) struct Arena {
+    /// The arena.
+    pub(crate) range: Range,
+    /// The range of the scratch piece, which takes of it, if there is one.
+    pub(crate) scratch: Option<Range>,
 }
 
 /// What is kept of updates in order.

@@ -1,11 +1,11 @@
 //! What taking an update back from among others does.
 ghost use Rattle.std.specs.Prelude.{◌≡◌, ◌≤◌, ◌<◌, ◌+◌, ◌^◌, ℕ, List, ◌++◌, length, take, drop, slice_get, Some, None};
 ghost use Rattle.std.specs.List.{All, flat_map};
-ghost use Rattle.ks_base.specs.declared.places.Range.{Range as RangeOf};
 ghost use Rattle.image_threads.specs.Program.{Program};
 ghost use Rattle.update_stack.specs.StandsFor.{seen};
 ghost use Rattle.update_stack.specs.Undo.{cover_refusal};
 ghost use Rattle.update_stack.specs.Systems.{Holds, live_update, machine_of};
+ghost use Rattle.update_stack.specs.declared.updates.Arena.{Arena as ArenaOf};
 ghost use Rattle.update_stack.specs.declared.updates.Kept.{Kept as KeptOf};
 ghost use Rattle.update_stack.specs.declared.updates.Update.{Update as Shown};
 ghost use Rattle.update_stack.specs.inside.TakingBack.{AtUpdate, CanBeTaken, after_taking, IsHeldWithout};
@@ -67,11 +67,11 @@ fn count_of_symbols(one: &Kept, later: &[Kept]) -> usize
 /// What is kept of an update that no later one covers can be taken away, and the system holds then, as the machine without
 /// that update.
 pub(crate) fn updates_are_taken_back()
-    ensures can { (program : Program) (arena : RangeOf) (updates : List Shown) (kept : List KeptOf)
+    ensures can { (program : Program) (arena : ArenaOf) (updates : List Shown) (kept : List KeptOf)
         (at : AtUpdate updates kept) → Holds program arena updates kept
         → cover_refusal (machine_of program arena updates kept) (live_update at.update at.one) ≡ None
         → CanBeTaken program at.one at.kept_later }
-    ensures held { (before after : Program) (arena : RangeOf) (updates : List Shown) (kept : List KeptOf)
+    ensures held { (before after : Program) (arena : ArenaOf) (updates : List Shown) (kept : List KeptOf)
         (at : AtUpdate updates kept) → Holds before arena updates kept
         → cover_refusal (machine_of before arena updates kept) (live_update at.update at.one) ≡ None
         → seen after ≡ after_taking at.one at.kept_later (seen before)

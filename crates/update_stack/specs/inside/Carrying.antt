@@ -2,7 +2,6 @@
 use Rattle.std.specs.Prelude.{◌≡◌, ℕ, ◌+◌, ◌≤◌, ◌^◌, List, [], ◌∷◌, ◌++◌, map, length, replicate}
 use Rattle.std.specs.List.{All, filter}
 use Rattle.std.specs.List.Sorted.{IsPermutation, IsNonDecreasingBy}
-use Rattle.ks_base.specs.declared.places.Range.{Range}
 use Rattle.ks_base.specs.declared.reports.Replaced.{Replaced}
 use Rattle.ks_base.specs.declared.reports.Report.{Report}
 use Rattle.image_memory.specs.declared.types.Piece.{Piece}
@@ -15,6 +14,7 @@ use Rattle.update_memory.specs.Retired.{AreRetirable, with_fences}
 use Rattle.update_memory.specs.Rows.{rows_of, olds_of}
 use Rattle.image_threads.specs.Program.{Program}
 use Rattle.update_plan.specs.declared.types.Plan.{Plan}
+use Rattle.update_stack.specs.declared.updates.Arena.{Arena}
 use Rattle.update_stack.specs.declared.updates.Update.{Update as Shown}
 use Rattle.update_stack.specs.declared.updates.Kept.{Kept}
 use Rattle.update_stack.specs.declared.updates.Prepared.{Prepared}
@@ -80,7 +80,7 @@ pub record IsPrepared (contents : Contents) (name : List ℕ) (plan : Plan) (pre
 
 -- what comes of a plan that is carried out: the system holds, as the machine after the update
 pub record HoldsAfter
-    (before after : Program) (arena : Range) (updates : List Shown) (kept : List Kept)
+    (before after : Program) (arena : Arena) (updates : List Shown) (kept : List Kept)
     (name : List ℕ) (plan : Plan) (one : Kept) : Type 0 where
   pub holds : Holds after arena (updates ++ shown_as name plan.report ∷ []) (kept ++ one ∷ [])
   pub same : machine_of after arena (updates ++ shown_as name plan.report ∷ []) (kept ++ one ∷ [])

@@ -3,7 +3,6 @@
 use Rattle.std.specs.Prelude.{◌≡◌, ◌≢◌, ℕ, ◌-◌, ◌≤◌, false, List, ◌∷◌, ◌++◌, length, Option, Some, None}
 use Rattle.std.specs.Prelude.{Result, Ok, Err}
 use Rattle.std.specs.List.{All, AllPairs, flat_map}
-use Rattle.ks_base.specs.declared.places.Range.{Range}
 use Rattle.ks_base.specs.declared.refusals.Refusal.{Refusal}
 use Rattle.image_memory.specs.Ranges.{are_same}
 use Rattle.image_memory.specs.Changes.{HasPiece, IsRetired}
@@ -14,6 +13,7 @@ use Rattle.update_memory.specs.declared.types.Jump.{Jump}
 use Rattle.update_memory.specs.Rows.{olds_of}
 use Rattle.update_memory.specs.Withdrawn.{withdrawn_memory}
 use Rattle.image_threads.specs.Program.{Program}
+use Rattle.update_stack.specs.declared.updates.Arena.{Arena}
 use Rattle.update_stack.specs.declared.updates.Update.{Update as Shown}
 use Rattle.update_stack.specs.declared.updates.Kept.{Kept}
 use Rattle.update_stack.specs.AbstractMachine.{AbstractMachine, Update}
@@ -68,7 +68,7 @@ pub record AtUpdate (updates : List Shown) (kept : List Kept) : Type 0 where
 -- The system holds without the update, which is gone from the machine. (So it is where none of the later ones covers
 -- it.)
 pub record IsHeldWithout
-    (before after : Program) (arena : Range) (updates : List Shown) (kept : List Kept) (at : AtUpdate updates kept)
+    (before after : Program) (arena : Arena) (updates : List Shown) (kept : List Kept) (at : AtUpdate updates kept)
     : Type 0 where
   pub live : named (machine_of before arena updates kept) at.update.name ≡ Some (live_update at.update at.one)
   pub holds : Holds after arena (at.earlier ++ at.later) (at.kept_earlier ++ at.kept_later)

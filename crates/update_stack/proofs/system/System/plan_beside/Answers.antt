@@ -42,7 +42,7 @@ plan-requires-clause-gaps g c =
     subst (λ (gaps : List Range). Ascends (λ (range : Range). range) 0 gaps)
     (sym (c.in_ok-gaps.ensures
     ∙ ap (gaps_left inside.arena) c.as_slice-3.ensures
-    ∙ c.kept_ranges_leave_the_gaps.ensures k inside.kept c.self.invariant.are_kept))
+    ∙ c.kept_ranges_leave_the_gaps.ensures k inside.kept c.self.invariant.built c.self.invariant.are_kept))
     (gaps_ascend c.gaps_are_free.ensures.ascend k)
 
 pub returns-clause-planned : goal.returns-clause-planned
@@ -78,7 +78,7 @@ returns-clause-planned g c =
       gaps_are =
           c.in_ok-gaps.ensures
           ∙ ap (gaps_left inside.arena) c.as_slice-3.ensures
-          ∙ c.kept_ranges_leave_the_gaps.ensures k inside.kept c.self.invariant.are_kept;
+          ∙ c.kept_ranges_leave_the_gaps.ensures k inside.kept c.self.invariant.built c.self.invariant.are_kept;
     } in
     let given : Gives (λ (plan : Plan). plan) c.plan.result
     (planned (running_of k) (retired_of k) (gaps_of k) c.args.pre.now c.args.post.now) =
