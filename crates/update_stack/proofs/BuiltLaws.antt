@@ -152,7 +152,7 @@ any_mapped P f xs (k, x, less, at, is) =
     let there = contains_mapped f xs x (k, less, at) in
     (there.0, f x, there.1, there.2, is)
 
-ascends_full : {X : Type 0} (range : X → Range) (floor : ℕ) (xs : List X) → Ascends range floor xs
+pub ascends_full : {X : Type 0} (range : X → Range) (floor : ℕ) (xs : List X) → Ascends range floor xs
     → All (λ x. (range x).low < (range x).high) xs
 ascends_full range floor [] up = none_listed (λ x. (range x).low < (range x).high)
 ascends_full range floor (x ∷ xs) up =
@@ -294,7 +294,7 @@ either_true : (here rest more : Bool) → (here || rest) ≡ true → (rest ≡ 
 either_true true rest more is then = refl
 either_true false rest more is then = then is
 
-stack_put : (piece : Piece) (pieces : List Piece) (stack : Range) → is_stack pieces stack ≡ true
+pub stack_put : (piece : Piece) (pieces : List Piece) (stack : Range) → is_stack pieces stack ≡ true
     → is_stack (with_piece piece pieces) stack ≡ true
 stack_put piece [] stack is = absurd (false≢true is)
 stack_put piece (x ∷ xs) stack is = by_order (nat_lt piece.base x.base) (stack_put piece xs stack)

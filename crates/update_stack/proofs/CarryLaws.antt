@@ -95,7 +95,7 @@ pub record Laws : Type 0 where
   pub was_there : CodeWasThere
 
 -- a range meets none of pieces that have the ranges of others of which it meets none
-meets_by_ranges : (own : Range) (ps qs : List Piece) → map piece_range ps ≡ map piece_range qs
+pub meets_by_ranges : (own : Range) (ps qs : List Piece) → map piece_range ps ≡ map piece_range qs
     → MeetsNone piece_range own qs → MeetsNone piece_range own ps
 meets_by_ranges own ps qs same none =
     sym (list_any-map (meets own) piece_range ps)
@@ -104,7 +104,7 @@ meets_by_ranges own ps qs same none =
     ∙ none
 
 -- a memory by its two parts
-memory_is : (a b : Contents) → a.pieces ≡ b.pieces → a.fences ≡ b.fences → a ≡ b
+pub memory_is : (a b : Contents) → a.pieces ≡ b.pieces → a.fences ≡ b.fences → a ≡ b
 memory_is a b pieces fences = λ i. record { pieces = pieces i; fences = fences i }
 
 -- retired ranges are added to those that are there, whatever the pieces
@@ -128,10 +128,10 @@ same_olds ps qs (row ∷ rows) same =
     (same_olds ps qs rows (All-tail Same row rows same))
 
 -- pieces are added beside old code that is put back
-abbrev with_text : Contents → List Piece → Contents
+abbrev pub with_text : Contents → List Piece → Contents
 with_text contents pieces = record contents { pieces = pieces }
 
-text_added : OldsAdded → CodeStays → (contents : Contents) (pieces : List Piece) (kept : List Kept) → IsValid contents
+pub text_added : OldsAdded → CodeStays → (contents : Contents) (pieces : List Piece) (kept : List Kept) → IsValid contents
     → ArePlaceable pieces → AreAddable contents pieces → HasOldCode kept contents.pieces
     → text_of kept (with_pieces contents pieces).pieces
     ≡ (with_pieces (with_text contents (text_of kept contents.pieces)) pieces).pieces

@@ -57,3 +57,9 @@ pub mod PhaseWriteLaws
 pub mod PhaseStepLaws
 pub mod OpenStepLaws
 pub mod PutBackLaws
+pub mod AddScratchLaws
+pub mod ScratchHoldsLaws
+pub mod DropScratchLaws
+pub mod ScratchGoesLaws
+pub mod AsideLaws
+pub mod ScratchPlaceLaws

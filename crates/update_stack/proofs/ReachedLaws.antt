@@ -102,20 +102,24 @@ home_left k home base sound is leads thread at =
     ∙ ap (λ (met : View). step_at (contents_of k) thread (base_of k home) met) (home_met k home sound is)
     ∙ ap (λ (pc : ℕ). let on : Thread = record thread { pc = pc } in left_by (contents_of k) on (Moved Plain)) leads
 
--- the code of a piece at its base
-code_of_piece : (pieces : List Piece) (piece : Piece) → Ascends piece_range 0 pieces → Contains pieces piece
-    → piece.kind ≡ Code → code_from pieces piece.base ≡ Some piece.bytes
-code_of_piece pieces piece ascend (i, less, at) code =
+-- a piece is the one that holds its base
+pub piece_held : (pieces : List Piece) (piece : Piece) → Ascends piece_range 0 pieces → Contains pieces piece
+    → holding pieces piece.base ≡ Some piece
+piece_held pieces piece ascend (i, less, at) =
     let full = (each_above piece_range 0 pieces i piece ascend less).1 in
     let some : piece.base < (piece_range piece).high =
     subst (λ (p : Piece). (piece_range p).low < (piece_range p).high) at full in
-    let held : holding pieces piece.base ≡ Some piece =
     found_here piece_range 0 pieces piece.base i piece ascend less
     (subst (λ (p : Piece). lies_in piece.base (piece_range p) ≡ true) (sym at)
     (within piece.base (piece_range piece) (omega arith) some))
-    ∙ ap (λ (p : Piece). Some p) at in
+    ∙ ap (λ (p : Piece). Some p) at
+
+-- the code of a piece at its base
+code_of_piece : (pieces : List Piece) (piece : Piece) → Ascends piece_range 0 pieces → Contains pieces piece
+    → piece.kind ≡ Code → code_from pieces piece.base ≡ Some piece.bytes
+code_of_piece pieces piece ascend there code =
     let here : piece.base - piece.base ≡ 0 = omega arith in
-    ap (code_in piece.base) held
+    ap (code_in piece.base) (piece_held pieces piece ascend there)
     ∙ ap (λ (kind : Kind). cond (is_code kind) (Some (drop (piece.base - piece.base) piece.bytes)) None) code
     ∙ ap (λ (n : ℕ). Some (drop n piece.bytes)) here
 

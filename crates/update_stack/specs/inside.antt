@@ -2,3 +2,4 @@
 pub mod Carrying
 pub mod Stepping
 pub mod TakingBack
+pub mod Scratching

@@ -7,6 +7,7 @@ mod carrying;
 mod covering;
 mod laws;
 mod live;
+mod scratch;
 mod system;
 mod taking_back;
 mod uncovered;

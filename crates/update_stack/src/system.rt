@@ -21,6 +21,9 @@ ghost use Rattle.update_stack.specs.Events.{Applied, Spawned, Stepped, Undone};
 ghost use Rattle.update_stack.specs.Events.{answered, after_event};
 ghost use Rattle.saved_data.specs.Saved.{CanBePutBack};
 ghost use Rattle.update_stack.specs.PutBack.{with_saved};
+ghost use Rattle.update_stack.specs.Scratch.{after_aside, scratched, unscratched};
+ghost use Rattle.update_stack.specs.Steps.{step_in};
+ghost use Rattle.ia32_step.specs.declared.types.State.TheVariants.{Running};
 ghost use Rattle.update_stack.specs.Stacked.{IsBuilt};
 ghost use Rattle.update_stack.specs.StandsFor.{patched, IsUntouched};
 ghost use Rattle.update_stack.specs.Phases.{StandsIn, phased, patched_in, IsOpenAt, MayBecome};
@@ -38,10 +41,15 @@ use crate::laws::{steps_stand, threads_leave_code};
 use crate::live::{
     bodies_of, gaps_left, is_taken, kept_ranges_leave_the_gaps, place_of, retired_by,
 };
+use crate::scratch::{
+    put_scratch, scratch_pieces_come, scratch_pieces_go, scratch_place, take_scratch,
+};
 use crate::updates::{Arena, KeptList, Updates};
 use crate::withdrawing::{take_back, take_out, updates_are_taken_back};
 use ia32_decode::jumps_decode;
-use ia32_step::{Outcome, State, Thread, Traced, code_bytes_have_no_say, steps_write_one_number};
+use ia32_step::{
+    Outcome, State, Thread, Traced, code_bytes_have_no_say, step_thread, steps_write_one_number,
+};
 use image_memory::{Pieces, Space, sorted};
 use image_threads::Machine;
 use ks_base::{Name, Range, Refusal, Report};
@@ -433,6 +441,64 @@ impl<S: Space> System<S> {
         code_that_stays();
         jumps_change_their_bytes_alone();
         put_back(self.machine.space_mut(), saved);
+    }
+
+    /// Adds a scratch piece: 4,096 bytes of zeros that may be written, at the lowest multiple of 16 at which they lie in
+    /// what is free of the arena. Answers where it begins. It is refused with [`Refusal::NoRoom`] exactly where there is no
+    /// such place, and with [`Refusal::Memory`] only if memory runs out; all is then as before.
+    pub fn add_scratch(&mut self) -> Result<u32, Refusal>
+        requires done { self.old.phase ≡ Done }
+        requires none { self.old.machine.scratch ≡ None }
+        ensures added { MatchResult result (λ base. scratched self.old.machine ≡ Ok (self.new.machine, base))
+            (λ refusal. refusal ≢ Memory → scratched self.old.machine ≡ Err refusal) }
+        ensures phase { self.new.phase ≡ self.old.phase }
+        ensures refused { OnErr result (self.new ≡ self.old) }
+    {
+        // The laws say what is free, that jumps leave where pieces lie, and what holds with the scratch piece.
+        kept_ranges_leave_the_gaps();
+        gaps_are_free();
+        jumps_change_their_bytes_alone();
+        scratch_pieces_come();
+        let gaps = gaps_left(self.alloc, self.arena, self.kept.as_slice())?;
+        let range = scratch_place(self.alloc, &gaps)?;
+        put_scratch(self.alloc, &mut self.machine, range)?;
+        self.arena.scratch = Some(range);
+        Ok(range.low)
+    }
+
+    /// Takes the scratch piece away. It takes no memory.
+    pub fn drop_scratch(&mut self)
+        requires done { self.old.phase ≡ Done }
+        requires some { IsSome self.old.machine.scratch }
+        ensures dropped { self.new.machine ≡ unscratched self.old.machine }
+        ensures phase { self.new.phase ≡ self.old.phase }
+    {
+        // The laws say what holds without it, and that jumps leave where pieces lie.
+        jumps_change_their_bytes_alone();
+        scratch_pieces_go();
+        let Some(range) = self.arena.scratch else {
+            unreachable!()
+        };
+        take_scratch(&mut self.machine, range.low);
+        self.arena.scratch = None;
+    }
+
+    /// Steps a thread that is none of the program's, and answers what the step came to. It takes no memory.
+    pub fn step_scratch(&mut self, thread: &mut Thread) -> Outcome
+        requires done { self.old.phase ≡ Done }
+        requires running { thread.old.state ≡ Running }
+        ensures machine { self.new.machine ≡ after_aside self.old.machine (step_in self.old.machine thread.old) }
+        ensures thread { thread.new ≡ (step_in self.old.machine thread.old).thread }
+        ensures outcome { result ≡ (step_in self.old.machine thread.old).outcome }
+        ensures phase { self.new.phase ≡ self.old.phase }
+    {
+        // The laws say that the machine makes the same step, and that what it writes, which is data, leaves the jumps.
+        steps_stand();
+        data_are_written_past_jumps();
+        code_stays_code();
+        homes_stay_spliced();
+        code_that_stays();
+        step_thread(self.machine.space_mut(), thread)
     }
 
     /// The place of the newest update among the live ones.
