@@ -14,8 +14,11 @@ use Rattle.i386_reloc.specs.Normal.{section_named}
 use Rattle.i386_reloc.specs.Reaches.{is_in, is_interior}
 
 -- the section that lists functions
+abbrev pub hook_section_name : List ℕ
+hook_section_name = codes ".ksplice_apply"
+
 abbrev pub hook_section : List NormalSection → Option NormalSection
-hook_section sections = section_named sections (codes ".ksplice_apply")
+hook_section sections = section_named sections hook_section_name
 
 -- the most bytes that it may have
 abbrev pub most_hook_bytes : ℕ

@@ -4,4 +4,4 @@
 mod entries;
 mod list;
 
-pub use crate::list::{HookList, read_hooks};
+pub use crate::list::{HOOK_SECTION_NAME, HookList, read_hooks};

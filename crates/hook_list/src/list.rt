@@ -9,7 +9,7 @@ use i386_reloc::{FIELD_LENGTH, Normal, NormalSection, Ref};
 use std::marker::Model;
 
 /// The name of the section that lists functions.
-const SECTION_NAME: &[u8] = b".ksplice_apply";
+pub const HOOK_SECTION_NAME: &[u8] = b".ksplice_apply";
 
 /// The functions that an object lists, to be run in their order at an update to it. Contracts see the list of the
 /// references to them, each of which goes to the start of a function of the object.
@@ -62,7 +62,7 @@ impl<'n, 'a> HookList<'n, 'a> {
 pub fn read_hooks<'n, 'a>(object: &'n Normal<'a>) -> Result<Option<HookList<'n, 'a>>, u32>
     ensures { result ≡ listed object.now }
 {
-    let Some(section) = object.find(SECTION_NAME) else {
+    let Some(section) = object.find(HOOK_SECTION_NAME) else {
         return Ok(None);
     };
     match bad_hooks(object, section) {

@@ -1,3 +1,4 @@
 mod ReadLaws
 mod SaveLaws
 mod RestoreLaws
+mod DifferLaws

@@ -27,10 +27,10 @@ all_new start bytes xs same =
     ∙ new_inside start bytes (start + k) (get_or xs k 0) (omega arith) (omega (arith, same))
     ∙ ap (λ i. get_or bytes i 0) e)
 
-head_same : (x y : Piece) (xs ys : List Piece) → map shape_of (x ∷ xs) ≡ map shape_of (y ∷ ys) → shape_of x ≡ shape_of y
+pub head_same : (x y : Piece) (xs ys : List Piece) → map shape_of (x ∷ xs) ≡ map shape_of (y ∷ ys) → shape_of x ≡ shape_of y
 head_same x y xs ys same = cc
 
-tail_same : (x y : Piece) (xs ys : List Piece) → map shape_of (x ∷ xs) ≡ map shape_of (y ∷ ys)
+pub tail_same : (x y : Piece) (xs ys : List Piece) → map shape_of (x ∷ xs) ≡ map shape_of (y ∷ ys)
     → map shape_of xs ≡ map shape_of ys
 tail_same x y xs ys same = cc
 
@@ -82,7 +82,7 @@ writable_above floor (p ∷ ps) up =
     ]
 
 -- pieces of the same shapes ascend as well
-ascend_alike : (floor : ℕ) (xs ys : List Piece) → map shape_of xs ≡ map shape_of ys → Ascends piece_range floor ys
+pub ascend_alike : (floor : ℕ) (xs ys : List Piece) → map shape_of xs ≡ map shape_of ys → Ascends piece_range floor ys
     → Ascends piece_range floor xs
 ascend_alike floor [] ys same up = tt
 ascend_alike floor (x ∷ xs) [] same up = cc

@@ -1,6 +1,8 @@
 -- The bytes that a program may change, those of its writable pieces: saved, and put back.
-use Rattle.std.specs.Prelude.{◌≡◌, not, List, map}
+use Rattle.std.specs.Prelude.{◌≡◌, Bool, not, List, map}
 use Rattle.std.specs.List.{filter, fold}
+use Rattle.ks_base.specs.declared.places.Range.{Range}
+use Rattle.image_memory.specs.declared.types.Kind.{Kind}
 use Rattle.image_memory.specs.declared.types.Piece.{Piece}
 use Rattle.image_memory.specs.Contents.{Contents, piece_range, shape_of}
 use Rattle.image_memory.specs.Access.{written}
@@ -29,3 +31,10 @@ pub record DiffersInData (before after : Contents) : Type 0 where
   pub fences : after.fences ≡ before.fences
   pub shapes : map shape_of after.pieces ≡ map shape_of before.pieces
   pub fixed : unwritable_pieces after.pieces ≡ unwritable_pieces before.pieces
+
+-- a memory without the pieces whose kind and range don't pass a test
+abbrev pub OfShape : Type 0
+OfShape = Kind × Range → Bool
+
+abbrev pub filtered : OfShape → Contents → Contents
+filtered test contents = record contents { pieces = filter (λ (p : Piece). test (shape_of p)) contents.pieces }

@@ -6,5 +6,5 @@ mod laws;
 mod restoring;
 
 pub use crate::copying::save;
-pub use crate::laws::saved_data_come_back;
+pub use crate::laws::{data_alone_differ, saved_data_come_back};
 pub use crate::restoring::put_back;

@@ -1,12 +1,11 @@
 -- A plan of an update that changes one function, and adds and drops none, reports just this.
-use Rattle.std.proofs.Common.{arith, ◌≡◌, ◌≢◌, inl, inr, ℕ, zero, suc, Bool, true, false, List, [], ◌∷◌, map, length}
-use Rattle.std.proofs.Common.{Option, Some, None, option_map, refl, sym, ap, subst, ◌∙◌, ◌&&◌, ◌||◌}
+use Rattle.std.proofs.Common.{arith, ◌≡◌, ◌≢◌, inl, inr, ℕ, Bool, true, false, List, [], ◌∷◌, map, length}
+use Rattle.std.proofs.Common.{Option, Some, None, refl, sym, ap, subst, ◌∙◌, ◌&&◌, ◌||◌}
 use Rattle.std.specs.Prelude.{Ok, if◌then◌else◌, ◌==◌}
-use Rattle.std.specs.List.{All, cons_option, filter, filter_map}
+use Rattle.std.specs.List.{All, filter, filter_map}
 use Rattle.std.specs.Cmp.Lexicographic.{bytes_decides}
 use Rattle.std.proofs.lemmas.Bool.{and_parts, eqb-true}
 use Rattle.ks_base.specs.declared.places.Range.{Range}
-use Rattle.ks_base.specs.declared.refusals.Refusal.{Refusal}
 use Rattle.ks_base.specs.declared.reports.Replaced.{Replaced}
 use Rattle.image_file.specs.Fields.{◌>>=◌}
 use Rattle.image_file.specs.laws.FieldLaws.{bind_ok}
@@ -27,8 +26,6 @@ use Rattle.extract_post.specs.Extracted.{extracted, is_member}
 use Rattle.extract_post.specs.Roles.{is_among, role_of}
 use Rattle.symbol_solve.specs.Answered.{IsAnswered}
 use Rattle.symbol_solve.specs.Candidates.{Running, code_sections}
-use Rattle.link_post.specs.Values.{ValueList, solved_as}
-use Rattle.update_retired.specs.declared.types.Fate.{Fate}
 use Rattle.update_retired.specs.declared.types.Fate.TheVariants.{Kept, Replaced as WasReplaced, Dropped}
 use Rattle.update_retired.specs.declared.types.OldFunction.{OldFunction}
 use Rattle.update_retired.specs.Retired.{is_dropped}
@@ -38,13 +35,13 @@ use Rattle.update_plan.specs.declared.types.Plan.{Plan}
 use Rattle.update_plan.specs.Olds.{fate_of, is_function, old_as, old_in, olds_of}
 use Rattle.update_plan.specs.OneFunction.{ReportsOne, extract_of, is_one_changed}
 use Rattle.update_plan.specs.Placing.{parts_of}
-use Rattle.update_plan.specs.Plan.{plan_of, planned}
+use Rattle.update_plan.specs.Plan.{planned}
 use Rattle.update_plan.proofs.SoundFile.{distinct_in, is_file, names_differ}
 use Rattle.update_plan.proofs.SoundJumps.{has_replaced, is_replacing}
 use Rattle.update_plan.proofs.SoundLists.{Has, Pairs, all_has, filter_has, found_has, has_filter, has_flat, has_kept}
 use Rattle.update_plan.proofs.SoundLists.{kept_has, pairs_kept}
-use Rattle.update_plan.proofs.SoundOlds.{IsOldOf, as_pre, code_has, is_old, told_in}
-use Rattle.update_plan.proofs.SoundParts.{changed_where, has_part, has_place, is_changed_role, part_is, parts_differ}
+use Rattle.update_plan.proofs.SoundOlds.{as_pre, code_has, is_old, told_in}
+use Rattle.update_plan.proofs.SoundParts.{changed_where, has_part, has_place, is_changed_role, parts_differ}
 use Rattle.update_plan.proofs.SoundParts.{place_role, places_differ}
 use Rattle.update_plan.proofs.SoundPlan.{BodiesAreTold, PlacesLieApart, changed_has}
 use Rattle.update_plan.proofs.SoundSteps.{IsPlanned, is_planned, lists_are}

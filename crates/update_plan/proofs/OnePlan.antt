@@ -22,6 +22,7 @@ use Rattle.link_post.specs.declared.types.Placed.{Placed}
 use Rattle.link_post.specs.Values.{ValueList, resolved}
 use Rattle.link_post.specs.Places.{placed}
 use Rattle.link_post.specs.Needs.{needs}
+use Rattle.hook_list.specs.Listed.{hook_section_name}
 use Rattle.update_retired.specs.declared.types.OldFunction.{OldFunction}
 use Rattle.update_retired.specs.Room.{HaveOneShape, room}
 use Rattle.update_retired.specs.Retired.{guarded, takes_jump}
@@ -63,6 +64,7 @@ plan_by is_home post values olds parts placement =
       fences = fences_of olds;
       guarded = guarded is_home olds;
       needs = map (needs post placement values) (names_of parts);
+      listed = needs post placement values hook_section_name;
     }
 
 abbrev planned_by : List Symbol → Result ValueList Refusal → (List OldFunction → Option Refusal) → (ℕ → Bool)

@@ -1,17 +1,14 @@
 -- Each field of an update's new sections has an address, where no step of its plan is refused.
 use Rattle.std.proofs.Common.{◌≡◌, ℕ, Bool, true, false, not, ◌||◌, List, [], ◌∷◌, map, Option, Some, None}
 use Rattle.std.proofs.Common.{refl, sym, ap, subst, ◌∙◌, inl, inr}
-use Rattle.std.specs.Prelude.{IsSome, Ok, Result, is_some, find, option_map}
+use Rattle.std.specs.Prelude.{IsSome, Ok, is_some, find, option_map}
 use Rattle.std.specs.List.{All, AllByRecursion, Contains, IsDistinct}
 use Rattle.std.specs.Cmp.Lexicographic.{bytes_decides}
 use Rattle.std.proofs.lemmas.Bool.{cases_Bool}
 use Rattle.std.proofs.lemmas.Cmp.{nat_list_eq_equiv}
 use Rattle.ks_base.specs.declared.places.Range.{Range}
-use Rattle.ks_base.specs.declared.refusals.Refusal.{Refusal}
 use Rattle.symbol_table.specs.declared.symbols.Symbol.{Symbol}
-use Rattle.symbol_table.specs.declared.values.Unknown.{Unknown}
 use Rattle.symbol_table.specs.declared.values.Unknown.TheVariants as unknown
-use Rattle.symbol_table.specs.declared.values.Solved.{Solved}
 use Rattle.symbol_table.specs.declared.values.Solved.TheVariants.{Body}
 use Rattle.symbol_table.specs.Unknowns.{address_in}
 use Rattle.image_memory.specs.Ranges.{Ascends}
@@ -28,16 +25,14 @@ use Rattle.i386_reloc.specs.Places.{references_in}
 use Rattle.i386_reloc.specs.Reaches.{goes_to, goes_to_target, has_class, is_constant_class, is_data_class, is_in, is_interior}
 use Rattle.extract_post.specs.Same.{same_class}
 use Rattle.extract_post.specs.declared.types.Extract.{Extract}
-use Rattle.extract_post.specs.declared.role.Role.{Role}
 use Rattle.extract_post.specs.Members.{TextsReferToNothing, is_there}
 use Rattle.extract_post.specs.Extract.{other_class}
 use Rattle.extract_post.specs.Extracted.{data_differs, extracted, extracted_by}
 use Rattle.extract_post.specs.Roles.{role_of}
 use Rattle.symbol_solve.specs.Candidates.{Running, code_sections}
 use Rattle.symbol_solve.specs.Answered.{IsAnswered}
-use Rattle.link_post.specs.declared.types.Placed.{Placed}
 use Rattle.link_post.specs.Values.{AreFound, TellOf, ValueList, references_of, resolved, solved_as}
-use Rattle.link_post.specs.Places.{ArePlaces, base_in}
+use Rattle.link_post.specs.Places.{base_in}
 use Rattle.link_post.specs.Linked.{target_address, value_in}
 use Rattle.update_pieces.specs.Parts.{NewPart, new_part, size_of}
 use Rattle.update_plan.specs.Addresses.{AreSteps, HasAddresses}
@@ -48,7 +43,7 @@ use Rattle.update_plan.proofs.SoundLists.{Has, all_has, all_of, contained, each_
 use Rattle.update_plan.proofs.SoundOlds.{as_pre, code_has, told_in}
 use Rattle.update_plan.proofs.SoundParts.{has_part, part_is}
 use Rattle.update_plan.proofs.SoundPlan.{BodiesAreTold, PlacesLieApart}
-use Rattle.update_plan.proofs.Targets.{GoesThere, references_go_there, texts_have_no_references}
+use Rattle.update_plan.proofs.Targets.{references_go_there, texts_have_no_references}
 
 -- what the crates below say of all values, and of all differences
 abbrev pub ValuesAreFound : Type 0

@@ -1,11 +1,11 @@
 -- Where the references of an object's sections go, where nothing is wrong with the object: each to a section that is
 -- there, or to an outside name. Sections of texts refer to nothing.
-use Rattle.std.proofs.Common.{◌≡◌, ℕ, zero, suc, ◌<◌, Bool, true, false, not, ◌&&◌, ◌||◌, ◌==◌, cond, List, [], ◌∷◌}
-use Rattle.std.proofs.Common.{◌++◌, ◌+◌, ◌%◌, ◌^◌, map, Option, Some, None, refl, sym, ap, subst, ◌∙◌, inl, inr}
+use Rattle.std.proofs.Common.{◌≡◌, ℕ, zero, suc, ◌<◌, Bool, true, false, ◌&&◌, ◌||◌, ◌==◌, cond, List, [], ◌∷◌}
+use Rattle.std.proofs.Common.{◌++◌, ◌+◌, ◌%◌, ◌^◌, Some, None, refl, sym, ap, subst, ◌∙◌, inl, inr}
 use Rattle.std.proofs.Common.{arith}
 use Rattle.std.proofs.lemmas.Bool.{cases_eq, false≢true, ne_eqb}
 use Rattle.std.proofs.lemmas.Bool.Decides.{nat_tests}
-use Rattle.i386_reloc.specs.Below.{first_of, first_below}
+use Rattle.i386_reloc.specs.Below.{first_of}
 use Rattle.i386_reloc.specs.Reloc.{Reloc}
 use Rattle.i386_reloc.specs.Fields.{is_loaded, is_section, section_count, section_header, section_name, symbol_name}
 use Rattle.i386_reloc.specs.Rules.{has_field}

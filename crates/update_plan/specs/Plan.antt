@@ -17,6 +17,7 @@ use Rattle.link_post.specs.declared.types.Placed.{Placed}
 use Rattle.link_post.specs.Values.{ValueList, resolved}
 use Rattle.link_post.specs.Places.{placed}
 use Rattle.link_post.specs.Needs.{needs}
+use Rattle.hook_list.specs.Listed.{hook_section_name}
 use Rattle.update_retired.specs.declared.types.OldFunction.{OldFunction}
 use Rattle.update_retired.specs.Retired.{is_retired, retired_range, takes_jump, guarded}
 use Rattle.update_retired.specs.Overlaps.{code_refusal}
@@ -54,6 +55,7 @@ plan_of running post values olds parts placement =
       fences = fences_of olds;
       guarded = guarded (spliced_at running.contents.fences) olds;
       needs = map (needs post placement values) (names_of parts);
+      listed = needs post placement values hook_section_name;
     }
 
 -- The first refusal, in this order: what is wrong with the old object's file, then with the new one's; what can't be

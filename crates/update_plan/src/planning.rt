@@ -6,6 +6,7 @@ ghost use Rattle.image_memory.specs.Contents.{spliced_at};
 ghost use Rattle.symbol_table.specs.declared.symbols.Symbol.{Symbol};
 ghost use Rattle.splice_jump.specs.Jumps.{AreSpliced};
 ghost use Rattle.extract_post.specs.Extracted.{extracted};
+ghost use Rattle.hook_list.specs.Listed.{hook_section_name};
 ghost use Rattle.symbol_solve.specs.Solve.{solved};
 ghost use Rattle.link_post.specs.Linked.{AreInOrder, AreNamesInOrder};
 ghost use Rattle.link_post.specs.Needs.{needs};
@@ -26,10 +27,11 @@ use crate::olds::olds_of;
 use crate::parts::{names_of, parts_of};
 use crate::types::{AllNeeds, Fences, Plan};
 use extract_post::{Extract, extract, extract_is_computed};
+use hook_list::HOOK_SECTION_NAME;
 use i386_reloc::{Normal, read_sections};
 use image_memory::{Fence, Pieces, Space};
 use ks_base::{Name, Ranges, Refusal};
-use link_post::{Placement, needs, place, places_keep_the_order, resolve_post};
+use link_post::{Needs, Placement, needs, place, places_keep_the_order, resolve_post};
 use std::alloc::{AllocError, Global};
 use symbol_solve::{answers_tell_each_body, solve};
 use symbol_table::{Bodies, SymbolTable, Values};
@@ -274,6 +276,7 @@ fn plan_of<S: Space>(
     let (pieces, symbols) = additions_of(alloc, post, values, parts, placement)?;
     let (fences, guarded) = ranges_of(alloc, space, olds)?;
     let needs = needs_of(alloc, post, values, parts, placement)?;
+    let listed = listed_of(alloc, post, values, placement)?;
     Ok(Plan {
         report,
         pieces,
@@ -281,6 +284,7 @@ fn plan_of<S: Space>(
         fences,
         guarded,
         needs,
+        listed,
     })
 }
 
@@ -302,6 +306,21 @@ fn needs_of(
         all.push(needs(alloc, post, &name, placement, values)?)?;
     }
     Ok(all)
+}
+
+/// Where the references of the object's list of functions go.
+fn listed_of(
+    alloc: Global,
+    post: &Normal<'_>,
+    values: &Values,
+    placement: &Placement,
+) -> Result<Needs, AllocError>
+    requires { AreInOrder post.now placement.now }
+    ensures { IfOk result
+        (λ listed. listed ≡ needs post.now placement.now values.now.entries hook_section_name) }
+{
+    let name = Name::from_slice(alloc, HOOK_SECTION_NAME)?;
+    needs(alloc, post, &name, placement, values)
 }
 
 /// The pieces and the symbols that new sections at their places come to.

@@ -26,4 +26,6 @@ pub struct Plan {
     pub guarded: Ranges,
     /// What the fields of its new sections need, in the order of the new object.
     pub needs: AllNeeds,
+    /// Where the references of the new object's list of functions go, those that are to be run at the update.
+    pub listed: Needs,
 }

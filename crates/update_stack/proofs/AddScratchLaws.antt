@@ -30,7 +30,7 @@ use Rattle.update_plan.specs.Sound.{IsVersion}
 use Rattle.update_stack.specs.declared.updates.Kept.{Kept}
 use Rattle.update_stack.specs.AbstractMachine.{AbstractMachine, Row, Update, bodies_in, contents_of, jump_rows}
 use Rattle.update_stack.specs.AbstractMachine.{stack_piece, jump_row}
-use Rattle.update_stack.specs.Scratch.{pieces_but, is_among, with_scratch}
+use Rattle.update_stack.specs.Scratch.{pieces_but, is_among, unscratched, with_scratch}
 use Rattle.update_stack.specs.Undo.{withdrawn, is_code_of}
 use Rattle.update_stack.specs.Stacked.{IsSound, IsOnTop, IsBuilt, Untouched, Updated}
 use Rattle.update_stack.specs.Stacked.{AreKept, NoneKept, OneKept}
@@ -183,7 +183,7 @@ module _ (laws : MemoryLaws) (kept : PiecesKept) (bytes : BytesAdded) (range : R
         subst IsValid (contents_with k)
         (laws.pieces_valid (contents_of k) (piece ∷ []) valid are_placeable (addable (contents_of k) clear))
 
-    there : is_stack (with_piece piece k.pieces) range ≡ true
+    pub there : is_stack (with_piece piece k.pieces) range ≡ true
     there =
         let own : Contains (with_piece piece k.pieces) piece =
         subst (λ (ps : List Piece). Contains ps piece) (added (contents_of k))
@@ -348,3 +348,12 @@ module _ (laws : MemoryLaws) (kept : PiecesKept) (bytes : BytesAdded) (range : R
       })
       (subst (λ (m : AbstractMachine). AreKept m earlier) (sym (withdrawn_with k sound clear update has.top))
       (kept_with below earlier has.below (clear_below k sound clear update has.top) (bare_below k update bare) before))
+
+  -- and without it the machine is as it was
+  pub goes_again : (k : AbstractMachine) → IsSound k → MeetsNone piece_range range k.pieces → k.scratch ≡ None
+      → unscratched (with_it k) ≡ k
+  goes_again k sound clear bare =
+      let back : without_pieces (range.low ∷ []) (with_piece piece k.pieces) ≡ k.pieces =
+      ap (without_pieces (range.low ∷ [])) (sym (added (contents_of k)))
+      ∙ laws.pieces_back (contents_of k) (piece ∷ []) sound.jumps.valid are_placeable (addable (contents_of k) clear) in
+      λ i. record k { pieces = back i; scratch = sym bare i }

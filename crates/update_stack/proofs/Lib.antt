@@ -63,3 +63,4 @@ pub mod DropScratchLaws
 pub mod ScratchGoesLaws
 pub mod AsideLaws
 pub mod ScratchPlaceLaws
+pub mod ScratchMachineLaws

@@ -19,7 +19,7 @@ use Rattle.update_stack.specs.Apply.{gaps_of}
 use Rattle.update_stack.specs.Scratch.{scratch_section, scratch_place, scratched, with_scratch}
 
 -- the machine by its place
-abbrev with_place : AbstractMachine → Result Range Refusal → Result (AbstractMachine × ℕ) Refusal
+abbrev pub with_place : AbstractMachine → Result Range Refusal → Result (AbstractMachine × ℕ) Refusal
 with_place k place = place >>= λ range. Ok (with_scratch k range, range.low)
 
 -- a law of another crate

@@ -18,6 +18,7 @@ pub mod TakenBack
 pub mod StandsFor
 pub mod Jumps
 pub mod Stacked
+pub mod ScratchLaws
 pub mod Phases
 pub mod PhaseSteps
 pub mod Uncovered

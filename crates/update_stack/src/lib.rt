@@ -19,6 +19,7 @@ pub use crate::laws::{
     accepted_code_is_reached, open_homes_lead_on, phases_leave_views, reached_code_stays,
     steps_stand, steps_stand_in, threads_leave_code, updates_can_be_made,
 };
+pub use crate::scratch::scratch_comes_and_goes;
 pub use crate::taking_back::{machines_are_built, undo_restores};
 pub use crate::uncovered::uncovered_updates_can_go;
 pub use system::System;

@@ -4,6 +4,7 @@ ghost use Rattle.std.specs.List.{All};
 ghost use Rattle.ks_base.specs.Gives.{Gives};
 ghost use Rattle.link_post.specs.Places.{LiesInOne};
 ghost use Rattle.update_stack.specs.Scratch.{scratch_place};
+ghost use Rattle.update_stack.specs.ScratchLaws.{ScratchComesAndGoes};
 ghost use Rattle.ks_base.specs.declared.places.Range.{Range as RangeOf};
 ghost use Rattle.image_memory.specs.Changes.{HasPiece, IsPlaceable};
 ghost use Rattle.image_memory.specs.Contents.{piece_range};
@@ -22,7 +23,7 @@ ghost use Rattle.update_stack.specs.inside.Scratching.{HoldsWith, HoldsWithout};
 use image_memory::{Kind, Piece, Pieces, Space};
 use image_threads::Machine;
 use ks_base::{Bytes, Name, Range, Ranges, Refusal};
-use link_post::{SectionSize, place, places_are_lowest};
+use link_post::{SectionSize, gaps_are_free, place, places_are_lowest};
 use splice_jump::{
     code_stays_code, homes_stay_spliced, jumps_are_added_and_replaced, jumps_are_taken_back,
     jumps_change_their_bytes_alone,
@@ -72,6 +73,19 @@ pub(crate) fn scratch_pieces_go()
     code_that_stays();
     dropping_goes_past_writes();
     code_stays_code();
+}
+
+/// A machine to which a scratch piece comes is built with it, and is as it was when that goes again.
+pub fn scratch_comes_and_goes()
+    ensures { ScratchComesAndGoes }
+{
+    // Nothing is done here: the laws say what is free, which place is chosen in it, and what is left where a piece comes
+    // and goes.
+    pieces_are_added();
+    ranges_are_retired();
+    changes_are_withdrawn();
+    gaps_are_free();
+    places_are_lowest();
 }
 
 /// Where a scratch piece goes: the lowest multiple of 16 at which it lies in one of the free ranges. It is refused with

@@ -662,6 +662,7 @@ impl<S: Space> System<S> {
             fences,
             guarded: _,
             needs: _,
+            listed: _,
         } = plan;
         change(
             &mut self.machine,

@@ -1,0 +1,2 @@
+mod AsideLaws
+mod RestoredLaws
