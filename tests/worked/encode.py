@@ -25,7 +25,7 @@ TEXT_SECTION = objects.TEXT_SECTION
 # by how a section's name begins its flags, its alignment and the size of its entries
 FLAGS = {".text": (objects.CODE, 16, 0), ".data": (objects.WRITABLE, 4, 0), ".bss": (objects.WRITABLE, 4, 0),
          TEXT_SECTION: (objects.TEXTS, 1, 1), ".rodata": (objects.READ_ONLY, 4, 0),
-         ".eh_frame": (objects.READ_ONLY, 1, 0), "": (0, 1, 0)}
+         ".eh_frame": (objects.READ_ONLY, 1, 0), ".ksplice_apply": (objects.READ_ONLY, 4, 0), "": (0, 1, 0)}
 ARENA, STACKS = (0x00800000, 0x00810000), ((0x00400000, 0x00401000),)
 
 

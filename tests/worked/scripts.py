@@ -100,7 +100,8 @@ ROWS = [
     bad("poke-with-tries", "poke u1 pre.o post.o tries 2 gap 1", files=FIRST_TO_SECOND),
     bad("tail-with-a-name", "tail u1", files=FIRST_TO_SECOND),
     bad("seal-with-a-name", "seal u1", files=FIRST_TO_SECOND),
-    bad("hooks-is-no-line", "hooks u1 pre.o post.o", files=FIRST_TO_SECOND),
+    bad("hooks-without-a-second-file", "hooks u1 pre.o", files=FIRST_TO_SECOND),
+    bad("hooks-with-tries", "hooks u1 pre.o post.o tries 2 gap 1", files=FIRST_TO_SECOND),
 
     # numbers
     bad("number-with-a-sign", "step -1 1"),

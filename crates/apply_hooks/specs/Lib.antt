@@ -1,4 +1,6 @@
--- Public clauses cite Aside (what functions that run on none of the program's threads leave of the machine) and Restored
--- (that all of an update is taken back where one of them fails).
-pub mod Aside
+-- Public clauses cite Restored: that all of an update is taken back where one of the functions fails that run at it. What
+-- such an update comes to is said beside the machine's other events (Hooks in update_stack). Lists and Runs are the code's
+-- own: whether an object lists functions, and what is made ready before these are run and left after them.
+pub mod Lists
+pub mod Runs
 pub mod Restored

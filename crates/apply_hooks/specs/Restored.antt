@@ -1,6 +1,5 @@
 -- How all of an update is taken back where one of the functions fails that run at it.
-use Rattle.std.specs.Prelude.{◌≡◌, List, Some}
-use Rattle.image_memory.specs.declared.types.Piece.{Piece}
+use Rattle.std.specs.Prelude.{◌≡◌, Some}
 use Rattle.ks_base.specs.declared.places.Range.{Range}
 use Rattle.saved_data.specs.Saved.{CanBePutBack, writable_pieces}
 use Rattle.update_stack.specs.AbstractMachine.{AbstractMachine, Update}
@@ -8,7 +7,7 @@ use Rattle.update_stack.specs.PutBack.{with_saved}
 use Rattle.update_stack.specs.Scratch.{unscratched}
 use Rattle.update_stack.specs.Undo.{withdrawn}
 use Rattle.update_stack.specs.Stacked.{IsBuilt}
-use Rattle.apply_hooks.specs.Aside.{LeavesAside}
+use Rattle.update_stack.specs.Aside.{LeavesAside}
 
 -- the machine without its scratch piece and without an update
 abbrev pub taken_back : AbstractMachine → Update → AbstractMachine

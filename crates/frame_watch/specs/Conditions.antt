@@ -56,12 +56,11 @@ pub record IsWatchedAs (watched : Watched) (thread : Thread) : Type 0 where
   pub stack : watched.stack ≡ thread.stack
   pub esp : watched.esp ≡ esp_of thread
 
--- the running ones of some threads are those that are watched
-pub record AreWatched (watching : List Watched) (threads : List Thread) : Type 0 where
-  pub each : All (λ watched. Any (IsWatchedAs watched) threads) watching
-  pub all : All (λ thread. IsTrue (runs thread) → Any (λ watched. IsWatchedAs watched thread) watching) threads
+-- each thread that is watched is one of some threads
+abbrev pub AreWatched : List Watched → List Thread → Type 0
+AreWatched watching threads = All (λ watched. Any (IsWatchedAs watched) threads) watching
 
--- their slots may be looked at; nothing is asked once a rule was broken
+-- the slots of all may be looked at; nothing is asked once a rule was broken
 abbrev pub MayTestSlots : Watching → List Thread → Type 0
 MayTestSlots w threads = w.verdict ≡ Disciplined → AreWatched w.threads threads
 

@@ -118,7 +118,7 @@ impl Watch {
     }
 
     /// An update was accepted and functions were run at it, which may have written any stack. This looks at each open
-    /// frame, and takes no memory. The running ones of `_threads` are those that are watched.
+    /// frame, and takes no memory. Each thread that is watched is a running one of `_threads`.
     pub fn note_hooks<S: Space>(&mut self, _threads: &Threads, space: &S)
         requires { MayTestSlots self.old _threads.now }
         ensures { self.new ≡ hooks_noted (sight_of (S.contents space.now)) self.old }

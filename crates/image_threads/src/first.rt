@@ -11,8 +11,9 @@ use std::alloc::{AllocError, Global};
 /// How many bytes of a stack stand at and above the first ESP.
 const FIRST_FRAME: u32 = 20;
 
-/// The stack's bytes at first: zeros, the return address and the argument.
-pub(crate) fn first_bytes(alloc: Global, stack: Range, argument: u32) -> Result<Vec<u8>, AllocError>
+/// A stack's bytes at first: zeros, and from 20 bytes below its end on the return address, the argument and zeros.
+/// `Err` comes only if memory runs out.
+pub fn first_bytes(alloc: Global, stack: Range, argument: u32) -> Result<Vec<u8>, AllocError>
     requires { stack.low + 20 ≤ stack.high }
     ensures { IfOk result (λ bytes. bytes.items ≡ first_bytes stack argument) }
 {
@@ -25,8 +26,9 @@ pub(crate) fn first_bytes(alloc: Global, stack: Range, argument: u32) -> Result<
     Ok(bytes)
 }
 
-/// A thread at first: it stands at its function, and all registers but ESP are clear.
-pub(crate) fn first_thread(number: u32, stack: Range, pc: u32) -> Thread
+/// A thread at first: it stands at its function, ESP points 20 bytes below its stack's end, and all other registers
+/// and the flags are clear. It takes no memory.
+pub fn first_thread(number: u32, stack: Range, pc: u32) -> Thread
     requires { 20 ≤ stack.high }
     ensures { result ≡ first_thread number stack pc }
 {

@@ -7,6 +7,7 @@ mod stacks;
 mod thread_list;
 mod turns;
 
+pub use first::{first_bytes, first_thread};
 pub use machine::Machine;
 pub use stacks::are_stacks;
 pub use turns::Turns;

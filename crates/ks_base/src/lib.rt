@@ -18,4 +18,6 @@ pub use refusals::{
     Standing,
 };
 pub use reply::Line;
-pub use reports::{Added, AddedList, Replaced, ReplacedList, Report};
+pub use reports::{
+    Added, AddedList, HookReport, HookRun, HookRuns, Replaced, ReplacedList, Report,
+};

@@ -310,6 +310,19 @@ impl fmt::Debug for Refusal {
     }
 }
 
+impl Refusal {
+    ghost use Rattle.std.specs.Prelude.{◌≡◌, ◌≢◌, true, false};
+    ghost use Rattle.ks_base.specs.declared.refusals.Refusal.TheVariants.{Memory};
+
+    /// Whether it is [`Refusal::Memory`].
+    pub fn is_memory(&self) -> bool
+        ensures memory { result ≡ true → self.now ≡ Memory }
+        ensures other { result ≡ false → self.now ≢ Memory }
+    {
+        matches!(self, Refusal::Memory)
+    }
+}
+
 impl From<AllocError> for Refusal {
     ghost use Rattle.std.specs.Prelude.{◌≡◌};
     ghost use Rattle.ks_base.specs.declared.refusals.Refusal.TheVariants.{Memory};

@@ -1,4 +1,4 @@
-//! What an update did to the functions of the running program.
+//! What an update did to the functions of the running program, and which it ran.
 use crate::list::ListOf;
 use crate::places::{Name, Names};
 
@@ -39,4 +39,25 @@ pub struct Report {
     pub added: AddedList,
     /// The names of the functions that are gone.
     pub dropped: Names,
+}
+
+/// A function that was run at an update.
+#[derive(Clone, PartialEq, Eq, Drop)]
+pub struct HookRun {
+    /// The function's name.
+    pub function: Name,
+    /// How many steps it made, the one that ended it among them.
+    pub steps: u32,
+}
+
+/// Functions that were run, in order.
+pub type HookRuns = ListOf<HookRun>;
+
+/// What an update did at which functions may be run.
+#[derive(Clone, PartialEq, Eq, Drop)]
+pub struct HookReport {
+    /// What it did to the functions of the running program.
+    pub report: Report,
+    /// The functions that were run.
+    pub hooks: HookRuns,
 }

@@ -8,6 +8,7 @@ use Rattle.ks_base.specs.declared.refusals.Fault.{Fault}
 use Rattle.ks_base.specs.declared.refusals.Refusal.{Refusal}
 use Rattle.ks_base.specs.declared.refusals.Refusal.TheVariants.{TooManyThreads, NoThread, NothingApplied, NoUpdate}
 use Rattle.ks_base.specs.declared.reports.Report.{Report}
+use Rattle.ks_base.specs.declared.reports.HookReport.{HookReport}
 use Rattle.image_file.specs.Fields.{◌>>=◌}
 use Rattle.image_memory.specs.Access.{written}
 use Rattle.image_memory.specs.Contents.{Contents}
@@ -26,15 +27,16 @@ use Rattle.update_stack.specs.PlanType.{Plan}
 use Rattle.update_stack.specs.Plan.{unless}
 use Rattle.update_stack.specs.AbstractMachine.{AbstractMachine, Update, contents_of, view_in, base_of}
 use Rattle.update_stack.specs.Steps.{step_at, step_in, after_step, moved_by, moved, after_start, spawned}
-use Rattle.update_stack.specs.Apply.{planned_in, committed, applied}
+use Rattle.update_stack.specs.Apply.{planned_in, committed, accepted, applied}
+use Rattle.update_stack.specs.Hooks.{hooked}
 use Rattle.update_stack.specs.Undo.{withdrawn, withdrawal_refusal}
 use Rattle.update_stack.specs.Undo.{taken_back, undone_by, undone, undone_named}
-use Rattle.update_stack.specs.Events.{Event, Spawn, Step, Apply, Undo, UndoNamed, Spawned, Stepped}
+use Rattle.update_stack.specs.Events.{Event, Spawn, Step, Apply, Hooks, Undo, UndoNamed, Spawned, Stepped}
 use Rattle.update_stack.specs.Events.{Happened, happened, spawn_answered, step_answered, apply_answered}
-use Rattle.update_stack.specs.Events.{undo_answered, answered, update_taken}
+use Rattle.update_stack.specs.Events.{hooks_answered, undo_answered, answered, update_taken}
 use Rattle.frame_watch.specs.Frames.{Watching}
-use Rattle.frame_watch.specs.Discipline.{counted}
-use Rattle.ksplice_session.specs.Watching.{seen}
+use Rattle.frame_watch.specs.Discipline.{counted, hooks_noted}
+use Rattle.ksplice_session.specs.Watching.{sight_in, seen}
 
 -- a thread that runs is one
 pub running_is : (o : Option Thread) (thread : Thread) → if_running o ≡ Some thread
@@ -173,12 +175,13 @@ spawn_gives k name argument now is = by_place (function_named k.symbols name) is
 pub record IsUpdated (k : AbstractMachine) (now : Happened) : Type 0 where
   pub threads : now.machine.threads ≡ k.threads
   pub stacks : now.machine.stacks ≡ k.stacks
+  pub scratch : now.machine.scratch ≡ k.scratch
   pub seen : (event : Event) (w : Watching) → seen k event now.machine now.answer w ≡ counted w
 
 pub apply_gives : (k : AbstractMachine) (name pre post : List ℕ) (now : Happened)
     → answered k (Apply name pre post) ≡ Ok now
     → IsUpdated k now
-unfolding answered applied committed
+unfolding answered accepted applied committed
 apply_gives k name pre post now is = by_plan (planned_in k name pre post) is
   where
     by_threads : (plan : Plan) (o : Option Refusal)
@@ -187,15 +190,29 @@ apply_gives k name pre post now is = by_plan (planned_in k name pre post) is
         → IsUpdated k now
     by_threads plan (Some refusal) is = absurd (cc)
     by_threads plan None is =
-        subst (IsUpdated k) (same_Ok _ now is) (record { threads = refl; stacks = refl; seen = λ event w. refl })
+        subst (IsUpdated k) (same_Ok _ now is) (record { threads = refl; stacks = refl; scratch = refl; seen = λ event w. refl })
 
     by_plan : (r : Result Plan Refusal)
-        → apply_answered (r >>= λ (plan : Plan). unless (thread_refusal k.pieces plan.guarded k.threads) plan
+        → apply_answered ((r >>= λ (plan : Plan). unless (thread_refusal k.pieces plan.guarded k.threads) plan)
         >>= λ (clear : Plan).
         let r : Result (AbstractMachine × Report) Refusal = Ok (committed k name clear, clear.report) in r) ≡ Ok now
         → IsUpdated k now
     by_plan (Err refusal) is = absurd (cc)
     by_plan (Ok plan) is = by_threads plan (thread_refusal k.pieces plan.guarded k.threads) is
+
+-- after an update at which functions may be run a watch looks at all slots
+pub hooks_seen : (k : AbstractMachine) (name pre post : List ℕ) (now : Happened)
+    → answered k (Hooks name pre post) ≡ Ok now → (event : Event) (w : Watching)
+    → seen k event now.machine now.answer w ≡ hooks_noted (sight_in now.machine) w
+unfolding answered
+hooks_seen k name pre post now is event w = by_result (hooked k name pre post) is
+  where
+    by_result : (r : Result (AbstractMachine × HookReport) Refusal) → hooks_answered r ≡ Ok now
+        → seen k event now.machine now.answer w ≡ hooks_noted (sight_in now.machine) w
+    by_result (Err refusal) is = absurd (cc)
+    by_result (Ok left) is =
+        subst (λ (h : Happened). seen k event h.machine h.answer w ≡ hooks_noted (sight_in h.machine) w)
+        (same_Ok _ now is) refl
 
 -- an update is taken back by an event
 pub record IsUndone (k : AbstractMachine) (event : Event) (now : Happened) : Type 0 where
@@ -214,7 +231,7 @@ taken_gives k event missing now is = by_update (update_taken k event) refl is
         → IsUpdated k now
     by_refusal update (Some refusal) is = absurd (cc)
     by_refusal update None is =
-        subst (IsUpdated k) (same_Ok _ now is) (record { threads = refl; stacks = refl; seen = λ event w. refl })
+        subst (IsUpdated k) (same_Ok _ now is) (record { threads = refl; stacks = refl; scratch = refl; seen = λ event w. refl })
 
     by_update : (o : Option Update) → update_taken k event ≡ o → undo_answered (undone_by k missing o) ≡ Ok now
         → IsUndone k event now

@@ -59,14 +59,14 @@ module _ (s : Watched) (event : Event) (moment : IsMoment s) where
     },
   )
 
-  -- an update, or one taken back: ranges go in which no thread and no frame is
-  pub update_next : (now : AbstractMachine) (ranges : List Range) (w : Watching) → now.threads ≡ s.machine.threads
-      → now.stacks ≡ s.machine.stacks → w.threads ≡ s.watch.threads → w.verdict ≡ s.watch.verdict
-      → KeepsSlots s.machine now → KeepsWindows ranges s.machine now
+  -- Ranges go in which no thread and no frame is, and no thread changes; the frames keep the slot rule.
+  pub ranges_next : (now : AbstractMachine) (ranges : List Range) (w : Watching) → now.threads ≡ s.machine.threads
+      → now.stacks ≡ s.machine.stacks → w.threads ≡ s.watch.threads → w.verdict ≡ Disciplined
+      → KeepRule now.pieces s.watch.threads → KeepsWindows ranges s.machine now
       → ((n : ℕ) (thread : Thread) → running_at s.machine.threads n ≡ Some thread
       → IsOutside ranges thread (frames_of s n))
       → ((n : ℕ) → event ≡ Step n → ⊥) → Next s event (watched s now w)
-  update_next now ranges w threads stacks same_watch same_verdict slots windows outside no_step =
+  ranges_next now ranges w threads stacks same_watch unbroken slots windows outside no_step =
       let same_frames : (n : ℕ) → frames_of (watched s now w) n ≡ frames_of s n =
       (λ n. ap (λ (ts : List WatchedThread). frames_at ts n) same_watch) in
       let same_runs : (n : ℕ) → running_at now.threads n ≡ running_at s.machine.threads n =
@@ -74,7 +74,7 @@ module _ (s : Watched) (event : Event) (moment : IsMoment s) where
       let same_watched : (n : ℕ) → watched_at w.threads n ≡ watched_at s.watch.threads n =
       (λ n. ap (λ (ts : List WatchedThread). watched_at ts n) same_watch) in (
         record {
-          unbroken = same_verdict ∙ moment.unbroken;
+          unbroken = unbroken;
           numbered = λ n thread is.
               moment.numbered n thread (subst (λ (ts : List Thread). slice_get ts n ≡ Some thread) threads is);
           listed = λ n thread is.
@@ -83,7 +83,7 @@ module _ (s : Watched) (event : Event) (moment : IsMoment s) where
           agree = λ n.
               agree_by (running_at s.machine.threads n) (running_at now.threads n) (watched_at s.watch.threads n)
               (watched_at w.threads n) (same_runs n) (same_watched n) (moment.agree n);
-          slots = λ n one is. still n one (sym (same_watched n) ∙ is);
+          slots = λ n one is. slots n one (sym (same_watched n) ∙ is);
         },
         record {
           changes = λ n. Stays (λ steps. absurd (no_step n steps)) (same_runs n) (same_frames n);
@@ -95,33 +95,44 @@ module _ (s : Watched) (event : Event) (moment : IsMoment s) where
           pcs = λ n thread is has. windows thread.pc (outside n thread is).pc has;
         },
       )
-    where
-      all_of : (one : WatchedThread) → ((i : ℕ) (f : Frame) → slice_get one.frames i ≡ Some f
-          → IsTrue (keeps_slot now.pieces one.stack one.esp f)) → IsTrue (keeps_slots now.pieces one)
-      all_of one each = all_pass (keeps_slot now.pieces one.stack one.esp) one.frames each
 
-      still : (n : ℕ) (one : WatchedThread) → watched_at s.watch.threads n ≡ Some one
-          → IsTrue (keeps_slots now.pieces one)
-      still n one is = by_running (running_at s.machine.threads n) refl
-        where
-          by_running : (o : Option Thread) → running_at s.machine.threads n ≡ o → IsTrue (keeps_slots now.pieces one)
-          by_running None rests =
-              let unwatched =
-              agree_none (running_at s.machine.threads n) (watched_at s.watch.threads n) rests (moment.agree n) in
-              absurd (none-some one (sym unwatched ∙ is))
-          by_running (Some thread) runs =
-              let agreed =
-              agree_some (running_at s.machine.threads n) (watched_at s.watch.threads n) thread runs (moment.agree n) in
-              let here = running_is (slice_get s.machine.threads n) thread runs in
-              let same_one : agreed.0 ≡ one = same_Some agreed.0 one (sym agreed.1 ∙ is) in
-              let stack : one.stack ≡ thread.stack =
-              ap (λ (o : WatchedThread). o.stack) (sym same_one) ∙ agreed.2.stack in
-              let listed : IsOneOf s.machine.stacks one.stack =
-              subst (λ (r : Range). IsOneOf s.machine.stacks r) (sym stack) (moment.listed n thread here.0) in
-              let all =
-              All-of_list_all (keeps_slot s.machine.pieces one.stack one.esp) one.frames (moment.slots n one is) in
-              all_of one (λ i f at. slots one.stack one.esp f (is_contained s.machine.stacks one.stack listed)
-              (All-at (λ (g : Frame). IsTrue (keeps_slot s.machine.pieces one.stack one.esp g)) one.frames i f all at))
+  -- the slots of stacks keep what they hold, and so the frames of each thread keep the rule
+  pub slots_kept : (now : AbstractMachine) → KeepsSlots s.machine now → KeepRule now.pieces s.watch.threads
+  slots_kept now slots n one is = by_running (running_at s.machine.threads n) refl
+    where
+      all_of : ((i : ℕ) (f : Frame) → slice_get one.frames i ≡ Some f
+          → IsTrue (keeps_slot now.pieces one.stack one.esp f)) → IsTrue (keeps_slots now.pieces one)
+      all_of each = all_pass (keeps_slot now.pieces one.stack one.esp) one.frames each
+
+      by_running : (o : Option Thread) → running_at s.machine.threads n ≡ o → IsTrue (keeps_slots now.pieces one)
+      by_running None rests =
+          let unwatched =
+          agree_none (running_at s.machine.threads n) (watched_at s.watch.threads n) rests (moment.agree n) in
+          absurd (none-some one (sym unwatched ∙ is))
+      by_running (Some thread) runs =
+          let agreed =
+          agree_some (running_at s.machine.threads n) (watched_at s.watch.threads n) thread runs (moment.agree n) in
+          let here = running_is (slice_get s.machine.threads n) thread runs in
+          let same_one : agreed.0 ≡ one = same_Some agreed.0 one (sym agreed.1 ∙ is) in
+          let stack : one.stack ≡ thread.stack =
+          ap (λ (o : WatchedThread). o.stack) (sym same_one) ∙ agreed.2.stack in
+          let listed : IsOneOf s.machine.stacks one.stack =
+          subst (λ (r : Range). IsOneOf s.machine.stacks r) (sym stack) (moment.listed n thread here.0) in
+          let all =
+          All-of_list_all (keeps_slot s.machine.pieces one.stack one.esp) one.frames (moment.slots n one is) in
+          all_of (λ i f at. slots one.stack one.esp f (is_contained s.machine.stacks one.stack listed)
+          (All-at (λ (g : Frame). IsTrue (keeps_slot s.machine.pieces one.stack one.esp g)) one.frames i f all at))
+
+  -- an update, or one taken back
+  pub update_next : (now : AbstractMachine) (ranges : List Range) (w : Watching) → now.threads ≡ s.machine.threads
+      → now.stacks ≡ s.machine.stacks → w.threads ≡ s.watch.threads → w.verdict ≡ s.watch.verdict
+      → KeepsSlots s.machine now → KeepsWindows ranges s.machine now
+      → ((n : ℕ) (thread : Thread) → running_at s.machine.threads n ≡ Some thread
+      → IsOutside ranges thread (frames_of s n))
+      → ((n : ℕ) → event ≡ Step n → ⊥) → Next s event (watched s now w)
+  update_next now ranges w threads stacks same_watch same_verdict slots windows outside no_step =
+      ranges_next now ranges w threads stacks same_watch (same_verdict ∙ moment.unbroken) (slots_kept now slots) windows
+      outside no_step
 
   -- a thread is started at a window
   pub start_next : (now : AbstractMachine) (thread : Thread) → now.threads ≡ s.machine.threads ++ thread ∷ []

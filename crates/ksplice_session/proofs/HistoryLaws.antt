@@ -12,7 +12,7 @@ use Rattle.ia32_step.specs.declared.types.Flow.TheVariants.{Call, Return}
 use Rattle.ia32_step.specs.declared.types.Outcome.TheVariants.{Moved}
 use Rattle.ia32_step.specs.declared.types.Thread.{Thread}
 use Rattle.image_threads.specs.Program.{running_at}
-use Rattle.update_stack.specs.Events.{Event, Spawn, Step, Apply, Undo, UndoNamed}
+use Rattle.update_stack.specs.Events.{Event, Spawn, Step, Apply, Hooks, Undo, UndoNamed}
 use Rattle.update_safety.specs.Windows.{window_in}
 use Rattle.frame_watch.specs.Frames.{frame}
 use Rattle.ksplice_session.specs.Watching.{Watched, first_watched, watched_after, watched_after_all, IsDisciplined}
@@ -76,6 +76,7 @@ deep_by frames i one is =
 no_step : (n : ℕ) (event : Event) → (event ≡ Step n → ⊥) → IsFalse (is_step_of n event)
 no_step n (Spawn name argument) other = refl
 no_step n (Apply name pre post) other = refl
+no_step n (Hooks name pre post) other = refl
 no_step n Undo other = refl
 no_step n (UndoNamed name) other = refl
 no_step n (Step m) other = by_test (n == m) refl

@@ -25,6 +25,7 @@ pub mod StackLaws
 pub mod MoveLaws
 pub mod StartLaws
 pub mod UpdateLaws
+pub mod HookLaws
 pub mod PhaseLaws
 pub mod PremiseLaws
 pub mod RanLaws

@@ -23,9 +23,9 @@ use Rattle.update_stack.specs.AbstractMachine.{first_machine}
 use Rattle.update_stack.specs.Events.{Event, Step, after_events}
 use Rattle.update_stack.specs.Stacked.{IsBuilt}
 use Rattle.update_safety.specs.Windows.{window_in, StartsKeepWindows, StepsKeepWindows}
-use Rattle.update_safety.specs.Windows.{UpdatesKeepWindows, UndosKeepWindows}
-use Rattle.update_safety.specs.Slots.{UpdatesKeepSlots, UndosKeepSlots}
-use Rattle.update_safety.specs.Clear.{KeepSlots, AcceptedIsClear, TakenBackIsClear}
+use Rattle.update_safety.specs.Windows.{UpdatesKeepWindows, HooksKeepWindows, UndosKeepWindows}
+use Rattle.update_safety.specs.Slots.{UpdatesKeepSlots, UndosKeepSlots, HooksKeepThreads}
+use Rattle.update_safety.specs.Clear.{KeepSlots, AcceptedIsClear, HookedIsClear, TakenBackIsClear}
 use Rattle.frame_watch.specs.declared.types.Verdict.TheVariants.{Disciplined}
 use Rattle.frame_watch.specs.Frames.{Watched as WatchedThread, frame}
 use Rattle.frame_watch.specs.Frames.{watched_at, frames_in, frames_at, closed}
@@ -50,6 +50,9 @@ pub record Premises : Type 0 where
       → (carried_out contents thread decoded).outcome ≡ Stopped faults.Stray → ⊥
   pub update_slots : UpdatesKeepSlots
   pub undo_slots : UndosKeepSlots
+  pub hooks : HooksKeepWindows
+  pub hooked : HookedIsClear
+  pub hook_threads : HooksKeepThreads
 
 -- a running thread is the one that is watched, and where none runs none is
 abbrev pub Agree : Option Thread → Option WatchedThread → Type 0

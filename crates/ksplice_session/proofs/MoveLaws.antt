@@ -187,6 +187,7 @@ module _
       (subst (λ (m : ℕ). All (RunsIn (set k.threads n left.thread)) (without_thread w.threads m))
       (sym (kept.number ∙ own))
       (without_runs k.threads n left.thread w.threads (runs_in k w in_step))))
+      in_step.bare
 
   is_made : IsBuilt now → IsOpenAt phase now → (store : Option Store)
       → now.pieces ≡ (after_store (contents_of k) store).pieces

@@ -9,24 +9,25 @@ use Rattle.image_threads.specs.Program.{running_at}
 use Rattle.image_threads.specs.Spawning.{is_taken, first_thread}
 use Rattle.update_stack.specs.AbstractMachine.{AbstractMachine}
 use Rattle.update_stack.specs.Steps.{step_in}
-use Rattle.update_stack.specs.Events.{Event, Spawn, Step, Apply, Undo, UndoNamed, Answer, Spawned, Stepped}
-use Rattle.update_stack.specs.Events.{Applied, Undone, Happened, happened}
+use Rattle.update_stack.specs.Events.{Event, Spawn, Step, Apply, Hooks, Undo, UndoNamed, Answer, Spawned, Stepped}
+use Rattle.update_stack.specs.Events.{Applied, Hooked, Undone, Happened, happened}
 use Rattle.update_stack.specs.Events.{answered}
 use Rattle.update_stack.specs.Stacked.{IsBuilt}
 use Rattle.update_stack.specs.Undo.{ranges_in}
 use Rattle.update_safety.specs.Clear.{newest_retired}
 use Rattle.frame_watch.specs.declared.types.Verdict.TheVariants.{Disciplined}
 use Rattle.frame_watch.specs.Frames.{Watching}
-use Rattle.frame_watch.specs.Discipline.{spawn_noted, step_noted, counted}
+use Rattle.frame_watch.specs.Discipline.{spawn_noted, step_noted, hooks_noted, counted}
 use Rattle.ksplice_session.proofs.WatchedLaws.{watched}
 use Rattle.ksplice_session.specs.Watching.{Watched, sight_in, start_seen, step_seen, seen, watched_by, watched_after}
 use Rattle.ksplice_session.specs.Safety.{frames_of, outcome_in, outcome_by, step_outcome}
 use Rattle.ksplice_session.proofs.Lookups.{set_here, read_last, found_at}
-use Rattle.ksplice_session.proofs.RuleLaws.{start_was_unbroken, step_was_unbroken}
+use Rattle.ksplice_session.proofs.RuleLaws.{hooks_go_on, start_was_unbroken, step_was_unbroken, hooks_was_unbroken}
 use Rattle.ksplice_session.proofs.EventAnswers.{running_is, left_thread, step_gives, step_refused}
-use Rattle.ksplice_session.proofs.EventAnswers.{spawn_gives, apply_gives, IsUndone, undo_gives, undo_named_gives}
+use Rattle.ksplice_session.proofs.EventAnswers.{spawn_gives, apply_gives, hooks_seen}
+use Rattle.ksplice_session.proofs.EventAnswers.{IsUndone, undo_gives, undo_named_gives}
 use Rattle.ksplice_session.proofs.MomentLaws.{Premises, IsMoment, keep_slots}
-use Rattle.ksplice_session.proofs.EventLaws.{Next, refused_next, update_next, start_next}
+use Rattle.ksplice_session.proofs.EventLaws.{Next, refused_next, ranges_next, update_next, start_next}
 use Rattle.ksplice_session.proofs.ThreadSteps.{IsStep, step_next}
 
 module _ (laws : Premises) (s : Watched) (moment : IsMoment s) (built : IsBuilt s.machine) where
@@ -119,6 +120,25 @@ module _ (laws : Premises) (s : Watched) (moment : IsMoment s) (built : IsBuilt 
       laws.accepted s.machine name pre post now n thread (frames_of s n) is runs (keep_slots s moment n thread runs))
       (λ n steps. absurd (cc)))
 
+  -- an update at which functions were run: the slots were looked at then
+  hooks_leaves : (name pre post : List ℕ) (result : Result Happened Refusal) → Leaves (Hooks name pre post) result
+  hooks_leaves name pre post (Err refusal) is later unbroken =
+      refused_next s (Hooks name pre post) moment (λ n steps. absurd (cc))
+  hooks_leaves name pre post (Ok now) is later unbroken =
+      let event = Hooks name pre post in
+      let same = hooks_seen s.machine name pre post now is event s.watch in
+      let well : (hooks_noted (sight_in now.machine) s.watch).verdict ≡ Disciplined =
+      subst (λ (w : Watching). w.verdict ≡ Disciplined) same unbroken in
+      let goes = hooks_go_on (sight_in now.machine) s.watch moment.unbroken well in
+      let kept = laws.hook_threads s.machine name pre post now built is in
+      subst (λ (w : Watching). Next s event (watched s now.machine w)) (sym same)
+      (ranges_next s event moment now.machine (newest_retired now.machine) (hooks_noted (sight_in now.machine) s.watch)
+      kept.threads kept.stacks goes.kept well goes.slots (laws.hooks s.machine name pre post now built is)
+      (λ n thread runs.
+      laws.hooked s.machine name pre post now n thread (frames_of s n) built is runs
+      (keep_slots s moment n thread runs))
+      (λ n steps. absurd (cc)))
+
   -- an event that takes an update back
   undo_leaves : (event : Event) → ((n : ℕ) → event ≡ Step n → ⊥)
       → ((now : Happened) → answered s.machine event ≡ Ok now → IsUndone s.machine event now)
@@ -143,6 +163,7 @@ module _ (laws : Premises) (s : Watched) (moment : IsMoment s) (built : IsBuilt 
   leaves (Spawn name argument) result = start_leaves name argument result
   leaves (Step n) result = step_leaves n result
   leaves (Apply name pre post) result = apply_leaves name pre post result
+  leaves (Hooks name pre post) result = hooks_leaves name pre post result
   leaves Undo result = undo_leaves Undo (λ n steps. absurd (cc)) (undo_gives s.machine) result
   leaves (UndoNamed name) result =
       undo_leaves (UndoNamed name) (λ n steps. absurd (cc)) (undo_named_gives s.machine name) result
@@ -175,6 +196,7 @@ was_unbroken s event now = by_result (answered s.machine event) now
     by_answer k (Spawned n) now = by_start k (slice_get k.threads n) now
     by_answer k (Stepped outcome) now = by_step k _ _ outcome now
     by_answer k (Applied report) now = now
+    by_answer k (Hooked done) now = hooks_was_unbroken (sight_in k) s.watch now
     by_answer k (Undone name) now = now
 
     by_result : (result : Result Happened Refusal) → (watched_by s event result).watch.verdict ≡ Disciplined

@@ -21,7 +21,7 @@ use Rattle.frame_watch.specs.Frames.{Watched, Watching, started, stack_of, with_
 use Rattle.frame_watch.specs.Frames.{frames_at, if_of, with_frames, without_thread, opened, closed, keeps_slots}
 use Rattle.frame_watch.specs.Discipline.{Sight, counted, broken, breaking, least, slot_broken}
 use Rattle.frame_watch.specs.Discipline.{slots_tested, after_start, pops, after_outcome}
-use Rattle.frame_watch.specs.Discipline.{unless_broken, spawn_noted, step_noted}
+use Rattle.frame_watch.specs.Discipline.{unless_broken, spawn_noted, step_noted, hooks_noted}
 use Rattle.ksplice_session.proofs.TestedLaws.{all_keep}
 use Rattle.ksplice_session.proofs.Lookups.{All-at, found_at, true_false, found_is}
 use Rattle.ksplice_session.proofs.Lookups.{find_mapped, find_without, find_past_filter}
@@ -221,6 +221,15 @@ module _ (sight : Sight) (w : Watching) (unbroken : w.verdict ≡ Disciplined) w
       subst (LeavesWatch before after outcome) (sym same)
       (by_outcome before after outcome (subst (λ (x : Watching). x.verdict ≡ Disciplined) same now))
 
+  -- where functions were run, no frame of what is watched breaks the slot rule
+  pub hooks_go_on : (hooks_noted sight w).verdict ≡ Disciplined
+      → GoesOn sight.pieces w.threads (hooks_noted sight w)
+  unfolding hooks_noted
+  hooks_go_on now =
+      let same = goes_on_by w.verdict (slots_tested sight) (counted w) unbroken in
+      subst (GoesOn sight.pieces w.threads) (sym same)
+      (tested sight (counted w) (subst (λ (x : Watching). x.verdict ≡ Disciplined) same now))
+
 -- once a rule was broken it stays so
 stays_broken : (v : Verdict) (next : Watching → Watching) (w : Watching) → w.verdict ≡ v
     → (unless_broken v next w).verdict ≡ Disciplined → w.verdict ≡ Disciplined
@@ -238,3 +247,8 @@ unfolding step_noted
 step_was_unbroken sight before after outcome w now =
     stays_broken w.verdict (after_outcome sight before after (frames_at w.threads before.number) outcome) (counted w)
     refl now
+
+pub hooks_was_unbroken : (sight : Sight) (w : Watching) → (hooks_noted sight w).verdict ≡ Disciplined
+    → w.verdict ≡ Disciplined
+unfolding hooks_noted
+hooks_was_unbroken sight w now = stays_broken w.verdict (slots_tested sight) (counted w) refl now

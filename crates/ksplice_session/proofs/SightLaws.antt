@@ -17,6 +17,7 @@ use Rattle.frame_watch.specs.Frames.{Watched, Watching, with_started, frames_at}
 use Rattle.frame_watch.specs.Frames.{with_frames, closed, frame, keeps_slots}
 use Rattle.frame_watch.specs.Discipline.{Sight, counted, broken, number_of, least, slot_broken, slots_tested}
 use Rattle.frame_watch.specs.Discipline.{after_start, pops, after_outcome, unless_broken, spawn_noted, step_noted}
+use Rattle.frame_watch.specs.Discipline.{hooks_noted}
 
 -- the same addresses have a window, the same slots hold the same, and what can be read is the same
 pub record IsAlike (x y : Sight) : Type 0 where
@@ -96,3 +97,8 @@ spawn_alike x y alike thread w =
     unless_alike w.verdict (after_start x thread) (after_start y thread) (counted w)
     (arrival_alike x y alike thread.pc (record (counted w) { threads = with_started (counted w).threads thread })
     (broken (counted w) thread.number rules.Start))
+
+pub hooks_alike : (x y : Sight) → IsAlike x y → (w : Watching) → hooks_noted x w ≡ hooks_noted y w
+unfolding hooks_noted
+hooks_alike x y alike w =
+    unless_alike w.verdict (slots_tested x) (slots_tested y) (counted w) (tested_alike x y alike (counted w))

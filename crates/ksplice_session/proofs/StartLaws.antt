@@ -181,6 +181,7 @@ module _ (jumps : JumpLaws) (phase : Phase) (k : AbstractMachine) (w : Watching)
           slots = slots_stay now.pieces k.pieces watched (stays watched p.0) p.1;
         }) w.threads both;
     stopped = in_step.stopped;
+    bare = in_step.bare;
   }
 
   is_kept : IsInStep now (spawn_noted (sight_in now) thread w)
@@ -192,6 +193,7 @@ module _ (jumps : JumpLaws) (phase : Phase) (k : AbstractMachine) (w : Watching)
       (started thread) thread (ap if_running (read_last k.threads thread)) (record { stack = refl; esp = refl }))
       (All-weaker (RunsIn k.threads)
       (RunsIn now.threads) (runs_push k.threads thread) w.threads (runs_in k w in_step))))
+      in_step.bare
 
   is_begun : IsBuilt now → IsOpenAt phase now → IsBegun (patched_in phase now) k now w thread
   is_begun built_now opened = record {

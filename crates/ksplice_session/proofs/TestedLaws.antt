@@ -19,7 +19,7 @@ use Rattle.frame_watch.specs.Frames.{Watched, Watching, with_started, frames_at,
 use Rattle.frame_watch.specs.Frames.{without_thread, opened, closed, keeps_slots}
 use Rattle.frame_watch.specs.Discipline.{Sight, counted, broken, number_of, breaking, lesser}
 use Rattle.frame_watch.specs.Discipline.{least, slot_broken, slots_tested, after_start, pops}
-use Rattle.frame_watch.specs.Discipline.{after_outcome, unless_broken, spawn_noted, step_noted}
+use Rattle.frame_watch.specs.Discipline.{after_outcome, unless_broken, spawn_noted, step_noted, hooks_noted}
 use Rattle.ksplice_session.specs.inside.InStep.{IsStopped}
 use Rattle.ksplice_session.proofs.EventAnswers.{goes_on}
 
@@ -145,3 +145,8 @@ module _ (R : Watched → Type 0) (sight : Sight) (w : Watching) (stopped : IsSt
       either_left R sight.pieces (has_window (sight.view thread.pc)) _ _
       (tested_left R sight (record (counted w) { threads = with_started w.threads thread }) well all)
       (broken_left R sight.pieces (counted w) thread.number rules.Start))
+
+  pub hooks_left : All R w.threads → IsLeft R sight.pieces (hooks_noted sight w)
+  unfolding hooks_noted
+  hooks_left all =
+      unless_left R sight.pieces w (slots_tested sight) stopped (λ well. tested_left R sight (counted w) well all)

@@ -17,9 +17,9 @@ use Rattle.ksplice_session.proofs.StackLaws.{all_weaker}
 use Rattle.ksplice_session.proofs.WatchLaws.{RunsIn, runs_in, slots_in, stack_listed}
 
 pub kept_in_step : (k now : AbstractMachine) (w : Watching)
-    → SameThreads k now → KeepsSlots k now → WellPlaced k.stacks k.threads
+    → SameThreads k now → KeepsSlots k now → now.scratch ≡ k.scratch → WellPlaced k.stacks k.threads
     → IsInStep k w → IsInStep now (update_noted w)
-kept_in_step k now w same keep placed in_step = record {
+kept_in_step k now w same keep scratch placed in_step = record {
   each = All-weaker
       (λ watched. RunsIn k.threads watched × IsTrue (keeps_slots k.pieces watched)) (Runs now) (λ watched p. record {
         running = subst (λ (threads : List Thread). RunsIn threads watched) (sym same.threads) p.0;
@@ -28,6 +28,7 @@ kept_in_step k now w same keep placed in_step = record {
             (λ frame. keep watched.stack watched.esp frame (stack_listed k.stacks k.threads watched placed p.0)) p.1;
       }) w.threads (λ i d less. (runs_in k w in_step i d less, slots_in k w in_step i d less));
   stopped = in_step.stopped;
+  bare = scratch ∙ in_step.bare;
 }
 
 -- the session after an update or an undo

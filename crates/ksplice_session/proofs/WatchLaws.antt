@@ -32,10 +32,12 @@ pub slots_in : (k : AbstractMachine) (w : Watching)
 slots_in k w is =
     All-weaker (Runs k) (λ watched. IsTrue (keeps_slots k.pieces watched)) (λ watched r. r.slots) w.threads is.each
 
-pub left_in_step : (k : AbstractMachine) (w : Watching) → IsLeft (RunsIn k.threads) k.pieces w → IsInStep k w
-left_in_step k w left = record {
+pub left_in_step : (k : AbstractMachine) (w : Watching) → IsLeft (RunsIn k.threads) k.pieces w → k.scratch ≡ None
+    → IsInStep k w
+left_in_step k w left bare = record {
   each = λ i d less. record { running = left.each i d less; slots = left.slots i d less };
   stopped = left.stopped;
+  bare = bare;
 }
 
 -- the thread of a number, and that it runs

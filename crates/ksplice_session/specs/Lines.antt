@@ -5,6 +5,8 @@ use Rattle.ks_base.specs.Text.{hex_text, byte_text, number_text, shown_name}
 use Rattle.ks_base.specs.declared.reports.Replaced.{Replaced}
 use Rattle.ks_base.specs.declared.reports.Added.{Added}
 use Rattle.ks_base.specs.declared.reports.Report.{Report}
+use Rattle.ks_base.specs.declared.reports.HookRun.{HookRun}
+use Rattle.ks_base.specs.declared.reports.HookReport.{HookReport}
 use Rattle.image_memory.specs.declared.types.Kind.{Kind}
 use Rattle.image_memory.specs.declared.types.Piece.{Piece}
 use Rattle.image_memory.specs.Contents.{look_at}
@@ -84,6 +86,14 @@ applied_lines name tries report =
     ++ flat_map replaced_line report.replaced
     ++ flat_map added_line report.added
     ++ flat_map dropped_line report.dropped
+
+-- a function that was run at an update, and how many steps it made
+unfoldable pub hook_line : HookRun → List ℕ
+hook_line run = codes " hook " ++ shown_name run.function ++ codes " steps " ++ number_text run.steps ++ 10 ∷ []
+
+-- an update was made at the first try, what it did, and the functions that were run
+unfoldable pub hooked_lines : List ℕ → HookReport → List ℕ
+hooked_lines name done = applied_lines name 1 done.report ++ flat_map hook_line done.hooks
 
 -- the first write of an update was made, and what the update replaced
 unfoldable pub marked_lines : List ℕ → Report → List ℕ

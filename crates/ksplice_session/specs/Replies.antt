@@ -4,6 +4,7 @@ use Rattle.std.specs.Prelude.{map, is_some, Option, Some, None, Result, Ok, Err}
 use Rattle.std.specs.List.{slice_get}
 use Rattle.ks_base.specs.declared.refusals.Refusal.{Refusal}
 use Rattle.ks_base.specs.declared.reports.Report.{Report}
+use Rattle.ks_base.specs.declared.reports.HookReport.{HookReport}
 use Rattle.ks_base.specs.declared.refusals.Refusal.TheVariants.{NoThread, Busy}
 use Rattle.ks_base.specs.Refusals.{refusal_line}
 use Rattle.ks_io.specs.Loads.{Needed}
@@ -12,22 +13,23 @@ use Rattle.ia32_step.specs.declared.types.Thread.{Thread}
 use Rattle.image_threads.specs.Program.{running_at}
 use Rattle.script_lines.specs.declared.types.Command.{Command}
 use Rattle.script_lines.specs.declared.types.Command.TheVariants.{Spawn, Step, RoundRobin, Threads, Peek}
-use Rattle.script_lines.specs.declared.types.Command.TheVariants.{Apply, Poke, Tail, Seal, Undo, UndoNamed}
+use Rattle.script_lines.specs.declared.types.Command.TheVariants.{Apply, Hooks, Poke, Tail, Seal, Undo, UndoNamed}
 use Rattle.script_lines.specs.declared.types.Command.TheVariants.{ListUpdates, Watch}
 use Rattle.splice_jump.specs.declared.phase.Phase.{Phase}
 use Rattle.update_stack.specs.AbstractMachine.{AbstractMachine, shown_update}
-use Rattle.update_stack.specs.Events.{Event, Spawn as SpawnEvent, Apply as ApplyEvent, Undo as UndoEvent}
-use Rattle.update_stack.specs.Events.{UndoNamed as UndoNamedEvent, after_events}
+use Rattle.update_stack.specs.Events.{Event, Spawn as SpawnEvent, Apply as ApplyEvent, Hooks as HooksEvent}
+use Rattle.update_stack.specs.Events.{Undo as UndoEvent, UndoNamed as UndoNamedEvent, after_events}
 use Rattle.update_stack.specs.Steps.{spawned}
 use Rattle.update_stack.specs.Apply.{applied}
+use Rattle.update_stack.specs.Hooks.{hooked}
 use Rattle.update_stack.specs.Undo.{undone, undone_named}
 use Rattle.update_stack.specs.Phases.{Phased, phased, patched_in}
 use Rattle.live_poke.specs.Poke.{open_refusal, newest_name, marked, tailed, sealed}
 use Rattle.frame_watch.specs.declared.types.Verdict.{Verdict}
 use Rattle.ksplice_session.specs.Watching.{Watched}
 use Rattle.ksplice_session.specs.Lines.{spawned_line, stepped_line, turns_line, threads_lines, peek_line}
-use Rattle.ksplice_session.specs.Lines.{applied_lines, marked_lines, tailed_line, sealed_line, undone_line}
-use Rattle.ksplice_session.specs.Lines.{list_lines, watch_line}
+use Rattle.ksplice_session.specs.Lines.{applied_lines, hooked_lines, marked_lines, tailed_line, sealed_line}
+use Rattle.ksplice_session.specs.Lines.{undone_line, list_lines, watch_line}
 use Rattle.ksplice_session.specs.Running.{thread_steps, round_robin}
 
 -- a line's events in order; the phase that it leaves, where it changes it; its reply, and whether that is a refusal
@@ -124,6 +126,16 @@ apply_told k name tries gap (pre ∷ post ∷ []) =
     tried (record { name = name; pre = pre; post = post }) gap 1 (tries - 1) k
 apply_told k name tries gap _ = replied [] []
 
+-- a line that makes an update and runs the functions that its new object lists, by what that comes to
+abbrev pub hooked_told : Event → List ℕ → Result (AbstractMachine × HookReport) Refusal → Told
+hooked_told event name (Err refusal) = refused_after [] refusal
+hooked_told event name (Ok left) = replied (event ∷ []) (hooked_lines name left.1)
+
+-- an update from the first of two files to the second, with functions run
+abbrev pub hooks_told : AbstractMachine → (name : List ℕ) → List (List ℕ) → Told
+hooks_told k name (pre ∷ post ∷ []) = hooked_told (HooksEvent name pre post) name (hooked k name pre post)
+hooks_told k name _ = replied [] []
+
 -- what a line tells, unless an update that is being written stands in its way
 abbrev pub unless_open : Phased → Told → Told
 unless_open live told = told_unless (open_refusal live) told
@@ -158,6 +170,7 @@ line_told live verdict (Peek address count) held =
     replied [] (peek_line (patched_in live.phase live.machine).pieces address count)
 line_told live verdict (Apply name pre post tries gap) held =
     unless_open live (apply_told live.machine name tries gap held)
+line_told live verdict (Hooks name pre post) held = unless_open live (hooks_told live.machine name held)
 line_told live verdict (Poke name pre post) held = poke_told live name held
 line_told live verdict Tail held = write_told tailed_line (tailed live)
 line_told live verdict Seal held = write_told sealed_line (sealed live)
@@ -189,6 +202,7 @@ files_of (RoundRobin quantum n) = []
 files_of Threads = []
 files_of (Peek address count) = []
 files_of (Apply name pre post tries gap) = object_file pre ∷ object_file post ∷ []
+files_of (Hooks name pre post) = object_file pre ∷ object_file post ∷ []
 files_of (Poke name pre post) = object_file pre ∷ object_file post ∷ []
 files_of Tail = []
 files_of Seal = []

@@ -8,10 +8,11 @@ use Rattle.ia32_step.specs.declared.types.Outcome.{Outcome}
 use Rattle.splice_jump.specs.declared.phase.Phase.{Phase}
 use Rattle.splice_jump.specs.declared.phase.Phase.TheVariants.{Done}
 use Rattle.update_stack.specs.AbstractMachine.{AbstractMachine, view_in, first_machine}
-use Rattle.update_stack.specs.Events.{Event, Step, Answer, Spawned, Stepped, Applied, Undone, Happened, answered}
+use Rattle.update_stack.specs.Events.{Event, Step, Answer, Spawned, Stepped, Applied, Hooked, Undone, Happened}
+use Rattle.update_stack.specs.Events.{answered}
 use Rattle.frame_watch.specs.declared.types.Verdict.TheVariants.{Disciplined}
 use Rattle.frame_watch.specs.Frames.{Watching, first_watching}
-use Rattle.frame_watch.specs.Discipline.{Sight, spawn_noted, step_noted, update_noted}
+use Rattle.frame_watch.specs.Discipline.{Sight, spawn_noted, step_noted, hooks_noted, update_noted}
 
 -- the machine, the phase in which a system stands for it, and what was seen of its events
 pub record Watched : Type 0 where
@@ -47,6 +48,7 @@ seen k event now (Spawned thread) w = start_seen (sight_in now) (slice_get now.t
 seen k event now (Stepped outcome) w =
     step_seen (sight_in now) (slice_get k.threads (stepping event)) (slice_get now.threads (stepping event)) outcome w
 seen k event now (Applied report) w = update_noted w
+seen k event now (Hooked done) w = hooks_noted (sight_in now) w
 seen k event now (Undone name) w = update_noted w
 
 abbrev pub watched_by : Watched → Event → Result Happened Refusal → Watched

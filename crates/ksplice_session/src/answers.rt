@@ -13,20 +13,20 @@ ghost use Rattle.update_stack.specs.Phases.{patched_in};
 ghost use Rattle.live_poke.specs.Poke.{newest_name};
 ghost use Rattle.ks_io.specs.Loads.{bytes_of};
 ghost use Rattle.ksplice_session.specs.Lines.{spawned_line, turns_line, threads_lines, peek_line};
-ghost use Rattle.ksplice_session.specs.Lines.{applied_lines, marked_lines, tailed_line, sealed_line, undone_line};
-ghost use Rattle.ksplice_session.specs.Lines.{list_lines, watch_line};
-ghost use Rattle.ksplice_session.specs.Replies.{told_of, files_of, apply_told, poke_told, unless_open, live_of, tried};
+ghost use Rattle.ksplice_session.specs.Lines.{applied_lines, hooked_lines, marked_lines, tailed_line, sealed_line};
+ghost use Rattle.ksplice_session.specs.Lines.{undone_line, list_lines, watch_line};
+ghost use Rattle.ksplice_session.specs.Replies.{told_of, files_of, apply_told, hooks_told, poke_told, unless_open, live_of, tried};
 ghost use Rattle.ksplice_session.specs.Replies.{is_busy, shown, stepped_line_of};
 ghost use Rattle.ksplice_session.specs.Answers.{Answers};
 ghost use Rattle.ksplice_session.specs.inside.Trying.{trial_of, IsTryAnswer};
 
 use crate::lines::{
-    put_applied, put_marked, put_peek, put_sealed, put_spawned, put_stepped, put_tailed,
-    put_threads, put_turns, put_undone, put_updates, put_watch,
+    put_applied, put_hooked, put_marked, put_peek, put_sealed, put_spawned, put_stepped,
+    put_tailed, put_threads, put_turns, put_undone, put_updates, put_watch,
 };
 use crate::session::{Session, program};
 use crate::types::{Answer, Trial};
-use ks_base::{Line, Name, Refusal, Report};
+use ks_base::{HookReport, Line, Name, Refusal, Report};
 use script_lines::Command;
 use std::alloc::{AllocError, Global};
 
@@ -55,6 +55,7 @@ pub fn answer(
             gap,
             ..
         } => answer_apply(alloc, session, name, *tries, *gap, held),
+        Command::Hooks { name, .. } => answer_hooks(alloc, session, name, held),
         Command::Poke { name, .. } => answer_poke(alloc, session, name, held),
         Command::Tail => answer_tail(alloc, session),
         Command::Seal => answer_seal(alloc, session),
@@ -214,6 +215,26 @@ fn answer_trial(
     answer_outcome(alloc, trial.name, tries, outcome)
 }
 
+fn answer_hooks(
+    alloc: Global,
+    session: &mut Session,
+    name: &Name,
+    held: &[Vec<u8>],
+) -> Result<Answer, AllocError>
+    requires { length held.now ≡ 2 }
+    ensures { Answers session.old (unless_open (live_of session.old)
+        (hooks_told session.old.machine name.now (bytes_of held.now))) session.new result }
+{
+    if let Err(refusal) = session.check_closed() {
+        return refused(alloc, &refusal);
+    }
+    let [pre, post] = held else { unreachable!() };
+    match session.apply_with_hooks(alloc, name, pre.as_slice(), post.as_slice()) {
+        Ok(done) => told(hooked_reply(alloc, name, &done)),
+        Err(refusal) => refused(alloc, &refusal),
+    }
+}
+
 fn answer_poke(
     alloc: Global,
     session: &mut Session,
@@ -286,7 +307,7 @@ fn refused(alloc: Global, refusal: &Refusal) -> Result<Answer, AllocError>
     ensures { IfOk result (λ answer. (answer ≡ record { line = refusal_line refusal.now; refused = true })
         × (refusal.now ≢ Memory)) }
 {
-    if is_memory(refusal) {
+    if refusal.is_memory() {
         return Err(AllocError);
     }
     let mut line = Line::new(alloc);
@@ -295,13 +316,6 @@ fn refused(alloc: Global, refusal: &Refusal) -> Result<Answer, AllocError>
         line,
         refused: true,
     })
-}
-
-fn is_memory(refusal: &Refusal) -> bool
-    ensures memory { result ≡ true → refusal.now ≡ Memory }
-    ensures other { result ≡ false → refusal.now ≢ Memory }
-{
-    matches!(refusal, Refusal::Memory)
 }
 
 fn spawned_reply(alloc: Global, session: &Session, number: u32) -> Result<Line, AllocError>
@@ -370,6 +384,14 @@ fn applied_reply(
 {
     let mut line = Line::new(alloc);
     put_applied(&mut line, name, number, report)?;
+    Ok(line)
+}
+
+fn hooked_reply(alloc: Global, name: &Name, done: &HookReport) -> Result<Line, AllocError>
+    ensures { IfOk result (λ line. line ≡ hooked_lines name.now done.now) }
+{
+    let mut line = Line::new(alloc);
+    put_hooked(&mut line, name, done)?;
     Ok(line)
 }
 

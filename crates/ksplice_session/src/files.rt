@@ -45,9 +45,9 @@ pub(crate) fn files_of(command: &Command) -> Loads<'_>
         | Command::UndoNamed { .. }
         | Command::ListUpdates
         | Command::Watch => no_files(),
-        Command::Apply { pre, post, .. } | Command::Poke { pre, post, .. } => {
-            object_files(pre, post)
-        }
+        Command::Apply { pre, post, .. }
+        | Command::Hooks { pre, post, .. }
+        | Command::Poke { pre, post, .. } => object_files(pre, post),
     }
 }
 

@@ -7,8 +7,8 @@ ghost use Rattle.ksplice_session.specs.Premise.{TellsDiscipline};
 
 use ia32_step::instructions_are_never_stray;
 use update_safety::{
-    accepted_updates_are_clear, threads_keep_windows, undone_updates_are_clear, updates_keep_slots,
-    updates_keep_windows,
+    accepted_updates_are_clear, hooks_keep_threads_safe, threads_keep_windows,
+    undone_updates_are_clear, updates_keep_slots, updates_keep_windows,
 };
 use update_stack::machines_are_built;
 
@@ -23,6 +23,7 @@ pub fn disciplined_runs_are_safe()
     threads_keep_windows();
     updates_keep_windows();
     updates_keep_slots();
+    hooks_keep_threads_safe();
     accepted_updates_are_clear();
     undone_updates_are_clear();
     machines_are_built();

@@ -4,7 +4,7 @@ ghost use Rattle.std.specs.List.{flat_map, range_with_len};
 ghost use Rattle.ksplice_session.specs.Lines.{spawned_line, stepped_line, turns_line};
 ghost use Rattle.ksplice_session.specs.Lines.{thread_line, count_line, threads_lines, peeked, peeked_at, peek_line};
 ghost use Rattle.ksplice_session.specs.Lines.{replaced_line, added_line, dropped_line, applied_line, applied_lines};
-ghost use Rattle.ksplice_session.specs.Lines.{marked_lines, tailed_line, sealed_line};
+ghost use Rattle.ksplice_session.specs.Lines.{hook_line, hooked_lines, marked_lines, tailed_line, sealed_line};
 ghost use Rattle.ksplice_session.specs.Lines.{undone_line, update_line, updates_line, list_lines};
 ghost use Rattle.frame_watch.specs.declared.types.Verdict.TheVariants.{Broken};
 ghost use Rattle.ksplice_session.specs.Lines.{rule_text, verdict_text, watch_line};
@@ -13,7 +13,7 @@ use crate::places::{put_place, put_state};
 use frame_watch::{Rule, Verdict};
 use ia32_step::Thread;
 use image_memory::{Kind, Space};
-use ks_base::{Added, Line, Name, Replaced, Report};
+use ks_base::{Added, HookReport, HookRun, Line, Name, Replaced, Report};
 use std::alloc::AllocError;
 use symbol_table::SymbolTable;
 use update_stack::Update;
@@ -250,6 +250,36 @@ pub fn put_applied(
     put_each_replaced(line, report.replaced.as_slice())?;
     put_each_added(line, report.added.as_slice())?;
     put_each_dropped(line, report.dropped.as_slice())
+}
+
+#[tactic(auto, unfolding(crate::specs::Lines::hook_line))]
+fn put_hook(line: &mut Line, run: &HookRun) -> Result<(), AllocError>
+    ensures { OnOk result (line.new ≡ line.old ++ hook_line run.now) }
+{
+    line.put_text(" hook ")?;
+    line.put_name(&run.function)?;
+    line.put_text(" steps ")?;
+    line.put_number(u64::from(run.steps))?;
+    line.put_text("\n")
+}
+
+fn put_each_hook(line: &mut Line, runs: &[HookRun]) -> Result<(), AllocError>
+    ensures { OnOk result (line.new ≡ line.old ++ flat_map hook_line runs.now) }
+{
+    for run in runs {
+        put_hook(line, run)?;
+    }
+    Ok(())
+}
+
+/// An update was made at the first try, as [`put_applied`] has it; then a line for each function that was run: `hook` with
+/// its name, and how many steps it made.
+#[tactic(auto, unfolding(crate::specs::Lines::hooked_lines))]
+pub fn put_hooked(line: &mut Line, name: &Name, done: &HookReport) -> Result<(), AllocError>
+    ensures { OnOk result (line.new ≡ line.old ++ hooked_lines name.now done.now) }
+{
+    put_applied(line, name, 1, &done.report)?;
+    put_each_hook(line, done.hooks.as_slice())
 }
 
 /// The first write of an update was made: `marked` and its name; then a line for each function that it replaced, as

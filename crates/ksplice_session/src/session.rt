@@ -9,7 +9,7 @@ ghost use Rattle.splice_jump.specs.declared.phase.Phase.TheVariants.{Done};
 ghost use Rattle.update_stack.specs.AbstractMachine.{shown_update};
 ghost use Rattle.update_stack.specs.Phases.{phased, IsOpenAt, StandsIn};
 ghost use Rattle.update_stack.specs.Stacked.{IsBuilt};
-ghost use Rattle.update_stack.specs.Events.{Apply, Applied, Spawn, Spawned, Undo, UndoNamed, Undone};
+ghost use Rattle.update_stack.specs.Events.{Apply, Applied, Hooks, Hooked, Spawn, Spawned, Undo, UndoNamed, Undone};
 ghost use Rattle.update_stack.specs.Events.{happened, answered};
 ghost use Rattle.live_poke.specs.Poke.{marked, newest_name, open_refusal, sealed, tailed};
 ghost use Rattle.ksplice_session.specs.Watching.{first_watched, watched_after};
@@ -17,12 +17,13 @@ ghost use Rattle.ksplice_session.specs.Replies.{live_of};
 ghost use Rattle.ksplice_session.specs.Answers.{MadeFront, turned};
 
 use crate::memory::all_pieces;
+use apply_hooks::apply_with_hooks;
 use frame_watch::{Verdict, Watch};
 use ia32_step::{State, Thread};
 use image_file::{Image, image_keeps_rules};
 use image_memory::pieces_stay_placed;
 use image_threads::Machine;
-use ks_base::{Name, Refusal, Report};
+use ks_base::{HookReport, Name, Refusal, Report};
 use live_poke::LiveSystem;
 use paged_memory::PagedSpace;
 use splice_jump::{
@@ -31,7 +32,7 @@ use splice_jump::{
 use std::alloc::{AllocError, Global};
 use std::marker::Model;
 use symbol_table::SymbolTable;
-use update_safety::updates_keep_slots;
+use update_safety::{hooks_keep_threads_safe, updates_keep_slots};
 use update_stack::{System, Update};
 
 /// The program of a system. It stands for the machine that the system is seen as, in its phase, and a home that is open
@@ -62,7 +63,8 @@ impl Model for Session {
 
     ghost view = { λ s. record { machine = s.live.machine; phase = s.live.phase; watch = s.watch } };
 
-    // In every phase the threads that the watch has run, and each of their frames keeps the slot rule.
+    // In every phase the threads that the watch has run, and each of their frames keeps the slot rule; and the machine has
+    // no scratch piece.
     ghost invariant = { λ s. IsInStep s.live.machine s.watch };
 }
 
@@ -165,6 +167,39 @@ impl Session {
         let _machine = program(&self.live);
         self.watch.note_update();
         Ok(report)
+    }
+
+    /// Replaces functions of the program and runs those that the new object lists, and answers what the update did and
+    /// which functions were run. No update is being written. The watch looks at each open frame then.
+    pub(crate) fn apply_with_hooks(
+        &mut self,
+        alloc: Global,
+        name: &Name,
+        pre: &[u8],
+        post: &[u8],
+    ) -> Result<HookReport, Refusal>
+        requires done { self.old.phase ≡ Done }
+        ensures answered { MatchResult result
+            (λ done. answered self.old.machine (Hooks name.now pre.now post.now)
+            ≡ Ok (happened self.new.machine (Hooked done)))
+            (λ refusal. refusal ≢ Memory → answered self.old.machine (Hooks name.now pre.now post.now) ≡ Err refusal) }
+        ensures noted { OnOk result (self.new ≡ watched_after self.old (Hooks name.now pre.now post.now)) }
+        ensures refused { OnErr result (self.new ≡ self.old) }
+    {
+        // No thread changes, and jumps, whole or not, don't matter for what is seen of a machine.
+        hooks_keep_threads_safe();
+        jumps_leave_views();
+        jumps_change_their_bytes_alone();
+        homes_are_not_looked_at();
+        homes_stay_spliced();
+        let _threads = program(&self.live).threads();
+        let Some(system) = self.live.system_mut() else {
+            unreachable!()
+        };
+        let done = apply_with_hooks(alloc, system, name, pre, post)?;
+        let machine = program(&self.live);
+        self.watch.note_hooks(machine.threads(), machine.space());
+        Ok(done)
     }
 
     /// Makes an update of one function, and the first of its writes, as the system does, and answers what it did. The

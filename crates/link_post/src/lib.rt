@@ -23,7 +23,7 @@ pub use crate::laws::{
     needed_targets_have_addresses, places_are_lowest, places_keep_the_order, places_lie_apart,
     values_are_found,
 };
-pub use crate::linking::{linked, needs, put_word};
+pub use crate::linking::{linked, needs, put_word, target_address};
 pub use crate::lookups::{in_order, solved_as, value_in};
 pub use crate::placing::{ascend, place};
 pub use crate::resolving::{add_address, resolve_post};

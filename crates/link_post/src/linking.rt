@@ -87,6 +87,27 @@ pub fn needs(
     })
 }
 
+/// The address of what a reference of `post` goes to, `S`, as [`linked`] fills it in from the same places and values; 0
+/// where it has neither. `Err` comes only if memory runs out.
+pub fn target_address(
+    alloc: Global,
+    post: &Normal<'_>,
+    placement: &Placement,
+    values: &Values,
+    reference: &Ref<'_>,
+) -> Result<u32, AllocError>
+    requires { AreInOrder post.now placement.now }
+    ensures { IfOk result
+        (λ address. address ≡ address_of post.now placement.now values.now.entries reference.now) }
+{
+    let linking = Linking {
+        post,
+        placement: placement.as_slice(),
+        values,
+    };
+    linking.address_of(alloc, reference)
+}
+
 /// What the fields of new sections are filled from.
 #[derive(Drop)]
 struct Linking<'a, 'b> {

@@ -21,7 +21,7 @@ use Rattle.update_stack.specs.Phases.{Phased, phased, home_replaced, ReplacedOne
 use Rattle.update_stack.specs.PhaseSteps.{PhasesLeaveViews}
 use Rattle.update_stack.specs.Stacked.{IsBuilt}
 use Rattle.update_stack.specs.Steps.{after_start, spawned, moved_by, moved}
-use Rattle.update_stack.specs.Events.{Event, Spawn, Step, Apply, Undo, UndoNamed, Happened, spawn_answered}
+use Rattle.update_stack.specs.Events.{Event, Spawn, Step, Apply, Hooks, Undo, UndoNamed, Happened, spawn_answered}
 use Rattle.update_stack.specs.Events.{step_answered, answered, after_events}
 use Rattle.update_stack.specs.TakenBack.{MachinesAreBuilt}
 use Rattle.live_poke.specs.Poke.{poke_open, marked, tailed_from, sealed_from, OpensOne, MarksOneHome}
@@ -91,6 +91,8 @@ by_event live (Spawn name argument) opened =
 by_event live (Step thread) opened = by_thread live thread (running_at live.machine.threads thread) opened
 by_event live (Apply name pre post) opened =
     by_closed live (Apply name pre post) (open_home live.phase) refl opened
+by_event live (Hooks name pre post) opened =
+    by_closed live (Hooks name pre post) (open_home live.phase) refl opened
 by_event live Undo opened = by_closed live Undo (open_home live.phase) refl opened
 by_event live (UndoNamed name) opened = by_closed live (UndoNamed name) (open_home live.phase) refl opened
 

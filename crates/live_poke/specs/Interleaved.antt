@@ -15,7 +15,7 @@ use Rattle.update_stack.specs.AbstractMachine.{AbstractMachine, first_machine}
 use Rattle.update_stack.specs.Apply.{retired_of}
 use Rattle.update_stack.specs.Phases.{Phased, phased, patched_in}
 use Rattle.update_stack.specs.Stacked.{IsBuilt}
-use Rattle.update_stack.specs.Events.{Event, Spawn, Step, Apply, Undo, UndoNamed, answered, after_events}
+use Rattle.update_stack.specs.Events.{Event, Spawn, Step, Apply, Hooks, Undo, UndoNamed, answered, after_events}
 use Rattle.live_poke.specs.Poke.{open_refusal, marked, tailed, sealed, OpensOne}
 
 -- an event of the machine, or one of the three writes of an update
@@ -30,6 +30,7 @@ abbrev pub whole_refusal : Phased → Event → Option Refusal
 whole_refusal live (Spawn name argument) = None
 whole_refusal live (Step thread) = None
 whole_refusal live (Apply name pre post) = open_refusal live
+whole_refusal live (Hooks name pre post) = open_refusal live
 whole_refusal live Undo = open_refusal live
 whole_refusal live (UndoNamed name) = open_refusal live
 

@@ -1,5 +1,5 @@
 //! Whether two objects differ in one function alone.
-ghost use Rattle.std.specs.Prelude.{◌≡◌, ◌≢◌, not, true, false, MatchResult};
+ghost use Rattle.std.specs.Prelude.{◌≡◌, ◌≢◌, not, MatchResult};
 ghost use Rattle.std.specs.Result.{result_err};
 ghost use Rattle.ks_base.specs.Gives.{Gives};
 ghost use Rattle.ks_base.specs.declared.refusals.Refusal.TheVariants.{Memory, NotOneChanged};
@@ -30,18 +30,11 @@ pub(crate) fn check_one_changed(alloc: Global, pre: &[u8], post: &[u8]) -> Resul
 fn check_memory(refusal: Refusal) -> Result<(), Refusal>
     ensures { MatchResult result (λ _. refusal ≢ Memory) (λ other. other ≡ Memory) }
 {
-    if is_memory(&refusal) {
+    if refusal.is_memory() {
         return Err(refusal);
     }
     drop(refusal);
     Ok(())
-}
-
-fn is_memory(refusal: &Refusal) -> bool
-    ensures memory { result ≡ true → refusal.now ≡ Memory }
-    ensures other { result ≡ false → refusal.now ≢ Memory }
-{
-    matches!(refusal, Refusal::Memory)
 }
 
 /// Whether what differs is one changed function alone.

@@ -13,8 +13,8 @@ use Rattle.script_lines.specs.Lines.{words_of, is_plain, lines_of, IsPrintable}
 use Rattle.script_lines.specs.Numbers.{when, number_of}
 use Rattle.script_lines.specs.Forms.{◌>>=◌, number_within, only, two, three, first_three, alone, spawn_of}
 use Rattle.script_lines.specs.Forms.{step_of, round_robin_of, peek_of, are_tries_words, tries_of}
-use Rattle.script_lines.specs.Forms.{tries_or_one, apply_of, poke_of, undo_of, update_command_of, command_of}
-use Rattle.script_lines.specs.Forms.{is_comment, asked_by, asked_in}
+use Rattle.script_lines.specs.Forms.{tries_or_one, apply_of, hooks_of, poke_of, undo_of, update_command_of}
+use Rattle.script_lines.specs.Forms.{command_of, is_comment, asked_by, asked_in}
 use Rattle.script_lines.specs.Script.{commands_of, lines_before_bad, script_of}
 use Rattle.script_lines.specs.Allowed.{IsAllowed}
 use Rattle.script_lines.proofs.Words.{Each, words_printable}
@@ -126,6 +126,9 @@ all_printable (first ∷ second ∷ []) each = tt
 all_printable (first ∷ second ∷ third ∷ []) each = (each.0, each.1.0, each.1.1.0)
 all_printable (first ∷ second ∷ third ∷ more ∷ rest) each = tt
 
+hooks_allowed : (words : List (List ℕ)) → Each IsPrintable words → IfSome (hooks_of words) IsAllowed
+hooks_allowed words each = made _ IsAllowed (three words) _ (all_printable words each) (λ given printable. printable)
+
 poke_allowed : (words : List (List ℕ)) → Each IsPrintable words → IfSome (poke_of words) IsAllowed
 poke_allowed words each = made _ IsAllowed (three words) _ (all_printable words each) (λ given printable. printable)
 
@@ -138,11 +141,12 @@ update_allowed : (word : List ℕ) (words : List (List ℕ)) → Each IsPrintabl
     → IfSome (update_command_of word words) IsAllowed
 update_allowed word words each =
     chosen IsAllowed (bytes_eq word (codes "apply")) _ _ (apply_allowed words each)
+    (chosen IsAllowed (bytes_eq word (codes "hooks")) _ _ (hooks_allowed words each)
     (chosen IsAllowed (bytes_eq word (codes "poke")) _ _ (poke_allowed words each)
     (chosen IsAllowed (bytes_eq word (codes "tail")) _ _ (alone_allowed Tail words tt)
     (chosen IsAllowed (bytes_eq word (codes "seal")) _ _ (alone_allowed Seal words tt)
     (chosen IsAllowed (bytes_eq word (codes "undo")) _ _ (undo_allowed words each)
-    (chosen IsAllowed (bytes_eq word (codes "list")) _ _ (alone_allowed ListUpdates words tt) tt)))))
+    (chosen IsAllowed (bytes_eq word (codes "list")) _ _ (alone_allowed ListUpdates words tt) tt))))))
 
 command_allowed : (word : List ℕ) (words : List (List ℕ)) → Each IsPrintable words
     → IfSome (command_of word words) IsAllowed

@@ -2,7 +2,7 @@
 ghost use Rattle.std.specs.Prelude.{◌≡◌, IfOk, option_map, bytes_eq};
 ghost use Rattle.script_lines.specs.Lines.{words_of};
 ghost use Rattle.script_lines.specs.Forms.{only, two, three, first_three, alone, spawn_of, step_of};
-ghost use Rattle.script_lines.specs.Forms.{round_robin_of, peek_of, tries_of, tries_or_one, apply_of, poke_of, undo_of};
+ghost use Rattle.script_lines.specs.Forms.{round_robin_of, peek_of, tries_of, tries_or_one, apply_of, hooks_of, poke_of, undo_of};
 ghost use Rattle.script_lines.specs.Forms.{update_command_of, command_of, is_comment, asked_in};
 
 use crate::lines::{first_word, is_plain};
@@ -81,6 +81,9 @@ fn update_command_of(alloc: Global, word: &[u8], text: &[u8]) -> Result<Option<C
 {
     if is(word, b"apply") {
         return apply_of(alloc, text);
+    }
+    if is(word, b"hooks") {
+        return hooks_of(alloc, text);
     }
     if is(word, b"poke") {
         return poke_of(alloc, text);
@@ -185,17 +188,37 @@ fn apply_of(alloc: Global, text: &[u8]) -> Result<Option<Command>, AllocError>
     }))
 }
 
+/// `hooks NAME PRE POST`
+fn hooks_of(alloc: Global, text: &[u8]) -> Result<Option<Command>, AllocError>
+    ensures { IfOk result (λ command. command ≡ hooks_of (words_of text.now)) }
+{
+    let Some((name, pre, post)) = three_names(alloc, text)? else {
+        return Ok(None);
+    };
+    Ok(Some(Command::Hooks { name, pre, post }))
+}
+
 /// `poke NAME PRE POST`
 fn poke_of(alloc: Global, text: &[u8]) -> Result<Option<Command>, AllocError>
     ensures { IfOk result (λ command. command ≡ poke_of (words_of text.now)) }
 {
-    let Some((name, pre, post)) = three(text) else {
+    let Some((name, pre, post)) = three_names(alloc, text)? else {
         return Ok(None);
     };
-    let name = Name::from_slice(alloc, name)?;
-    let pre = Name::from_slice(alloc, pre)?;
-    let post = Name::from_slice(alloc, post)?;
     Ok(Some(Command::Poke { name, pre, post }))
+}
+
+/// The three words, as names, of a text that has no more and no fewer.
+fn three_names(alloc: Global, text: &[u8]) -> Result<Option<(Name, Name, Name)>, AllocError>
+    ensures { IfOk result (λ names. names ≡ three (words_of text.now)) }
+{
+    let Some((first, second, third)) = three(text) else {
+        return Ok(None);
+    };
+    let first = Name::from_slice(alloc, first)?;
+    let second = Name::from_slice(alloc, second)?;
+    let third = Name::from_slice(alloc, third)?;
+    Ok(Some((first, second, third)))
 }
 
 /// `undo`, or `undo NAME`

@@ -47,6 +47,15 @@ pub enum Command {
         /// How many instructions the threads run in turn between two tries; with `tries` at most 16,777,216 in all.
         gap: u32,
     },
+    /// Replace functions of the program, and run the functions that the new object lists.
+    Hooks {
+        /// The update's name.
+        name: Name,
+        /// The file of the object built before the change.
+        pre: Name,
+        /// The file of the object built after it.
+        post: Name,
+    },
     /// Replace one function of the program in separate writes, and make the first of them.
     Poke {
         /// The update's name.

@@ -20,7 +20,8 @@ list
 watch
 poke fix old.o new.o
 tail
-seal";
+seal
+hooks fix old.o new.o";
 
 /// The numbers of a command, of `apply` with its tries and its gap.
 fn numbers_of(command: &Command) -> (u32, u32, u32) {
@@ -38,10 +39,11 @@ fn numbers_of(command: &Command) -> (u32, u32, u32) {
         Command::Poke { .. } => (11, 0, 0),
         Command::Tail => (12, 0, 0),
         Command::Seal => (13, 0, 0),
+        Command::Hooks { .. } => (14, 0, 0),
     }
 }
 
-const NUMBERS: [(u32, u32, u32); 14] = [
+const NUMBERS: [(u32, u32, u32); 15] = [
     (1, 16, 0),
     (4, 0, 0),
     (3, 2, 100),
@@ -56,6 +58,7 @@ const NUMBERS: [(u32, u32, u32); 14] = [
     (11, 0, 0),
     (12, 0, 0),
     (13, 0, 0),
+    (14, 0, 0),
 ];
 
 fn is_name(name: &Name, text: &str) -> bool {
@@ -72,6 +75,7 @@ fn has_names(command: &Command, others: (&str, &str)) -> bool {
             post,
             ..
         }
+        | Command::Hooks { name, pre, post }
         | Command::Poke { name, pre, post } => is_name(name, "fix")
             && is_name(pre, others.0)
             && is_name(post, others.1),
@@ -107,6 +111,7 @@ fn lines_of_a_script(rt: HostRuntime) -> Result<(), Fail> {
     assert!(rt; bad_line(rt.alloc(), "threads\n\n\r\n# \t\n") == Some(3));
     assert!(rt; bad_line(rt.alloc(), "undo u1\nundo u1 u2\n") == Some(2));
     assert!(rt; bad_line(rt.alloc(), "poke u1 a b\npoke u1 a b tries 1 gap 0\n") == Some(2));
+    assert!(rt; bad_line(rt.alloc(), "hooks u1 a b\nhooks u1 a\n") == Some(2));
     assert!(rt; bad_line(rt.alloc(), "seal\ntail u1\n") == Some(2));
     Ok(())
 }

@@ -22,7 +22,7 @@ use Rattle.link_post.specs.declared.types.Placed.{Placed}
 use Rattle.link_post.specs.Values.{ValueList, resolved}
 use Rattle.link_post.specs.Places.{placed}
 use Rattle.link_post.specs.Needs.{needs}
-use Rattle.hook_list.specs.Listed.{hook_section_name}
+use Rattle.update_plan.specs.Hooks.{hooks_of}
 use Rattle.update_retired.specs.declared.types.OldFunction.{OldFunction}
 use Rattle.update_retired.specs.Room.{HaveOneShape, room}
 use Rattle.update_retired.specs.Retired.{guarded, takes_jump}
@@ -55,8 +55,9 @@ bind_same (Ok x) f g same = same x refl
 bind_same (Err e) f g same = refl
 
 -- a plan by what it asks of the running program
-abbrev plan_by : (ℕ → Bool) → List NormalSection → ValueList → List OldFunction → List NewPart → List Placed → Plan
-plan_by is_home post values olds parts placement =
+abbrev plan_by : (ℕ → Bool) → (pre post : List NormalSection) → ValueList → List OldFunction → List NewPart
+    → List Placed → Plan
+plan_by is_home pre post values olds parts placement =
     record {
       report = report_of parts placement olds;
       pieces = new_pieces post parts placement values;
@@ -64,7 +65,7 @@ plan_by is_home post values olds parts placement =
       fences = fences_of olds;
       guarded = guarded is_home olds;
       needs = map (needs post placement values) (names_of parts);
-      listed = needs post placement values hook_section_name;
+      hooks = hooks_of pre post placement values;
     }
 
 abbrev planned_by : List Symbol → Result ValueList Refusal → (List OldFunction → Option Refusal) → (ℕ → Bool)
@@ -75,7 +76,7 @@ planned_by symbols answer refusal is_home gaps pre post = do
   values ← resolved pre post symbols (names_of (parts_of extract post)) found
   olds ← unless (refusal (olds_of extract found pre)) (olds_of extract found pre)
   placement ← placed (map size_of (parts_of extract post)) gaps
-  Ok (plan_by is_home post values olds (parts_of extract post) placement)
+  Ok (plan_by is_home pre post values olds (parts_of extract post) placement)
 
 abbrev refusal_of : Running → List Range → List OldFunction → Option Refusal
 refusal_of running retired olds = code_refusal running.contents running.symbols retired olds

@@ -39,7 +39,7 @@ module _ (running : Running) (retired gaps : List Range) (pre post : List Normal
       (olds_of extract found pre)
 
   abbrev from_olds : List NewPart → ValueList → Result Plan Refusal
-  from_olds parts values = given_olds >>= (λ olds. planned_at running gaps post parts values olds)
+  from_olds parts values = given_olds >>= (λ olds. planned_at running gaps pre post parts values olds)
 
   abbrev from_values : List NewPart → Result Plan Refusal
   from_values parts = given_values parts >>= (λ values. from_olds parts values)
@@ -59,12 +59,12 @@ module _ (running : Running) (retired gaps : List Range) (pre post : List Normal
     pub olds_end : (refusal : Refusal) → given_olds ≡ Err refusal
         → planned_with running retired gaps pre post extract found ≡ Err refusal
     olds_end refusal p =
-        with_values ∙ ends given_olds refusal (λ olds. planned_at running gaps post parts values olds) p
+        with_values ∙ ends given_olds refusal (λ olds. planned_at running gaps pre post parts values olds) p
 
     pub olds_go_on : (olds : List OldFunction) → given_olds ≡ Ok olds
-        → planned_with running retired gaps pre post extract found ≡ planned_at running gaps post parts values olds
+        → planned_with running retired gaps pre post extract found ≡ planned_at running gaps pre post parts values olds
     olds_go_on olds p =
-        with_values ∙ goes_on given_olds olds (λ olds. planned_at running gaps post parts values olds) p
+        with_values ∙ goes_on given_olds olds (λ olds. planned_at running gaps pre post parts values olds) p
 
 -- ---- after the objects
 module _ (running : Running) (retired gaps : List Range) (pre post : List NormalSection) where

@@ -171,7 +171,7 @@ module _ (running : Running) (retired gaps : List Range) (pre_file post_file : L
       let apart_olds = lies told law in
       let old_is = each_old told in
       let listed = place_role it.extract it.post it.placement in
-      let here : CanBeMade running.contents (plan_of running it.post it.values olds parts it.placement) = record {
+      let here : CanBeMade running.contents (plan_of running it.pre it.post it.values olds parts it.placement) = record {
         placeable = placeable running.contents gaps parts it.placement pieces are_gaps are;
         apart = apart running.contents gaps parts it.placement pieces are_gaps are;
         alone = alone running.contents gaps parts it.placement pieces are_gaps are;

@@ -33,16 +33,16 @@ unless_ok (Some refusal) x y is = absurd cc
 
 -- the steps of a plan, the last first
 module _ (running : Running) (retired gaps : List Range) (post_file : List ℕ) where
-  abbrev from_olds : List NormalSection → Extract → ValueList → List OldFunction → Result Plan Refusal
-  from_olds post extract values olds =
+  abbrev from_olds : (pre post : List NormalSection) → Extract → ValueList → List OldFunction → Result Plan Refusal
+  from_olds pre post extract values olds =
       placed (map size_of (parts_of extract post)) gaps
-      >>= (λ placement. Ok (plan_of running post values olds (parts_of extract post) placement))
+      >>= (λ placement. Ok (plan_of running pre post values olds (parts_of extract post) placement))
 
   abbrev from_values : List NormalSection → List NormalSection → Extract → ValueList → ValueList → Result Plan Refusal
   from_values pre post extract found values =
       unless (code_refusal running.contents running.symbols retired (olds_of extract found pre))
       (olds_of extract found pre)
-      >>= (λ olds. from_olds post extract values olds)
+      >>= (λ olds. from_olds pre post extract values olds)
 
   abbrev from_found : List NormalSection → List NormalSection → Extract → ValueList → Result Plan Refusal
   from_found pre post extract found =
@@ -74,15 +74,15 @@ pub record IsPlanned (running : Running) (retired gaps : List Range) (pre_file p
   pub values_is : resolved pre post running.symbols (names_of (parts_of extract post)) found ≡ Ok values
   pub clear : code_refusal running.contents running.symbols retired (olds_of extract found pre) ≡ None
   pub placement_is : placed (map size_of (parts_of extract post)) gaps ≡ Ok placement
-  pub plan_is : plan_of running post values (olds_of extract found pre) (parts_of extract post) placement ≡ plan
+  pub plan_is : plan_of running pre post values (olds_of extract found pre) (parts_of extract post) placement ≡ plan
 
-plan_from : (running : Running) (post : List NormalSection) (extract : Extract) (values : ValueList)
+plan_from : (running : Running) (pre post : List NormalSection) (extract : Extract) (values : ValueList)
     (olds others : List OldFunction) (placement : List Placed) (plan : Plan) → olds ≡ others →
-    unless None (plan_of running post values others (parts_of extract post) placement) ≡ Ok plan →
-    plan_of running post values olds (parts_of extract post) placement ≡ plan
-plan_from running post extract values olds others placement plan same is =
-    ap (λ (os : List OldFunction). plan_of running post values os (parts_of extract post) placement) same
-    ∙ (unless_ok None (plan_of running post values others (parts_of extract post) placement) plan is).1
+    unless None (plan_of running pre post values others (parts_of extract post) placement) ≡ Ok plan →
+    plan_of running pre post values olds (parts_of extract post) placement ≡ plan
+plan_from running pre post extract values olds others placement plan same is =
+    ap (λ (os : List OldFunction). plan_of running pre post values os (parts_of extract post) placement) same
+    ∙ (unless_ok None (plan_of running pre post values others (parts_of extract post) placement) plan is).1
 
 pub is_planned : (running : Running) (retired gaps : List Range) (pre_file post_file : List ℕ) (plan : Plan) →
     planned running retired gaps pre_file post_file ≡ Ok plan →
@@ -102,11 +102,11 @@ is_planned running retired gaps pre_file post_file plan is =
     let (olds, olds_is, at_places) = bind_ok
     (unless (code_refusal running.contents running.symbols retired (olds_of extract found pre))
     (olds_of extract found pre))
-    (from_olds running retired gaps post_file post extract values) plan at_olds in
+    (from_olds running retired gaps post_file pre post extract values) plan at_olds in
     let clear = unless_ok (code_refusal running.contents running.symbols retired (olds_of extract found pre))
     (olds_of extract found pre) olds olds_is in
     let (placement, placement_is, last) = bind_ok (placed (map size_of (parts_of extract post)) gaps)
-    (λ placement. Ok (plan_of running post values olds (parts_of extract post) placement)) plan at_places in
+    (λ placement. Ok (plan_of running pre post values olds (parts_of extract post) placement)) plan at_places in
     record {
       pre = pre;
       post = post;
@@ -121,7 +121,7 @@ is_planned running retired gaps pre_file post_file plan is =
       values_is = values_is;
       clear = clear.0;
       placement_is = placement_is;
-      plan_is = plan_from running post extract values (olds_of extract found pre) olds placement plan clear.1 last;
+      plan_is = plan_from running pre post extract values (olds_of extract found pre) olds placement plan clear.1 last;
     }
 
 -- ---- the lists of an extract

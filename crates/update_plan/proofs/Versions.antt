@@ -69,7 +69,7 @@ module _ (running : Running) (retired gaps : List Range) (pre_file post_file : L
 
   replaces_newest : BodiesAreTold → IsValid running.contents → (one : Replaced) →
       Has (filter_map (replaced_of olds) at_all) one →
-      ReplacesNewest running.bodies (plan_of running it.post it.values olds parts it.placement) one
+      ReplacesNewest running.bodies (plan_of running it.pre it.post it.values olds parts it.placement) one
   replaces_newest told valid one has =
       let (x, in_places, made) = kept_has (replaced_of olds) at_all one has in
       let r = is_replacing olds x one made in
@@ -92,8 +92,8 @@ all_replace_newest told running retired gaps pre_file post_file plan valid is =
     let it = is_planned running retired gaps pre_file post_file plan is in
     let all = olds_of it.extract it.found it.pre in
     let placing = parts_of it.extract it.post in
-    let here : AllReplaceNewest running.bodies (plan_of running it.post it.values all placing it.placement) =
-    all_of (ReplacesNewest running.bodies (plan_of running it.post it.values all placing it.placement))
+    let here : AllReplaceNewest running.bodies (plan_of running it.pre it.post it.values all placing it.placement) =
+    all_of (ReplacesNewest running.bodies (plan_of running it.pre it.post it.values all placing it.placement))
     (filter_map (replaced_of all) (at_places placing it.placement))
     (replaces_newest running retired gaps pre_file post_file plan it told valid) in
     subst (AllReplaceNewest running.bodies) it.plan_is here

@@ -17,7 +17,6 @@ use Rattle.link_post.specs.declared.types.Placed.{Placed}
 use Rattle.link_post.specs.Values.{ValueList, resolved}
 use Rattle.link_post.specs.Places.{placed}
 use Rattle.link_post.specs.Needs.{needs}
-use Rattle.hook_list.specs.Listed.{hook_section_name}
 use Rattle.update_retired.specs.declared.types.OldFunction.{OldFunction}
 use Rattle.update_retired.specs.Retired.{is_retired, retired_range, takes_jump, guarded}
 use Rattle.update_retired.specs.Overlaps.{code_refusal}
@@ -26,6 +25,7 @@ use Rattle.update_pieces.specs.Pieces.{new_pieces}
 use Rattle.update_pieces.specs.NewSymbols.{new_symbols}
 use Rattle.update_pieces.specs.Reports.{report_of}
 use Rattle.update_plan.specs.declared.types.Plan.{Plan}
+use Rattle.update_plan.specs.Hooks.{hooks_of}
 use Rattle.update_plan.specs.Olds.{olds_of}
 use Rattle.update_plan.specs.Placing.{parts_of, names_of}
 
@@ -46,8 +46,9 @@ abbrev pub fences_of : List OldFunction → List Fence
 fences_of olds = map fence_of (filter (λ old. is_retired old.fate) olds)
 
 -- the plan of new sections at their places, and of the functions of the old object
-abbrev pub plan_of : Running → List NormalSection → ValueList → List OldFunction → List NewPart → List Placed → Plan
-plan_of running post values olds parts placement =
+abbrev pub plan_of : Running → (pre post : List NormalSection) → ValueList → List OldFunction → List NewPart
+    → List Placed → Plan
+plan_of running pre post values olds parts placement =
     record {
       report = report_of parts placement olds;
       pieces = new_pieces post parts placement values;
@@ -55,7 +56,7 @@ plan_of running post values olds parts placement =
       fences = fences_of olds;
       guarded = guarded (spliced_at running.contents.fences) olds;
       needs = map (needs post placement values) (names_of parts);
-      listed = needs post placement values hook_section_name;
+      hooks = hooks_of pre post placement values;
     }
 
 -- The first refusal, in this order: what is wrong with the old object's file, then with the new one's; what can't be
@@ -72,4 +73,4 @@ planned running retired gaps pre_file post_file = do
   olds ← unless
       (code_refusal running.contents running.symbols retired (olds_of extract found pre)) (olds_of extract found pre)
   placement ← placed (map size_of (parts_of extract post)) gaps
-  Ok (plan_of running post values olds (parts_of extract post) placement)
+  Ok (plan_of running pre post values olds (parts_of extract post) placement)

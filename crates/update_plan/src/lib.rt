@@ -2,6 +2,7 @@
 #![tactic(auto)]
 
 mod fates;
+mod hooks;
 mod laws;
 mod olds;
 mod parts;
@@ -15,4 +16,4 @@ pub use crate::laws::{
     single_changes_are_reported,
 };
 pub use planning::plan;
-pub use types::{AllNeeds, Fences, Plan};
+pub use types::{AllNeeds, Fences, Hook, Hooks, Plan};

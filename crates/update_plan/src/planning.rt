@@ -6,7 +6,6 @@ ghost use Rattle.image_memory.specs.Contents.{spliced_at};
 ghost use Rattle.symbol_table.specs.declared.symbols.Symbol.{Symbol};
 ghost use Rattle.splice_jump.specs.Jumps.{AreSpliced};
 ghost use Rattle.extract_post.specs.Extracted.{extracted};
-ghost use Rattle.hook_list.specs.Listed.{hook_section_name};
 ghost use Rattle.symbol_solve.specs.Solve.{solved};
 ghost use Rattle.link_post.specs.Linked.{AreInOrder, AreNamesInOrder};
 ghost use Rattle.link_post.specs.Needs.{needs};
@@ -22,16 +21,16 @@ ghost use Rattle.update_plan.specs.Placing.{names_of};
 ghost use Rattle.update_plan.specs.Plan.{fences_of, plan_of, planned, unless};
 ghost use Rattle.update_plan.specs.inside.Rests.{planned_at, planned_between, planned_with};
 
+use crate::hooks::hooks_of;
 use crate::laws::matched_bodies_are_in_use;
 use crate::olds::olds_of;
 use crate::parts::{names_of, parts_of};
 use crate::types::{AllNeeds, Fences, Plan};
 use extract_post::{Extract, extract, extract_is_computed};
-use hook_list::HOOK_SECTION_NAME;
 use i386_reloc::{Normal, read_sections};
 use image_memory::{Fence, Pieces, Space};
 use ks_base::{Name, Ranges, Refusal};
-use link_post::{Needs, Placement, needs, place, places_keep_the_order, resolve_post};
+use link_post::{Placement, needs, place, places_keep_the_order, resolve_post};
 use std::alloc::{AllocError, Global};
 use symbol_solve::{answers_tell_each_body, solve};
 use symbol_table::{Bodies, SymbolTable, Values};
@@ -153,7 +152,7 @@ fn plan_with<S: Space>(
     plan_at(
         alloc,
         program,
-        objects.post,
+        objects,
         parts.as_slice(),
         &values,
         olds.as_slice(),
@@ -165,20 +164,28 @@ fn plan_with<S: Space>(
 fn plan_at<S: Space>(
     alloc: Global,
     program: &Program<'_, S>,
-    post: &Normal<'_>,
+    objects: &Objects<'_, '_>,
     parts: &[Part<'_, '_>],
     values: &Values,
     olds: &[OldFunction],
 ) -> Result<Plan, Refusal>
     requires gaps { Ascends (λ range. range) 0 program.now.gaps.now }
-    requires order { AreNamesInOrder post.now (names_of parts.now) }
+    requires order { AreNamesInOrder objects.now.post.now (names_of parts.now) }
     requires bodies { AreBodies olds.now }
     ensures { (symbols : List Symbol) (bodies : List (ℕ × ℕ)) → Gives (λ plan. plan) result (planned_at
         (record { contents = S.contents program.now.space.now; symbols = symbols; bodies = bodies })
-        program.now.gaps.now post.now parts.now values.now.entries olds.now) }
+        program.now.gaps.now objects.now.pre.now objects.now.post.now parts.now values.now.entries olds.now) }
 {
-    let placement = places_of(alloc, post, parts, program.gaps)?;
-    Ok(plan_of(alloc, program.space, post, values, olds, parts, &placement)?)
+    let placement = places_of(alloc, objects.post, parts, program.gaps)?;
+    Ok(plan_of(
+        alloc,
+        program.space,
+        objects,
+        values,
+        olds,
+        parts,
+        &placement,
+    )?)
 }
 
 /// The values with those that the references of the sections to place need besides.
@@ -260,23 +267,24 @@ fn places_of(
 fn plan_of<S: Space>(
     alloc: Global,
     space: &S,
-    post: &Normal<'_>,
+    objects: &Objects<'_, '_>,
     values: &Values,
     olds: &[OldFunction],
     parts: &[Part<'_, '_>],
     placement: &Placement,
 ) -> Result<Plan, AllocError>
     requires bodies { AreBodies olds.now }
-    requires order { AreInOrder post.now placement.now }
+    requires order { AreInOrder objects.now.post.now placement.now }
     ensures { IfOk result (λ plan. (symbols : List Symbol) (bodies : List (ℕ × ℕ)) → plan ≡ plan_of
         (record { contents = S.contents space.now; symbols = symbols; bodies = bodies })
-        post.now values.now.entries olds.now parts.now placement.now) }
+        objects.now.pre.now objects.now.post.now values.now.entries olds.now parts.now placement.now) }
 {
+    let post = objects.post;
     let report = report_of(alloc, parts, placement, olds)?;
     let (pieces, symbols) = additions_of(alloc, post, values, parts, placement)?;
     let (fences, guarded) = ranges_of(alloc, space, olds)?;
     let needs = needs_of(alloc, post, values, parts, placement)?;
-    let listed = listed_of(alloc, post, values, placement)?;
+    let hooks = hooks_of(alloc, objects.pre, post, placement, values)?;
     Ok(Plan {
         report,
         pieces,
@@ -284,7 +292,7 @@ fn plan_of<S: Space>(
         fences,
         guarded,
         needs,
-        listed,
+        hooks,
     })
 }
 
@@ -306,21 +314,6 @@ fn needs_of(
         all.push(needs(alloc, post, &name, placement, values)?)?;
     }
     Ok(all)
-}
-
-/// Where the references of the object's list of functions go.
-fn listed_of(
-    alloc: Global,
-    post: &Normal<'_>,
-    values: &Values,
-    placement: &Placement,
-) -> Result<Needs, AllocError>
-    requires { AreInOrder post.now placement.now }
-    ensures { IfOk result
-        (λ listed. listed ≡ needs post.now placement.now values.now.entries hook_section_name) }
-{
-    let name = Name::from_slice(alloc, HOOK_SECTION_NAME)?;
-    needs(alloc, post, &name, placement, values)
 }
 
 /// The pieces and the symbols that new sections at their places come to.

@@ -1,6 +1,6 @@
 //! What an update would do.
 use image_memory::{Fence, Pieces};
-use ks_base::{ListOf, Ranges, Report};
+use ks_base::{ListOf, Name, Ranges, Report};
 use link_post::Needs;
 use update_pieces::NewSymbols;
 
@@ -9,6 +9,18 @@ pub type Fences = ListOf<Fence>;
 
 /// What the fields of new sections need, section by section.
 pub type AllNeeds = ListOf<Needs>;
+
+/// A function to be run at an update.
+#[derive(Drop)]
+pub struct Hook {
+    /// Its name, as the object built before the change has it if it has the function, and else the one built after it.
+    pub function: Name,
+    /// Where a run of it starts: at its home if the old object has it, and else where it is placed.
+    pub address: u32,
+}
+
+/// Functions to be run, in order.
+pub type Hooks = ListOf<Hook>;
 
 /// What an update would do to a running program.
 #[derive(Drop)]
@@ -26,6 +38,6 @@ pub struct Plan {
     pub guarded: Ranges,
     /// What the fields of its new sections need, in the order of the new object.
     pub needs: AllNeeds,
-    /// Where the references of the new object's list of functions go, those that are to be run at the update.
-    pub listed: Needs,
+    /// The functions that the new object lists to be run at the update; none where it has no such list, or a broken one.
+    pub hooks: Hooks,
 }

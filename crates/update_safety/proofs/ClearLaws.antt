@@ -35,7 +35,7 @@ use Rattle.symbol_solve.specs.Candidates.{Running as Program}
 use Rattle.update_plan.specs.declared.types.Plan.{Plan}
 use Rattle.update_plan.specs.Plan.{planned, unless}
 use Rattle.update_stack.specs.AbstractMachine.{AbstractMachine, Update}
-use Rattle.update_stack.specs.Apply.{name_refusal, running_of, retired_of, gaps_of, planned_in, applied, committed}
+use Rattle.update_stack.specs.Apply.{name_refusal, running_of, retired_of, gaps_of, planned_in, accepted, applied, committed}
 use Rattle.update_stack.specs.Apply.{update_as}
 use Rattle.update_stack.specs.Undo.{ranges_in}
 use Rattle.update_stack.specs.Events.{apply_answered, answered}
@@ -203,7 +203,7 @@ module _ (k : AbstractMachine) (name pre post : List ℕ) where
       }
 
 pub accepted_clear : RetiredIsGuarded → AcceptedIsClear
-unfolding answered applied
+unfolding answered accepted applied
 accepted_clear law k name pre post now number thread frames is runs keeps =
     by_plan (planned_in k name pre post) refl is
   where
@@ -219,7 +219,7 @@ accepted_clear law k name pre post now number thread frames is runs keeps =
         (made_clear k name pre post law plan number thread frames planned none runs keeps)
 
     by_plan : (r : Result Plan Refusal) → planned_in k name pre post ≡ r
-        → apply_answered (r >>= λ (plan : Plan). unless (thread_refusal k.pieces plan.guarded k.threads) plan
+        → apply_answered ((r >>= λ (plan : Plan). unless (thread_refusal k.pieces plan.guarded k.threads) plan)
         >>= λ (clear : Plan).
         let r : Result (AbstractMachine × Report) Refusal = Ok (committed k name clear, clear.report) in r) ≡ Ok now
         → IsOutside (newest_retired now.machine) thread frames

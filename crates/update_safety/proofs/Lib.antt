@@ -1,5 +1,6 @@
 pub mod ClearLaws
 pub mod FetchLaws
+pub mod HookedLaws
 pub mod LiveLaws
 pub mod SlotLaws
 pub mod TakenLaws

@@ -29,7 +29,7 @@ use Rattle.stack_scan.specs.Standing.{thread_refusal}
 use Rattle.update_plan.specs.declared.types.Plan.{Plan}
 use Rattle.update_plan.specs.Plan.{unless}
 use Rattle.update_stack.specs.AbstractMachine.{AbstractMachine, Update}
-use Rattle.update_stack.specs.Apply.{planned_in, applied, committed, with_new_piece}
+use Rattle.update_stack.specs.Apply.{planned_in, accepted, applied, committed, with_new_piece}
 use Rattle.update_stack.specs.Undo.{withdrawn}
 use Rattle.update_stack.specs.Stacked.{IsBuilt}
 use Rattle.update_stack.specs.Events.{Apply, Happened, apply_answered, answered}
@@ -181,7 +181,7 @@ withdrawn_threads k update = record { threads = refl; stacks = refl }
 accepted_is : (k : AbstractMachine) (name pre post : List ℕ) (now : Happened)
     → answered k (Apply name pre post) ≡ Ok now
     → (plan : Plan) × (committed k name plan ≡ now.machine)
-unfolding answered applied
+unfolding answered accepted applied
 accepted_is k name pre post now is = by_plan (planned_in k name pre post) is
   where
     by_threads : (plan : Plan) (o : Option Refusal)
@@ -192,7 +192,7 @@ accepted_is k name pre post now is = by_plan (planned_in k name pre post) is
     by_threads plan None is = (plan, cc)
 
     by_plan : (r : Result Plan Refusal)
-        → apply_answered (r >>= λ (plan : Plan). unless (thread_refusal k.pieces plan.guarded k.threads) plan
+        → apply_answered ((r >>= λ (plan : Plan). unless (thread_refusal k.pieces plan.guarded k.threads) plan)
         >>= λ (clear : Plan).
         let r : Result (AbstractMachine × Report) Refusal = Ok (committed k name clear, clear.report) in r) ≡ Ok now
         → (plan : Plan) × (committed k name plan ≡ now.machine)

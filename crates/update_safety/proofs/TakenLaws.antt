@@ -16,8 +16,8 @@ use Rattle.update_stack.specs.AbstractMachine.{AbstractMachine, Update}
 use Rattle.update_stack.specs.Apply.{has_name}
 use Rattle.update_stack.specs.Undo.{without_last, withdrawn, ranges_in, newest_update, named, cover_refusal}
 use Rattle.update_stack.specs.Undo.{need_refusal, withdrawal_refusal, taken_back, undone_by, undone, undone_named}
-use Rattle.update_stack.specs.Events.{Event, Spawn, Step, Apply, Undo, UndoNamed, Happened, undo_answered, answered}
-use Rattle.update_stack.specs.Events.{update_taken}
+use Rattle.update_stack.specs.Events.{Event, Spawn, Step, Apply, Hooks, Undo, UndoNamed, Happened, undo_answered}
+use Rattle.update_stack.specs.Events.{answered, update_taken}
 use Rattle.update_stack.specs.Stacked.{IsBuilt}
 use Rattle.update_stack.specs.Uncovered.{IsUncovered}
 use Rattle.update_stack.specs.laws.StackedLaws.{built_newest}
@@ -56,6 +56,7 @@ unfolding answered undone undone_named
 was_taken k (Spawn name argument) update now takes is = absurd (cc)
 was_taken k (Step thread) update now takes is = absurd (cc)
 was_taken k (Apply name pre post) update now takes is = absurd (cc)
+was_taken k (Hooks name pre post) update now takes is = absurd (cc)
 was_taken k Undo update now takes is =
     accepted k update now
     (ap (λ (o : Option Update). undo_answered (undone_by k NothingApplied o)) (sym takes) ∙ is)
@@ -90,6 +91,7 @@ taken_named : (k : AbstractMachine) (event : Event) (update : Update) → IsBuil
 taken_named k (Spawn name argument) update built takes = absurd (cc)
 taken_named k (Step thread) update built takes = absurd (cc)
 taken_named k (Apply name pre post) update built takes = absurd (cc)
+taken_named k (Hooks name pre post) update built takes = absurd (cc)
 taken_named k Undo update built takes = newest_named k update takes (built_newest k update built takes).top.name
 taken_named k (UndoNamed name) update built takes =
     let same : update.name ≡ name =

@@ -28,7 +28,7 @@ use Rattle.update_plan.specs.Plan.{unless}
 use Rattle.update_plan.specs.Sound.{is_replaced_at, BeginsAt, CanBeMade}
 use Rattle.update_stack.specs.AbstractMachine.{AbstractMachine, Update, is_home, view_in, fence_in, contents_of}
 use Rattle.update_stack.specs.Steps.{step_in, moved_by, moved, after_start, spawned}
-use Rattle.update_stack.specs.Apply.{planned_in, applied, committed}
+use Rattle.update_stack.specs.Apply.{planned_in, accepted, applied, committed}
 use Rattle.update_stack.specs.Apply.{update_as}
 use Rattle.update_stack.specs.Undo.{withdrawn, ranges_in, newest_update}
 use Rattle.update_stack.specs.Events.{Happened, spawn_answered, step_answered}
@@ -68,10 +68,10 @@ pub record UpdateLaws : Type 0 where
   pub code : CodeStays
 
 -- Where text is where it was, windows are.
-abbrev SameText : (old new : List Piece) → Type 0
+abbrev pub SameText : (old new : List Piece) → Type 0
 SameText old new = (address : ℕ) → text_at new address ≡ text_at old address
 
-same_windows : (k : AbstractMachine) (pieces : List Piece) (threads : List Thread) → SameText k.pieces pieces
+pub same_windows : (k : AbstractMachine) (pieces : List Piece) (threads : List Thread) → SameText k.pieces pieces
     → SameWindows k (record k { pieces = pieces; threads = threads })
 same_windows k pieces threads same address =
     let now : AbstractMachine = record k { pieces = pieces; threads = threads } in
@@ -191,7 +191,7 @@ KeepsBut k result = KeepsWindows (newest_retired (machine_after k result)) k (ma
 
 apply_windows : UpdateLaws → (k : AbstractMachine) (name pre post : List ℕ) → IsBuilt k
     → KeepsBut k (apply_answered (applied k name pre post))
-unfolding applied
+unfolding accepted applied
 apply_windows laws k name pre post built = by_plan (planned_in k name pre post) refl
   where
     by_threads : (plan : Plan) (o : Option Refusal) → CanBeMade (contents_of k) plan
@@ -201,8 +201,8 @@ apply_windows laws k name pre post built = by_plan (planned_in k name pre post) 
     by_threads plan None can = update_windows k name plan laws.code built can
 
     by_plan : (r : Result Plan Refusal) → planned_in k name pre post ≡ r
-        → KeepsBut k (apply_answered (r >>= λ (plan : Plan).
-        unless (thread_refusal k.pieces plan.guarded k.threads) plan >>= λ (clear : Plan).
+        → KeepsBut k (apply_answered ((r >>= λ (plan : Plan).
+        unless (thread_refusal k.pieces plan.guarded k.threads) plan) >>= λ (clear : Plan).
         let r : Result (AbstractMachine × Report) Refusal = Ok (committed k name clear, clear.report) in r))
     by_plan (Err refusal) is = λ address out was. was
     by_plan (Ok plan) is =

@@ -11,7 +11,8 @@ use Rattle.image_threads.specs.Program.{running_at}
 use Rattle.stack_scan.specs.Standing.{in_one}
 use Rattle.update_stack.specs.AbstractMachine.{AbstractMachine, Update}
 use Rattle.update_stack.specs.Undo.{ranges_in, newest_update}
-use Rattle.update_stack.specs.Events.{Event, Apply, Happened, answered, update_taken}
+use Rattle.update_stack.specs.Stacked.{IsBuilt}
+use Rattle.update_stack.specs.Events.{Event, Apply, Hooks, Happened, answered, update_taken}
 
 -- the ranges that the newest update retired
 abbrev pub newest_retired : AbstractMachine → List Range
@@ -33,6 +34,13 @@ AcceptedIsClear =
     (k : AbstractMachine) (name pre post : List ℕ) (now : Happened) (number : ℕ) (thread : Thread) (frames : List Frame)
     → answered k (Apply name pre post) ≡ Ok now → running_at k.threads number ≡ Some thread → KeepSlots k thread frames
     → IsOutside (newest_retired now.machine) thread frames
+
+-- And so where functions were run at it: they run once the threads were looked at, and move none of these.
+abbrev pub HookedIsClear : Type 0
+HookedIsClear =
+    (k : AbstractMachine) (name pre post : List ℕ) (now : Happened) (number : ℕ) (thread : Thread) (frames : List Frame)
+    → IsBuilt k → answered k (Hooks name pre post) ≡ Ok now → running_at k.threads number ≡ Some thread
+    → KeepSlots k thread frames → IsOutside (newest_retired now.machine) thread frames
 
 -- Where an update is taken back, it is outside the pieces that are then removed.
 abbrev pub TakenBackIsClear : Type 0

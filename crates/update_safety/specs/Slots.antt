@@ -6,7 +6,7 @@ use Rattle.ia32_step.specs.declared.types.Frame.{Frame}
 use Rattle.ia32_step.specs.Frames.{keeps_slot}
 use Rattle.update_stack.specs.AbstractMachine.{AbstractMachine, Update}
 use Rattle.update_stack.specs.Stacked.{IsBuilt}
-use Rattle.update_stack.specs.Events.{Event, Apply, Happened, answered, update_taken}
+use Rattle.update_stack.specs.Events.{Event, Apply, Hooks, Happened, answered, update_taken}
 
 -- the slots in a machine's stacks keep what they hold
 abbrev pub KeepsSlots : (old new : AbstractMachine) → Type 0
@@ -35,6 +35,12 @@ abbrev pub UpdatesKeepThreads : Type 0
 UpdatesKeepThreads =
     (k : AbstractMachine) (name pre post : List ℕ) (now : Happened)
     → answered k (Apply name pre post) ≡ Ok now → SameThreads k now.machine
+
+-- An update at which functions were run changes no thread and no stack either, but may have written any slot.
+abbrev pub HooksKeepThreads : Type 0
+HooksKeepThreads =
+    (k : AbstractMachine) (name pre post : List ℕ) (now : Happened) → IsBuilt k
+    → answered k (Hooks name pre post) ≡ Ok now → SameThreads k now.machine
 
 abbrev pub UndosKeepThreads : Type 0
 UndosKeepThreads =

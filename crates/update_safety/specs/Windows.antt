@@ -8,7 +8,7 @@ use Rattle.ia32_step.specs.Step.{fetched_count}
 use Rattle.update_stack.specs.AbstractMachine.{AbstractMachine, Update, view_in, contents_of}
 use Rattle.update_stack.specs.Stacked.{IsBuilt}
 use Rattle.update_stack.specs.Undo.{ranges_in}
-use Rattle.update_stack.specs.Events.{Event, Spawn, Step, Apply, Happened, answered, update_taken}
+use Rattle.update_stack.specs.Events.{Event, Spawn, Step, Apply, Hooks, Happened, answered, update_taken}
 use Rattle.update_safety.specs.Clear.{newest_retired}
 
 abbrev pub window_in : AbstractMachine → ℕ → Bool
@@ -33,12 +33,17 @@ abbrev pub StepsKeepWindows : Type 0
 StepsKeepWindows =
     (k : AbstractMachine) (thread : ℕ) (now : Happened) → answered k (Step thread) ≡ Ok now → SameWindows k now.machine
 
--- An update that is accepted takes windows away in the ranges that it retires alone, and one that is taken back in its
--- pieces alone.
+-- An update that is accepted takes windows away in the ranges that it retires alone, whether functions were run at it or
+-- not, and one that is taken back in its pieces alone.
 abbrev pub UpdatesKeepWindows : Type 0
 UpdatesKeepWindows =
     (k : AbstractMachine) (name pre post : List ℕ) (now : Happened) → IsBuilt k
     → answered k (Apply name pre post) ≡ Ok now → KeepsWindows (newest_retired now.machine) k now.machine
+
+abbrev pub HooksKeepWindows : Type 0
+HooksKeepWindows =
+    (k : AbstractMachine) (name pre post : List ℕ) (now : Happened) → IsBuilt k
+    → answered k (Hooks name pre post) ≡ Ok now → KeepsWindows (newest_retired now.machine) k now.machine
 
 abbrev pub UndosKeepWindows : Type 0
 UndosKeepWindows =

@@ -1,11 +1,13 @@
 //! What is clear of threads and their frames where code goes, and which windows and slots stay.
-ghost use Rattle.update_safety.specs.Clear.{AcceptedIsClear, TakenBackIsClear};
-ghost use Rattle.update_safety.specs.Slots.{UpdatesKeepSlots, UndosKeepSlots, UpdatesKeepThreads, UndosKeepThreads};
+ghost use Rattle.update_safety.specs.Clear.{AcceptedIsClear, HookedIsClear, TakenBackIsClear};
+ghost use Rattle.update_safety.specs.Slots.{UpdatesKeepSlots, UndosKeepSlots};
+ghost use Rattle.update_safety.specs.Slots.{UpdatesKeepThreads, HooksKeepThreads, UndosKeepThreads};
 ghost use Rattle.update_safety.specs.Windows.{StartsKeepWindows, StepsKeepWindows};
-ghost use Rattle.update_safety.specs.Windows.{UpdatesKeepWindows, UndosKeepWindows, FetchedHaveWindows};
+ghost use Rattle.update_safety.specs.Windows.{UpdatesKeepWindows, HooksKeepWindows, UndosKeepWindows, FetchedHaveWindows};
 
+use saved_data::{data_alone_differ, saved_data_come_back};
 use update_plan::retired_code_is_guarded;
-use update_stack::{uncovered_updates_can_go, updates_can_be_made};
+use update_stack::{hooks_are_updates, uncovered_updates_can_go, updates_can_be_made};
 
 /// Where an update is accepted, no running thread, and no frame of it that keeps the slot rule, is in the code that is
 /// retired.
@@ -53,3 +55,21 @@ pub fn updates_keep_slots()
     ensures updated_threads { UpdatesKeepThreads }
     ensures undone_threads { UndosKeepThreads }
 {}
+
+/// Where an update is accepted at which functions are run, no running thread, and no frame of it that keeps the slot rule,
+/// is in the code that is retired; windows go in the ranges alone that it retires; and no thread and no stack changes. Any
+/// slot of a stack may have been written.
+pub fn hooks_keep_threads_safe()
+    ensures clear { HookedIsClear }
+    ensures windows { HooksKeepWindows }
+    ensures threads { HooksKeepThreads }
+{
+    // Nothing is done here: the laws say that the update is one as any other, what is known of those, and that bytes of
+    // data alone differ then.
+    hooks_are_updates();
+    accepted_updates_are_clear();
+    updates_keep_windows();
+    updates_keep_slots();
+    data_alone_differ();
+    saved_data_come_back();
+}

@@ -14,7 +14,7 @@ use Rattle.update_plan.specs.declared.types.Plan.{Plan}
 use Rattle.update_plan.specs.Plan.{planned}
 use Rattle.update_stack.specs.AbstractMachine.{AbstractMachine}
 use Rattle.update_stack.specs.Apply.{has_name, name_refusal, running_of, retired_of, gaps_of, planned_in, committed}
-use Rattle.update_stack.specs.Apply.{applied}
+use Rattle.update_stack.specs.Apply.{accepted, applied}
 use Rattle.update_stack.specs.Events.{Apply, Applied, happened, answered}
 
 module _ (k : AbstractMachine) (name pre post : List ℕ) where
@@ -44,20 +44,25 @@ module _ (k : AbstractMachine) (name pre post : List ℕ) where
   -- what the plan refuses, and what the threads refuse
   pub plan_refused : (refusal : Refusal) → planned_in k name pre post ≡ Err refusal
       → answered k (Apply name pre post) ≡ Err refusal
-  unfolding answered applied
+  unfolding answered accepted applied
   plan_refused refusal is = rw is refl
 
   pub thread_refused : (plan : Plan) (refusal : Refusal) → planned_in k name pre post ≡ Ok plan
       → thread_refusal k.pieces plan.guarded k.threads ≡ Some refusal
       → answered k (Apply name pre post) ≡ Err refusal
-  unfolding answered applied
+  unfolding answered accepted applied
   thread_refused plan refusal is stands = rw is (rw stands refl)
 
   -- and what comes of a plan otherwise
+  pub plan_accepted : (plan : Plan) → planned_in k name pre post ≡ Ok plan
+      → thread_refusal k.pieces plan.guarded k.threads ≡ None → accepted k name pre post ≡ Ok plan
+  unfolding accepted
+  plan_accepted plan is clear = rw is (rw clear refl)
+
   pub plan_made : (plan : Plan) → planned_in k name pre post ≡ Ok plan
       → thread_refusal k.pieces plan.guarded k.threads ≡ None
       → answered k (Apply name pre post) ≡ Ok (happened (committed k name plan) (Applied plan.report))
-  unfolding answered applied
+  unfolding answered accepted applied
   plan_made plan is clear = rw is (rw clear refl)
 
 -- what a call returned, by what is given

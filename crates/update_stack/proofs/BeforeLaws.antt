@@ -1,11 +1,12 @@
 -- What was before the live updates of a machine: writes of data, new updates, and updates that are taken back leave it
 -- so.
 use Rattle.std.proofs.Common.{◌≡◌, ℕ, zero, suc, ◌+◌, ◌<◌, true, false, List, [], ◌∷◌, ◌++◌, drop, map, length, get_or}
-use Rattle.std.proofs.Common.{slice_get, Some, None, refl, sym, ◌∙◌, ap, arith, subst, append_assoc, inl, inr}
+use Rattle.std.proofs.Common.{slice_get, Option, Some, None, refl, sym, ◌∙◌, ap, arith, subst, append_assoc, inl, inr}
 use Rattle.std.specs.List.{last_or, list_any}
 use Rattle.std.proofs.lemmas.List.{append-nil, map-append}
 use Rattle.std.proofs.Math.ListN.{length-append}
 use Rattle.std.proofs.Math.Seq.{take-append_seam, drop-append-add}
+use Rattle.ks_base.specs.declared.places.Range.{Range}
 use Rattle.ks_base.specs.declared.reports.Replaced.{Replaced}
 use Rattle.image_memory.specs.declared.types.Piece.{Piece}
 use Rattle.image_memory.specs.Access.{bytes_at, first_fault, write_fault, written}
@@ -89,6 +90,21 @@ before_count _ _ (OneBefore befores older before k update newest parts was rest)
     let sum = length-append (without_last 1 k.updates) (update ∷ []) in
     let noted_sum = length-append older (before ∷ []) in
     omega (arith, fewer, left, all, noted, sum, noted_sum)
+
+-- ---- a scratch piece has no say
+before_bare_at : (scratch : Option Range) (k : AbstractMachine) (update : Update) (before : Before) → WasBefore k update before
+    → WasBefore (record k { scratch = scratch }) update before
+unfolding withdrawn lasting patched
+before_bare_at scratch k update before was = record { whole = was.whole; homes = was.homes }
+
+pub before_bare : (scratch : Option Range) (befores : List Before) (k : AbstractMachine) → WereBefore befores k
+    → WereBefore befores (record k { scratch = scratch })
+unfolding withdrawn
+before_bare scratch _ _ (NoneBefore befores k none nothing) =
+    NoneBefore befores (record k { scratch = scratch }) none nothing
+before_bare scratch _ _ (OneBefore befores older before k update newest parts was rest) =
+    OneBefore befores older before (record k { scratch = scratch }) update newest parts
+    (before_bare_at scratch k update before was) (before_bare scratch older (withdrawn k update) rest)
 
 -- ---- a write of data
 table_wrote : (k : AbstractMachine) (update : Update) (start : ℕ) (bytes : List ℕ) (threads : List Thread)

@@ -20,6 +20,7 @@ pub mod FirstLaws
 pub mod FreshLaws
 pub mod GapLaws
 pub mod HoldsLaws
+pub mod HooksLaws
 pub mod KeptLaws
 pub mod LastingLaws
 pub mod LastLaws

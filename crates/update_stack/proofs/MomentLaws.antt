@@ -1,6 +1,6 @@
 -- What holds of the machine after each event, and so after any list of events from the start of an image.
 use Rattle.std.proofs.Common.{◌≡◌, ℕ, ◌≤◌, ◌<◌, Bool, true, false, if◌then◌else◌, nat_lt, List, [], ◌∷◌, map, length}
-use Rattle.std.proofs.Common.{Option, Some, None, Result, Ok, Err, arith, refl}
+use Rattle.std.proofs.Common.{Option, Some, None, Result, Ok, Err, arith, refl, sym, ap, subst}
 use Rattle.std.specs.List.{All, fold, list_any}
 use Rattle.std.proofs.lemmas.List.Elements.{All-cons}
 use Rattle.std.proofs.lemmas.Bool.Decides.{nat_tests}
@@ -8,6 +8,7 @@ use Rattle.ks_base.specs.declared.places.Range.{Range}
 use Rattle.ks_base.specs.declared.refusals.Refusal.{Refusal}
 use Rattle.ks_base.specs.declared.refusals.Refusal.TheVariants.{NothingApplied, NoUpdate}
 use Rattle.ks_base.specs.declared.reports.Report.{Report}
+use Rattle.ks_base.specs.declared.reports.HookReport.{HookReport}
 use Rattle.image_file.specs.Fields.{◌>>=◌}
 use Rattle.image_file.specs.Reading.{Contents as Image, image_of}
 use Rattle.image_memory.specs.Ranges.{Ascends}
@@ -21,13 +22,17 @@ use Rattle.update_plan.specs.declared.types.Plan.{Plan}
 use Rattle.update_plan.specs.Plan.{unless}
 use Rattle.update_plan.specs.Sound.{AllReplaceNewest, AreGaps, CanBeMade}
 use Rattle.update_stack.specs.AbstractMachine.{AbstractMachine, Update, bodies_in, contents_of, first_machine}
-use Rattle.update_stack.specs.Apply.{running_of, retired_of, gaps_of, planned_in, applied, committed, has_name}
+use Rattle.update_stack.specs.Apply.{running_of, retired_of, gaps_of, planned_in, accepted, applied, committed, has_name}
+use Rattle.update_stack.specs.Aside.{DiffersAside}
+use Rattle.update_stack.specs.Hooks.{hooked}
+use Rattle.update_stack.specs.Hooked.{HooksAreUpdates}
 use Rattle.update_stack.specs.Undo.{withdrawn, named, newest_update, undone, undone_named}
-use Rattle.update_stack.specs.Events.{Event, Spawn, Step, Apply, Undo, UndoNamed, Happened, Applied, happened}
-use Rattle.update_stack.specs.Events.{apply_answered, answered, machine_after, after_event, after_events}
+use Rattle.update_stack.specs.Events.{Event, Spawn, Step, Apply, Hooks, Undo, UndoNamed, Happened, Applied, Hooked}
+use Rattle.update_stack.specs.Events.{happened, apply_answered, hooks_answered, answered, machine_after, after_event, after_events}
 use Rattle.update_stack.specs.TakenBack.{MachinesAreBuilt}
 use Rattle.update_stack.specs.Stacked.{IsSound, IsBuilt}
 use Rattle.update_stack.specs.Uncovered.{IsUncovered, UncoveredCanGo}
+use Rattle.update_stack.specs.laws.DataLaws.{DataLaws, data_moved, differs_back}
 use Rattle.update_stack.specs.laws.StackedLaws.{built_sound}
 use Rattle.update_stack.proofs.BuiltLaws.{MemoryLaws, built_write, built_commit, wrote, fences_listed}
 use Rattle.update_stack.proofs.PlaceLaws.{name_is_new}
@@ -40,12 +45,15 @@ abbrev pub GapsAreFree : Type 0
 GapsAreFree = (contents : Contents) (free : List Range) → IsValid contents → Ascends (λ range. range) 0 free
     → All (λ gap. gap.high ≤ 0xFFFF_0000) free → AreGaps contents (fold without free (map piece_range contents.pieces))
 
--- the laws of memory, of plans, of gaps, and of an update that is taken out from among others
+-- the laws of memory, of plans, of gaps, of an update that is taken out from among others, and of one at which functions
+-- were run
 pub record EventLaws : Type 0 where
   pub memory : MemoryLaws
   pub plans : SoundPlans
   pub free : GapsAreFree
   pub goes : UncoveredCanGo
+  pub hooked : HooksAreUpdates
+  pub data_alone : DataLaws
 
 -- what holds after each event
 pub record IsMoment (k : AbstractMachine) : Type 0 where
@@ -90,7 +98,7 @@ module _ (plans : SoundPlans) (free : GapsAreFree) (k : AbstractMachine) (built 
     → Q (Ok (happened (committed k name plan) (Applied plan.report)))) where
   -- so it is of every update that is asked for
   pub applied_leaves : (name pre post : List ℕ) → Q (apply_answered (applied k name pre post))
-  unfolding applied
+  unfolding accepted applied
   applied_leaves name pre post = by_plan (planned_in k name pre post) refl
     where
       by_threads : (plan : Plan) (o : Option Refusal) → planned_in k name pre post ≡ Ok plan
@@ -102,11 +110,45 @@ module _ (plans : SoundPlans) (free : GapsAreFree) (k : AbstractMachine) (built 
           (planned_replaces plans.replace k name pre post plan built is)
 
       by_plan : (r : Result Plan Refusal) → planned_in k name pre post ≡ r
-          → Q (apply_answered (r >>= λ (plan : Plan). unless (thread_refusal k.pieces plan.guarded k.threads) plan
+          → Q (apply_answered ((r >>= λ (plan : Plan). unless (thread_refusal k.pieces plan.guarded k.threads) plan)
           >>= λ (clear : Plan).
           let r : Result (AbstractMachine × Report) Refusal = Ok (committed k name clear, clear.report) in r))
       by_plan (Err refusal) is = refused refusal
       by_plan (Ok plan) is = by_threads plan (thread_refusal k.pieces plan.guarded k.threads) is
+
+-- What functions leave that were run at an update: what is so of the machine that the update makes, whichever scratch piece
+-- it has, and after each write that has no fault, if it was so before it.
+module _ (laws : EventLaws) (k : AbstractMachine) (built : IsBuilt k) (P : AbstractMachine → Type 0)
+    (bare : (m : AbstractMachine) (scratch : Option Range) → P m → P (record m { scratch = scratch }))
+    (writes : (m : AbstractMachine) (start : ℕ) (bytes : List ℕ) → IsBuilt m → P m
+    → first_fault (write_fault m.pieces) start (length bytes) ≡ None → P (wrote start bytes m.threads m)) where
+  pub data_leave : (m now : AbstractMachine) → IsBuilt now → DiffersAside m now → P m → P now
+  data_leave m now after differs is =
+      let back = differs_back m now differs in
+      let built_m : IsBuilt m =
+      data_moved laws.data_alone IsBuilt (λ x start bytes valid was clear. built_write x start bytes x.threads was) now m
+      (built_sound now after).jumps.valid back after in
+      (data_moved laws.data_alone (λ (x : AbstractMachine). IsBuilt x × P x)
+      (λ x start bytes valid was clear.
+      (built_write x start bytes x.threads was.0, writes x start bytes was.0 was.1 clear))
+      m now (built_sound m built_m).jumps.valid differs (built_m, is)).1
+
+  -- What is answered, by what a refusal leaves, and by what is so where it is so of the machine that the update makes.
+  pub hooks_leave : (Q : Result Happened Refusal → Type 0) → ((refusal : Refusal) → Q (Err refusal))
+      → (name pre post : List ℕ)
+      → ((made now : AbstractMachine) (done : HookReport) → applied k name pre post ≡ Ok (made, done.report)
+      → made.updates ≡ now.updates → IsBuilt now → (P made → P now) → Q (Ok (happened now (Hooked done))))
+      → Q (hooks_answered (hooked k name pre post))
+  hooks_leave Q refused name pre post answers = by_result (hooked k name pre post) refl
+    where
+      by_result : (r : Result (AbstractMachine × HookReport) Refusal) → hooked k name pre post ≡ r
+          → Q (hooks_answered r)
+      by_result (Err refusal) is = refused refusal
+      by_result (Ok left) is =
+          let it = laws.hooked k left.0 name pre post left.1 built is in
+          let m : AbstractMachine = record it.made { scratch = left.0.scratch } in
+          answers it.made left.0 left.1 it.is_applied (sym (ap (λ (x : AbstractMachine). x.updates) it.differs.rest))
+          it.built (λ was. data_leave m left.0 it.built it.differs (bare it.made left.0.scratch was))
 
 -- what an event leaves
 module _ (laws : EventLaws) (k : AbstractMachine) (moment : IsMoment k) where
@@ -133,7 +175,12 @@ module _ (laws : EventLaws) (k : AbstractMachine) (moment : IsMoment k) where
   unfolding withdrawn
   withdrawn_moment update is = record { built = laws.goes k update is; stacks = moment.stacks }
 
-  -- and each event does
+  -- an update does
+  update_leaves : (name pre post : List ℕ) → Leaves (apply_answered (applied k name pre post))
+  update_leaves name pre post =
+      applied_leaves laws.plans laws.free k moment.built Leaves (λ refusal. moment) committed_moment name pre post
+
+  -- and each event
   pub event_leaves : (event : Event) → IsMoment (machine_after k (answered k event))
   unfolding answered undone undone_named
   event_leaves (Spawn name argument) =
@@ -142,8 +189,14 @@ module _ (laws : EventLaws) (k : AbstractMachine) (moment : IsMoment k) where
   event_leaves (Step n) =
       moved_leaves k sound moment.stacks IsMoment wrote_clear Leaves (λ refusal. moment) (λ number m is. is)
       (λ outcome m is. is) n
-  event_leaves (Apply name pre post) =
-      applied_leaves laws.plans laws.free k moment.built Leaves (λ refusal. moment) committed_moment name pre post
+  event_leaves (Apply name pre post) = update_leaves name pre post
+  event_leaves (Hooks name pre post) =
+      hooks_leave laws k moment.built (λ (m : AbstractMachine). All IsStackRange m.stacks) (λ m scratch is. is)
+      (λ m start bytes built is clear. is) Leaves (λ refusal. moment) name pre post
+      (λ made now done is updates built stays. record {
+        built = built;
+        stacks = stays (subst Leaves (ap apply_answered is) (update_leaves name pre post)).stacks;
+      })
   event_leaves Undo =
       undone_leaves k moment.built (newest_update k) (newest_live k moment.built) Leaves (λ refusal. moment)
       (λ update takes is. withdrawn_moment update is) NothingApplied

@@ -11,7 +11,6 @@ use Rattle.ks_base.specs.declared.places.Range.{Range}
 use Rattle.ks_base.specs.declared.refusals.Refusal.{Refusal}
 use Rattle.ks_base.specs.declared.reports.Replaced.{Replaced}
 use Rattle.ks_base.specs.declared.reports.Report.{Report}
-use Rattle.image_file.specs.Fields.{◌>>=◌}
 use Rattle.image_file.specs.laws.FieldLaws.{bind_ok, ok_is}
 use Rattle.image_memory.specs.declared.types.Kind.{Kind}
 use Rattle.image_memory.specs.declared.types.Kind.TheVariants.{Code}
@@ -42,7 +41,7 @@ use Rattle.update_stack.specs.AbstractMachine.{AbstractMachine, Row, is_home, bo
 use Rattle.update_stack.specs.AbstractMachine.{with_replaced}
 use Rattle.update_stack.specs.Steps.{step_at, step_in}
 use Rattle.update_stack.specs.Apply.{running_of, retired_of, gaps_of, planned_in}
-use Rattle.update_stack.specs.Apply.{committed, applied}
+use Rattle.update_stack.specs.Apply.{accepted as accepted_plan, committed, applied}
 use Rattle.update_stack.specs.Stacked.{IsSound, IsBuilt}
 use Rattle.update_stack.specs.Reached.{LeadsTo, AreReached}
 use Rattle.update_stack.specs.laws.StackedLaws.{built_sound}
@@ -309,28 +308,26 @@ pub record IsAccepted (k : AbstractMachine) (name pre_file post_file : List ℕ)
 abbrev carried_out : AbstractMachine → List ℕ → Plan → AbstractMachine × Report
 carried_out k name plan = (committed k name plan, plan.report)
 
-abbrev unless_stood_in : AbstractMachine → List ℕ → Plan → Result (AbstractMachine × Report) Refusal
-unless_stood_in k name plan =
-    unless (thread_refusal k.pieces plan.guarded k.threads) plan
-    >>= λ (clear : Plan). let r : Result (AbstractMachine × Report) Refusal = Ok (carried_out k name clear) in r
-
-by_refusal : (k : AbstractMachine) (name : List ℕ) (plan : Plan) (left : AbstractMachine × Report) (o : Option Refusal)
-    → (unless o plan
-    >>= λ (clear : Plan). let r : Result (AbstractMachine × Report) Refusal = Ok (carried_out k name clear) in r)
-    ≡ Ok left → carried_out k name plan ≡ left
-by_refusal k name plan left (Some refusal) is = absurd cc
-by_refusal k name plan left None is = ok_is (carried_out k name plan) left is
+by_refusal : (plan clear : Plan) (o : Option Refusal) → unless o plan ≡ Ok clear → plan ≡ clear
+by_refusal plan clear (Some refusal) is = absurd cc
+by_refusal plan clear None is = ok_is plan clear is
 
 pub accepted : (k : AbstractMachine) (name pre_file post_file : List ℕ) (now : AbstractMachine) (report : Report)
     → applied k name pre_file post_file ≡ Ok (now, report) → IsAccepted k name pre_file post_file now report
-unfolding applied
+unfolding accepted_plan applied
 accepted k name pre_file post_file now report is =
     let left : AbstractMachine × Report = (now, report) in
-    let (plan, plan_is, rest) = bind_ok (planned_in k name pre_file post_file) (unless_stood_in k name) left is in
-    let same = by_refusal k name plan left (thread_refusal k.pieces plan.guarded k.threads) rest in
+    let (clear, clear_is, made) = bind_ok (accepted_plan k name pre_file post_file)
+    (λ (p : Plan). let r : Result (AbstractMachine × Report) Refusal = Ok (carried_out k name p) in r) left is in
+    let (plan, plan_is, rest) = bind_ok (planned_in k name pre_file post_file)
+    (λ (p : Plan). unless (thread_refusal k.pieces p.guarded k.threads) p) clear clear_is in
+    let same = ok_is (carried_out k name clear) left made in
     record {
-      plan = plan;
-      plan_is = plan_is;
+      plan = clear;
+      plan_is =
+          plan_is
+          ∙ ap (λ (p : Plan). let r : Result Plan Refusal = Ok p in r)
+          (by_refusal plan clear (thread_refusal k.pieces plan.guarded k.threads) rest);
       now_is = ap (λ (pair : AbstractMachine × Report). pair.0) same;
       report_is = ap (λ (pair : AbstractMachine × Report). pair.1) same;
     }

@@ -1,7 +1,7 @@
 -- New code stays reached while events leave its home and it alone.
 use Rattle.std.proofs.Common.{◌≡◌, ◌≢◌, ℕ, ◌<◌, ◌==◌, Bool, true, false, not, List, [], ◌∷◌, ◌++◌, map, length, get_or}
 use Rattle.std.proofs.Common.{Option, Some, None, Result, Ok, IfSome, refl, sym, ◌∙◌, ap, subst, arith, ◌⊎◌, inl, inr}
-use Rattle.std.specs.List.{All, Any, Contains, filter, fold, list_any}
+use Rattle.std.specs.List.{All, Any, Contains, filter, fold, last_or, list_any}
 use Rattle.std.proofs.lemmas.Bool.{eq-eqb, eqb-true, eqb-false, false_from_ne_true, false≢true, or_from, or_left}
 use Rattle.std.proofs.lemmas.Bool.{or_parts}
 use Rattle.std.proofs.lemmas.List.{append_assoc}
@@ -13,6 +13,7 @@ use Rattle.ks_base.specs.declared.refusals.Refusal.{Refusal}
 use Rattle.ks_base.specs.declared.refusals.Refusal.TheVariants.{NothingApplied, NoUpdate}
 use Rattle.ks_base.specs.declared.reports.Replaced.{Replaced}
 use Rattle.ks_base.specs.declared.reports.Report.{Report}
+use Rattle.ks_base.specs.declared.reports.HookReport.{HookReport}
 use Rattle.image_memory.specs.declared.types.Piece.{Piece}
 use Rattle.image_memory.specs.declared.types.Fence.{Fence}
 use Rattle.image_memory.specs.Ranges.{lies_in, is_one_of}
@@ -35,13 +36,15 @@ use Rattle.update_stack.specs.AbstractMachine.{AbstractMachine, Update, is_home,
 use Rattle.update_stack.specs.AbstractMachine.{first_machine}
 use Rattle.update_stack.specs.Apply.{running_of, gaps_of, planned_in, with_new_piece, update_as, committed, applied}
 use Rattle.update_stack.specs.Apply.{has_name}
+use Rattle.update_stack.specs.Hooks.{hooked}
 use Rattle.update_stack.specs.Undo.{withdrawn, named, newest_update, undone, undone_named}
-use Rattle.update_stack.specs.Events.{Event, Spawn, Step, Apply, Undo, UndoNamed, Happened, Applied, Undone, happened}
-use Rattle.update_stack.specs.Events.{answered, machine_after, after_event, after_events}
+use Rattle.update_stack.specs.Events.{Event, Spawn, Step, Apply, Hooks, Undo, UndoNamed, Happened, Applied, Undone}
+use Rattle.update_stack.specs.Events.{happened, answered, apply_answered, hooks_answered, machine_after, after_event, after_events}
 use Rattle.update_stack.specs.Stacked.{IsSound, IsBuilt}
 use Rattle.update_stack.specs.Uncovered.{IsUncovered}
 use Rattle.update_stack.specs.Reached.{LeadsTo}
 use Rattle.update_stack.specs.Stays.{IsNewest, LeavesAloneBy, LeavesAlone, LeaveAlone, StayReached, NewCodeStaysReached}
+use Rattle.update_stack.specs.Stays.{HookedCodeStaysReached}
 use Rattle.update_stack.specs.laws.StackedLaws.{built_sound, last_more}
 use Rattle.update_stack.specs.laws.TableLaws.{homes_after}
 use Rattle.update_stack.specs.laws.ViewLaws.{ranges_back}
@@ -59,7 +62,7 @@ use Rattle.update_stack.proofs.TakenLaws.{undone_leaves, newest_live, named_live
 use Rattle.update_stack.proofs.ReachedLaws.{CodeIsBrought, IsAt, accepted, all_false, all_ranges, at_by, at_commit}
 use Rattle.update_stack.proofs.ReachedLaws.{brought, code_in_others, leads_by, other_homes}
 use Rattle.update_stack.proofs.MomentLaws.{EventLaws, IsMoment, StartsWell, can_be_made, applied_leaves}
-use Rattle.update_stack.proofs.MomentLaws.{committed_moment, event_leaves, moments}
+use Rattle.update_stack.proofs.MomentLaws.{hooks_leave, data_leave, committed_moment, event_leaves, moments}
 
 -- a home and the code that it leads to, which a live update brought
 pub record Stays (k : AbstractMachine) (home : ℕ) (piece : Piece) : Type 0 where
@@ -102,6 +105,21 @@ live_same k m home base same live = record {
   replaced = live.replaced;
   brought = live.brought;
   last = live.last;
+}
+
+-- a scratch piece has no say
+stays_bare : (k : AbstractMachine) (scratch : Option Range) (home : ℕ) (piece : Piece) → Stays k home piece
+    → Stays (record k { scratch = scratch }) home piece
+stays_bare k scratch home piece stays = record {
+  live = live_same k (record k { scratch = scratch }) home piece.base refl stays.live;
+  here = record {
+    has_row = stays.here.has_row;
+    newest = stays.here.newest;
+    inner = stays.here.inner;
+    in_use = stays.here.in_use;
+    stands = stays.here.stands;
+    code = stays.here.code;
+  };
 }
 
 stays_wrote : (k : AbstractMachine) (start : ℕ) (bytes : List ℕ) (threads : List Thread) (home : ℕ) (piece : Piece)
@@ -350,7 +368,12 @@ module _ (laws : EventLaws) (k : AbstractMachine) (moment : IsMoment k) (home : 
       stays_withdrawn k update is (laws.goes k update is) home piece stays
       (subst (λ (o : Option Update). IfSome o Other) is.live alone)
 
-  -- each event does
+  -- an update does
+  update_stays : (name pre post : List ℕ) → After (apply_answered (applied k name pre post))
+  update_stays name pre post =
+      applied_leaves laws.plans laws.free k moment.built After (λ refusal alone. stays) made_stays name pre post
+
+  -- and each event
   pub event_stays : (event : Event) → After (answered k event)
   unfolding answered undone undone_named
   event_stays (Spawn name argument) =
@@ -359,8 +382,18 @@ module _ (laws : EventLaws) (k : AbstractMachine) (moment : IsMoment k) (home : 
   event_stays (Step n) =
       moved_leaves k sound moment.stacks (λ (m : AbstractMachine). Stays m home piece) writes After
       (λ refusal alone. stays) (λ number m is alone. is) (λ outcome m is alone. is) n
-  event_stays (Apply name pre post) =
-      applied_leaves laws.plans laws.free k moment.built After (λ refusal alone. stays) made_stays name pre post
+  event_stays (Apply name pre post) = update_stays name pre post
+  event_stays (Hooks name pre post) =
+      let Misses : List Update → Type 0 = λ us. IfSome (last_or None us)
+      (λ (update : Update). list_any (lies_in piece.base) update.retired ≡ false) in
+      hooks_leave laws k moment.built (λ (m : AbstractMachine). Stays m home piece)
+      (λ m scratch is. stays_bare m scratch home piece is)
+      (λ m start bytes built is clear.
+      stays_wrote m start bytes m.threads home piece (built_sound m built) clear is)
+      After (λ refusal alone. stays) name pre post
+      (λ made now done is updates built move alone.
+      move (subst After (ap apply_answered is) (update_stays name pre post)
+      (alone.0, subst Misses (sym updates) alone.1)))
   event_stays Undo =
       undone_leaves k moment.built (newest_update k) (newest_live k moment.built) After (λ refusal alone. stays)
       (λ update takes is. taken_stays update is) NothingApplied
@@ -413,9 +446,10 @@ live_at_first k name plan i d less piece new =
 
 stay_by : EventLaws → CodeIsBrought → GapsAscend → (k : AbstractMachine) → IsMoment k
     → (name pre_file post_file : List ℕ) (plan : Plan) → CanBeMade (contents_of k) plan
-    → AllReplaceNewest (bodies_in k.table) plan → planned_in k name pre_file post_file ≡ Ok plan
-    → StayReached k pre_file post_file (committed k name plan) plan.report
-stay_by laws codes ascend k moment name pre_file post_file plan can replace is =
+    → planned_in k name pre_file post_file ≡ Ok plan → (now : AbstractMachine) → IsMoment now
+    → ((home : ℕ) (piece : Piece) → Stays (committed k name plan) home piece → Stays now home piece)
+    → StayReached k pre_file post_file now plan.report
+stay_by laws codes ascend k moment name pre_file post_file plan can is now after_moment moves =
     let brings = brought codes ascend k name pre_file post_file plan is in
     let steps = brings.steps in
     record {
@@ -428,10 +462,8 @@ stay_by laws codes ascend k moment name pre_file post_file plan can replace is =
             live = live_at_first k name plan i d less piece text.stands;
             here = at_commit laws.memory k name plan moment.built can piece text.stands i d less refl refl;
           } in
-          let later = events_stay laws (committed k name plan) events
-          (committed_moment laws k moment name plan can (name_is_new k name pre_file post_file plan is) replace)
-          one.home piece stays alone in
-          let after = after_events (committed k name plan) events in
+          let later = events_stay laws now events after_moment one.home piece (moves one.home piece stays) alone in
+          let after = after_events now events in
           record {
             code =
                 code_in_others (running_of k) (gaps_of k) pre_file post_file brings.steps plan.pieces after.pieces
@@ -449,10 +481,39 @@ stay_reached laws codes ascend k now moment name pre_file post_file report is =
     let replace = planned_replaces laws.plans.replace k name pre_file post_file it.plan moment.built it.plan_is in
     subst (λ (m : AbstractMachine). StayReached k pre_file post_file m report) it.now_is
     (subst (StayReached k pre_file post_file (committed k name it.plan)) it.report_is
-    (stay_by laws codes ascend k moment name pre_file post_file it.plan can replace it.plan_is))
+    (stay_by laws codes ascend k moment name pre_file post_file it.plan can it.plan_is (committed k name it.plan)
+    (committed_moment laws k moment name it.plan can (name_is_new k name pre_file post_file it.plan it.plan_is) replace)
+    (λ home piece stays. stays)))
+
+hooked_reached : EventLaws → CodeIsBrought → GapsAscend → (k now : AbstractMachine) → IsMoment k
+    → (name pre_file post_file : List ℕ) (done : HookReport) → hooked k name pre_file post_file ≡ Ok (now, done)
+    → StayReached k pre_file post_file now done.report
+unfolding answered
+hooked_reached laws codes ascend k now moment name pre_file post_file done is =
+    let ran = laws.hooked k now name pre_file post_file done moment.built is in
+    let it = accepted k name pre_file post_file ran.made done.report ran.is_applied in
+    let can = can_be_made laws.plans laws.free k moment.built name pre_file post_file it.plan it.plan_is in
+    let bare : AbstractMachine = record ran.made { scratch = now.scratch } in
+    subst (StayReached k pre_file post_file now) it.report_is
+    (stay_by laws codes ascend k moment name pre_file post_file it.plan can it.plan_is now
+    (subst (λ (r : Result Happened Refusal). IsMoment (machine_after k r)) (ap hooks_answered is)
+    (event_leaves laws k moment (Hooks name pre_file post_file)))
+    (λ home piece stays.
+    data_leave laws k moment.built (λ (m : AbstractMachine). Stays m home piece)
+    (λ m scratch was. stays_bare m scratch home piece was)
+    (λ m start bytes built was clear.
+    stays_wrote m start bytes m.threads home piece (built_sound m built) clear was)
+    bare now ran.built ran.differs
+    (stays_bare ran.made now.scratch home piece
+    (subst (λ (m : AbstractMachine). Stays m home piece) it.now_is stays))))
 
 -- so what is replaced goes on being reached, in every list of events
 pub all_stay : EventLaws → CodeIsBrought → GapsAscend → StartsWell → NewCodeStaysReached
 all_stay laws codes ascend starts file image events name pre_file post_file now report read is =
     stay_reached laws codes ascend (after_events (first_machine image) events) now
     (moments laws (first_machine image) events (starts file image read)) name pre_file post_file report is
+
+pub all_hooked_stay : EventLaws → CodeIsBrought → GapsAscend → StartsWell → HookedCodeStaysReached
+all_hooked_stay laws codes ascend starts file image events name pre_file post_file now done read is =
+    hooked_reached laws codes ascend (after_events (first_machine image) events) now
+    (moments laws (first_machine image) events (starts file image read)) name pre_file post_file done is

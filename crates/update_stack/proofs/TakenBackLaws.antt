@@ -1,5 +1,5 @@
 -- What taking an update back restores, after any list of events from the start of an image.
-use Rattle.std.proofs.Common.{◌≡◌, ℕ, List, [], ◌∷◌, length, Option, Result, Ok, refl, sym, ◌∙◌, ap, subst, IsSomeAnd}
+use Rattle.std.proofs.Common.{◌≡◌, ℕ, List, [], ◌∷◌, ◌++◌, length, Option, Result, Ok, refl, sym, ◌∙◌, ap, subst, IsSomeAnd}
 use Rattle.std.proofs.Common.{Some, None, false, slice_get}
 use Rattle.std.specs.List.{All, last_or, list_any}
 use Rattle.ks_base.specs.declared.refusals.Refusal.{Refusal}
@@ -14,11 +14,11 @@ use Rattle.update_plan.specs.Sound.{AllReplaceNewest, CanBeMade}
 use Rattle.update_stack.specs.AbstractMachine.{AbstractMachine, Update, bodies_in, contents_of, jump_rows}
 use Rattle.update_stack.specs.AbstractMachine.{first_machine}
 use Rattle.update_stack.specs.StandsFor.{patched}
-use Rattle.update_stack.specs.Apply.{committed, has_name}
+use Rattle.update_stack.specs.Apply.{applied, committed, has_name}
 use Rattle.update_stack.specs.Undo.{withdrawn, named, newest_update, undone, undone_named, place_of}
-use Rattle.update_stack.specs.Events.{Event, Spawn, Step, Apply, Undo, UndoNamed, Happened, Applied, happened, answered}
-use Rattle.update_stack.specs.Events.{machine_after, after_event, after_events}
-use Rattle.update_stack.specs.TakenBack.{Before, befores_by, befores_along, TakesBack, RestoresAll, TakenBackIsRestored}
+use Rattle.update_stack.specs.Events.{Event, Spawn, Step, Apply, Hooks, Undo, UndoNamed, Happened, Applied, happened}
+use Rattle.update_stack.specs.Events.{answered, apply_answered, machine_after, after_event, after_events}
+use Rattle.update_stack.specs.TakenBack.{Before, before_update, befores_by, befores_along, TakesBack, RestoresAll, TakenBackIsRestored}
 use Rattle.update_stack.specs.TakenBack.{restored_from, HomesAreRestored, lasting}
 use Rattle.update_stack.specs.Stacked.{IsSound}
 use Rattle.update_stack.specs.Uncovered.{IsUncovered, HasOtherHomes}
@@ -35,9 +35,10 @@ use Rattle.update_stack.proofs.StillKeptLaws.{BytesStay}
 use Rattle.update_stack.proofs.StandingLaws.{Stands, spliced_own, jumps_over}
 use Rattle.update_stack.proofs.UndoLaws.{ValidJumped, StaySpliced, TakenBack, DropsPastJumps, stands_from}
 use Rattle.update_stack.proofs.TakenLaws.{undone_leaves, newest_live, named_live, IsTaken, event_takes}
-use Rattle.update_stack.proofs.MomentLaws.{EventLaws, IsMoment, StartsWell, applied_leaves, event_leaves, moments}
-use Rattle.update_stack.proofs.BeforeLaws.{WereBefore, NoneBefore, IsNoted, before_newest, before_wrote, before_made}
-use Rattle.update_stack.proofs.BeforeLaws.{noted_before}
+use Rattle.update_stack.proofs.MomentLaws.{EventLaws, IsMoment, StartsWell, applied_leaves, hooks_leave, event_leaves}
+use Rattle.update_stack.proofs.MomentLaws.{moments}
+use Rattle.update_stack.proofs.BeforeLaws.{WereBefore, NoneBefore, IsNoted, before_bare, before_newest, before_wrote}
+use Rattle.update_stack.proofs.BeforeLaws.{before_made, noted_before}
 
 -- the laws of jumps that are used here
 pub record JumpLaws : Type 0 where
@@ -82,6 +83,10 @@ module _ (laws : BackLaws) (befores : List Before) (k : AbstractMachine) (moment
       noted_before laws.left laws.stay befores k were moment.built update live.earlier live.later live.among
       (later_clear k update live.earlier live.later live.among is.uncovered)
 
+  update_leaves : (name pre post : List ℕ) → Leaves (apply_answered (applied k name pre post))
+  update_leaves name pre post =
+      applied_leaves laws.event.plans laws.event.free k moment.built Leaves (λ refusal. were) made name pre post
+
   before_event : (event : Event)
       → WereBefore (befores_by befores k (answered k event)) (machine_after k (answered k event))
   unfolding answered undone undone_named
@@ -91,8 +96,13 @@ module _ (laws : BackLaws) (befores : List Before) (k : AbstractMachine) (moment
   before_event (Step n) =
       moved_leaves k sound moment.stacks (WereBefore befores) writes Leaves (λ refusal. were) (λ number m is. is)
       (λ outcome m is. is) n
-  before_event (Apply name pre post) =
-      applied_leaves laws.event.plans laws.event.free k moment.built Leaves (λ refusal. were) made name pre post
+  before_event (Apply name pre post) = update_leaves name pre post
+  before_event (Hooks name pre post) =
+      let all = befores ++ before_update k ∷ [] in
+      hooks_leave laws.event k moment.built (WereBefore all) (λ m scratch is. before_bare scratch all m is)
+      (λ m start bytes built is clear. before_wrote laws.left.code all m start bytes m.threads clear built is) Leaves
+      (λ refusal. were) name pre post
+      (λ made now done is updates built stays. stays (subst Leaves (ap apply_answered is) (update_leaves name pre post)))
   before_event Undo =
       undone_leaves k moment.built (newest_update k) (newest_live k moment.built) Leaves (λ refusal. were)
       (λ update takes is. (noted update is).rest) NothingApplied

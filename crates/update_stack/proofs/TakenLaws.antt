@@ -12,7 +12,7 @@ use Rattle.update_stack.specs.AbstractMachine.{AbstractMachine, Update}
 use Rattle.update_stack.specs.Apply.{has_name}
 use Rattle.update_stack.specs.Undo.{without_last, withdrawn, ranges_in, newest_update, named, cover_refusal}
 use Rattle.update_stack.specs.Undo.{need_refusal, taken_back, undone_by, undone, undone_named}
-use Rattle.update_stack.specs.Events.{Event, Spawn, Step, Apply, Undo, UndoNamed, Undone, Happened, happened}
+use Rattle.update_stack.specs.Events.{Event, Spawn, Step, Apply, Hooks, Undo, UndoNamed, Undone, Happened, happened}
 use Rattle.update_stack.specs.Events.{undo_answered, answered, update_taken}
 use Rattle.update_stack.specs.Stacked.{IsBuilt}
 use Rattle.update_stack.specs.Uncovered.{IsUncovered}
@@ -106,3 +106,4 @@ event_takes k built (UndoNamed name) update now takes is =
 event_takes k built (Spawn name argument) update now takes is = absurd (cc)
 event_takes k built (Step n) update now takes is = absurd (cc)
 event_takes k built (Apply name pre post) update now takes is = absurd (cc)
+event_takes k built (Hooks name pre post) update now takes is = absurd (cc)

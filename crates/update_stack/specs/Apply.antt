@@ -77,11 +77,16 @@ committed k name plan = record k {
   updates = k.updates ++ update_as name plan ∷ [];
 }
 
--- The machine after an update of a name from one object file to another, and its report; or the first refusal: that
--- of the name, then the plan's, and then that of the threads.
+-- The plan of an update of a name from one object file to another, or the first refusal: that of the name, then the
+-- plan's, and then that of the threads.
+unfoldable pub accepted : AbstractMachine → (name pre_file post_file : List ℕ) → Result Plan Refusal
+accepted k name pre_file post_file = do
+  plan ← planned_in k name pre_file post_file
+  unless (thread_refusal k.pieces plan.guarded k.threads) plan
+
+-- The machine after that update, and its report.
 unfoldable pub applied : AbstractMachine → (name pre_file post_file : List ℕ)
     → Result (AbstractMachine × Report) Refusal
 applied k name pre_file post_file = do
-  plan ← planned_in k name pre_file post_file
-  clear ← unless (thread_refusal k.pieces plan.guarded k.threads) plan
-  Ok (committed k name clear, clear.report)
+  plan ← accepted k name pre_file post_file
+  Ok (committed k name plan, plan.report)

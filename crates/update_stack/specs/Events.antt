@@ -3,18 +3,22 @@ use Rattle.std.specs.Prelude.{ℕ, List, length, Option, None, Result, Ok, Err}
 use Rattle.std.specs.List.{fold}
 use Rattle.ks_base.specs.declared.refusals.Refusal.{Refusal}
 use Rattle.ks_base.specs.declared.reports.Report.{Report}
+use Rattle.ks_base.specs.declared.reports.HookReport.{HookReport}
 use Rattle.ia32_step.specs.declared.types.Outcome.{Outcome}
 use Rattle.update_stack.specs.AbstractMachine.{AbstractMachine, Update}
 use Rattle.update_stack.specs.Steps.{moved, spawned}
 use Rattle.update_stack.specs.Apply.{applied}
+use Rattle.update_stack.specs.Hooks.{hooked}
 use Rattle.update_stack.specs.Undo.{newest_update, named, undone, undone_named}
 
--- One event: a thread is started, a thread makes one step, an update is made as a whole, or one is taken back as a
--- whole, the newest or that of a name. What is refused changes nothing.
+-- One event: a thread is started, a thread makes one step, an update is made as a whole, with the functions run that its
+-- new object lists or without, or one is taken back as a whole, the newest or that of a name. What is refused changes
+-- nothing.
 pub data Event : Type 0 where
   Spawn : (name : List ℕ) (argument : ℕ) → Event
   Step : (thread : ℕ) → Event
   Apply : (name pre post : List ℕ) → Event
+  Hooks : (name pre post : List ℕ) → Event
   Undo : Event
   UndoNamed : (name : List ℕ) → Event
 
@@ -24,6 +28,8 @@ pub data Answer : Type 0 where
   Spawned : (thread : ℕ) → Answer
   Stepped : (outcome : Outcome) → Answer
   Applied : (report : Report) → Answer
+  -- with the functions that were run
+  Hooked : (done : HookReport) → Answer
   -- the name of the update that was taken back
   Undone : (name : List ℕ) → Answer
 
@@ -48,6 +54,10 @@ abbrev pub apply_answered : Result (AbstractMachine × Report) Refusal → Resul
 apply_answered (Err refusal) = Err refusal
 apply_answered (Ok left) = Ok (happened left.0 (Applied left.1))
 
+abbrev pub hooks_answered : Result (AbstractMachine × HookReport) Refusal → Result Happened Refusal
+hooks_answered (Err refusal) = Err refusal
+hooks_answered (Ok left) = Ok (happened left.0 (Hooked left.1))
+
 abbrev pub undo_answered : Result (AbstractMachine × List ℕ) Refusal → Result Happened Refusal
 undo_answered (Err refusal) = Err refusal
 undo_answered (Ok left) = Ok (happened left.0 (Undone left.1))
@@ -56,6 +66,7 @@ unfoldable pub answered : AbstractMachine → Event → Result Happened Refusal
 answered k (Spawn name argument) = spawn_answered (length k.threads) (spawned k name argument)
 answered k (Step thread) = step_answered (moved k thread)
 answered k (Apply name pre post) = apply_answered (applied k name pre post)
+answered k (Hooks name pre post) = hooks_answered (hooked k name pre post)
 answered k Undo = undo_answered (undone k)
 answered k (UndoNamed name) = undo_answered (undone_named k name)
 

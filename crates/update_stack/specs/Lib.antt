@@ -1,6 +1,7 @@
--- Public clauses cite the abstract machine (AbstractMachine and its Events, by Steps, Apply and Undo), that new code is
--- reached (Reached) and stays so (Stays), what an accepted update lies on (Accepted), that undoing restores what was
--- (TakenBack), data that are put back (PutBack), what stands for the machine (StandsFor), its steps beside those of a
+-- Public clauses cite the abstract machine (AbstractMachine and its Events, by Steps, Apply and Undo, and by HookRuns and
+-- Hooks where functions run at an update), that such an update is one as any other and changes data besides (Hooked, with
+-- Aside), that new code is reached (Reached) and stays so (Stays), what an accepted update lies on (Accepted), that undoing
+-- restores what was (TakenBack), data that are put back (PutBack), what stands for the machine (StandsFor), its steps beside those of a
 -- memory with its jumps (Jumps), both also in each phase of its newest update (Phases and PhaseSteps), and a system seen
 -- as it (Systems), with what holds of it and of what it keeps (Stacked, with Scratch) and of updates that can be taken out
 -- from among others (Uncovered). What `inside` holds is the code's own.
@@ -9,8 +10,12 @@ pub mod Scratch
 pub mod Steps
 pub mod Apply
 pub mod Undo
-pub mod Events
 pub mod PutBack
+pub mod Aside
+pub mod HookRuns
+pub mod Hooks
+pub mod Hooked
+pub mod Events
 pub mod Reached
 pub mod Accepted
 pub mod Stays

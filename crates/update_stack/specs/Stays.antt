@@ -4,15 +4,17 @@ use Rattle.std.specs.Prelude.{◌≡◌, ℕ, true, false, List, [], ◌∷◌, 
 use Rattle.std.specs.List.{All, Contains, list_any}
 use Rattle.ks_base.specs.declared.refusals.Refusal.{Refusal}
 use Rattle.ks_base.specs.declared.reports.Report.{Report}
+use Rattle.ks_base.specs.declared.reports.HookReport.{HookReport}
 use Rattle.image_file.specs.Reading.{Contents as Image, image_of}
 use Rattle.image_memory.specs.Ranges.{lies_in}
 use Rattle.update_plan.specs.Addresses.{AreSteps}
 use Rattle.update_plan.specs.Sound.{is_replaced_at}
 use Rattle.update_stack.specs.AbstractMachine.{AbstractMachine, Update, first_machine}
 use Rattle.update_stack.specs.Apply.{running_of, gaps_of, applied}
+use Rattle.update_stack.specs.Hooks.{hooked}
 use Rattle.update_stack.specs.Undo.{newest_update, named}
-use Rattle.update_stack.specs.Events.{Event, Answer, Happened, Spawned, Stepped, Applied, Undone, answered}
-use Rattle.update_stack.specs.Events.{after_event, after_events}
+use Rattle.update_stack.specs.Events.{Event, Answer, Happened, Spawned, Stepped, Applied, Hooked, Undone}
+use Rattle.update_stack.specs.Events.{answered, after_event, after_events}
 use Rattle.update_stack.specs.Reached.{IsReached}
 
 -- A live update replaced a function with this home and brought the code at this base, and no update since then replaced
@@ -26,14 +28,20 @@ pub record IsNewest (k : AbstractMachine) (home base : ℕ) : Type 0 where
   pub brought : Contains update.pieces base
   pub last : All (λ (one : Update). is_replaced_at one.report.replaced home ≡ false) later
 
--- An event leaves a home and the code at a base alone: an update replaces no function with this home and retires no
--- range that has this base; and one that is taken back replaced no function with this home.
+-- An update that was accepted, with this report, leaves a home and the code at a base alone: it replaces no function with
+-- this home and retires no range that has this base.
+abbrev pub UpdateLeavesAlone : Happened → Report → (home base : ℕ) → Type 0
+UpdateLeavesAlone now report home base =
+    (is_replaced_at report.replaced home ≡ false)
+    × IfSome (newest_update now.machine) (λ update. list_any (lies_in base) update.retired ≡ false)
+
+-- An event leaves both alone: an update does, with functions run or without; and one that is taken back replaced no
+-- function with this home.
 abbrev pub LeavesAloneBy : AbstractMachine → Happened → Answer → (home base : ℕ) → Type 0
 LeavesAloneBy before now (Spawned thread) home base = Unit {0}
 LeavesAloneBy before now (Stepped outcome) home base = Unit {0}
-LeavesAloneBy before now (Applied report) home base =
-    (is_replaced_at report.replaced home ≡ false)
-    × IfSome (newest_update now.machine) (λ update. list_any (lies_in base) update.retired ≡ false)
+LeavesAloneBy before now (Applied report) home base = UpdateLeavesAlone now report home base
+LeavesAloneBy before now (Hooked done) home base = UpdateLeavesAlone now done.report home base
 LeavesAloneBy before now (Undone name) home base =
     IfSome (named before name) (λ update. is_replaced_at update.report.replaced home ≡ false)
 
@@ -61,3 +69,11 @@ NewCodeStaysReached =
     (report : Report) → image_of file ≡ Ok image
     → applied (after_events (first_machine image) events) name pre_file post_file ≡ Ok (now, report)
     → StayReached (after_events (first_machine image) events) pre_file post_file now report
+
+-- And so it is of every one that is accepted and at which functions were run.
+abbrev pub HookedCodeStaysReached : Type 0
+HookedCodeStaysReached =
+    (file : List ℕ) (image : Image) (events : List Event) (name pre_file post_file : List ℕ) (now : AbstractMachine)
+    (done : HookReport) → image_of file ≡ Ok image
+    → hooked (after_events (first_machine image) events) name pre_file post_file ≡ Ok (now, done)
+    → StayReached (after_events (first_machine image) events) pre_file post_file now done.report

@@ -14,8 +14,8 @@ use Rattle.update_stack.specs.AbstractMachine.{AbstractMachine, Row, Update, is_
 use Rattle.update_stack.specs.StandsFor.{patched}
 use Rattle.update_stack.specs.Stacked.{IsBuilt}
 use Rattle.update_stack.specs.Undo.{newest_update, place_of}
-use Rattle.update_stack.specs.Events.{Event, Answer, Happened, Spawned, Stepped, Applied, Undone, answered}
-use Rattle.update_stack.specs.Events.{update_taken, after_event, after_events}
+use Rattle.update_stack.specs.Events.{Event, Answer, Happened, Spawned, Stepped, Applied, Hooked, Undone}
+use Rattle.update_stack.specs.Events.{answered, update_taken, after_event, after_events}
 
 -- what taking back the newest update restores: text, the system's code (the text with the jumps at the homes), table,
 -- retired ranges, symbols, and where data stand, but no byte of data
@@ -57,6 +57,7 @@ abbrev pub befores_after : List Before → AbstractMachine → Answer → List B
 befores_after befores k (Spawned thread) = befores
 befores_after befores k (Stepped outcome) = befores
 befores_after befores k (Applied report) = befores ++ before_update k ∷ []
+befores_after befores k (Hooked done) = befores ++ before_update k ∷ []
 befores_after befores k (Undone name) = without_update (place_of name k.updates) befores
 
 abbrev pub befores_by : List Before → AbstractMachine → Result Happened Refusal → List Before

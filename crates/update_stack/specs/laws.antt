@@ -4,3 +4,4 @@ pub mod TableLaws
 pub mod StepLaws
 pub mod ViewLaws
 pub mod FirstPieces
+pub mod DataLaws

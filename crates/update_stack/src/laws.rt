@@ -19,13 +19,15 @@ ghost use Rattle.update_stack.specs.PhaseSteps.{PhasesLeaveViews, StepsStandIn, 
 ghost use Rattle.update_stack.specs.Reached.{LeadsTo, AreReached};
 ghost use Rattle.update_stack.specs.Stacked.{IsBuilt};
 ghost use Rattle.update_stack.specs.StandsFor.{patched};
-ghost use Rattle.update_stack.specs.Stays.{IsNewest, LeavesAloneBy, NewCodeStaysReached};
+ghost use Rattle.update_stack.specs.Stays.{HookedCodeStaysReached, IsNewest, LeavesAloneBy, NewCodeStaysReached};
 
+use crate::hooked::hooks_are_updates;
 use crate::uncovered::uncovered_updates_can_go;
 use ia32_decode::jumps_decode;
 use ia32_step::{code_bytes_have_no_say, steps_leave_code};
 use image_memory::pieces_stay_placed;
 use link_post::gaps_are_free;
+use saved_data::{data_alone_differ, saved_data_come_back};
 use splice_jump::{
     code_stays_code, data_are_written_past_jumps, homes_are_not_looked_at, homes_stay_spliced,
     jumps_leave_views, jumps_stand,
@@ -130,14 +132,16 @@ pub fn accepted_code_is_reached()
 }
 
 /// A home that leads to new code goes on leading there: after each event that leaves both alone; and so, in every list
-/// of events from the start of an image, after those that come after an update was accepted, until a later update
-/// replaces the function again or retires its code, or the update that brought it is taken back.
+/// of events from the start of an image, after those that come after an update was accepted, whether functions were run
+/// at it or not, until a later update replaces the function again or retires its code, or the update that brought it is
+/// taken back.
 pub fn reached_code_stays()
     ensures event { (k : AbstractMachine) (event : Event) (now : Happened) (home : ℕ) (piece : Piece) → IsBuilt k →
         All IsStackRange k.stacks → IsNewest k home piece.base → LeadsTo k home piece → answered k event ≡ Ok now →
         LeavesAloneBy k now now.answer home piece.base →
         IsNewest now.machine home piece.base × LeadsTo now.machine home piece }
     ensures events { NewCodeStaysReached }
+    ensures hooked { HookedCodeStaysReached }
 {
     // Nothing is done here: the laws say what a plan brings and that it can be made, and what each change of the machine
     // leaves.
@@ -149,5 +153,8 @@ pub fn reached_code_stays()
     plans_replace_the_newest();
     gaps_are_free();
     uncovered_updates_can_go();
+    hooks_are_updates();
+    data_alone_differ();
+    saved_data_come_back();
     replaced_functions_have_new_code();
 }

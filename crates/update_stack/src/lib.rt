@@ -5,6 +5,7 @@
 mod accepted;
 mod carrying;
 mod covering;
+mod hooked;
 mod laws;
 mod live;
 mod scratch;
@@ -15,6 +16,7 @@ mod updates;
 mod withdrawing;
 
 pub use crate::accepted::{accepted_updates_lie_on_top, retired_code_is_not_met};
+pub use crate::hooked::hooks_are_updates;
 pub use crate::laws::{
     accepted_code_is_reached, open_homes_lead_on, phases_leave_views, reached_code_stays,
     steps_stand, steps_stand_in, threads_leave_code, updates_can_be_made,
@@ -23,4 +25,4 @@ pub use crate::scratch::scratch_comes_and_goes;
 pub use crate::taking_back::{machines_are_built, undo_restores};
 pub use crate::uncovered::uncovered_updates_can_go;
 pub use system::System;
-pub use updates::{Update, Updates};
+pub use updates::{HookEnd, Update, Updates};

@@ -1,6 +1,6 @@
 //! A running program with its updates.
 ghost use Rattle.std.specs.Prelude.{◌≡◌, ◌≢◌, [], map, IfOk, IfSome, IsSome, IsSomeAnd, OnOk, OnErr, MatchResult, None, Ok, Err};
-ghost use Rattle.std.specs.Prelude.{false, true, is_some, Some, ◌<◌, length, slice_get, MatchOption};
+ghost use Rattle.std.specs.Prelude.{false, true, is_some, Some, ◌<◌, length, slice_get, MatchOption, IsOkAnd};
 ghost use Rattle.std.specs.List.{list_any};
 ghost use Rattle.std.specs.Result.{is_ok, result_err};
 ghost use Rattle.ks_base.specs.declared.refusals.Refusal.TheVariants.{Memory, NothingApplied};
@@ -15,7 +15,7 @@ ghost use Rattle.i386_reloc.specs.Rule.{Finds};
 ghost use Rattle.stack_scan.specs.Standing.{thread_refusal};
 ghost use Rattle.update_plan.specs.Plan.{planned};
 ghost use Rattle.update_plan.specs.Sound.{AllReplaceNewest, AreGaps, CanBeMade};
-ghost use Rattle.update_stack.specs.Apply.{committed, gaps_of, has_name, planned_in, retired_of, running_of};
+ghost use Rattle.update_stack.specs.Apply.{accepted, committed, gaps_of, has_name, planned_in, retired_of, running_of};
 ghost use Rattle.update_stack.specs.Events.{Apply, Spawn, Step, Undo, UndoNamed, happened};
 ghost use Rattle.update_stack.specs.Events.{Applied, Spawned, Stepped, Undone};
 ghost use Rattle.update_stack.specs.Events.{answered, after_event};
@@ -65,7 +65,7 @@ use std::alloc::{AllocError, Global};
 use std::marker::Model;
 use update_memory::code_that_stays;
 use update_plan::{
-    Plan, alike_programs_have_one_plan, plan, plans_can_be_made, plans_replace_the_newest,
+    Hooks, Plan, alike_programs_have_one_plan, plan, plans_can_be_made, plans_replace_the_newest,
 };
 
 /// So many updates may be live.
@@ -346,6 +346,27 @@ impl<S: Space> System<S> {
         ensures refused { OnErr result (self.new ≡ self.old) }
         ensures untouched { OnErr result (IsUntouched self.old.machine self.new.machine) }
     {
+        Ok(self.apply_listing(name, pre, post)?.0)
+    }
+
+    /// Replaces functions of the program, as [`System::apply`] does, and answers beside its report the functions that the
+    /// new object lists to be run at the update; none of them is run.
+    pub fn apply_listing(
+        &mut self,
+        name: &Name,
+        pre: &[u8],
+        post: &[u8],
+    ) -> Result<(Report, Hooks), Refusal>
+        requires done { self.old.phase ≡ Done }
+        ensures answered { MatchResult result
+            (λ made. answered self.old.machine (Apply name.now pre.now post.now)
+            ≡ Ok (happened self.new.machine (Applied made.0)))
+            (λ refusal. refusal ≢ Memory → answered self.old.machine (Apply name.now pre.now post.now) ≡ Err refusal) }
+        ensures listed { IfOk result (λ made. IsOkAnd (accepted self.old.machine name.now pre.now post.now)
+            (λ plan. plan.hooks ≡ made.1)) }
+        ensures phase { self.new.phase ≡ self.old.phase }
+        ensures refused { OnErr result (self.new ≡ self.old) }
+    {
         let plan = self.plan(name, pre, post)?;
         self.check_threads(&plan)?;
         Ok(self.carry_out(name, plan)?)
@@ -431,7 +452,7 @@ impl<S: Space> System<S> {
     pub fn put_back(&mut self, saved: &Pieces)
         requires done { self.old.phase ≡ Done }
         requires fit { CanBePutBack self.old.machine.pieces saved.now }
-        ensures data { self.new.machine ≡ with_saved self.old.machine saved.now }
+        ensures put { self.new.machine ≡ with_saved self.old.machine saved.now }
         ensures phase { self.new.phase ≡ self.old.phase }
     {
         // The laws say that what is written, which is data, leaves the jumps and what is seen past them.
@@ -640,13 +661,15 @@ impl<S: Space> System<S> {
         check_threads(threads, self.machine.space(), ranges)
     }
 
-    /// Carries a plan out, and answers its report. `Err` comes only if memory runs out, and all is then as before.
-    fn carry_out(&mut self, name: &Name, mut plan: Plan) -> Result<Report, AllocError>
+    /// Carries a plan out, and answers its report, and the functions that it lists. `Err` comes only if memory runs out, and
+    /// all is then as before.
+    fn carry_out(&mut self, name: &Name, mut plan: Plan) -> Result<(Report, Hooks), AllocError>
         requires done { self.old.phase ≡ Done }
         requires can { CanBeMade (contents_of self.old.machine) plan }
         requires newest { AllReplaceNewest (bodies_in self.old.machine.table) plan }
         requires new { list_any (has_name name.now) self.old.machine.updates ≡ false }
-        ensures report { IfOk result (λ report. report ≡ plan.report) }
+        ensures report { IfOk result (λ made. made.0 ≡ plan.report) }
+        ensures listed { IfOk result (λ made. made.1 ≡ plan.hooks) }
         ensures committed { OnOk result (self.new.machine ≡ committed self.old.machine name.now plan) }
         ensures phase { self.new.phase ≡ self.old.phase }
         ensures refused { OnErr result (self.new ≡ self.old) }
@@ -662,7 +685,7 @@ impl<S: Space> System<S> {
             fences,
             guarded: _,
             needs: _,
-            listed: _,
+            hooks,
         } = plan;
         change(
             &mut self.machine,
@@ -671,7 +694,7 @@ impl<S: Space> System<S> {
             made.jumps.as_slice(),
             symbols,
         );
-        Ok(report)
+        Ok((report, hooks))
     }
 }
 

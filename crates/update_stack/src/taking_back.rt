@@ -1,9 +1,11 @@
 //! What is restored when an update is taken back.
 ghost use Rattle.update_stack.specs.TakenBack.{TakenBackIsRestored, HomesAreRestored, MachinesAreBuilt};
 
+use crate::hooked::hooks_are_updates;
 use crate::uncovered::uncovered_updates_can_go;
 use image_memory::pieces_stay_placed;
 use link_post::gaps_are_free;
+use saved_data::{data_alone_differ, saved_data_come_back};
 use splice_jump::{homes_stay_spliced, jumps_are_added_and_replaced, jumps_are_taken_back};
 use update_memory::{
     changes_are_withdrawn, code_that_stays, dropping_goes_past_writes, memory_stays_memory,
@@ -35,6 +37,9 @@ pub fn undo_restores()
     plans_replace_the_newest();
     gaps_are_free();
     uncovered_updates_can_go();
+    hooks_are_updates();
+    data_alone_differ();
+    saved_data_come_back();
 }
 
 /// After every list of events from the start of an image, the machine's updates lie each on what was there without it.
@@ -50,4 +55,7 @@ pub fn machines_are_built()
     plans_replace_the_newest();
     gaps_are_free();
     uncovered_updates_can_go();
+    hooks_are_updates();
+    data_alone_differ();
+    saved_data_come_back();
 }

@@ -1,5 +1,5 @@
 //! The updates of a running system.
-use ks_base::{ListOf, Name, Range, Ranges, Report};
+use ks_base::{Fault, ListOf, Name, Range, Ranges, Report};
 use symbol_table::Addresses;
 use update_memory::Jumps;
 use update_pieces::NewSymbols;
@@ -16,6 +16,25 @@ pub struct Update {
 
 /// Updates in order.
 pub type Updates = ListOf<Update>;
+
+/// How a function ended that was run at an update.
+#[derive(Clone, Copy)]
+pub enum HookEnd {
+    /// It returned.
+    Returned {
+        /// After so many steps, the one that ended it among them.
+        steps: u32,
+    },
+    /// It stopped.
+    Faulted {
+        /// Why.
+        fault: Fault,
+        /// The program counter where it did.
+        pc: u32,
+    },
+    /// It has made as many steps as it may without ending.
+    Unreturned,
+}
 
 /// What a system keeps of a live update beside its name and report.
 #[derive(Drop)]

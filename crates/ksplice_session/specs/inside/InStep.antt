@@ -27,9 +27,11 @@ abbrev pub IsStopped : Verdict → List WatchedThread → Type 0
 IsStopped Disciplined threads = Unit {0}
 IsStopped (Broken event thread rule) threads = threads ≡ []
 
+-- between two events no function of an update runs, and so there is no scratch piece
 pub record IsInStep (k : AbstractMachine) (watch : Watching) : Type 0 where
   pub each : All (Runs k) watch.threads
   pub stopped : IsStopped watch.verdict watch.threads
+  pub bare : k.scratch ≡ None
 
 -- the session after the step of a turn
 abbrev pub watched_taken : Watched → Option Turn → Watched

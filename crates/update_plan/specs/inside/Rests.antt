@@ -19,11 +19,11 @@ use Rattle.update_plan.specs.Olds.{olds_of}
 use Rattle.update_plan.specs.Placing.{parts_of, names_of}
 use Rattle.update_plan.specs.Plan.{plan_of, unless}
 
-unfoldable pub planned_at : Running → (gaps : List Range) → (post : List NormalSection) → List NewPart → ValueList
+unfoldable pub planned_at : Running → (gaps : List Range) → (pre post : List NormalSection) → List NewPart → ValueList
     → List OldFunction → Result Plan Refusal
-planned_at running gaps post parts values olds = do
+planned_at running gaps pre post parts values olds = do
   placement ← placed (map size_of parts) gaps
-  Ok (plan_of running post values olds parts placement)
+  Ok (plan_of running pre post values olds parts placement)
 
 unfoldable pub planned_with : Running → (retired gaps : List Range) → (pre post : List NormalSection) → Extract
     → ValueList → Result Plan Refusal
@@ -31,7 +31,7 @@ planned_with running retired gaps pre post extract found = do
   values ← resolved pre post running.symbols (names_of (parts_of extract post)) found
   olds ← unless
       (code_refusal running.contents running.symbols retired (olds_of extract found pre)) (olds_of extract found pre)
-  planned_at running gaps post (parts_of extract post) values olds
+  planned_at running gaps pre post (parts_of extract post) values olds
 
 unfoldable pub planned_between : Running → (retired gaps : List Range) → (pre post : List NormalSection)
     → Result Plan Refusal

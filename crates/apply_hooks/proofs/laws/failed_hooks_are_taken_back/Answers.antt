@@ -1,17 +1,14 @@
-use Rattle.apply_hooks.proofs.AsideLaws.{DataLaws}
-use Rattle.apply_hooks.proofs.RestoredLaws.{Laws, restored}
+use Rattle.update_stack.specs.laws.DataLaws.{DataLaws}
+use Rattle.apply_hooks.proofs.RestoredLaws.{restored}
 use Rattle.apply_hooks.proofs.laws.failed_hooks_are_taken_back.Goals as goal
 
 pub returns : goal.returns
 returns c =
-    let alone : DataLaws = record {
+    let laws : DataLaws = record {
       written = c.data_alone_differ.ensures.written;
       put = c.data_alone_differ.ensures.put_back;
       on = c.data_alone_differ.ensures.on;
       valid = c.data_alone_differ.ensures.valid;
-    } in
-    let laws : Laws = record {
-      alone = alone;
       left = c.data_alone_differ.ensures.left;
       fit = c.saved_data_come_back.ensures.fit;
       same = c.saved_data_come_back.ensures.same;

@@ -16,6 +16,9 @@ premises c = record {
   faults = c.instructions_are_never_stray.ensures;
   update_slots = c.updates_keep_slots.ensures.updates;
   undo_slots = c.updates_keep_slots.ensures.undos;
+  hooks = c.hooks_keep_threads_safe.ensures.windows;
+  hooked = c.hooks_keep_threads_safe.ensures.clear;
+  hook_threads = c.hooks_keep_threads_safe.ensures.threads;
 }
 
 pub returns-clause-frames : goal.returns-clause-frames

@@ -15,7 +15,8 @@ returns g c = λ symbols bodies.
       symbols = symbols;
       bodies = bodies;
     } in
-    let made = plan_of running c.args.post.now c.args.values.now.entries c.args.olds.now c.args.parts.now in
+    let made = plan_of running c.args.objects.now.pre.now c.args.objects.now.post.now
+    c.args.values.now.entries c.args.olds.now c.args.parts.now in
     goes_on _ c.in_ok-placement.placement (λ placement. Ok (made placement)) c.in_ok-placement.ensures.places
     ∙ ap (λ (plan : Plan). Ok plan) (sym (c.in_ok-plan_of.ensures symbols bodies))
 
@@ -27,6 +28,7 @@ returns-in_err-placement g c = λ symbols bodies.
       symbols = symbols;
       bodies = bodies;
     } in
-    let made = plan_of running c.args.post.now c.args.values.now.entries c.args.olds.now c.args.parts.now in
+    let made = plan_of running c.args.objects.now.pre.now c.args.objects.now.post.now
+    c.args.values.now.entries c.args.olds.now c.args.parts.now in
     let p = err_from_is_err_and c.from_residual.result c.from_residual.ensures.1 in
     rw (p.1, p.2) (λ free. ends _ _ (λ placement. Ok (made placement)) (c.in_err-placement.ensures.places free))

@@ -17,16 +17,17 @@ returns g c =
       bodies = c.args.program.now.bodies.now;
     } in
     let gaps = c.args.program.now.gaps.now in
+    let pre = c.args.objects.now.pre.now in
     let post = c.args.objects.now.post.now in
     let values = c.in_ok-values.values.entries in
     let olds = c.in_ok-olds.olds.items in
-    let goes_on = olds_go_on running c.args.program.now.retired.now gaps c.args.objects.now.pre.now post
+    let goes_on = olds_go_on running c.args.program.now.retired.now gaps pre post
     c.args.extract.now
     c.args.found.now.entries c.as_slice.result.now (c.as_slice.ensures.value ∙ c.in_ok-parts.ensures.parts) values
     c.in_ok-values.ensures olds c.in_ok-olds.ensures.olds in
-    let same_parts = ap (λ (parts : List NewPart). planned_at running gaps post parts values olds)
+    let same_parts = ap (λ (parts : List NewPart). planned_at running gaps pre post parts values olds)
     (c.as_slice.ensures.value ∙ sym c.as_slice-2.ensures.value) in
-    let same_olds = ap (λ (olds : List OldFunction). planned_at running gaps post c.as_slice-2.result.now values olds)
+    let same_olds = ap (λ (olds : List OldFunction). planned_at running gaps pre post c.as_slice-2.result.now values olds)
     (sym c.as_slice-3.ensures.value) in
     subst (Gives (λ (plan : Plan). plan) c.plan_at.result) (sym (goes_on ∙ same_parts ∙ same_olds))
     (c.plan_at.ensures running.symbols running.bodies)

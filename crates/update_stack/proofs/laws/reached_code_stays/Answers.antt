@@ -1,10 +1,20 @@
+use Rattle.update_stack.specs.laws.DataLaws.{DataLaws}
 use Rattle.update_stack.proofs.BuiltLaws.{MemoryLaws}
 use Rattle.update_stack.proofs.FirstLaws.{starts_well}
-use Rattle.update_stack.proofs.StaysLaws.{all_stay, one_event}
+use Rattle.update_stack.proofs.StaysLaws.{all_hooked_stay, all_stay, one_event}
 use Rattle.update_stack.proofs.laws.reached_code_stays.Goals as goal
 
 pub returns-clause-event : goal.returns-clause-event
 returns-clause-event c =
+    let alone : DataLaws = record {
+      written = c.data_alone_differ.ensures.written;
+      put = c.data_alone_differ.ensures.put_back;
+      on = c.data_alone_differ.ensures.on;
+      valid = c.data_alone_differ.ensures.valid;
+      left = c.data_alone_differ.ensures.left;
+      fit = c.saved_data_come_back.ensures.fit;
+      same = c.saved_data_come_back.ensures.same;
+    } in
     let laws : MemoryLaws = record {
       pieces_valid = c.pieces_are_added.ensures.valid;
       pieces_fences = c.pieces_are_added.ensures.fences;
@@ -29,10 +39,21 @@ returns-clause-event c =
         free = c.gaps_are_free.ensures.apart free contents.pieces;
       };
       goes = c.uncovered_updates_can_go.ensures.goes;
+      hooked = c.hooks_are_updates.ensures;
+      data_alone = alone;
     })
 
 pub returns-clause-events : goal.returns-clause-events
 returns-clause-events c =
+    let alone : DataLaws = record {
+      written = c.data_alone_differ.ensures.written;
+      put = c.data_alone_differ.ensures.put_back;
+      on = c.data_alone_differ.ensures.on;
+      valid = c.data_alone_differ.ensures.valid;
+      left = c.data_alone_differ.ensures.left;
+      fit = c.saved_data_come_back.ensures.fit;
+      same = c.saved_data_come_back.ensures.same;
+    } in
     let laws : MemoryLaws = record {
       pieces_valid = c.pieces_are_added.ensures.valid;
       pieces_fences = c.pieces_are_added.ensures.fences;
@@ -57,5 +78,47 @@ returns-clause-events c =
         free = c.gaps_are_free.ensures.apart free contents.pieces;
       };
       goes = c.uncovered_updates_can_go.ensures.goes;
+      hooked = c.hooks_are_updates.ensures;
+      data_alone = alone;
+    })
+    c.replaced_functions_have_new_code.ensures c.gaps_are_free.ensures.ascend (starts_well c.pieces_stay_placed.ensures)
+
+pub returns-clause-hooked : goal.returns-clause-hooked
+returns-clause-hooked c =
+    let alone : DataLaws = record {
+      written = c.data_alone_differ.ensures.written;
+      put = c.data_alone_differ.ensures.put_back;
+      on = c.data_alone_differ.ensures.on;
+      valid = c.data_alone_differ.ensures.valid;
+      left = c.data_alone_differ.ensures.left;
+      fit = c.saved_data_come_back.ensures.fit;
+      same = c.saved_data_come_back.ensures.same;
+    } in
+    let laws : MemoryLaws = record {
+      pieces_valid = c.pieces_are_added.ensures.valid;
+      pieces_fences = c.pieces_are_added.ensures.fences;
+      pieces_given = c.pieces_are_added.ensures.given;
+      pieces_code = c.pieces_are_added.ensures.code;
+      pieces_spliced = c.pieces_are_added.ensures.spliced;
+      pieces_back = c.changes_are_withdrawn.ensures.pieces;
+      ranges_valid = c.ranges_are_retired.ensures.valid;
+      ranges_pieces = c.ranges_are_retired.ensures.pieces;
+      ranges_made = c.ranges_are_retired.ensures.ranges;
+      ranges_kept = c.ranges_are_retired.ensures.kept;
+      ranges_given = c.ranges_are_retired.ensures.given;
+      ranges_back = c.changes_are_withdrawn.ensures.ranges;
+    } in
+    all_hooked_stay
+    (record {
+      memory = laws;
+      plans = record { can = c.plans_can_be_made.ensures; replace = c.plans_replace_the_newest.ensures };
+      free = λ contents free valid up low. record {
+        ascend = c.gaps_are_free.ensures.ascend free contents.pieces up;
+        low = c.gaps_are_free.ensures.below 0xFFFF_0000 free contents.pieces low;
+        free = c.gaps_are_free.ensures.apart free contents.pieces;
+      };
+      goes = c.uncovered_updates_can_go.ensures.goes;
+      hooked = c.hooks_are_updates.ensures;
+      data_alone = alone;
     })
     c.replaced_functions_have_new_code.ensures c.gaps_are_free.ensures.ascend (starts_well c.pieces_stay_placed.ensures)

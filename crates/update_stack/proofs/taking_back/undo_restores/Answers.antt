@@ -1,3 +1,4 @@
+use Rattle.update_stack.specs.laws.DataLaws.{DataLaws}
 use Rattle.update_stack.proofs.BuiltLaws.{MemoryLaws}
 use Rattle.update_stack.proofs.FirstLaws.{starts_well}
 use Rattle.update_stack.proofs.TakenBackLaws.{BackLaws, taken_back, homes_back}
@@ -5,6 +6,15 @@ use Rattle.update_stack.proofs.taking_back.undo_restores.Goals as goal
 
 pub returns-clause-newest : goal.returns-clause-newest
 returns-clause-newest c =
+    let alone : DataLaws = record {
+      written = c.data_alone_differ.ensures.written;
+      put = c.data_alone_differ.ensures.put_back;
+      on = c.data_alone_differ.ensures.on;
+      valid = c.data_alone_differ.ensures.valid;
+      left = c.data_alone_differ.ensures.left;
+      fit = c.saved_data_come_back.ensures.fit;
+      same = c.saved_data_come_back.ensures.same;
+    } in
     let laws : MemoryLaws = record {
       pieces_valid = c.pieces_are_added.ensures.valid;
       pieces_fences = c.pieces_are_added.ensures.fences;
@@ -29,6 +39,8 @@ returns-clause-newest c =
           free = c.gaps_are_free.ensures.apart free contents.pieces;
         };
         goes = c.uncovered_updates_can_go.ensures.goes;
+        hooked = c.hooks_are_updates.ensures;
+        data_alone = alone;
       };
       left = record {
         valid = c.memory_stays_memory.ensures;
@@ -49,6 +61,15 @@ returns-clause-newest c =
 
 pub returns-clause-homes : goal.returns-clause-homes
 returns-clause-homes c =
+    let alone : DataLaws = record {
+      written = c.data_alone_differ.ensures.written;
+      put = c.data_alone_differ.ensures.put_back;
+      on = c.data_alone_differ.ensures.on;
+      valid = c.data_alone_differ.ensures.valid;
+      left = c.data_alone_differ.ensures.left;
+      fit = c.saved_data_come_back.ensures.fit;
+      same = c.saved_data_come_back.ensures.same;
+    } in
     let laws : MemoryLaws = record {
       pieces_valid = c.pieces_are_added.ensures.valid;
       pieces_fences = c.pieces_are_added.ensures.fences;
@@ -73,6 +94,8 @@ returns-clause-homes c =
           free = c.gaps_are_free.ensures.apart free contents.pieces;
         };
         goes = c.uncovered_updates_can_go.ensures.goes;
+        hooked = c.hooks_are_updates.ensures;
+        data_alone = alone;
       };
       left = record {
         valid = c.memory_stays_memory.ensures;

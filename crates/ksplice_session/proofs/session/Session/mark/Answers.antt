@@ -3,6 +3,7 @@ use Rattle.update_stack.specs.Events.{Apply, Applied, happened}
 use Rattle.ksplice_session.specs.Answers.{turned}
 use Rattle.ksplice_session.specs.Watching.{Watched, watched_after}
 use Rattle.ksplice_session.specs.inside.InStep.{IsInStep}
+use Rattle.ksplice_session.proofs.EventAnswers.{apply_gives}
 use Rattle.ksplice_session.proofs.SeenLaws.{watched_in, placed_of}
 use Rattle.ksplice_session.proofs.UpdateLaws.{kept_in_step, apply_watched}
 use Rattle.ksplice_session.proofs.session.Session.mark.Goals as goal
@@ -19,6 +20,7 @@ invariant_of-self-2 c =
     (c.updates_keep_slots.ensures.updated_threads k c.args.name.now c.args.pre.now c.args.post.now left made)
     (c.updates_keep_slots.ensures.updates k c.args.name.now c.args.pre.now c.args.post.now left c.program.ensures.built
     c.program-machine.ensures.built made)
+    (apply_gives k c.args.name.now c.args.pre.now c.args.post.now left made).scratch
     (placed_of live.phase c.program.result.now k c.program.ensures.stands c.threads-threads.ensures.placed)
     c.self.invariant)
 

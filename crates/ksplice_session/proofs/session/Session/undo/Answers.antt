@@ -30,6 +30,7 @@ invariant_of-self-2 c =
     (c.updates_keep_slots.ensures.undone_threads k Undo undone.update left undone.taken (made c))
     (c.updates_keep_slots.ensures.undos k Undo undone.update left c.program.ensures.built
     c.program-machine.ensures.built undone.taken (made c))
+    undone.left.scratch
     (placed_of live.phase c.program.result.now k c.program.ensures.stands c.threads-threads.ensures.placed)
     c.self.invariant)
 

@@ -50,8 +50,8 @@ invariant_of-self g c =
     c.space_mut.ensures.contents c.put_back.ensures.contents (c.put_back.ensures.room ∙ c.space_mut.ensures.room) in
     done_again _ inside.arena inside.updates inside.kept c.self.view_is c.requires.done back.holds
 
-pub returns-clause-data : goal.returns-clause-data
-returns-clause-data g c =
+pub returns-clause-put : goal.returns-clause-put
+returns-clause-put g c =
     let laws : Laws = record {
       past = c.data_are_written_past_jumps.ensures.jumps;
       old = c.data_are_written_past_jumps.ensures.old;

@@ -16,10 +16,10 @@ pub data LeavesAside (k : AbstractMachine) : AbstractMachine → Type 0 where
   AfterSaved : (now : AbstractMachine) (saved : List Piece) → LeavesAside k now → CanBePutBack now.pieces saved
       → LeavesAside k (with_saved now saved)
 
-abbrev pub with_pieces : AbstractMachine → List Piece → AbstractMachine
-with_pieces k pieces = record k { pieces = pieces }
+abbrev pub over_pieces : AbstractMachine → List Piece → AbstractMachine
+over_pieces k pieces = record k { pieces = pieces }
 
 -- two machines that differ in bytes of writable pieces alone
 pub record DiffersAside (before after : AbstractMachine) : Type 0 where
   pub differ : DiffersInData (contents_of before) (contents_of after)
-  pub rest : after ≡ with_pieces before after.pieces
+  pub rest : after ≡ over_pieces before after.pieces

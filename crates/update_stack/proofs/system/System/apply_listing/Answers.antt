@@ -1,12 +1,13 @@
-use Rattle.std.proofs.Common.{Result, Ok, sym, ◌∙◌, ap}
+use Rattle.std.proofs.Common.{◌≡◌, Result, Ok, IsOkAnd, sym, ◌∙◌, ap, subst}
 use Rattle.std.proofs.lemmas.Result.{err_from_is_err_and}
 use Rattle.ks_base.specs.declared.refusals.Refusal.{Refusal}
 use Rattle.ks_base.specs.declared.reports.Report.{Report}
+use Rattle.update_plan.specs.declared.types.Plan.{Plan}
 use Rattle.update_stack.specs.AbstractMachine.{AbstractMachine}
 use Rattle.update_stack.specs.Events.{Applied, Happened, happened}
-use Rattle.update_stack.proofs.ApplyLaws.{plan_refused, thread_refused, plan_made}
+use Rattle.update_stack.proofs.ApplyLaws.{plan_refused, thread_refused, plan_made, plan_accepted}
 use Rattle.update_stack.proofs.PlaceLaws.{name_is_new}
-use Rattle.update_stack.proofs.system.System.apply.Goals as goal
+use Rattle.update_stack.proofs.system.System.apply_listing.Goals as goal
 
 pub carry_out-requires-clause-new : goal.carry_out-requires-clause-new
 carry_out-requires-clause-new g c =
@@ -37,3 +38,10 @@ returns-clause-answered g c =
     (sym c.in_ok-carry_out.ensures.committed)
     ∙ ap (λ (report : Report). let r : Result Happened Refusal =
     Ok (happened c.carry_out.new.self.machine (Applied report)) in r) (sym c.in_ok-carry_out.ensures.report)
+
+pub returns-clause-listed : goal.returns-clause-listed
+returns-clause-listed g c =
+    subst (λ (r : Result Plan Refusal). IsOkAnd r (λ plan. plan.hooks ≡ c.in_ok-carry_out.field-0.1))
+    (sym (plan_accepted c.args.self.now.machine c.args.name.now c.args.pre.now c.args.post.now c.in_ok-plan.plan
+    c.in_ok-plan.ensures.planned c.in_ok-check_threads.ensures))
+    (sym c.in_ok-carry_out.ensures.listed)
