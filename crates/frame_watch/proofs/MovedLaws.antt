@@ -24,13 +24,10 @@ use Rattle.ia32_step.specs.Frames.{is_slot, holds_dword}
 use Rattle.ia32_step.specs.Threads.{esp_of}
 use Rattle.frame_watch.specs.Frames.{Watched, is_of, stack_of, if_of, started, watched_at, with_started}
 use Rattle.frame_watch.specs.Frames.{without_thread, frames_at, frames_in, closed, frame}
-use Rattle.image_memory.specs.Contents.{Contents}
-use Rattle.frame_watch.specs.declared.types.Rule.TheVariants as rules
-use Rattle.frame_watch.specs.Discipline.{sight_of}
-use Rattle.frame_watch.specs.Conditions.{HaveWindows, HoldBut, IsStart, IsStep, touches}
+use Rattle.frame_watch.specs.Conditions.{HoldBut, IsStart, IsStep, touches}
 use Rattle.frame_watch.specs.inside.Kept.{AreApart, AreInPlace, IsTouched, is_in_place}
 use Rattle.frame_watch.specs.inside.Kept.{is_based, number_unless, first_store}
-use Rattle.frame_watch.specs.inside.Events.{GoesOn, broken_unless, moved, flow_frames, step_rule}
+use Rattle.frame_watch.specs.inside.Events.{IsStill, moved, flow_frames}
 use Rattle.frame_watch.proofs.FrameLaws.{slot_at}
 use Rattle.frame_watch.proofs.ListLaws.{found_at, has_number, same_number, none_displaced}
 
@@ -165,21 +162,14 @@ module _ (pieces : List Piece) (store : Option Store) where
             held_flow after flow (frames_at ws before.number) (subst P (its_frames apart k d l e) (hold k d l))
             (λ call. ((step.stepped k d l e).pushed (ap (λ (f : Flow). Moved f) call)).readable)
 
--- a step that goes on in what it fetched, and leaves ESP as it is
-pub goes_on_rule : (contents : Contents) (before after : Thread) (outcome : Outcome) (fetched : ℕ) (frames : List Frame)
-    → GoesOn before after outcome fetched → HaveWindows contents before.pc fetched
-    → step_rule (sight_of contents) before after frames outcome ≡ None
-goes_on_rule contents before after outcome fetched frames on windows =
-    ap (step_rule (sight_of contents) before after frames) on.plain
-    ∙ ap (λ b. broken_unless b rules.Arrival) (windows after.pc on.within.above on.within.below)
-
-pub goes_on_still : (pieces : List Piece) (before after : Thread) (outcome : Outcome) (fetched : ℕ) (ws : List Watched)
-    → GoesOn before after outcome fetched → IsStep pieces before after outcome ws → AreApart ws
+-- a step that is neither a call nor a return, and leaves ESP as it is
+pub still_same : (pieces : List Piece) (before after : Thread) (outcome : Outcome) (ws : List Watched)
+    → IsStill before after outcome → IsStep pieces before after outcome ws → AreApart ws
     → ws ≡ moved pieces after outcome (frames_at ws before.number) ws
-goes_on_still pieces before after outcome fetched ws on step apart =
-    sym (ap (λ o. moved pieces after o (frames_at ws before.number) ws) on.plain
+still_same pieces before after outcome ws still step apart =
+    sym (ap (λ o. moved pieces after o (frames_at ws before.number) ws) still.plain
     ∙ all_same ws (λ k d l e. (
-      (step.stepped k d l (e ∙ step.number)).esp ∙ sym on.esp,
+      (step.stepped k d l (e ∙ step.number)).esp ∙ sym still.esp,
       its_frames pieces None before after ws apart k d l (e ∙ step.number),
     )))
   where

@@ -12,9 +12,9 @@ use Rattle.ks_base.specs.declared.places.Range.{Range}
 use Rattle.image_memory.specs.declared.types.Piece.{Piece}
 use Rattle.image_memory.specs.Ranges.{Ascends, lies_in}
 use Rattle.image_memory.specs.laws.RangeLaws.{found_here, within}
-use Rattle.ia32_decode.specs.declared.types.Width.{Width}
-use Rattle.ia32_decode.specs.declared.types.Width.TheVariants.{Byte, Word, Dword}
-use Rattle.ia32_decode.specs.Widths.{byte_count}
+use Rattle.ia32_alu.specs.declared.types.Width.{Width}
+use Rattle.ia32_alu.specs.declared.types.Width.TheVariants.{Byte, Word, Dword}
+use Rattle.ia32_alu.specs.Widths.{byte_count}
 use Rattle.ia32_step.specs.declared.types.Frame.{Frame}
 use Rattle.ia32_step.specs.declared.types.Store.{Store}
 use Rattle.ia32_step.specs.Frames.{is_slot, holds_dword, keeps_slot}

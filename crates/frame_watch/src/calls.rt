@@ -8,7 +8,7 @@ ghost use Rattle.frame_watch.specs.inside.Kept as inside;
 use crate::memory::esp_of;
 use crate::notes::Notes;
 use crate::types::Verdict;
-use ia32_decode::Width;
+use ia32_alu::Width;
 use ia32_step::{Outcome, RETURN_ADDRESS, Store, Thread, Threads, Traced};
 use image_memory::Space;
 use std::alloc::{AllocError, Global};

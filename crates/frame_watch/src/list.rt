@@ -13,9 +13,9 @@ ghost use Rattle.frame_watch.specs.Conditions.{HaveWindows, HoldBut, IsStart, Is
 ghost use Rattle.frame_watch.specs.inside.Kept.{HasStack, IsPlace, AreInPlace, IsTouched};
 ghost use Rattle.frame_watch.specs.inside.Kept.{first_store, keeps_address, number_unless, placed, stacked_at};
 ghost use Rattle.frame_watch.specs.inside.Events as inside;
-ghost use Rattle.frame_watch.specs.inside.Events.{GoesOn, moved, step_rule};
+ghost use Rattle.frame_watch.specs.inside.Events.{IsStill, moved, step_rule};
 
-use crate::memory::{arrives, esp_of, was_fetched};
+use crate::memory::{arrives, esp_of};
 use crate::thread::ThreadFrames;
 use crate::types::Rule;
 use ia32_step::{Flow, Outcome, Store, Thread};
@@ -221,8 +221,11 @@ impl ThreadList {
     {
         // Nothing is done here: no two threads have one number.
         let _ = &self.threads;
-        if goes_on(before, after, outcome, fetched) {
-            return Ok(None);
+        if is_still(before, after, outcome) {
+            if arrives(space, before.pc, fetched, after.pc) {
+                return Ok(None);
+            }
+            return Err(Rule::Arrival);
         }
         let at = self.place_of(before.number, before.stack);
         match self.step_rule(at, before, after, outcome, fetched, space) {
@@ -291,14 +294,14 @@ impl ThreadList {
     }
 }
 
-/// Whether a step goes on in the bytes that it fetched, and leaves ESP as it is.
-fn goes_on(before: &Thread, after: &Thread, outcome: Outcome, fetched: u32) -> bool
-    ensures { result ≡ true → GoesOn before.now after.now outcome fetched }
+/// Whether a step is neither a call nor a return, and leaves ESP as it is.
+fn is_still(before: &Thread, after: &Thread, outcome: Outcome) -> bool
+    ensures { result ≡ true → IsStill before.now after.now outcome }
 {
     let Outcome::Moved(Flow::Plain) = outcome else {
         return false;
     };
-    esp_of(after) == esp_of(before) && was_fetched(before.pc, fetched, after.pc)
+    esp_of(after) == esp_of(before)
 }
 
 /// The rule, unless it is kept.

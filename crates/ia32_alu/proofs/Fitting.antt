@@ -5,7 +5,7 @@ use Rattle.std.specs.Int.{w64, from_bool, IsNonZero, CanDivide}
 use Rattle.std.proofs.lemmas.Int.{ints, to_z-of_z}
 use Rattle.std.proofs.lemmas.Bool.Decides.{nat_tests}
 use Rattle.ia32_alu.specs.declared.types.Width.{Width}
-use Rattle.ia32_alu.specs.declared.types.Width.TheVariants.{W8, W16, W32}
+use Rattle.ia32_alu.specs.declared.types.Width.TheVariants.{Byte, Word, Dword}
 use Rattle.ia32_alu.specs.Numbers.{size, unsigned, highest, signed, fits_signed}
 use Rattle.ia32_alu.specs.Arithmetic.{settled}
 use Rattle.ia32_alu.specs.Products.{divided}
@@ -17,16 +17,16 @@ settled-same k u v s t p q = cc
 -- 0 in two's complement is 0
 pub signed-zero : (w : Width) (n : ℕ) → signed (size w) n ≡ pos 0 → unsigned (size w) n ≡ 0
 unfolding signed highest
-signed-zero W8 n e = grind (arith, ints, nat_tests)
-signed-zero W16 n e = grind (arith, ints, nat_tests)
-signed-zero W32 n e = grind (arith, ints, nat_tests)
+signed-zero Byte n e = grind (arith, ints, nat_tests)
+signed-zero Word n e = grind (arith, ints, nat_tests)
+signed-zero Dword n e = grind (arith, ints, nat_tests)
 
 -- what doesn't fit 64 bits fits no operand
 pub fits-no_operand : (w : Width) (z : ℤ) → ¬ (FitsSigned w64 z) → fits_signed (size w) z ≡ false
 unfolding fits_signed
-fits-no_operand W8 z n = grind (arith, ints, nat_tests)
-fits-no_operand W16 z n = grind (arith, ints, nat_tests)
-fits-no_operand W32 z n = grind (arith, ints, nat_tests)
+fits-no_operand Byte z n = grind (arith, ints, nat_tests)
+fits-no_operand Word z n = grind (arith, ints, nat_tests)
+fits-no_operand Dword z n = grind (arith, ints, nat_tests)
 
 -- a flag counts at most 1
 pub from_bool-le : (b : Bool) → from_bool b ≤ 1

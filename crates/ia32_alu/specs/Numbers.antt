@@ -4,14 +4,14 @@ use Rattle.std.specs.Prelude.{ℕ, ◌-◌, ◌%◌, ◌^◌, Bool, true, false,
 use Rattle.std.specs.Prelude.{int_lt, int_le, count_ones, nat_le, ◌==◌, if◌then◌else◌}
 use Rattle.std.specs.Int.{int_rem_euclid}
 use Rattle.ia32_alu.specs.declared.types.Width.{Width}
-use Rattle.ia32_alu.specs.declared.types.Width.TheVariants.{W8, W16, W32}
+use Rattle.ia32_alu.specs.declared.types.Width.TheVariants.{Byte, Word, Dword}
 use Rattle.ia32_alu.specs.declared.types.Flags.{Flags}
 
 -- how many bits an operand has
 abbrev pub size : Width → ℕ
-size W8 = 8
-size W16 = 16
-size W32 = 32
+size Byte = 8
+size Word = 16
+size Dword = 32
 
 -- the lowest k bits of n, as an unsigned number: an operand counts by these alone
 abbrev pub unsigned : ℕ → ℕ → ℕ

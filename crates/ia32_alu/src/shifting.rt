@@ -1,7 +1,7 @@
 //! Shifts and rotations.
 ghost use Rattle.std.specs.Prelude.{◌≡◌, ◌<◌, ◌==◌, ◌*◌, ◌^◌, ◌&&◌, nat_lt};
 ghost use Rattle.std.specs.Int.{bit_at};
-ghost use Rattle.ia32_alu.specs.declared.types.Width.TheVariants.{W32};
+ghost use Rattle.ia32_alu.specs.declared.types.Width.TheVariants.{Dword};
 ghost use Rattle.ia32_alu.specs.declared.types.Shift.TheVariants.{Rol, Ror};
 ghost use Rattle.ia32_alu.specs.Numbers.{size, unsigned, wrapped, highest, differ};
 ghost use Rattle.ia32_alu.specs.Shifts.{shifted_left, shifted_right, shifted_right_signed, rotated_left};
@@ -92,7 +92,7 @@ fn rotate_left(a: u32, by: u32, flags: Flags) -> (u32, Flags)
 {
     let value = a.rotate_left(by);
     let carry = value % 2 == 1;
-    let overflow = is_turned(Width::W32, value, carry, by);
+    let overflow = is_turned(Width::Dword, value, carry, by);
     (
         value,
         Flags {
@@ -110,7 +110,7 @@ fn rotate_right(a: u32, by: u32, flags: Flags) -> (u32, Flags)
     ensures small { result.0 < 2 ^ 32 }
 {
     let value = a.rotate_right(by);
-    let carry = is_negative(Width::W32, value);
+    let carry = is_negative(Width::Dword, value);
     let overflow = by == 1 && carry != ((value >> 30) % 2 == 1);
     (
         value,
@@ -124,8 +124,8 @@ fn rotate_right(a: u32, by: u32, flags: Flags) -> (u32, Flags)
 
 /// By a count that isn't 0.
 fn move_bits(op: Shift, width: Width, a: u32, by: u32, flags: Flags) -> (u32, Flags)
-    requires left { op ≡ Rol → width ≡ W32 }
-    requires right { op ≡ Ror → width ≡ W32 }
+    requires left { op ≡ Rol → width ≡ Dword }
+    requires right { op ≡ Ror → width ≡ Dword }
     requires some { 0 < by }
     requires few { by < 32 }
     ensures value { result ≡ moved op (size width) a by flags }
@@ -143,8 +143,8 @@ fn move_bits(op: Shift, width: Width, a: u32, by: u32, flags: Flags) -> (u32, Fl
 /// A shift or a rotation: its value, below 2 to the width, and the flags after it. The count's lowest five bits count;
 /// where they are 0 nothing changes. Rotations are of 32 bits alone.
 pub fn shift(op: Shift, width: Width, a: u32, count: u8, flags: Flags) -> (u32, Flags)
-    requires left { op ≡ Rol → width ≡ W32 }
-    requires right { op ≡ Ror → width ≡ W32 }
+    requires left { op ≡ Rol → width ≡ Dword }
+    requires right { op ≡ Ror → width ≡ Dword }
     ensures value { result ≡ shift_of op (size width) a count flags }
     ensures small { result.0 < 2 ^ size width }
 {

@@ -4,11 +4,11 @@
 #[derive(Clone, Copy, PartialEq, Eq)]
 pub enum Width {
     /// 8 bits.
-    W8,
+    Byte,
     /// 16 bits.
-    W16,
+    Word,
     /// 32 bits.
-    W32,
+    Dword,
 }
 
 /// An operation on two operands.

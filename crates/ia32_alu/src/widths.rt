@@ -1,8 +1,32 @@
-//! The bits of an operand as a number.
+//! How wide operands are, and their bits as a number.
 ghost use Rattle.std.specs.Prelude.{◌≡◌, ◌<◌, ◌≤◌, ◌*◌, ◌^◌, ◌-◌, ℤ, ◌≤ℤ◌, ◌<ℤ◌, neg_ℤ, pos, not};
+ghost use Rattle.ia32_alu.specs.Widths.{byte_count, is_dword};
 ghost use Rattle.ia32_alu.specs.Numbers.{size, unsigned, highest, signed, wrapped, fits_unsigned};
 
 use crate::types::Width;
+
+impl Width {
+    /// How many bytes an operand has.
+    pub fn byte_count(self) -> u32
+        ensures { result ≡ byte_count self }
+    {
+        match self {
+            Width::Byte => 1,
+            Width::Word => 2,
+            Width::Dword => 4,
+        }
+    }
+
+    /// Whether an operand has 32 bits.
+    pub fn is_dword(self) -> bool
+        ensures { result ≡ is_dword self }
+    {
+        match self {
+            Width::Byte | Width::Word => false,
+            Width::Dword => true,
+        }
+    }
+}
 
 /// How many bits there are.
 pub(crate) fn bit_count(width: Width) -> u32
@@ -10,9 +34,9 @@ pub(crate) fn bit_count(width: Width) -> u32
     ensures bound { result ≤ 32 }
 {
     match width {
-        Width::W8 => 8,
-        Width::W16 => 16,
-        Width::W32 => 32,
+        Width::Byte => 8,
+        Width::Word => 16,
+        Width::Dword => 32,
     }
 }
 
@@ -22,9 +46,9 @@ pub(crate) fn cut(width: Width, a: u32) -> u32
     ensures small { result < 2 ^ size width }
 {
     match width {
-        Width::W8 => a % 0x100,
-        Width::W16 => a % 0x1_0000,
-        Width::W32 => a,
+        Width::Byte => a % 0x100,
+        Width::Word => a % 0x1_0000,
+        Width::Dword => a,
     }
 }
 
@@ -34,9 +58,9 @@ pub(crate) fn cut_wide(width: Width, a: u64) -> u32
     ensures small { result < 2 ^ size width }
 {
     match width {
-        Width::W8 => (a % 0x100) as u32,
-        Width::W16 => (a % 0x1_0000) as u32,
-        Width::W32 => (a % 0x1_0000_0000) as u32,
+        Width::Byte => (a % 0x100) as u32,
+        Width::Word => (a % 0x1_0000) as u32,
+        Width::Dword => (a % 0x1_0000_0000) as u32,
     }
 }
 
@@ -46,9 +70,9 @@ pub(crate) fn cut_double(width: Width, a: u64) -> u64
     ensures small { result < 2 ^ (2 * size width) }
 {
     match width {
-        Width::W8 => a % 0x1_0000,
-        Width::W16 => a % 0x1_0000_0000,
-        Width::W32 => a,
+        Width::Byte => a % 0x1_0000,
+        Width::Word => a % 0x1_0000_0000,
+        Width::Dword => a,
     }
 }
 
@@ -57,9 +81,9 @@ pub(crate) fn modulus(width: Width) -> i64
     ensures { result ≡ pos (2 ^ size width) }
 {
     match width {
-        Width::W8 => 0x100,
-        Width::W16 => 0x1_0000,
-        Width::W32 => 0x1_0000_0000,
+        Width::Byte => 0x100,
+        Width::Word => 0x1_0000,
+        Width::Dword => 0x1_0000_0000,
     }
 }
 
@@ -69,9 +93,9 @@ pub(crate) fn is_wide(width: Width, n: u64) -> bool
     ensures { result ≡ not (fits_unsigned (size width) (pos n)) }
 {
     match width {
-        Width::W8 => n >= 0x100,
-        Width::W16 => n >= 0x1_0000,
-        Width::W32 => n >= 0x1_0000_0000,
+        Width::Byte => n >= 0x100,
+        Width::Word => n >= 0x1_0000,
+        Width::Dword => n >= 0x1_0000_0000,
     }
 }
 
@@ -80,9 +104,9 @@ pub(crate) fn half(width: Width) -> i64
     ensures { result ≡ pos (2 ^ (size width - 1)) }
 {
     match width {
-        Width::W8 => 0x80,
-        Width::W16 => 0x8000,
-        Width::W32 => 0x8000_0000,
+        Width::Byte => 0x80,
+        Width::Word => 0x8000,
+        Width::Dword => 0x8000_0000,
     }
 }
 
@@ -92,9 +116,9 @@ pub(crate) fn is_negative(width: Width, a: u32) -> bool
     ensures { result ≡ highest (size width) a }
 {
     match width {
-        Width::W8 => a % 0x100 >= 0x80,
-        Width::W16 => a % 0x1_0000 >= 0x8000,
-        Width::W32 => a >= 0x8000_0000,
+        Width::Byte => a % 0x100 >= 0x80,
+        Width::Word => a % 0x1_0000 >= 0x8000,
+        Width::Dword => a >= 0x8000_0000,
     }
 }
 
@@ -106,9 +130,9 @@ pub(crate) fn signed_value(width: Width, a: u32) -> i64
     ensures high { result <ℤ pos 0x8000_0000 }
 {
     match width {
-        Width::W8 => i64::from(((a % 0x100) as u8).cast_signed()),
-        Width::W16 => i64::from(((a % 0x1_0000) as u16).cast_signed()),
-        Width::W32 => i64::from(a.cast_signed()),
+        Width::Byte => i64::from(((a % 0x100) as u8).cast_signed()),
+        Width::Word => i64::from(((a % 0x1_0000) as u16).cast_signed()),
+        Width::Dword => i64::from(a.cast_signed()),
     }
 }
 
@@ -118,9 +142,9 @@ pub(crate) fn signed_double(width: Width, a: u64) -> i64
     ensures { result ≡ signed (2 * size width) a }
 {
     match width {
-        Width::W8 => i64::from(((a % 0x1_0000) as u16).cast_signed()),
-        Width::W16 => i64::from(((a % 0x1_0000_0000) as u32).cast_signed()),
-        Width::W32 => a.cast_signed(),
+        Width::Byte => i64::from(((a % 0x1_0000) as u16).cast_signed()),
+        Width::Word => i64::from(((a % 0x1_0000_0000) as u32).cast_signed()),
+        Width::Dword => a.cast_signed(),
     }
 }
 
@@ -131,9 +155,9 @@ pub(crate) fn wrap(width: Width, z: i64) -> u32
     ensures small { result < 2 ^ size width }
 {
     match width {
-        Width::W8 => (z.cast_unsigned() % 0x100) as u32,
-        Width::W16 => (z.cast_unsigned() % 0x1_0000) as u32,
-        Width::W32 => (z.cast_unsigned() % 0x1_0000_0000) as u32,
+        Width::Byte => (z.cast_unsigned() % 0x100) as u32,
+        Width::Word => (z.cast_unsigned() % 0x1_0000) as u32,
+        Width::Dword => (z.cast_unsigned() % 0x1_0000_0000) as u32,
     }
 }
 
@@ -144,8 +168,8 @@ pub(crate) fn wrap_double(width: Width, z: i64) -> u64
     ensures small { result < 2 ^ (2 * size width) }
 {
     match width {
-        Width::W8 => z.cast_unsigned() % 0x1_0000,
-        Width::W16 => z.cast_unsigned() % 0x1_0000_0000,
-        Width::W32 => z.cast_unsigned(),
+        Width::Byte => z.cast_unsigned() % 0x1_0000,
+        Width::Word => z.cast_unsigned() % 0x1_0000_0000,
+        Width::Dword => z.cast_unsigned(),
     }
 }

@@ -4,18 +4,18 @@ use Rattle.std.proofs.Common.{refl, ap, sym, subst, ◌∙◌, arith, true, fals
 use Rattle.std.specs.Prelude.{◌==◌, ◌/◌, ◌||◌}
 use Rattle.ia32_decode.specs.declared.opcode_table.Line.{Line}
 use Rattle.ia32_decode.specs.declared.opcode_table.Form.{Form}
-use Rattle.ia32_decode.specs.declared.opcode_table.Form.TheVariants.{Unlisted, Plain, Branch, ModRm, Memory, EndBranch}
+use Rattle.ia32_decode.specs.declared.opcode_table.Form.TheVariants.{Unlisted, Plain, Register, Branch, ModRm, Memory, EndBranch}
 use Rattle.ia32_decode.specs.declared.opcode_table.Follows.{Follows}
 use Rattle.ia32_decode.specs.declared.opcode_table.Follows.TheVariants.{Nothing, Byte, SignedByte, Word, Dword}
 use Rattle.ia32_decode.specs.declared.opcode_table.Follows.TheVariants.{Address, Sized, Tested}
 use Rattle.ia32_decode.specs.declared.types.Decoded.{Decoded}
-use Rattle.ia32_decode.specs.declared.types.Width.{Width}
-use Rattle.ia32_decode.specs.declared.types.Width.TheVariants.{Byte as Width8, Word as Width16, Dword as Width32}
+use Rattle.ia32_alu.specs.declared.types.Width.{Width}
+use Rattle.ia32_alu.specs.declared.types.Width.TheVariants.{Byte as Width8, Word as Width16, Dword as Width32}
 use Rattle.ia32_decode.specs.declared.types.Fields.{Fields}
 use Rattle.ia32_decode.specs.declared.types.Prefixes.{Prefixes}
 use Rattle.ia32_decode.specs.declared.heads.Head.{Head}
 use Rattle.ia32_decode.specs.declared.addressing.Addressing.{Addressing}
-use Rattle.ia32_decode.specs.Widths.{byte_count}
+use Rattle.ia32_alu.specs.Widths.{byte_count}
 use Rattle.ia32_decode.specs.Encoding.{byte_in, prefix_count, prefixes_of, head_of, sib_length, field_of}
 use Rattle.ia32_decode.specs.Encoding.{lacks_base}
 use Rattle.ia32_decode.specs.Encoding.{displacement_width, addressing_with, addressing_of, no_addressing}
@@ -85,6 +85,7 @@ form_reaches ModRm w at = modrm_reaches w at
 form_reaches Memory w at = modrm_reaches w at
 form_reaches Unlisted w at = absent_reaches at
 form_reaches Plain w at = absent_reaches at
+form_reaches Register w at = absent_reaches at
 form_reaches Branch w at = absent_reaches at
 form_reaches EndBranch w at = absent_reaches at
 
@@ -223,6 +224,7 @@ laid_by line w h d passes is =
     opcode_ends Memory end = omega arith
     opcode_ends Unlisted end = omega arith
     opcode_ends Plain end = omega arith
+    opcode_ends Register end = omega arith
     opcode_ends Branch end = omega arith
 
     before : (p q e s : ℕ) → p ≡ q → p < e → e ≤ s → q < s

@@ -7,8 +7,8 @@ use Rattle.std.proofs.lemmas.Nat.{from_le_bytes-to_le_bytes_4}
 use Rattle.ia32_decode.specs.declared.heads.Head.{Head}
 use Rattle.ia32_decode.specs.declared.opcode_table.Line.TheVariants.{Jmp}
 use Rattle.ia32_decode.specs.Table.{row, line_of}
-use Rattle.ia32_decode.specs.Encoding.{word_in, dword_in, prefixes_of, head_after, head_of, no_addressing}
-use Rattle.ia32_decode.specs.Instructions.{instr_of}
+use Rattle.ia32_decode.specs.Encoding.{word_in, dword_in, prefixes_of, head_after, head_of, register_of, no_addressing}
+use Rattle.ia32_decode.specs.Instructions.{action_of, instr_of}
 use Rattle.ia32_decode.specs.Decode.{assembled, read_with, read_line, read_front, decoded_from}
 use Rattle.ia32_decode.specs.Branches.{jump_by}
 use Rattle.ia32_decode.proofs.PlainHead.{head_of_plain}
@@ -27,7 +27,7 @@ line_is = refl
 line_read : (a b c d : ℕ) (rest : List ℕ)
     → read_line Jmp (0xE9 ∷ a ∷ b ∷ c ∷ d ∷ rest) jump_head
     ≡ Some (jump_by ((a + 0x100 * b) + 0x10000 * (c + 0x100 * d)))
-unfolding row word_in dword_in prefixes_of no_addressing instr_of assembled read_with read_line
+unfolding row word_in dword_in prefixes_of no_addressing register_of action_of instr_of assembled read_with read_line
 line_read a b c d rest = cond-true _ _ _ (le-leb 5 (length (0xE9 ∷ a ∷ b ∷ c ∷ d ∷ rest)) (omega arith))
 
 front_read : (a b c d : ℕ) (rest : List ℕ)

@@ -10,12 +10,14 @@ use Rattle.std.proofs.lemmas.List.Quantifiers.{position-Some}
 use Rattle.std.proofs.lemmas.List.Sums.{position_or_len_is}
 use Rattle.ia32_decode.specs.declared.opcode_table.Line.{Line}
 use Rattle.ia32_decode.specs.declared.opcode_table.Form.{Form}
-use Rattle.ia32_decode.specs.declared.opcode_table.Form.TheVariants.{Unlisted, Plain, Branch, ModRm, Memory, EndBranch}
+use Rattle.ia32_decode.specs.declared.opcode_table.Form.TheVariants.{Unlisted, Plain, Register, Branch, ModRm, Memory, EndBranch}
 use Rattle.ia32_decode.specs.declared.opcode_table.Follows.{Follows}
 use Rattle.ia32_decode.specs.declared.opcode_table.Follows.TheVariants.{SignedByte}
 use Rattle.ia32_decode.specs.declared.types.Decoded.{Decoded}
+use Rattle.ia32_decode.specs.declared.types.Register.TheVariants.{Eax}
+use Rattle.ia32_decode.specs.declared.types.Scale.TheVariants.{Zero}
 use Rattle.ia32_decode.specs.declared.types.Index.{Index}
-use Rattle.ia32_decode.specs.declared.types.Width.{Width}
+use Rattle.ia32_alu.specs.declared.types.Width.{Width}
 use Rattle.ia32_decode.specs.declared.types.Prefixes.{Prefixes}
 use Rattle.ia32_decode.specs.declared.heads.Head.{Head}
 use Rattle.ia32_decode.specs.declared.addressing.Addressing.{Addressing}
@@ -25,7 +27,7 @@ use Rattle.ia32_decode.specs.Encoding.{head_of, head_after, register_of, mode, m
 use Rattle.ia32_decode.specs.Encoding.{base_number, index_of, displacement_width, displacement_of, field_of}
 use Rattle.ia32_decode.specs.Encoding.{operand_of, addressing_with, addressing_of, no_addressing}
 use Rattle.ia32_decode.specs.Table.{shape_of, line_of, follows_width, digit_allowed}
-use Rattle.ia32_decode.specs.Instructions.{instr_of}
+use Rattle.ia32_decode.specs.Instructions.{named_operand, instr_of}
 use Rattle.ia32_decode.specs.Decode.{front_of, opcode_end_of, form_addressing, form_accepts, number_in, value_in}
 use Rattle.ia32_decode.specs.Decode.{fields_of, assembled, completed, accepts, head_width, number_width}
 use Rattle.ia32_decode.specs.Decode.{line_addressing, decoded_from, read_front, read_line, read_with}
@@ -80,7 +82,7 @@ number_same v w n at width a fits =
     (λ is. let e : width ≡ 4 = eqb-true width 4 is in dword_same v w n at a (omega arith)) (λ _. refl)))
 
 -- the ModRM byte's reading by the base's number, the index and the displacement
-abbrev reading : ℕ → ℕ → Option Index → ℕ → ℕ → ℕ → Addressing
+abbrev reading : ℕ → ℕ → Index → ℕ → ℕ → ℕ → Addressing
 reading m number index at width value =
     let memory : Place =
     record {
@@ -92,7 +94,6 @@ reading m number index at width value =
       is_register = mode m == 3;
       digit = middle m;
       operand = operand_of m memory;
-      memory = memory;
       displacement = field_of at width;
       end = at + width;
     }
@@ -128,7 +129,7 @@ no_sib w m s s' at none =
     (displacement_of w at (width_by m (base_number m s')))) indexes
     ∙ sym (addressing_is w m s' at)
   where
-    no_index : (m s : ℕ) → has_sib m ≡ false → index_of m s ≡ None
+    no_index : (m s : ℕ) → has_sib m ≡ false → index_of m s ≡ record { register = Eax; scale = Zero }
     no_index m s none = rw none
 
 sib_same : (b : Bool) (v w : List ℕ) (n m at x : ℕ) → Agree v w n → has_sib m ≡ b → at + 1 + cond b 1 0 ≤ n
@@ -168,6 +169,7 @@ form_same ModRm v w n at a fits = addressing_same v w n at a fits
 form_same Memory v w n at a fits = addressing_same v w n at a fits
 form_same Unlisted v w n at a fits = refl
 form_same Plain v w n at a fits = refl
+form_same Register v w n at a fits = refl
 form_same Branch v w n at a fits = refl
 form_same EndBranch v w n at a fits = refl
 
@@ -188,6 +190,7 @@ form_ends ModRm w at = modrm_ends w at
 form_ends Memory w at = modrm_ends w at
 form_ends Unlisted w at = absent_ends at
 form_ends Plain w at = absent_ends at
+form_ends Register w at = absent_ends at
 form_ends Branch w at = absent_ends at
 form_ends EndBranch w at = absent_ends at
 
@@ -198,6 +201,7 @@ accept_same ModRm v w n h r a fits = refl
 accept_same Memory v w n h r a fits = refl
 accept_same Unlisted v w n h r a fits = refl
 accept_same Plain v w n h r a fits = refl
+accept_same Register v w n h r a fits = refl
 accept_same Branch v w n h r a fits = refl
 
 value_same : (follows : Follows) (v w : List ℕ) (n at : ℕ) (width : Width) (digit : ℕ) → Agree v w n
@@ -212,8 +216,13 @@ abbrev valued : Line → Head → Addressing → Width → ℕ → ℕ → Decod
 valued line h r width n value = record {
   length = r.end + n;
   instr = instr_of line
-      (record
-      { opcode = h.opcode; width = width; digit = r.digit; operand = r.operand; memory = r.memory; value = value });
+      (record {
+        opcode = h.opcode;
+        width = width;
+        digit = r.digit;
+        operand = named_operand (shape_of line).form h.opcode r.operand;
+        value = value;
+      });
   fields = fields_of (shape_of line).follows (opcode_end_of (shape_of line).form h.end) r n;
   prefixes = h.prefixes;
 }
@@ -312,6 +321,7 @@ end_within line v h d is =
     opcode_ends Memory end = omega arith
     opcode_ends Unlisted end = omega arith
     opcode_ends Plain end = omega arith
+    opcode_ends Register end = omega arith
     opcode_ends Branch end = omega arith
 
     chain : (e s x k n : ℕ) → e ≤ s → s ≤ x → x + k ≡ n → e ≤ n

@@ -18,9 +18,9 @@ use Rattle.ia32_decode.specs.Wide.{fields_begin, addressing_bytes, is_short, wid
 use Rattle.ia32_decode.specs.Wide.{wide_displacement, wide_immediate, has_short_number, wide_bytes, wide_fields}
 use Rattle.ia32_decode.specs.declared.types.Wide.{Wide}
 use Rattle.ia32_decode.specs.Wide.{wide_of, padded, with_wide_mode, displacement_begin, immediate_begin}
-use Rattle.ia32_decode.specs.declared.types.Width.{Width}
-use Rattle.ia32_decode.specs.declared.types.Width.TheVariants.{Byte as Width8, Word as Width16, Dword as Width32}
-use Rattle.ia32_decode.specs.Widths.{byte_count}
+use Rattle.ia32_alu.specs.declared.types.Width.{Width}
+use Rattle.ia32_alu.specs.declared.types.Width.TheVariants.{Byte as Width8, Word as Width16, Dword as Width32}
+use Rattle.ia32_alu.specs.Widths.{byte_count}
 use Rattle.ia32_decode.specs.Table.{full_width_of}
 use Rattle.ia32_decode.proofs.FieldOrder.{Laid, laid}
 use Rattle.ia32_decode.proofs.Readings.{short_of, within_of}

@@ -6,7 +6,7 @@ use Rattle.std.proofs.lemmas.Bool.{eqb-true}
 use Rattle.ia32_decode.specs.declared.types.Decoded.{Decoded}
 use Rattle.ia32_decode.specs.declared.types.Fields.{Fields}
 use Rattle.ia32_decode.specs.Encoding.{byte_in, field_of}
-use Rattle.ia32_decode.specs.Widths.{byte_count}
+use Rattle.ia32_alu.specs.Widths.{byte_count}
 use Rattle.ia32_decode.specs.Table.{full_width_of}
 use Rattle.ia32_decode.specs.Wide.{widened, wide_opcode, has_wide_opcode, opcode_in, wide_head}
 use Rattle.ia32_decode.specs.Wide.{addressing_bytes, is_short, with_wide_mode, wide_addressing, field_bytes}

@@ -3,19 +3,20 @@ use Rattle.std.specs.Prelude.{◌≡◌, ◌≤◌, ℕ, ◌+◌, Bool, true, fa
 use Rattle.std.specs.Prelude.{nat_le, ◌==◌, if◌then◌else◌}
 use Rattle.ia32_decode.specs.declared.opcode_table.Line.{Line}
 use Rattle.ia32_decode.specs.declared.opcode_table.Form.{Form}
-use Rattle.ia32_decode.specs.declared.opcode_table.Form.TheVariants.{Unlisted, Plain, Branch, ModRm, Memory, EndBranch}
+use Rattle.ia32_decode.specs.declared.opcode_table.Form.TheVariants.{Unlisted, Plain, Register, Branch, ModRm, Memory}
+use Rattle.ia32_decode.specs.declared.opcode_table.Form.TheVariants.{EndBranch}
 use Rattle.ia32_decode.specs.declared.opcode_table.Follows.{Follows}
 use Rattle.ia32_decode.specs.declared.opcode_table.Follows.TheVariants.{SignedByte, Address}
 use Rattle.ia32_decode.specs.declared.opcode_table.Shape.{Shape}
 use Rattle.ia32_decode.specs.declared.heads.Head.{Head}
 use Rattle.ia32_decode.specs.declared.addressing.Addressing.{Addressing}
-use Rattle.ia32_decode.specs.declared.types.Width.{Width}
+use Rattle.ia32_alu.specs.declared.types.Width.{Width}
 use Rattle.ia32_decode.specs.declared.types.Fields.{Fields}
 use Rattle.ia32_decode.specs.declared.types.Decoded.{Decoded}
 use Rattle.ia32_decode.specs.Encoding.{byte_in, word_in, dword_in, extended, field_of, head_of, addressing_of}
 use Rattle.ia32_decode.specs.Encoding.{no_addressing}
 use Rattle.ia32_decode.specs.Table.{row, shape_of, line_of, digit_allowed, width_of, follows_width}
-use Rattle.ia32_decode.specs.Instructions.{instr_of}
+use Rattle.ia32_decode.specs.Instructions.{named_operand, instr_of}
 
 -- the bytes that count: an instruction has at most 15
 abbrev pub front_of : List ℕ → List ℕ
@@ -37,6 +38,7 @@ form_addressing form w at = no_addressing at
 abbrev pub form_accepts : Form → List ℕ → Head → Addressing → Bool
 form_accepts Unlisted w head a = false
 form_accepts Plain w head a = true
+form_accepts Register w head a = true
 form_accepts Branch w head a = not head.prefixes.operand_size
 form_accepts ModRm w head a = true
 form_accepts Memory w head a = not a.is_register
@@ -64,8 +66,7 @@ assembled line w head a width n = record {
     opcode = head.opcode;
     width = width;
     digit = a.digit;
-    operand = a.operand;
-    memory = a.memory;
+    operand = named_operand (shape_of line).form head.opcode a.operand;
     value = value_in (shape_of line).follows w a.end n;
   });
   fields = fields_of (shape_of line).follows (opcode_end_of (shape_of line).form head.end) a n;

@@ -12,6 +12,8 @@ use Rattle.ia32_decode.specs.declared.types.Condition.TheVariants.{Overflow, NoO
 use Rattle.ia32_decode.specs.declared.types.Condition.TheVariants.{NotEqual, BelowOrEqual, Above, Sign, NoSign}
 use Rattle.ia32_decode.specs.declared.types.Condition.TheVariants.{Parity, NoParity, Less, GreaterOrEqual}
 use Rattle.ia32_decode.specs.declared.types.Condition.TheVariants.{LessOrEqual, Greater}
+use Rattle.ia32_decode.specs.declared.types.Scale.{Scale}
+use Rattle.ia32_decode.specs.declared.types.Scale.TheVariants.{Zero, One, Two, Four, Eight}
 use Rattle.ia32_decode.specs.declared.types.Index.{Index}
 use Rattle.ia32_decode.specs.declared.types.Memory.{Memory}
 use Rattle.ia32_decode.specs.declared.types.Operand.{Operand}
@@ -113,8 +115,15 @@ condition_number LessOrEqual = 14
 condition_number Greater = 15
 
 -- what the highest two bits of a SIB byte multiply the index by
-unfoldable pub scale_of : ℕ → ℕ
-scale_of sib = slice_index_or (1 ∷ 2 ∷ 4 ∷ 8 ∷ []) (sib / 64) 1
+unfoldable pub scale_of : ℕ → Scale
+scale_of sib = slice_index_or (One ∷ Two ∷ Four ∷ Eight ∷ []) (sib / 64) One
+
+abbrev pub factor_of : Scale → ℕ
+factor_of Zero = 0
+factor_of One = 1
+factor_of Two = 2
+factor_of Four = 4
+factor_of Eight = 8
 
 -- mod is bits 7 and 6 of the ModRM byte m, the digit or register bits 5 to 3, rm bits 2 to 0
 abbrev pub mode : ℕ → ℕ
@@ -145,10 +154,10 @@ abbrev pub base_of : ℕ → ℕ → Option Register
 base_of m s = if lacks_base m s then None else Some (register_of (base_number m s))
 
 -- index 100 is no index
-abbrev pub index_of : ℕ → ℕ → Option Index
+abbrev pub index_of : ℕ → ℕ → Index
 index_of m s =
-    if has_sib m && not (middle s == 4) then Some (record { register = register_of (middle s); scale = scale_of s })
-    else None
+    if has_sib m && not (middle s == 4) then record { register = register_of (middle s); scale = scale_of s }
+    else record { register = Eax; scale = Zero }
 
 -- mod 01 has a displacement of 8 bits, mod 10 one of 32 bits
 abbrev pub displacement_width : ℕ → ℕ → ℕ
@@ -177,7 +186,6 @@ addressing_with w m s at =
       is_register = mode m == 3;
       digit = middle m;
       operand = operand_of m memory;
-      memory = memory;
       displacement = field_of at (displacement_width m s);
       end = at + displacement_width m s;
     }
@@ -192,7 +200,6 @@ no_addressing at = record {
   is_register = true;
   digit = 0;
   operand = InRegister Eax;
-  memory = record { base = None; index = None; displacement = 0 };
   displacement = None;
   end = at;
 }

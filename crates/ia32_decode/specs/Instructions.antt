@@ -1,5 +1,5 @@
 -- The instruction that each line of the opcode table means.
-use Rattle.std.specs.Prelude.{ℕ, ◌/◌, ◌%◌, [], ◌∷◌, ◌==◌, if◌then◌else◌}
+use Rattle.std.specs.Prelude.{ℕ, ◌/◌, ◌%◌, true, false, [], ◌∷◌, Option, Some, None, ◌==◌, if◌then◌else◌}
 use Rattle.std.specs.List.{slice_index_or}
 use Rattle.ia32_decode.specs.declared.opcode_table.Line.{Line}
 use Rattle.ia32_decode.specs.declared.opcode_table.Line.TheVariants.{NoLine, AluTo, AluFrom, AluEax, Inc, Dec, Push}
@@ -16,40 +16,39 @@ use Rattle.ia32_decode.specs.declared.opcode_table.Line.TheVariants.{Int3, Ud2, 
 use Rattle.ia32_decode.specs.declared.opcode_table.Line.TheVariants.{SecondOnly, SecondRm, ShiftPair, BitTest}
 use Rattle.ia32_decode.specs.declared.opcode_table.Line.TheVariants.{Cmpxchg8b}
 use Rattle.ia32_decode.specs.declared.instructions.Parts.{Parts}
-use Rattle.ia32_decode.specs.declared.types.Register.TheVariants.{Eax}
-use Rattle.ia32_decode.specs.declared.types.Width.TheVariants.{Byte as Width8, Word as Width16}
+use Rattle.ia32_alu.specs.declared.types.Width.TheVariants.{Byte as Width8, Word as Width16}
+use Rattle.ia32_alu.specs.declared.types.Binary.{Binary}
+use Rattle.ia32_alu.specs.declared.types.Binary.TheVariants.{Add, Or, Adc, Sbb, And, Sub, Xor, Cmp}
+use Rattle.ia32_alu.specs.declared.types.Binary.TheVariants as binary
+use Rattle.ia32_alu.specs.declared.types.Unary.{Unary}
+use Rattle.ia32_alu.specs.declared.types.Unary.TheVariants as unary
+use Rattle.ia32_alu.specs.declared.types.Shift.{Shift}
+use Rattle.ia32_alu.specs.declared.types.Shift.TheVariants.{Rol, Ror, Shl, Shr, Sar}
 use Rattle.ia32_decode.specs.declared.types.Condition.{Condition}
 use Rattle.ia32_decode.specs.declared.types.Condition.TheVariants.{Overflow, NoOverflow, Below, AboveOrEqual, Equal}
 use Rattle.ia32_decode.specs.declared.types.Condition.TheVariants.{NotEqual, BelowOrEqual, Above, Sign, NoSign}
 use Rattle.ia32_decode.specs.declared.types.Condition.TheVariants.{Parity, NoParity, Less, GreaterOrEqual}
 use Rattle.ia32_decode.specs.declared.types.Condition.TheVariants.{LessOrEqual, Greater}
-use Rattle.ia32_decode.specs.declared.types.Arithmetic.{Arithmetic}
-use Rattle.ia32_decode.specs.declared.types.Arithmetic.TheVariants.{Add, Or, Adc, Sbb, And, Sub, Xor, Cmp}
-use Rattle.ia32_decode.specs.declared.types.Shift.{Shift}
-use Rattle.ia32_decode.specs.declared.types.Shift.TheVariants.{Rol, Ror, Rcl, Rcr, Shl, Shr, Sar}
-use Rattle.ia32_decode.specs.declared.types.Unary.{Unary}
-use Rattle.ia32_decode.specs.declared.types.Unary.TheVariants as unary
-use Rattle.ia32_decode.specs.declared.types.Counting.{Counting}
-use Rattle.ia32_decode.specs.declared.types.Counting.TheVariants.{Increment, Decrement}
+use Rattle.ia32_decode.specs.declared.types.Operand.{Operand}
 use Rattle.ia32_decode.specs.declared.types.Operand.TheVariants.{Register as InRegister}
-use Rattle.ia32_decode.specs.declared.types.Source.TheVariants.{Operand as SourceOperand, Immediate as SourceImmediate}
+use Rattle.ia32_decode.specs.declared.types.Source.TheVariants.{Register as OfRegister, Operand as OfOperand, Immediate}
+use Rattle.ia32_decode.specs.declared.types.Count.{Count}
+use Rattle.ia32_decode.specs.declared.types.Count.TheVariants as count
+use Rattle.ia32_decode.specs.declared.types.Action.{Action}
+use Rattle.ia32_decode.specs.declared.types.Action.TheVariants as action
 use Rattle.ia32_decode.specs.declared.types.Instr.{Instr}
-use Rattle.ia32_decode.specs.declared.types.Instr.TheVariants as instr
+use Rattle.ia32_decode.specs.declared.opcode_table.Form.{Form}
+use Rattle.ia32_decode.specs.declared.opcode_table.Form.TheVariants.{Register}
 use Rattle.ia32_decode.specs.Encoding.{register_of}
 
 -- the eight operations, by number
-unfoldable pub arithmetic_of : ℕ → Arithmetic
+unfoldable pub arithmetic_of : ℕ → Binary
 arithmetic_of n = slice_index_or (Add ∷ Or ∷ Adc ∷ Sbb ∷ And ∷ Sub ∷ Xor ∷ Cmp ∷ []) (n % 8) Add
 
--- the shifts, by digit; digit 6 isn't listed
-unfoldable pub shift_of : ℕ → Shift
-shift_of n = slice_index_or (Rol ∷ Ror ∷ Rcl ∷ Rcr ∷ Shl ∷ Shr ∷ Shl ∷ Sar ∷ []) (n % 8) Rol
-
--- the operations of the group F6 and F7, by digit; digits 0 and 1 mean none of them
-unfoldable pub unary_operation_of : ℕ → Unary
-unary_operation_of n = slice_index_or
-    (unary.Not ∷ unary.Not ∷ unary.Not ∷ unary.Neg ∷ unary.Mul ∷ unary.Imul ∷ unary.Div ∷ unary.Idiv ∷ [])
-    (n % 8) unary.Not
+-- the shifts, by digit: digits 2 and 3 rotate through the carry, and digit 6 isn't listed
+unfoldable pub shift_of : ℕ → Option Shift
+shift_of n = slice_index_or
+    (Some Rol ∷ Some Ror ∷ None ∷ None ∷ Some Shl ∷ Some Shr ∷ None ∷ Some Sar ∷ []) (n % 8) None
 
 -- the conditions, by the lowest four bits of the opcode
 unfoldable pub condition_of : ℕ → Condition
@@ -58,94 +57,117 @@ condition_of n =
     (Overflow ∷ NoOverflow ∷ Below ∷ AboveOrEqual ∷ Equal ∷ NotEqual ∷ BelowOrEqual ∷ Above ∷ Sign ∷ NoSign ∷ Parity
     ∷ NoParity ∷ Less ∷ GreaterOrEqual ∷ LessOrEqual ∷ Greater ∷ []) (n % 16) Overflow
 
-abbrev pub counting_of : ℕ → Counting
-counting_of digit = if digit == 0 then Increment else Decrement
+-- INC and DEC
+abbrev pub counting_of : ℕ → Unary
+counting_of digit = if digit == 0 then unary.Inc else unary.Dec
 
--- F6 and F7: /0 is TEST
-unfoldable pub unary_of : Parts → Instr
-unary_of p =
-    if p.digit == 0 then instr.TestImmediate p.width p.operand p.value
-    else instr.Unary (unary_operation_of p.digit) p.width p.operand
+-- C0, C1 and D0 to D3
+abbrev pub by_shift : Option Shift → Count → Action
+by_shift None count = action.LengthOnly
+by_shift (Some operation) count = action.Shift operation count
 
--- FE, and FF /0 and /1
-unfoldable pub counting_operand_of : Parts → Instr
-counting_operand_of p = instr.CountOperand (counting_of p.digit) p.width p.operand
+unfoldable pub shifting_of : ℕ → Count → Action
+shifting_of digit count = by_shift (shift_of digit) count
 
--- FF
-unfoldable pub group_five_of : Parts → Instr
-group_five_of p =
-    if p.digit == 2 then instr.CallOperand p.width p.operand
-    else if p.digit == 4 then instr.JumpOperand p.width p.operand
-    else if p.digit == 6 then instr.PushOperand p.width p.operand
-    else counting_operand_of p
+-- F6 and F7: TEST, NOT, NEG, MUL, IMUL, DIV and IDIV; digit 1 isn't listed
+unfoldable pub group_three_of : ℕ → Action
+group_three_of digit =
+    if digit == 0 then action.Arithmetic binary.Test Immediate
+    else if digit == 3 then action.Unary unary.Neg
+    else if digit == 4 then action.MultiplyAccumulator false
+    else if digit == 5 then action.MultiplyAccumulator true
+    else if digit == 6 then action.Divide false
+    else if digit == 7 then action.Divide true
+    else action.Unary unary.Not
+
+-- FF: INC, DEC, CALL, JMP and PUSH
+unfoldable pub group_five_of : ℕ → Action
+group_five_of digit =
+    if digit == 2 then action.CallOperand
+    else if digit == 4 then action.JumpOperand
+    else if digit == 6 then action.Push OfOperand
+    else action.Unary (counting_of digit)
+
+-- what a line does, from its opcode and digit
+unfoldable pub action_of : Line → ℕ → ℕ → Action
+action_of AluTo opcode digit = action.Arithmetic (arithmetic_of (opcode / 8)) OfRegister
+action_of AluFrom opcode digit = action.Arithmetic (arithmetic_of (opcode / 8)) OfOperand
+action_of AluEax opcode digit = action.Arithmetic (arithmetic_of (opcode / 8)) Immediate
+action_of Inc opcode digit = action.Unary unary.Inc
+action_of Dec opcode digit = action.Unary unary.Dec
+action_of Push opcode digit = action.Push OfOperand
+action_of Pop opcode digit = action.Pop
+action_of PushNumber opcode digit = action.Push Immediate
+action_of PushByte opcode digit = action.Push Immediate
+action_of ImulNumber opcode digit = action.Multiply Immediate
+action_of ImulByte opcode digit = action.Multiply Immediate
+action_of JccShort opcode digit = action.JumpIf (condition_of opcode)
+action_of AluNumber opcode digit = action.Arithmetic (arithmetic_of digit) Immediate
+action_of AluByte opcode digit = action.Arithmetic (arithmetic_of digit) Immediate
+action_of Test opcode digit = action.Arithmetic binary.Test OfRegister
+action_of Xchg opcode digit = action.Exchange
+action_of MovTo opcode digit = action.Move OfRegister
+action_of MovFrom opcode digit = action.Move OfOperand
+action_of Lea opcode digit = action.LoadAddress
+action_of PopOperand opcode digit = action.Pop
+action_of Nop opcode digit = action.Nop
+action_of XchgEax opcode digit = action.Exchange
+action_of Cwde opcode digit = action.ExtendAccumulator
+action_of Cdq opcode digit = action.SpreadSign
+action_of LoadEax opcode digit = action.LoadAccumulator
+action_of StoreEax opcode digit = action.StoreAccumulator
+action_of TestEax opcode digit = action.Arithmetic binary.Test Immediate
+action_of MovByte opcode digit = action.Move Immediate
+action_of MovFull opcode digit = action.Move Immediate
+action_of ShiftByte opcode digit = shifting_of digit count.Immediate
+action_of ShiftOne opcode digit = shifting_of digit count.One
+action_of ShiftCl opcode digit = shifting_of digit count.Cl
+action_of RetWord opcode digit = action.ReturnAndRelease
+action_of Ret opcode digit = action.Return
+action_of MovNumber opcode digit = action.Move Immediate
+action_of Leave opcode digit = action.Leave
+action_of Call opcode digit = action.Call
+action_of Jmp opcode digit = action.Jump
+action_of JmpShort opcode digit = action.Jump
+action_of GroupThree opcode digit = group_three_of digit
+action_of GroupFour opcode digit = action.Unary (counting_of digit)
+action_of GroupFive opcode digit = group_five_of digit
+action_of Endbr32 opcode digit = action.EndBranch
+action_of NopOperand opcode digit = action.NopOperand
+action_of Cmovcc opcode digit = action.MoveIf (condition_of opcode)
+action_of Jcc opcode digit = action.JumpIf (condition_of opcode)
+action_of Setcc opcode digit = action.SetIf (condition_of opcode)
+action_of Imul opcode digit = action.Multiply OfRegister
+action_of Cmpxchg opcode digit = action.CompareExchange
+action_of Xadd opcode digit = action.ExchangeAdd
+action_of MovzxByte opcode digit = action.ZeroExtend Width8
+action_of MovzxWord opcode digit = action.ZeroExtend Width16
+action_of MovsxByte opcode digit = action.SignExtend Width8
+action_of MovsxWord opcode digit = action.SignExtend Width16
+action_of Int3 opcode digit = action.Breakpoint
+action_of Ud2 opcode digit = action.Undefined
+action_of OpcodeOnly opcode digit = action.LengthOnly
+action_of Int opcode digit = action.LengthOnly
+action_of Loop opcode digit = action.LoopBranch opcode
+action_of Float opcode digit = action.LengthOnly
+action_of SecondOnly opcode digit = action.LengthOnly
+action_of SecondRm opcode digit = action.LengthOnly
+action_of ShiftPair opcode digit = action.LengthOnly
+action_of BitTest opcode digit = action.LengthOnly
+action_of Cmpxchg8b opcode digit = action.LengthOnly
+action_of NoLine opcode digit = action.Undefined
+
+-- the operand: what mod and rm name, or the register that the opcode names
+abbrev pub named_operand : Form → ℕ → Operand → Operand
+named_operand Register opcode operand = InRegister (register_of opcode)
+named_operand form opcode operand = operand
 
 -- the instruction of a line, from its opcode, digit, operand and number
 unfoldable pub instr_of : Line → Parts → Instr
-instr_of AluTo p =
-    instr.Arithmetic (arithmetic_of (p.opcode / 8)) p.width p.operand (SourceOperand (InRegister (register_of p.digit)))
-instr_of AluFrom p =
-    instr.Arithmetic (arithmetic_of (p.opcode / 8)) p.width (InRegister (register_of p.digit)) (SourceOperand p.operand)
-instr_of AluEax p = instr.Arithmetic (arithmetic_of (p.opcode / 8)) p.width (InRegister Eax) (SourceImmediate p.value)
-instr_of Inc p = instr.CountRegister Increment p.width (register_of p.opcode)
-instr_of Dec p = instr.CountRegister Decrement p.width (register_of p.opcode)
-instr_of Push p = instr.PushRegister p.width (register_of p.opcode)
-instr_of Pop p = instr.PopRegister p.width (register_of p.opcode)
-instr_of PushNumber p = instr.PushImmediate p.width p.value
-instr_of PushByte p = instr.PushImmediate p.width p.value
-instr_of ImulNumber p = instr.MultiplyImmediate p.width (register_of p.digit) p.operand p.value
-instr_of ImulByte p = instr.MultiplyImmediate p.width (register_of p.digit) p.operand p.value
-instr_of JccShort p = instr.JumpIf (condition_of p.opcode) p.value
-instr_of AluNumber p = instr.ArithmeticImmediate (arithmetic_of p.digit) p.width p.operand p.value
-instr_of AluByte p = instr.ArithmeticImmediate (arithmetic_of p.digit) p.width p.operand p.value
-instr_of Test p = instr.Test p.width p.operand (register_of p.digit)
-instr_of Xchg p = instr.Exchange p.width p.operand (register_of p.digit)
-instr_of MovTo p = instr.Move p.width p.operand (InRegister (register_of p.digit))
-instr_of MovFrom p = instr.Move p.width (InRegister (register_of p.digit)) p.operand
-instr_of Lea p = instr.LoadAddress p.width (register_of p.digit) p.memory
-instr_of PopOperand p = instr.PopOperand p.width p.operand
-instr_of Nop p = instr.Nop
-instr_of XchgEax p = instr.ExchangeAccumulator p.width (register_of p.opcode)
-instr_of Cwde p = instr.ExtendAccumulator p.width
-instr_of Cdq p = instr.SpreadSign p.width
-instr_of LoadEax p = instr.LoadAccumulator p.width p.value
-instr_of StoreEax p = instr.StoreAccumulator p.width p.value
-instr_of TestEax p = instr.TestAccumulator p.width p.value
-instr_of MovByte p = instr.MoveToRegister p.width (register_of p.opcode) p.value
-instr_of MovFull p = instr.MoveToRegister p.width (register_of p.opcode) p.value
-instr_of ShiftByte p = instr.ShiftByImmediate (shift_of p.digit) p.width p.operand p.value
-instr_of ShiftOne p = instr.ShiftByOne (shift_of p.digit) p.width p.operand
-instr_of ShiftCl p = instr.ShiftByCl (shift_of p.digit) p.width p.operand
-instr_of RetWord p = instr.ReturnAndRelease p.width p.value
-instr_of Ret p = instr.Return p.width
-instr_of MovNumber p = instr.MoveImmediate p.width p.operand p.value
-instr_of Leave p = instr.Leave p.width
-instr_of Call p = instr.Call p.value
-instr_of Jmp p = instr.Jump p.value
-instr_of JmpShort p = instr.Jump p.value
-instr_of GroupThree p = unary_of p
-instr_of GroupFour p = counting_operand_of p
-instr_of GroupFive p = group_five_of p
-instr_of Endbr32 p = instr.EndBranch
-instr_of NopOperand p = instr.NopOperand p.operand
-instr_of Cmovcc p = instr.MoveIf (condition_of p.opcode) p.width (register_of p.digit) p.operand
-instr_of Jcc p = instr.JumpIf (condition_of p.opcode) p.value
-instr_of Setcc p = instr.SetIf (condition_of p.opcode) p.operand
-instr_of Imul p = instr.Multiply p.width (register_of p.digit) p.operand
-instr_of Cmpxchg p = instr.CompareExchange p.width p.operand (register_of p.digit)
-instr_of Xadd p = instr.ExchangeAdd p.width p.operand (register_of p.digit)
-instr_of MovzxByte p = instr.ZeroExtend Width8 p.width (register_of p.digit) p.operand
-instr_of MovzxWord p = instr.ZeroExtend Width16 p.width (register_of p.digit) p.operand
-instr_of MovsxByte p = instr.SignExtend Width8 p.width (register_of p.digit) p.operand
-instr_of MovsxWord p = instr.SignExtend Width16 p.width (register_of p.digit) p.operand
-instr_of Int3 p = instr.Breakpoint
-instr_of Ud2 p = instr.Undefined
-instr_of OpcodeOnly p = instr.OpcodeOnly p.opcode
-instr_of Int p = instr.Interrupt p.value
-instr_of Loop p = instr.LoopBranch p.opcode p.value
-instr_of Float p = instr.FloatingPoint p.opcode p.operand
-instr_of SecondOnly p = instr.SecondOpcodeOnly p.opcode
-instr_of SecondRm p = instr.SecondOperand p.opcode p.operand (register_of p.digit)
-instr_of ShiftPair p = instr.DoubleShift p.opcode p.operand (register_of p.digit) p.value
-instr_of BitTest p = instr.BitTest p.digit p.operand p.value
-instr_of Cmpxchg8b p = instr.CompareExchangeWide p.memory
-instr_of NoLine p = instr.Undefined
+instr_of line p = record {
+  action = action_of line p.opcode p.digit;
+  width = p.width;
+  operand = p.operand;
+  register = register_of p.digit;
+  value = p.value;
+}

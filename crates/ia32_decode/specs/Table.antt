@@ -17,7 +17,7 @@ use Rattle.ia32_decode.specs.declared.opcode_table.Line.TheVariants.{Int3, Ud2, 
 use Rattle.ia32_decode.specs.declared.opcode_table.Line.TheVariants.{SecondOnly, SecondRm, ShiftPair, BitTest}
 use Rattle.ia32_decode.specs.declared.opcode_table.Line.TheVariants.{Cmpxchg8b}
 use Rattle.ia32_decode.specs.declared.opcode_table.Form.{Form}
-use Rattle.ia32_decode.specs.declared.opcode_table.Form.TheVariants.{Unlisted, Plain, Branch, ModRm, Memory, EndBranch}
+use Rattle.ia32_decode.specs.declared.opcode_table.Form.TheVariants.{Unlisted, Plain, Register, Branch, ModRm, Memory, EndBranch}
 use Rattle.ia32_decode.specs.declared.opcode_table.Sizing.{Sizing}
 use Rattle.ia32_decode.specs.declared.opcode_table.Sizing.TheVariants.{Byte as ByteWide, Full, LowBit}
 use Rattle.ia32_decode.specs.declared.opcode_table.Digits.{Digits}
@@ -27,9 +27,9 @@ use Rattle.ia32_decode.specs.declared.opcode_table.Follows.{Follows}
 use Rattle.ia32_decode.specs.declared.opcode_table.Follows.TheVariants.{Nothing, Byte, SignedByte, Word, Dword}
 use Rattle.ia32_decode.specs.declared.opcode_table.Follows.TheVariants.{Address, Sized, Tested}
 use Rattle.ia32_decode.specs.declared.opcode_table.Shape.{Shape}
-use Rattle.ia32_decode.specs.declared.types.Width.{Width}
-use Rattle.ia32_decode.specs.declared.types.Width.TheVariants.{Byte as Width8, Word as Width16, Dword as Width32}
-use Rattle.ia32_decode.specs.Widths.{byte_count}
+use Rattle.ia32_alu.specs.declared.types.Width.{Width}
+use Rattle.ia32_alu.specs.declared.types.Width.TheVariants.{Byte as Width8, Word as Width16, Dword as Width32}
+use Rattle.ia32_alu.specs.Widths.{byte_count}
 
 -- where a line stands, and how it is laid out
 pub record Row : Type 0 where
@@ -69,10 +69,10 @@ unfoldable pub row : Line → Row
 row AluTo = one (eighths 0 1) ModRm LowBit Any Nothing
 row AluFrom = one (eighths 2 3) ModRm LowBit Any Nothing
 row AluEax = one (eighths 4 5) Plain LowBit Any Sized
-row Inc = one (from_to 0x40 0x47) Plain Full Any Nothing
-row Dec = one (from_to 0x48 0x4F) Plain Full Any Nothing
-row Push = one (from_to 0x50 0x57) Plain Full Any Nothing
-row Pop = one (from_to 0x58 0x5F) Plain Full Any Nothing
+row Inc = one (from_to 0x40 0x47) Register Full Any Nothing
+row Dec = one (from_to 0x48 0x4F) Register Full Any Nothing
+row Push = one (from_to 0x50 0x57) Register Full Any Nothing
+row Pop = one (from_to 0x58 0x5F) Register Full Any Nothing
 row PushNumber = one (is 0x68) Plain Full Any Sized
 row PushByte = one (is 0x6A) Plain Full Any SignedByte
 row ImulNumber = one (is 0x69) ModRm Full Any Sized
@@ -87,14 +87,14 @@ row MovFrom = one (from_to 0x8A 0x8B) ModRm LowBit Any Nothing
 row Lea = one (is 0x8D) Memory Full Any Nothing
 row PopOperand = one (is 0x8F) ModRm Full Zero Nothing
 row Nop = one (is 0x90) Plain Full Any Nothing
-row XchgEax = one (from_to 0x91 0x97) Plain Full Any Nothing
+row XchgEax = one (from_to 0x91 0x97) Register Full Any Nothing
 row Cwde = one (is 0x98) Plain Full Any Nothing
 row Cdq = one (is 0x99) Plain Full Any Nothing
 row LoadEax = one (from_to 0xA0 0xA1) Plain LowBit Any Address
 row StoreEax = one (from_to 0xA2 0xA3) Plain LowBit Any Address
 row TestEax = one (from_to 0xA8 0xA9) Plain LowBit Any Sized
-row MovByte = one (from_to 0xB0 0xB7) Plain ByteWide Any Sized
-row MovFull = one (from_to 0xB8 0xBF) Plain Full Any Sized
+row MovByte = one (from_to 0xB0 0xB7) Register ByteWide Any Sized
+row MovFull = one (from_to 0xB8 0xBF) Register Full Any Sized
 row ShiftByte = one (from_to 0xC0 0xC1) ModRm LowBit NotSix Byte
 row ShiftOne = one (from_to 0xD0 0xD1) ModRm LowBit NotSix Nothing
 row ShiftCl = one (from_to 0xD2 0xD3) ModRm LowBit NotSix Nothing

@@ -6,10 +6,10 @@ ghost use Rattle.ia32_decode.specs.Encoding.{displacement_of, field_of, operand_
 ghost use Rattle.ia32_decode.specs.Encoding.{no_addressing};
 
 use crate::heads::{byte_at, dword_at};
-use crate::types::{Field, Index, Memory, Operand, Register};
+use crate::types::{Field, Index, Memory, Operand, Register, Scale};
 
 /// What the scale bits multiply by.
-static SCALES: [u32; 4] = [1, 2, 4, 8];
+static SCALES: [Scale; 4] = [Scale::One, Scale::Two, Scale::Four, Scale::Eight];
 
 /// What a ModRM byte says, with what belongs to it.
 #[derive(Clone, Copy)]
@@ -20,8 +20,6 @@ pub(crate) struct Addressing {
     pub digit: u8,
     /// What mod and rm name.
     pub operand: Operand,
-    /// The place in memory, where mod isn't 11.
-    pub memory: Memory,
     /// Where the displacement is.
     pub displacement: Option<Field>,
     /// The offset after all of it.
@@ -41,7 +39,7 @@ pub(crate) fn sign_extended(byte: u8) -> u32
 
 /// What the highest two bits of a SIB byte multiply the index by.
 #[tactic(auto, unfolding(crate::specs::Encoding::scale_of))]
-fn scale(sib: u8) -> u32
+fn scale(sib: u8) -> Scale
     ensures { result ≡ scale_of sib }
 {
     SCALES[(sib / 64) as usize]
@@ -88,16 +86,19 @@ fn base(modrm: u8, sib: u8) -> Option<Register>
 }
 
 /// The index.
-fn index(modrm: u8, sib: u8) -> Option<Index>
+fn index(modrm: u8, sib: u8) -> Index
     ensures { result ≡ index_of modrm sib }
 {
     if takes_sib(modrm) && sib / 8 % 8 != 4 {
-        Some(Index {
+        Index {
             register: Register::from_number(sib / 8 % 8),
             scale: scale(sib),
-        })
+        }
     } else {
-        None
+        Index {
+            register: Register::Eax,
+            scale: Scale::Zero,
+        }
     }
 }
 
@@ -169,7 +170,6 @@ fn addressing_parts(window: &[u8], modrm: u8, sib: u8, at: u32) -> Addressing
         is_register: modrm / 64 == 3,
         digit: modrm / 8 % 8,
         operand: operand(modrm, memory),
-        memory,
         displacement: field(at, width),
         end: at + width,
     }
@@ -183,16 +183,10 @@ fn register_parts(window: &[u8], modrm: u8, at: u32) -> Addressing
     ensures value { result ≡ addressing_with window.now modrm (byte_in window.now at) at }
     ensures bound { result.end ≡ at }
 {
-    let register = Register::from_number(modrm % 8);
     Addressing {
         is_register: true,
         digit: modrm / 8 % 8,
-        operand: Operand::Register(register),
-        memory: Memory {
-            base: Some(register),
-            index: None,
-            displacement: 0,
-        },
+        operand: Operand::Register(Register::from_number(modrm % 8)),
         displacement: None,
         end: at,
     }
@@ -224,11 +218,6 @@ pub(crate) fn absent_addressing(at: u32) -> Addressing
         is_register: true,
         digit: 0,
         operand: Operand::Register(Register::Eax),
-        memory: Memory {
-            base: None,
-            index: None,
-            displacement: 0,
-        },
         displacement: None,
         end: at,
     }

@@ -3,7 +3,7 @@ ghost use Rattle.std.specs.Prelude.{◌≡◌, ◌<◌, Some};
 ghost use Rattle.ia32_decode.specs.Encoding.{condition_number};
 ghost use Rattle.ia32_decode.specs.Branches.{branch_of};
 
-use crate::types::{Branch, BranchKind, Condition, Decoded, Instr, Prefixes};
+use crate::types::{Action, Branch, BranchKind, Condition, Decoded, Prefixes};
 
 impl Condition {
     /// The condition's number, 0 to 15, as the lowest four bits of an opcode have it.
@@ -39,15 +39,15 @@ impl Decoded {
     pub fn branch(&self) -> Option<Branch>
         ensures { result ≡ branch_of self.now }
     {
-        match self.instr {
-            Instr::Call { relative } => branch_to(BranchKind::Call, self.prefixes, relative),
-            Instr::Jump { relative } => branch_to(BranchKind::Jump, self.prefixes, relative),
-            Instr::JumpIf {
-                condition,
-                relative,
-            } => branch_to(BranchKind::JumpIf(condition), self.prefixes, relative),
-            Instr::LoopBranch { opcode, relative } => {
-                branch_to(BranchKind::Loop(opcode), self.prefixes, relative)
+        let displacement = self.instr.value;
+        match self.instr.action {
+            Action::Call => branch_to(BranchKind::Call, self.prefixes, displacement),
+            Action::Jump => branch_to(BranchKind::Jump, self.prefixes, displacement),
+            Action::JumpIf(condition) => {
+                branch_to(BranchKind::JumpIf(condition), self.prefixes, displacement)
+            }
+            Action::LoopBranch(opcode) => {
+                branch_to(BranchKind::Loop(opcode), self.prefixes, displacement)
             }
             _ => None,
         }

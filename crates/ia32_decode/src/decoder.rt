@@ -2,16 +2,16 @@
 ghost use Rattle.std.specs.Prelude.{◌≡◌, ◌≤◌, ◌<◌, ◌&&◌, length, IfSome, IfNone};
 ghost use Rattle.ia32_decode.specs.declared.types.Decoded.{Decoded};
 ghost use Rattle.ia32_decode.specs.Encoding.{head_of};
-ghost use Rattle.ia32_decode.specs.Table.{digit_allowed};
+ghost use Rattle.ia32_decode.specs.Table.{digit_allowed, line_of};
 ghost use Rattle.ia32_decode.specs.Decode.{front_of, opcode_end_of, form_addressing, form_accepts, number_in};
 ghost use Rattle.ia32_decode.specs.Decode.{value_in, fields_of, read_front, decoded_from, Spells};
 
 use crate::addressing::{Addressing, absent_addressing, addressing_at, field, sign_extended};
-use crate::heads::{Head, begins_with_prefix, byte_at, dword_at, plain_head, read_head, word_at};
-use crate::instructions::{Parts, build};
+use crate::heads::{Head, any_head, byte_at, dword_at, listed_head, word_at};
+use crate::instructions::{Parts, build, named_operand};
 use crate::layouts::{allows, shape_at, trailing_width, width};
 use crate::opcode_table::{Follows, Form, Line, Shape, line_at};
-use crate::types::{Decoded, Fields, Width};
+use crate::types::{Decoded, Fields};
 
 /// The bytes that count: an instruction has at most 15.
 fn front(window: &[u8]) -> &[u8]
@@ -57,6 +57,7 @@ fn form_takes(form: Form, window: &[u8], head: &Head, addressing: &Addressing) -
     match form {
         Form::Unlisted => false,
         Form::Plain => true,
+        Form::Register => true,
         Form::Branch => !head.prefixes.operand_size,
         Form::ModRm => true,
         Form::Memory => !addressing.is_register,
@@ -77,14 +78,12 @@ fn number(window: &[u8], at: u32, width: u32) -> u32
     requires { at ≤ 24 }
     ensures { result ≡ number_in window.now at width }
 {
-    if width == 1 {
-        u32::from(byte_at(window, at))
-    } else if width == 2 {
-        word_at(window, at)
-    } else if width == 4 {
-        dword_at(window, at)
-    } else {
-        0
+    match width {
+        0 => 0,
+        1 => u32::from(byte_at(window, at)),
+        2 => word_at(window, at),
+        4 => dword_at(window, at),
+        _ => 0,
     }
 }
 
@@ -131,17 +130,17 @@ fn fields(follows: Follows, end: u32, addressing: &Addressing, width: u32) -> Fi
     }
 }
 
-/// The instruction that a head begins, of at most 15 bytes. It is made last and in one place, once it is known to
-/// be whole: it is large, and each function that handed it on would copy it. It is inlined at both calls: where there
-/// is no prefix, that settles many of its tests.
+/// The instruction of a line and a head, of at most 15 bytes. It is made last and in one place, once it is known to be
+/// whole: it is large, and each function that handed it on would copy it. It is inlined at both calls: what is known of
+/// the head at the first one settles many of its tests.
 #[inline(always)]
 #[tactic(auto, unfolding(crate::specs::Decode::read_front, crate::specs::Decode::read_line, crate::specs::Decode::read_with, crate::specs::Decode::assembled))]
-fn read_after(window: &[u8], head: &Head) -> Option<Decoded>
+fn read_line(window: &[u8], line: Line, head: &Head) -> Option<Decoded>
     requires head { head.now ≡ head_of window.now }
+    requires line { line ≡ line_of head.now.escaped head.now.opcode }
     requires end { head.now.end ≤ 17 }
     ensures { result ≡ read_front window.now }
 {
-    let line = line_at(head.escaped, head.opcode);
     let shape = shape_at(line);
     let end = opcode_end(shape.form, head.end);
     let addressing = addressing(shape.form, window, end);
@@ -157,8 +156,7 @@ fn read_after(window: &[u8], head: &Head) -> Option<Decoded>
         opcode: head.opcode,
         width,
         digit: addressing.digit,
-        operand: addressing.operand,
-        memory: addressing.memory,
+        operand: named_operand(shape.form, head.opcode, addressing.operand),
         value: trailing_value(shape.follows, window, addressing.end, count),
     };
     Some(Decoded {
@@ -167,6 +165,23 @@ fn read_after(window: &[u8], head: &Head) -> Option<Decoded>
         fields: fields(shape.follows, end, &addressing, count),
         prefixes: head.prefixes,
     })
+}
+
+/// The instruction at the start of at most 15 bytes. Most begin with their opcode, which then stands in a row of the
+/// table: prefixes and 0F don't.
+#[inline(always)]
+fn read(window: &[u8]) -> Option<Decoded>
+    requires { length window.now ≤ 15 }
+    ensures { result ≡ read_front window.now }
+{
+    let opcode = byte_at(window, 0);
+    match line_at(false, opcode) {
+        Line::NoLine => {
+            let head = any_head(window);
+            read_line(window, line_at(head.escaped, head.opcode), &head)
+        }
+        line => read_line(window, line, &listed_head(window, opcode)),
+    }
 }
 
 /// The instruction that the first bytes of the window spell, `None` exactly where no line of the opcode table spells
@@ -180,9 +195,5 @@ pub fn decode(window: &[u8]) -> Option<Decoded>
     ensures short { IfSome result (λ decoded. decoded.length ≤ 15) }
     ensures within { IfSome result (λ decoded. decoded.length ≤ length window.now) }
 {
-    let front = front(window);
-    if begins_with_prefix(front) {
-        return read_after(front, &read_head(front));
-    }
-    read_after(front, &plain_head(front))
+    read(front(window))
 }

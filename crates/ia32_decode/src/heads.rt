@@ -1,10 +1,11 @@
 //! The start of an instruction: its prefixes and its opcode.
-ghost use Rattle.std.specs.Prelude.{◌≡◌, ◌≤◌, ◌<◌, ◌^◌, length, not, [], false, IfSome};
+ghost use Rattle.std.specs.Prelude.{◌≡◌, ◌≢◌, ◌≤◌, ◌<◌, ◌^◌, length, not, [], false, IfSome};
 ghost use Rattle.std.specs.List.{position};
 ghost use Rattle.ia32_decode.specs.Encoding.{byte_in, word_in, dword_in, is_prefix, prefix_count, has_byte};
 ghost use Rattle.ia32_decode.specs.Encoding.{prefixes_of, head_after, head_of};
+ghost use Rattle.ia32_decode.specs.declared.opcode_table.Line.TheVariants.{NoLine};
+ghost use Rattle.ia32_decode.specs.Table.{line_of};
 
-use crate::opcode_table::{Line, line_at};
 use crate::types::Prefixes;
 
 /// The prefixes and the opcode of an instruction.
@@ -27,7 +28,7 @@ pub(crate) fn byte_at(window: &[u8], i: u32) -> u8
     window.get(i as usize).copied().unwrap_or(0)
 }
 
-/// The two bytes at an offset as a number.
+/// The two bytes at an offset as a number, of which some may be past the end.
 #[tactic(auto, unfolding(crate::specs::Encoding::word_in))]
 pub(crate) fn word_at(window: &[u8], i: u32) -> u32
     requires { i ≤ 100 }
@@ -39,14 +40,31 @@ pub(crate) fn word_at(window: &[u8], i: u32) -> u32
     u32::from(low) + 0x100 * u32::from(high)
 }
 
-/// The four bytes at an offset as a number.
+/// The four bytes at an offset as a number, of which some may be past the end.
+#[cold]
+#[inline(never)]
 #[tactic(auto, unfolding(crate::specs::Encoding::dword_in))]
-pub(crate) fn dword_at(window: &[u8], i: u32) -> u32
+fn cut_dword_at(window: &[u8], i: u32) -> u32
     requires { i ≤ 90 }
     ensures { result ≡ dword_in window.now i }
 {
     let low = word_at(window, i);
     let high = word_at(window, i + 2);
+    low + 0x10000 * high
+}
+
+/// The four bytes at an offset as a number.
+#[tactic(auto, unfolding(crate::specs::Encoding::dword_in, crate::specs::Encoding::word_in))]
+pub(crate) fn dword_at(window: &[u8], i: u32) -> u32
+    requires { i ≤ 90 }
+    ensures { result ≡ dword_in window.now i }
+{
+    let at = i as usize;
+    if window.len() < at + 4 {
+        return cut_dword_at(window, i);
+    }
+    let low = u32::from(window[at]) + 0x100 * u32::from(window[at + 1]);
+    let high = u32::from(window[at + 2]) + 0x100 * u32::from(window[at + 3]);
     low + 0x10000 * high
 }
 
@@ -112,7 +130,7 @@ fn prefixes(front: &[u8], count: u32) -> Prefixes
 
 /// No prefix.
 #[tactic(auto, unfolding(crate::specs::Encoding::prefixes_of))]
-fn no_prefixes() -> Prefixes
+pub(crate) fn no_prefixes() -> Prefixes
     ensures { result ≡ prefixes_of [] 0 }
 {
     Prefixes {
@@ -154,10 +172,10 @@ fn opcode_after(window: &[u8], prefixes: Prefixes, n: u32) -> Head
     }
 }
 
-/// The prefixes and the opcode at the start of a window.
+/// The prefixes and the opcode at the start of a window, counted and looked for.
 #[cold]
 #[inline(never)]
-pub(crate) fn read_head(window: &[u8]) -> Head
+fn read_head(window: &[u8]) -> Head
     requires { length window.now ≤ 15 }
     ensures value { result ≡ head_of window.now }
     ensures bound { result.end ≤ 17 }
@@ -167,25 +185,44 @@ pub(crate) fn read_head(window: &[u8]) -> Head
     opcode_after(window, prefixes(front, count as u32), count as u32)
 }
 
-/// Whether a window begins with a prefix. No prefix stands in the opcode table, in which the byte is looked up in any
-/// case: so for most instructions this lookup alone is enough.
-pub(crate) fn begins_with_prefix(window: &[u8]) -> bool
-    ensures { result ≡ is_prefix (byte_in window.now 0) }
+/// The head of an instruction that begins with an opcode of one byte.
+#[tactic(auto, unfolding(crate::specs::Encoding::prefixes_of, crate::specs::Encoding::head_after), using(crate::proofs::PlainHead::head_of_listed))]
+#[inline(always)]
+pub(crate) fn listed_head(window: &[u8], opcode: u8) -> Head
+    requires first { opcode ≡ byte_in window.now 0 }
+    requires listed { line_of false opcode ≢ NoLine }
+    ensures value { result ≡ head_of window.now }
+    ensures line { line_of result.escaped result.opcode ≡ line_of false opcode }
+    ensures end { result.end ≡ 1 }
 {
-    let byte = byte_at(window, 0);
-    match line_at(false, byte) {
-        Line::NoLine => is_prefix_byte(byte),
-        _ => false,
+    Head {
+        prefixes: no_prefixes(),
+        escaped: false,
+        opcode,
+        end: 1,
     }
 }
 
 /// The opcode at the start of a window that doesn't begin with a prefix. Most don't, and ten searches for prefixes
 /// among no bytes would take longer than all else here.
 #[tactic(auto, using(crate::proofs::PlainHead::head_of_plain))]
-pub(crate) fn plain_head(window: &[u8]) -> Head
+fn plain_head(window: &[u8]) -> Head
     requires { is_prefix (byte_in window.now 0) ≡ false }
     ensures value { result ≡ head_of window.now }
     ensures bound { result.end ≤ 17 }
 {
     opcode_after(window, no_prefixes(), 0)
+}
+
+/// The prefixes and the opcode at the start of a window.
+pub(crate) fn any_head(window: &[u8]) -> Head
+    requires { length window.now ≤ 15 }
+    ensures value { result ≡ head_of window.now }
+    ensures bound { result.end ≤ 17 }
+{
+    if is_prefix_byte(byte_at(window, 0)) {
+        read_head(window)
+    } else {
+        plain_head(window)
+    }
 }

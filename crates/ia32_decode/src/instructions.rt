@@ -1,48 +1,35 @@
 //! The instruction that each line of the opcode table means.
 ghost use Rattle.std.specs.Prelude.{◌≡◌};
-ghost use Rattle.ia32_decode.specs.Encoding.{register_of};
-ghost use Rattle.ia32_decode.specs.Instructions.{arithmetic_of, shift_of, unary_operation_of, condition_of};
-ghost use Rattle.ia32_decode.specs.Instructions.{counting_of, unary_of, counting_operand_of, group_five_of, instr_of};
+ghost use Rattle.ia32_decode.specs.declared.types.Action.TheVariants.{Arithmetic};
+ghost use Rattle.ia32_decode.specs.Instructions.{arithmetic_of, shift_of, condition_of, counting_of, shifting_of};
+ghost use Rattle.ia32_decode.specs.Instructions.{group_three_of, group_five_of, named_operand, action_of, instr_of};
 
-use crate::opcode_table::Line;
-use crate::types::{
-    Arithmetic, Condition, Counting, Instr, Memory, Operand, Register, Shift, Source, Unary, Width,
-};
+use crate::opcode_table::{Form, Line};
+use crate::types::{Action, Condition, Count, Instr, Operand, Register, Source};
+use ia32_alu::{Binary, Shift, Unary, Width};
 
 /// The operations by number.
-static ARITHMETIC: [Arithmetic; 8] = [
-    Arithmetic::Add,
-    Arithmetic::Or,
-    Arithmetic::Adc,
-    Arithmetic::Sbb,
-    Arithmetic::And,
-    Arithmetic::Sub,
-    Arithmetic::Xor,
-    Arithmetic::Cmp,
+static ARITHMETIC: [Binary; 8] = [
+    Binary::Add,
+    Binary::Or,
+    Binary::Adc,
+    Binary::Sbb,
+    Binary::And,
+    Binary::Sub,
+    Binary::Xor,
+    Binary::Cmp,
 ];
 
-/// The shifts by digit. Digit 6 isn't listed.
-static SHIFTS: [Shift; 8] = [
-    Shift::Rol,
-    Shift::Ror,
-    Shift::Rcl,
-    Shift::Rcr,
-    Shift::Shl,
-    Shift::Shr,
-    Shift::Shl,
-    Shift::Sar,
-];
-
-/// The operations of the group F6 and F7 by digit. Digits 0 and 1 mean none of them.
-static UNARY: [Unary; 8] = [
-    Unary::Not,
-    Unary::Not,
-    Unary::Not,
-    Unary::Neg,
-    Unary::Mul,
-    Unary::Imul,
-    Unary::Div,
-    Unary::Idiv,
+/// The shifts by digit. Digits 2 and 3 rotate through the carry, and digit 6 isn't listed.
+static SHIFTS: [Option<Shift>; 8] = [
+    Some(Shift::Rol),
+    Some(Shift::Ror),
+    None,
+    None,
+    Some(Shift::Shl),
+    Some(Shift::Shr),
+    None,
+    Some(Shift::Sar),
 ];
 
 /// The conditions by number.
@@ -74,36 +61,26 @@ pub(crate) struct Parts {
     pub width: Width,
     /// The middle field of the ModRM byte.
     pub digit: u8,
-    /// What mod and rm name.
+    /// What mod and rm name, or the register that the opcode names, or the accumulator.
     pub operand: Operand,
-    /// The same, where it is a place in memory.
-    pub memory: Memory,
     /// The number at the end.
     pub value: u32,
 }
 
 /// The operation of a number.
 #[tactic(auto, unfolding(crate::specs::Instructions::arithmetic_of))]
-fn arithmetic_at(number: u8) -> Arithmetic
+fn arithmetic_at(number: u8) -> Binary
     ensures { result ≡ arithmetic_of number }
 {
     ARITHMETIC[(number % 8) as usize]
 }
 
-/// The shift of a digit.
+/// The shift of a digit; `None` for a rotation through the carry.
 #[tactic(auto, unfolding(crate::specs::Instructions::shift_of))]
-fn shift_at(digit: u8) -> Shift
+fn shift_at(digit: u8) -> Option<Shift>
     ensures { result ≡ shift_of digit }
 {
     SHIFTS[(digit % 8) as usize]
-}
-
-/// The operation of a digit of the group F6 and F7.
-#[tactic(auto, unfolding(crate::specs::Instructions::unary_operation_of))]
-fn unary_operation_at(digit: u8) -> Unary
-    ensures { result ≡ unary_operation_of digit }
-{
-    UNARY[(digit % 8) as usize]
 }
 
 /// The condition of an opcode.
@@ -115,332 +92,150 @@ fn condition_at(opcode: u8) -> Condition
 }
 
 /// INC or DEC.
-fn counting_operation(digit: u8) -> Counting
+fn counting_at(digit: u8) -> Unary
     ensures { result ≡ counting_of digit }
 {
-    if digit == 0 {
-        Counting::Increment
-    } else {
-        Counting::Decrement
-    }
+    if digit == 0 { Unary::Inc } else { Unary::Dec }
 }
 
-/// The instruction of F6 or F7.
-#[inline(always)]
-#[tactic(auto, unfolding(crate::specs::Instructions::unary_of))]
-fn unary_at(parts: &Parts) -> Instr
-    ensures { result ≡ unary_of parts.now }
+/// The action of C0, C1 and D0 to D3.
+#[tactic(auto, unfolding(crate::specs::Instructions::shifting_of))]
+fn shifting_at(digit: u8, count: Count) -> Action
+    ensures { result ≡ shifting_of digit count }
 {
-    if parts.digit == 0 {
-        Instr::TestImmediate {
-            width: parts.width,
-            operand: parts.operand,
-            immediate: parts.value,
-        }
-    } else {
-        Instr::Unary {
-            operation: unary_operation_at(parts.digit),
-            width: parts.width,
-            operand: parts.operand,
-        }
+    match shift_at(digit) {
+        Some(operation) => Action::Shift { operation, count },
+        None => Action::LengthOnly,
     }
 }
 
-/// The instruction of FE.
-#[inline(always)]
-#[tactic(auto, unfolding(crate::specs::Instructions::counting_operand_of))]
-fn counting_at(parts: &Parts) -> Instr
-    ensures { result ≡ counting_operand_of parts.now }
+/// The action of F6 or F7.
+#[tactic(auto, unfolding(crate::specs::Instructions::group_three_of))]
+fn group_three_at(digit: u8) -> Action
+    ensures { result ≡ group_three_of digit }
 {
-    Instr::CountOperand {
-        operation: counting_operation(parts.digit),
-        width: parts.width,
-        operand: parts.operand,
+    match digit {
+        0 => Action::Arithmetic {
+            operation: Binary::Test,
+            source: Source::Immediate,
+        },
+        3 => Action::Unary(Unary::Neg),
+        4 => Action::MultiplyAccumulator { signed: false },
+        5 => Action::MultiplyAccumulator { signed: true },
+        6 => Action::Divide { signed: false },
+        7 => Action::Divide { signed: true },
+        _ => Action::Unary(Unary::Not),
     }
 }
 
-/// The instruction of FF.
-#[inline(always)]
+/// The action of FF.
 #[tactic(auto, unfolding(crate::specs::Instructions::group_five_of))]
-fn group_five_at(parts: &Parts) -> Instr
-    ensures { result ≡ group_five_of parts.now }
+fn group_five_at(digit: u8) -> Action
+    ensures { result ≡ group_five_of digit }
 {
-    if parts.digit == 2 {
-        Instr::CallOperand {
-            width: parts.width,
-            operand: parts.operand,
-        }
-    } else if parts.digit == 4 {
-        Instr::JumpOperand {
-            width: parts.width,
-            operand: parts.operand,
-        }
-    } else if parts.digit == 6 {
-        Instr::PushOperand {
-            width: parts.width,
-            operand: parts.operand,
-        }
-    } else {
-        counting_at(parts)
+    match digit {
+        2 => Action::CallOperand,
+        4 => Action::JumpOperand,
+        6 => Action::Push(Source::Operand),
+        _ => Action::Unary(counting_at(digit)),
     }
 }
 
-/// The register that the middle field of the ModRM byte names.
-fn register(parts: &Parts) -> Register
-    ensures { result ≡ register_of parts.now.digit }
+/// The operand of an instruction: what its ModRM byte names, if it has one, or the register that its opcode names.
+#[inline(always)]
+pub(crate) fn named_operand(form: Form, opcode: u8, operand: Operand) -> Operand
+    ensures { result ≡ named_operand form opcode operand }
 {
-    Register::from_number(parts.digit)
+    match form {
+        Form::Register => Operand::Register(Register::from_number(opcode)),
+        _ => operand,
+    }
 }
 
-/// The register that the opcode names.
-fn low_register(parts: &Parts) -> Register
-    ensures { result ≡ register_of parts.now.opcode }
+/// An operation on two operands.
+fn arithmetic(operation: Binary, source: Source) -> Action
+    ensures { result ≡ Arithmetic operation source }
 {
-    Register::from_number(parts.opcode)
+    Action::Arithmetic { operation, source }
 }
 
-/// The instruction of a line, by one arm for each line of the opcode table.
+/// The action of a line, by one arm for each line of the opcode table.
+#[inline(always)]
+#[tactic(auto, unfolding(crate::specs::Instructions::action_of))]
+fn action_at(line: Line, opcode: u8, digit: u8) -> Action
+    ensures { result ≡ action_of line opcode digit }
+{
+    match line {
+        Line::AluTo => arithmetic(arithmetic_at(opcode / 8), Source::Register),
+        Line::AluFrom => arithmetic(arithmetic_at(opcode / 8), Source::Operand),
+        Line::AluEax => arithmetic(arithmetic_at(opcode / 8), Source::Immediate),
+        Line::Inc => Action::Unary(Unary::Inc),
+        Line::Dec => Action::Unary(Unary::Dec),
+        Line::Push => Action::Push(Source::Operand),
+        Line::Pop | Line::PopOperand => Action::Pop,
+        Line::PushNumber | Line::PushByte => Action::Push(Source::Immediate),
+        Line::ImulNumber | Line::ImulByte => Action::Multiply(Source::Immediate),
+        Line::JccShort | Line::Jcc => Action::JumpIf(condition_at(opcode)),
+        Line::AluNumber | Line::AluByte => arithmetic(arithmetic_at(digit), Source::Immediate),
+        Line::Test => arithmetic(Binary::Test, Source::Register),
+        Line::Xchg | Line::XchgEax => Action::Exchange,
+        Line::MovTo => Action::Move(Source::Register),
+        Line::MovFrom => Action::Move(Source::Operand),
+        Line::Lea => Action::LoadAddress,
+        Line::Nop => Action::Nop,
+        Line::Cwde => Action::ExtendAccumulator,
+        Line::Cdq => Action::SpreadSign,
+        Line::LoadEax => Action::LoadAccumulator,
+        Line::StoreEax => Action::StoreAccumulator,
+        Line::TestEax => arithmetic(Binary::Test, Source::Immediate),
+        Line::MovByte | Line::MovFull | Line::MovNumber => Action::Move(Source::Immediate),
+        Line::ShiftByte => shifting_at(digit, Count::Immediate),
+        Line::ShiftOne => shifting_at(digit, Count::One),
+        Line::ShiftCl => shifting_at(digit, Count::Cl),
+        Line::RetWord => Action::ReturnAndRelease,
+        Line::Ret => Action::Return,
+        Line::Leave => Action::Leave,
+        Line::Call => Action::Call,
+        Line::Jmp | Line::JmpShort => Action::Jump,
+        Line::GroupThree => group_three_at(digit),
+        Line::GroupFour => Action::Unary(counting_at(digit)),
+        Line::GroupFive => group_five_at(digit),
+        Line::Endbr32 => Action::EndBranch,
+        Line::NopOperand => Action::NopOperand,
+        Line::Cmovcc => Action::MoveIf(condition_at(opcode)),
+        Line::Setcc => Action::SetIf(condition_at(opcode)),
+        Line::Imul => Action::Multiply(Source::Register),
+        Line::Cmpxchg => Action::CompareExchange,
+        Line::Xadd => Action::ExchangeAdd,
+        Line::MovzxByte => Action::ZeroExtend(Width::Byte),
+        Line::MovzxWord => Action::ZeroExtend(Width::Word),
+        Line::MovsxByte => Action::SignExtend(Width::Byte),
+        Line::MovsxWord => Action::SignExtend(Width::Word),
+        Line::Int3 => Action::Breakpoint,
+        Line::Ud2 | Line::NoLine => Action::Undefined,
+        Line::Loop => Action::LoopBranch(opcode),
+        Line::OpcodeOnly
+        | Line::Int
+        | Line::Float
+        | Line::SecondOnly
+        | Line::SecondRm
+        | Line::ShiftPair
+        | Line::BitTest
+        | Line::Cmpxchg8b => Action::LengthOnly,
+    }
+}
+
+/// The instruction of a line.
 #[inline(always)]
 #[tactic(auto, unfolding(crate::specs::Instructions::instr_of))]
 pub(crate) fn build(line: Line, parts: &Parts) -> Instr
     ensures { result ≡ instr_of line parts.now }
 {
-    match line {
-        Line::AluTo => Instr::Arithmetic {
-            operation: arithmetic_at(parts.opcode / 8),
-            width: parts.width,
-            destination: parts.operand,
-            source: Source::Operand(Operand::Register(register(parts))),
-        },
-        Line::AluFrom => Instr::Arithmetic {
-            operation: arithmetic_at(parts.opcode / 8),
-            width: parts.width,
-            destination: Operand::Register(register(parts)),
-            source: Source::Operand(parts.operand),
-        },
-        Line::AluEax => Instr::Arithmetic {
-            operation: arithmetic_at(parts.opcode / 8),
-            width: parts.width,
-            destination: Operand::Register(Register::Eax),
-            source: Source::Immediate(parts.value),
-        },
-        Line::Inc => Instr::CountRegister {
-            operation: Counting::Increment,
-            width: parts.width,
-            register: low_register(parts),
-        },
-        Line::Dec => Instr::CountRegister {
-            operation: Counting::Decrement,
-            width: parts.width,
-            register: low_register(parts),
-        },
-        Line::Push => Instr::PushRegister {
-            width: parts.width,
-            register: low_register(parts),
-        },
-        Line::Pop => Instr::PopRegister {
-            width: parts.width,
-            register: low_register(parts),
-        },
-        Line::PushNumber | Line::PushByte => Instr::PushImmediate {
-            width: parts.width,
-            immediate: parts.value,
-        },
-        Line::ImulNumber | Line::ImulByte => Instr::MultiplyImmediate {
-            width: parts.width,
-            destination: register(parts),
-            source: parts.operand,
-            immediate: parts.value,
-        },
-        Line::JccShort | Line::Jcc => Instr::JumpIf {
-            condition: condition_at(parts.opcode),
-            relative: parts.value,
-        },
-        Line::AluNumber | Line::AluByte => Instr::ArithmeticImmediate {
-            operation: arithmetic_at(parts.digit),
-            width: parts.width,
-            destination: parts.operand,
-            immediate: parts.value,
-        },
-        Line::Test => Instr::Test {
-            width: parts.width,
-            left: parts.operand,
-            right: register(parts),
-        },
-        Line::Xchg => Instr::Exchange {
-            width: parts.width,
-            operand: parts.operand,
-            register: register(parts),
-        },
-        Line::MovTo => Instr::Move {
-            width: parts.width,
-            destination: parts.operand,
-            source: Operand::Register(register(parts)),
-        },
-        Line::MovFrom => Instr::Move {
-            width: parts.width,
-            destination: Operand::Register(register(parts)),
-            source: parts.operand,
-        },
-        Line::Lea => Instr::LoadAddress {
-            width: parts.width,
-            destination: register(parts),
-            memory: parts.memory,
-        },
-        Line::PopOperand => Instr::PopOperand {
-            width: parts.width,
-            operand: parts.operand,
-        },
-        Line::Nop => Instr::Nop,
-        Line::XchgEax => Instr::ExchangeAccumulator {
-            width: parts.width,
-            register: low_register(parts),
-        },
-        Line::Cwde => Instr::ExtendAccumulator { width: parts.width },
-        Line::Cdq => Instr::SpreadSign { width: parts.width },
-        Line::LoadEax => Instr::LoadAccumulator {
-            width: parts.width,
-            address: parts.value,
-        },
-        Line::StoreEax => Instr::StoreAccumulator {
-            width: parts.width,
-            address: parts.value,
-        },
-        Line::TestEax => Instr::TestAccumulator {
-            width: parts.width,
-            immediate: parts.value,
-        },
-        Line::MovByte | Line::MovFull => Instr::MoveToRegister {
-            width: parts.width,
-            register: low_register(parts),
-            immediate: parts.value,
-        },
-        Line::ShiftByte => Instr::ShiftByImmediate {
-            operation: shift_at(parts.digit),
-            width: parts.width,
-            operand: parts.operand,
-            count: parts.value,
-        },
-        Line::ShiftOne => Instr::ShiftByOne {
-            operation: shift_at(parts.digit),
-            width: parts.width,
-            operand: parts.operand,
-        },
-        Line::ShiftCl => Instr::ShiftByCl {
-            operation: shift_at(parts.digit),
-            width: parts.width,
-            operand: parts.operand,
-        },
-        Line::RetWord => Instr::ReturnAndRelease {
-            width: parts.width,
-            bytes: parts.value,
-        },
-        Line::Ret => Instr::Return { width: parts.width },
-        Line::MovNumber => Instr::MoveImmediate {
-            width: parts.width,
-            destination: parts.operand,
-            immediate: parts.value,
-        },
-        Line::Leave => Instr::Leave { width: parts.width },
-        Line::Call => Instr::Call {
-            relative: parts.value,
-        },
-        Line::Jmp | Line::JmpShort => Instr::Jump {
-            relative: parts.value,
-        },
-        Line::GroupThree => unary_at(parts),
-        Line::GroupFour => counting_at(parts),
-        Line::GroupFive => group_five_at(parts),
-        Line::Int3 => Instr::Breakpoint,
-        Line::OpcodeOnly => Instr::OpcodeOnly {
-            opcode: parts.opcode,
-        },
-        Line::Int => Instr::Interrupt {
-            vector: parts.value,
-        },
-        Line::Loop => Instr::LoopBranch {
-            opcode: parts.opcode,
-            relative: parts.value,
-        },
-        Line::Float => Instr::FloatingPoint {
-            opcode: parts.opcode,
-            operand: parts.operand,
-        },
-        Line::Endbr32 => Instr::EndBranch,
-        Line::NopOperand => Instr::NopOperand {
-            operand: parts.operand,
-        },
-        Line::Cmovcc => Instr::MoveIf {
-            condition: condition_at(parts.opcode),
-            width: parts.width,
-            destination: register(parts),
-            source: parts.operand,
-        },
-        Line::Setcc => Instr::SetIf {
-            condition: condition_at(parts.opcode),
-            operand: parts.operand,
-        },
-        Line::Imul => Instr::Multiply {
-            width: parts.width,
-            destination: register(parts),
-            source: parts.operand,
-        },
-        Line::Cmpxchg => Instr::CompareExchange {
-            width: parts.width,
-            operand: parts.operand,
-            register: register(parts),
-        },
-        Line::Xadd => Instr::ExchangeAdd {
-            width: parts.width,
-            operand: parts.operand,
-            register: register(parts),
-        },
-        Line::MovzxByte => Instr::ZeroExtend {
-            from: Width::Byte,
-            width: parts.width,
-            destination: register(parts),
-            source: parts.operand,
-        },
-        Line::MovzxWord => Instr::ZeroExtend {
-            from: Width::Word,
-            width: parts.width,
-            destination: register(parts),
-            source: parts.operand,
-        },
-        Line::MovsxByte => Instr::SignExtend {
-            from: Width::Byte,
-            width: parts.width,
-            destination: register(parts),
-            source: parts.operand,
-        },
-        Line::MovsxWord => Instr::SignExtend {
-            from: Width::Word,
-            width: parts.width,
-            destination: register(parts),
-            source: parts.operand,
-        },
-        Line::Ud2 | Line::NoLine => Instr::Undefined,
-        Line::SecondOnly => Instr::SecondOpcodeOnly {
-            opcode: parts.opcode,
-        },
-        Line::SecondRm => Instr::SecondOperand {
-            opcode: parts.opcode,
-            operand: parts.operand,
-            register: register(parts),
-        },
-        Line::ShiftPair => Instr::DoubleShift {
-            opcode: parts.opcode,
-            operand: parts.operand,
-            register: register(parts),
-            count: parts.value,
-        },
-        Line::BitTest => Instr::BitTest {
-            digit: parts.digit,
-            operand: parts.operand,
-            bit: parts.value,
-        },
-        Line::Cmpxchg8b => Instr::CompareExchangeWide {
-            memory: parts.memory,
-        },
+    Instr {
+        action: action_at(line, parts.opcode, parts.digit),
+        width: parts.width,
+        operand: parts.operand,
+        register: Register::from_number(parts.digit),
+        value: parts.value,
     }
 }

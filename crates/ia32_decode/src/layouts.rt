@@ -3,7 +3,7 @@ ghost use Rattle.std.specs.Prelude.{◌≡◌, ◌≤◌};
 ghost use Rattle.ia32_decode.specs.Table.{shape_of, digit_allowed, width_of, full_width_of, follows_width};
 
 use crate::opcode_table::{Digits, Follows, Form, Line, Shape, Sizing};
-use crate::types::Width;
+use ia32_alu::Width;
 
 /// A layout of the four parts.
 fn laid_out(form: Form, sizing: Sizing, digits: Digits, follows: Follows) -> Shape
@@ -28,10 +28,10 @@ pub(crate) fn shape_at(line: Line) -> Shape
         Line::AluTo => laid_out(Form::ModRm, Sizing::LowBit, Digits::Any, Follows::Nothing),
         Line::AluFrom => laid_out(Form::ModRm, Sizing::LowBit, Digits::Any, Follows::Nothing),
         Line::AluEax => laid_out(Form::Plain, Sizing::LowBit, Digits::Any, Follows::Sized),
-        Line::Inc => laid_out(Form::Plain, Sizing::Full, Digits::Any, Follows::Nothing),
-        Line::Dec => laid_out(Form::Plain, Sizing::Full, Digits::Any, Follows::Nothing),
-        Line::Push => laid_out(Form::Plain, Sizing::Full, Digits::Any, Follows::Nothing),
-        Line::Pop => laid_out(Form::Plain, Sizing::Full, Digits::Any, Follows::Nothing),
+        Line::Inc => laid_out(Form::Register, Sizing::Full, Digits::Any, Follows::Nothing),
+        Line::Dec => laid_out(Form::Register, Sizing::Full, Digits::Any, Follows::Nothing),
+        Line::Push => laid_out(Form::Register, Sizing::Full, Digits::Any, Follows::Nothing),
+        Line::Pop => laid_out(Form::Register, Sizing::Full, Digits::Any, Follows::Nothing),
         Line::PushNumber => laid_out(Form::Plain, Sizing::Full, Digits::Any, Follows::Sized),
         Line::PushByte => laid_out(Form::Plain, Sizing::Full, Digits::Any, Follows::SignedByte),
         Line::ImulNumber => laid_out(Form::ModRm, Sizing::Full, Digits::Any, Follows::Sized),
@@ -46,14 +46,14 @@ pub(crate) fn shape_at(line: Line) -> Shape
         Line::Lea => laid_out(Form::Memory, Sizing::Full, Digits::Any, Follows::Nothing),
         Line::PopOperand => laid_out(Form::ModRm, Sizing::Full, Digits::Zero, Follows::Nothing),
         Line::Nop => laid_out(Form::Plain, Sizing::Full, Digits::Any, Follows::Nothing),
-        Line::XchgEax => laid_out(Form::Plain, Sizing::Full, Digits::Any, Follows::Nothing),
+        Line::XchgEax => laid_out(Form::Register, Sizing::Full, Digits::Any, Follows::Nothing),
         Line::Cwde => laid_out(Form::Plain, Sizing::Full, Digits::Any, Follows::Nothing),
         Line::Cdq => laid_out(Form::Plain, Sizing::Full, Digits::Any, Follows::Nothing),
         Line::LoadEax => laid_out(Form::Plain, Sizing::LowBit, Digits::Any, Follows::Address),
         Line::StoreEax => laid_out(Form::Plain, Sizing::LowBit, Digits::Any, Follows::Address),
         Line::TestEax => laid_out(Form::Plain, Sizing::LowBit, Digits::Any, Follows::Sized),
-        Line::MovByte => laid_out(Form::Plain, Sizing::Byte, Digits::Any, Follows::Sized),
-        Line::MovFull => laid_out(Form::Plain, Sizing::Full, Digits::Any, Follows::Sized),
+        Line::MovByte => laid_out(Form::Register, Sizing::Byte, Digits::Any, Follows::Sized),
+        Line::MovFull => laid_out(Form::Register, Sizing::Full, Digits::Any, Follows::Sized),
         Line::ShiftByte => laid_out(Form::ModRm, Sizing::LowBit, Digits::NotSix, Follows::Byte),
         Line::ShiftOne => laid_out(
             Form::ModRm,

@@ -16,7 +16,6 @@ mod padding_forms;
 mod registers;
 mod types;
 mod widening;
-mod widths;
 
 pub use decoder::decode;
 pub use laws::{
@@ -25,7 +24,7 @@ pub use laws::{
 };
 pub use padding_forms::is_padding;
 pub use types::{
-    Arithmetic, Branch, BranchKind, Condition, Counting, Decoded, Field, Fields, Index, Instr,
-    Memory, Operand, Prefixes, Register, Shift, Source, Unary, Wide, Width,
+    Action, Branch, BranchKind, Condition, Count, Decoded, Field, Fields, Index, Instr, Memory,
+    Operand, Prefixes, Register, Scale, Source, Wide,
 };
 pub use widening::{has_short_number, widen};

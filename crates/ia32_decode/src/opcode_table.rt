@@ -157,6 +157,8 @@ pub(crate) enum Form {
     Unlisted,
     /// Nothing.
     Plain,
+    /// Nothing, and the opcode names a register.
+    Register,
     /// Nothing, and prefix 66 isn't taken.
     Branch,
     /// A ModRM byte with what belongs to it.

@@ -1,9 +1,9 @@
 //! Which instructions are padding.
 ghost use Rattle.std.specs.Prelude.{◌≡◌};
-ghost use Rattle.ia32_decode.specs.Padding.{has_others, only_66, only_66_2e, one_2e_3e, same_register};
+ghost use Rattle.ia32_decode.specs.Padding.{has_others, only_66, only_66_2e, one_2e_3e, is_register, is_no_immediate};
 ghost use Rattle.ia32_decode.specs.Padding.{is_base, has_index, is_alone, is_padding_of};
 
-use crate::types::{Decoded, Index, Instr, Memory, Operand, Prefixes, Register};
+use crate::types::{Action, Decoded, Index, Operand, Prefixes, Register, Scale, Source};
 
 /// Whether there is a prefix other than 66, 2E and 3E.
 fn has_other_prefixes(prefixes: Prefixes) -> bool
@@ -39,16 +39,20 @@ fn takes_one_2e_or_3e(prefixes: Prefixes) -> bool
     prefixes.count <= 1 && !has_other_prefixes(prefixes) && !prefixes.operand_size
 }
 
-/// Whether both operands are one register.
-fn is_same_register(left: Operand, right: Operand) -> bool
-    ensures { result ≡ same_register left right }
+/// Whether an operand is a register.
+fn is_that_register(register: Register, operand: Operand) -> bool
+    ensures { result ≡ is_register register operand }
 {
-    match left {
-        Operand::Register(a) => match right {
-            Operand::Register(b) => a.number() == b.number(),
-            Operand::Memory(_) => false,
-        },
-        Operand::Memory(_) => false,
+    matches!(operand, Operand::Register(other) if other.number() == register.number())
+}
+
+/// Whether the second operand is a register or memory.
+fn is_no_immediate(source: Source) -> bool
+    ensures { result ≡ is_no_immediate source }
+{
+    match source {
+        Source::Register | Source::Operand => true,
+        Source::Immediate => false,
     }
 }
 
@@ -60,17 +64,24 @@ fn is_the_base(register: Register, base: Option<Register>) -> bool
 }
 
 /// Whether there is an index.
-fn has_an_index(index: Option<Index>) -> bool
+fn has_an_index(index: Index) -> bool
     ensures { result ≡ has_index index }
 {
-    index.is_some()
+    !matches!(index.scale, Scale::Zero)
 }
 
-/// Whether an address is the register alone.
-fn is_register_alone(register: Register, memory: Memory) -> bool
-    ensures { result ≡ is_alone register memory }
+/// Whether an operand is the place in memory whose address is the register alone.
+fn is_register_alone(register: Register, operand: Operand) -> bool
+    ensures { result ≡ is_alone register operand }
 {
-    is_the_base(register, memory.base) && !has_an_index(memory.index) && memory.displacement == 0
+    match operand {
+        Operand::Memory(memory) => {
+            is_the_base(register, memory.base)
+                && !has_an_index(memory.index)
+                && memory.displacement == 0
+        }
+        Operand::Register(_) => false,
+    }
 }
 
 /// Whether an instruction is padding: 90 after any number of 66; 0F 1F /0 after any number of 66 and 2E; 89 or 8B
@@ -80,24 +91,20 @@ fn is_register_alone(register: Register, memory: Memory) -> bool
 pub fn is_padding(decoded: &Decoded) -> bool
     ensures { result ≡ is_padding_of decoded.now }
 {
-    match decoded.instr {
-        Instr::Nop => takes_only_66(decoded.prefixes),
-        Instr::NopOperand { .. } => takes_only_66_and_2e(decoded.prefixes),
-        Instr::Move {
-            width,
-            destination,
-            source,
-        } => {
-            decoded.prefixes.count == 0 && width.is_dword() && is_same_register(destination, source)
+    let instr = decoded.instr;
+    match instr.action {
+        Action::Nop => takes_only_66(decoded.prefixes),
+        Action::NopOperand => takes_only_66_and_2e(decoded.prefixes),
+        Action::Move(source) => {
+            decoded.prefixes.count == 0
+                && instr.width.is_dword()
+                && is_no_immediate(source)
+                && is_that_register(instr.register, instr.operand)
         }
-        Instr::LoadAddress {
-            destination,
-            memory,
-            ..
-        } => {
+        Action::LoadAddress => {
             takes_one_2e_or_3e(decoded.prefixes)
                 && decoded.fields.disp.is_some()
-                && is_register_alone(destination, memory)
+                && is_register_alone(instr.register, instr.operand)
         }
         _ => false,
     }

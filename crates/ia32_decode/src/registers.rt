@@ -1,8 +1,8 @@
-//! Registers by number.
-ghost use Rattle.std.specs.Prelude.{◌≡◌, ◌<◌};
-ghost use Rattle.ia32_decode.specs.Encoding.{register_of, register_number};
+//! Registers by number, and what one is multiplied by.
+ghost use Rattle.std.specs.Prelude.{◌≡◌, ◌≤◌, ◌<◌};
+ghost use Rattle.ia32_decode.specs.Encoding.{register_of, register_number, factor_of};
 
-use crate::types::Register;
+use crate::types::{Register, Scale};
 
 impl Register {
     /// The register that the lowest three bits of a number name.
@@ -36,6 +36,22 @@ impl Register {
             Register::Ebp => 5,
             Register::Esi => 6,
             Register::Edi => 7,
+        }
+    }
+}
+
+impl Scale {
+    /// The number that it multiplies by: 0, 1, 2, 4 or 8.
+    pub fn factor(self) -> u32
+        ensures value { result ≡ factor_of self }
+        ensures bound { result ≤ 8 }
+    {
+        match self {
+            Scale::Zero => 0,
+            Scale::One => 1,
+            Scale::Two => 2,
+            Scale::Four => 4,
+            Scale::Eight => 8,
         }
     }
 }

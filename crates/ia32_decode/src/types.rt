@@ -1,4 +1,5 @@
 //! What a decoded instruction is made of.
+use ia32_alu::{Binary, Shift, Unary, Width};
 
 /// A general register, by its number from 0 to 7. At 8 bits the same numbers name AL, CL, DL, BL, AH, CH, DH
 /// and BH, and at 16 bits the lower halves.
@@ -20,17 +21,6 @@ pub enum Register {
     Esi,
     /// EDI, DI or BH.
     Edi,
-}
-
-/// How wide an operand is.
-#[derive(Clone, Copy, PartialEq, Eq)]
-pub enum Width {
-    /// 8 bits.
-    Byte,
-    /// 16 bits.
-    Word,
-    /// 32 bits.
-    Dword,
 }
 
 /// The condition of a conditional instruction, by its number from 0 to 15. Each odd one is the negation of the
@@ -71,70 +61,19 @@ pub enum Condition {
     Greater,
 }
 
-/// The operations of opcodes 00 to 3D and of the group 80 to 83, by their number from 0 to 7.
+/// What an index is multiplied by, by the highest two bits of a SIB byte.
 #[derive(Clone, Copy)]
-pub enum Arithmetic {
-    /// ADD.
-    Add,
-    /// OR.
-    Or,
-    /// ADC.
-    Adc,
-    /// SBB.
-    Sbb,
-    /// AND.
-    And,
-    /// SUB.
-    Sub,
-    /// XOR.
-    Xor,
-    /// CMP.
-    Cmp,
-}
-
-/// The operations of the groups C0, C1 and D0 to D3.
-#[derive(Clone, Copy)]
-pub enum Shift {
-    /// ROL, digit 0.
-    Rol,
-    /// ROR, digit 1.
-    Ror,
-    /// RCL, digit 2.
-    Rcl,
-    /// RCR, digit 3.
-    Rcr,
-    /// SHL, digit 4.
-    Shl,
-    /// SHR, digit 5.
-    Shr,
-    /// SAR, digit 7.
-    Sar,
-}
-
-/// The operations of the group F6 and F7 that have one operand.
-#[derive(Clone, Copy)]
-pub enum Unary {
-    /// NOT, digit 2.
-    Not,
-    /// NEG, digit 3.
-    Neg,
-    /// MUL, digit 4.
-    Mul,
-    /// IMUL, digit 5.
-    Imul,
-    /// DIV, digit 6.
-    Div,
-    /// IDIV, digit 7.
-    Idiv,
-}
-
-/// Counting by one.
-#[derive(Clone, Copy)]
-pub enum Counting {
-    /// INC.
-    Increment,
-    /// DEC.
-    Decrement,
+pub enum Scale {
+    /// 0: there is no index.
+    Zero,
+    /// 1.
+    One,
+    /// 2.
+    Two,
+    /// 4.
+    Four,
+    /// 8.
+    Eight,
 }
 
 /// A register that is scaled and added to an address.
@@ -142,8 +81,8 @@ pub enum Counting {
 pub struct Index {
     /// The register.
     pub register: Register,
-    /// 1, 2, 4 or 8.
-    pub scale: u32,
+    /// What it is multiplied by: 0 where there is no index.
+    pub scale: Scale,
 }
 
 /// A place in memory: the sum of its parts, modulo 2^32.
@@ -151,8 +90,8 @@ pub struct Index {
 pub struct Memory {
     /// The base register, if there is one.
     pub base: Option<Register>,
-    /// The index, if there is one.
-    pub index: Option<Index>,
+    /// The index, scaled by 0 if there is none.
+    pub index: Index,
     /// The displacement, sign-extended to 32 bits, and 0 where there is none.
     pub displacement: u32,
 }
@@ -166,312 +105,124 @@ pub enum Operand {
     Memory(Memory),
 }
 
-/// Where an operation takes its second operand.
+/// Where the second of two operands stands. The first one is the operand; but where that is the second, the first is the
+/// register.
 #[derive(Clone, Copy)]
 pub enum Source {
-    /// From a register or memory.
-    Operand(Operand),
-    /// From the instruction itself.
-    Immediate(u32),
+    /// The register.
+    Register,
+    /// The operand.
+    Operand,
+    /// The instruction's own number.
+    Immediate,
 }
 
-/// An instruction, by the row of the opcode table that spells it, with its operands.
+/// By how many places is shifted.
+#[derive(Clone, Copy)]
+pub enum Count {
+    /// By 1.
+    One,
+    /// By the instruction's own number.
+    Immediate,
+    /// By CL.
+    Cl,
+}
+
+/// What an instruction does. Opcodes that do the same with operands that stand elsewhere, in a register, in memory or in
+/// the instruction itself, are one kind.
+#[derive(Clone, Copy)]
+pub enum Action {
+    /// ADD, OR, ADC, SBB, AND, SUB, XOR and CMP, 00 to 3D, 80, 81 and 83; and TEST, 84, 85, A8, A9, F6 /0 and F7 /0.
+    Arithmetic { operation: Binary, source: Source },
+    /// INC and DEC, 40 to 4F, FE and FF; NOT and NEG, F6 and F7.
+    Unary(Unary),
+    /// PUSH, 50 to 57, 68, 6A and FF /6.
+    Push(Source),
+    /// POP, 58 to 5F and 8F /0.
+    Pop,
+    /// IMUL, 69, 6B and 0F AF: the register takes the product of the operand and the source.
+    Multiply(Source),
+    /// Jcc, 70 to 7F and 0F 80 to 8F.
+    JumpIf(Condition),
+    /// XCHG, 86, 87 and 91 to 97.
+    Exchange,
+    /// MOV, 88 to 8B, B0 to BF, C6 /0 and C7 /0.
+    Move(Source),
+    /// MOV to the accumulator from the address that is the instruction's own number, A0 and A1.
+    LoadAccumulator,
+    /// MOV from the accumulator to such an address, A2 and A3.
+    StoreAccumulator,
+    /// LEA, 8D.
+    LoadAddress,
+    /// NOP, 90.
+    Nop,
+    /// CWDE or CBW, 98. The width is that of the result.
+    ExtendAccumulator,
+    /// CDQ or CWD, 99. The width is that of the accumulator.
+    SpreadSign,
+    /// A shift or rotate, C0, C1 and D0 to D3.
+    Shift { operation: Shift, count: Count },
+    /// RET that adds to ESP, C2. The width is that of the address.
+    ReturnAndRelease,
+    /// RET, C3. The width is that of the address.
+    Return,
+    /// LEAVE, C9.
+    Leave,
+    /// CALL, E8.
+    Call,
+    /// JMP, E9 and EB.
+    Jump,
+    /// MUL or IMUL of the accumulator, F6 /4 and /5 and F7 /4 and /5.
+    MultiplyAccumulator { signed: bool },
+    /// DIV or IDIV, F6 /6 and /7 and F7 /6 and /7.
+    Divide { signed: bool },
+    /// CALL to where the operand says, FF /2.
+    CallOperand,
+    /// JMP to where the operand says, FF /4.
+    JumpOperand,
+    /// ENDBR32, F3 0F 1E FB.
+    EndBranch,
+    /// NOP with an operand that isn't accessed, 0F 1F /0.
+    NopOperand,
+    /// CMOVcc, 0F 40 to 4F.
+    MoveIf(Condition),
+    /// SETcc, 0F 90 to 9F.
+    SetIf(Condition),
+    /// CMPXCHG, 0F B1.
+    CompareExchange,
+    /// XADD, 0F C1.
+    ExchangeAdd,
+    /// MOVZX of a width, 0F B6 and B7.
+    ZeroExtend(Width),
+    /// MOVSX of a width, 0F BE and BF.
+    SignExtend(Width),
+    /// INT3, CC.
+    Breakpoint,
+    /// UD2, 0F 0B.
+    Undefined,
+    /// LOOPNE, LOOPE, LOOP and JECXZ by the opcode, E0 to E3, of which only the length is known.
+    LoopBranch(u8),
+    /// Any other instruction of which only the length is known.
+    LengthOnly,
+}
+
+/// An instruction: what is done, and with which operands. What an action doesn't speak of has no meaning in it.
 ///
 /// An immediate of one byte that is sign-extended, and a relative displacement, stand here sign-extended to 32
 /// bits; other immediates stand here as they are. A relative displacement counts from the end of the
 /// instruction. A width of 16 bits comes of prefix 66.
 #[derive(Clone, Copy)]
-pub enum Instr {
-    /// ADD, OR, ADC, SBB, AND, SUB, XOR or CMP, opcodes 00 to 3D.
-    Arithmetic {
-        operation: Arithmetic,
-        width: Width,
-        destination: Operand,
-        source: Source,
-    },
-    /// INC or DEC of a register, 40 to 4F.
-    CountRegister {
-        operation: Counting,
-        width: Width,
-        register: Register,
-    },
-    /// PUSH of a register, 50 to 57.
-    PushRegister {
-        width: Width,
-        register: Register,
-    },
-    /// POP to a register, 58 to 5F.
-    PopRegister {
-        width: Width,
-        register: Register,
-    },
-    /// PUSH of an immediate, 68 and 6A.
-    PushImmediate {
-        width: Width,
-        immediate: u32,
-    },
-    /// IMUL with three operands, 69 and 6B.
-    MultiplyImmediate {
-        width: Width,
-        destination: Register,
-        source: Operand,
-        immediate: u32,
-    },
-    /// Jcc, 70 to 7F and 0F 80 to 8F.
-    JumpIf {
-        condition: Condition,
-        relative: u32,
-    },
-    /// ADD, OR, ADC, SBB, AND, SUB, XOR or CMP with an immediate, 80, 81 and 83.
-    ArithmeticImmediate {
-        operation: Arithmetic,
-        width: Width,
-        destination: Operand,
-        immediate: u32,
-    },
-    /// TEST, 84 and 85.
-    Test {
-        width: Width,
-        left: Operand,
-        right: Register,
-    },
-    /// XCHG, 86 and 87.
-    Exchange {
-        width: Width,
-        operand: Operand,
-        register: Register,
-    },
-    /// MOV, 88 to 8B.
-    Move {
-        width: Width,
-        destination: Operand,
-        source: Operand,
-    },
-    /// LEA, 8D.
-    LoadAddress {
-        width: Width,
-        destination: Register,
-        memory: Memory,
-    },
-    /// POP to an operand, 8F /0.
-    PopOperand {
-        width: Width,
-        operand: Operand,
-    },
-    /// NOP, 90.
-    Nop,
-    /// XCHG of EAX or AX with a register, 91 to 97.
-    ExchangeAccumulator {
-        width: Width,
-        register: Register,
-    },
-    /// CWDE or CBW, 98. The width is that of the result.
-    ExtendAccumulator {
-        width: Width,
-    },
-    /// CDQ or CWD, 99. The width is that of the accumulator.
-    SpreadSign {
-        width: Width,
-    },
-    /// MOV to the accumulator from an address, A0 and A1.
-    LoadAccumulator {
-        width: Width,
-        address: u32,
-    },
-    /// MOV from the accumulator to an address, A2 and A3.
-    StoreAccumulator {
-        width: Width,
-        address: u32,
-    },
-    /// TEST of the accumulator with an immediate, A8 and A9.
-    TestAccumulator {
-        width: Width,
-        immediate: u32,
-    },
-    /// MOV of an immediate to a register, B0 to BF.
-    MoveToRegister {
-        width: Width,
-        register: Register,
-        immediate: u32,
-    },
-    /// A shift or rotate by an immediate, C0 and C1.
-    ShiftByImmediate {
-        operation: Shift,
-        width: Width,
-        operand: Operand,
-        count: u32,
-    },
-    /// A shift or rotate by 1, D0 and D1.
-    ShiftByOne {
-        operation: Shift,
-        width: Width,
-        operand: Operand,
-    },
-    /// A shift or rotate by CL, D2 and D3.
-    ShiftByCl {
-        operation: Shift,
-        width: Width,
-        operand: Operand,
-    },
-    /// RET that adds to ESP, C2. The width is that of the address.
-    ReturnAndRelease {
-        width: Width,
-        bytes: u32,
-    },
-    /// RET, C3. The width is that of the address.
-    Return {
-        width: Width,
-    },
-    /// MOV of an immediate to an operand, C6 /0 and C7 /0.
-    MoveImmediate {
-        width: Width,
-        destination: Operand,
-        immediate: u32,
-    },
-    /// LEAVE, C9.
-    Leave {
-        width: Width,
-    },
-    /// CALL, E8.
-    Call {
-        relative: u32,
-    },
-    /// JMP, E9 and EB.
-    Jump {
-        relative: u32,
-    },
-    /// TEST with an immediate, F6 /0 and F7 /0.
-    TestImmediate {
-        width: Width,
-        operand: Operand,
-        immediate: u32,
-    },
-    /// NOT, NEG, MUL, IMUL, DIV or IDIV, F6 and F7.
-    Unary {
-        operation: Unary,
-        width: Width,
-        operand: Operand,
-    },
-    /// INC or DEC of an operand, FE and FF.
-    CountOperand {
-        operation: Counting,
-        width: Width,
-        operand: Operand,
-    },
-    /// CALL to where an operand says, FF /2.
-    CallOperand {
-        width: Width,
-        operand: Operand,
-    },
-    /// JMP to where an operand says, FF /4.
-    JumpOperand {
-        width: Width,
-        operand: Operand,
-    },
-    /// PUSH of an operand, FF /6.
-    PushOperand {
-        width: Width,
-        operand: Operand,
-    },
-    /// ENDBR32, F3 0F 1E FB.
-    EndBranch,
-    /// NOP with an operand that isn't accessed, 0F 1F /0.
-    NopOperand {
-        operand: Operand,
-    },
-    /// CMOVcc, 0F 40 to 4F.
-    MoveIf {
-        condition: Condition,
-        width: Width,
-        destination: Register,
-        source: Operand,
-    },
-    /// SETcc, 0F 90 to 9F.
-    SetIf {
-        condition: Condition,
-        operand: Operand,
-    },
-    /// IMUL with two operands, 0F AF.
-    Multiply {
-        width: Width,
-        destination: Register,
-        source: Operand,
-    },
-    /// CMPXCHG, 0F B1.
-    CompareExchange {
-        width: Width,
-        operand: Operand,
-        register: Register,
-    },
-    /// XADD, 0F C1.
-    ExchangeAdd {
-        width: Width,
-        operand: Operand,
-        register: Register,
-    },
-    /// MOVZX, 0F B6 and B7.
-    ZeroExtend {
-        from: Width,
-        width: Width,
-        destination: Register,
-        source: Operand,
-    },
-    /// MOVSX, 0F BE and BF.
-    SignExtend {
-        from: Width,
-        width: Width,
-        destination: Register,
-        source: Operand,
-    },
-    /// INT3, CC.
-    Breakpoint,
-    /// UD2, 0F 0B.
-    Undefined,
-    /// An instruction of one opcode byte and no operand of which only the length is known.
-    OpcodeOnly {
-        opcode: u8,
-    },
-    /// INT, CD, of which only the length is known.
-    Interrupt {
-        vector: u32,
-    },
-    /// LOOPNE, LOOPE, LOOP and JECXZ, E0 to E3, of which only the length is known.
-    LoopBranch {
-        opcode: u8,
-        relative: u32,
-    },
-    /// Floating point, D8 to DF, of which only the length is known.
-    FloatingPoint {
-        opcode: u8,
-        operand: Operand,
-    },
-    /// RDTSC, CPUID and BSWAP, 0F 31, A2 and C8 to CF, of which only the length is known.
-    SecondOpcodeOnly {
-        opcode: u8,
-    },
-    /// 0F A3, A5, AB, AD, B0, B3, BB, BC, BD and C0, of which only the length is known.
-    SecondOperand {
-        opcode: u8,
-        operand: Operand,
-        register: Register,
-    },
-    /// SHLD and SHRD by an immediate, 0F A4 and AC, of which only the length is known.
-    DoubleShift {
-        opcode: u8,
-        operand: Operand,
-        register: Register,
-        count: u32,
-    },
-    /// BT, BTS, BTR and BTC with an immediate, 0F BA /4 to /7, of which only the length is known.
-    BitTest {
-        digit: u8,
-        operand: Operand,
-        bit: u32,
-    },
-    /// CMPXCHG8B, 0F C7 /1, of which only the length is known.
-    CompareExchangeWide {
-        memory: Memory,
-    },
+pub struct Instr {
+    /// What is done.
+    pub action: Action,
+    /// How wide the operands are.
+    pub width: Width,
+    /// What mod and rm name. Without a ModRM byte it is the register that the opcode names, or else the accumulator.
+    pub operand: Operand,
+    /// The register that the middle field of the ModRM byte names. Without a ModRM byte it is the accumulator.
+    pub register: Register,
+    /// The number at the end: an immediate, an address or a relative displacement. It is 0 where there is none.
+    pub value: u32,
 }
 
 /// The prefixes of an instruction.

@@ -10,7 +10,7 @@ use Rattle.std.proofs.lemmas.List.{length-replicate}
 use Rattle.std.proofs.lemmas.Option.{slice_get-map}
 use Rattle.ks_base.specs.declared.refusals.Fault.{Fault}
 use Rattle.ia32_decode.specs.declared.types.Decoded.{Decoded}
-use Rattle.ia32_decode.specs.declared.types.Width.{Width}
+use Rattle.ia32_alu.specs.declared.types.Width.{Width}
 use Rattle.image_memory.specs.declared.types.Kind.{Kind}
 use Rattle.image_memory.specs.declared.types.Kind.TheVariants.{Code, ReadOnly, Writable}
 use Rattle.image_memory.specs.declared.types.Piece.{Piece}
@@ -24,7 +24,7 @@ use Rattle.ia32_step.specs.declared.types.Context.{Context}
 use Rattle.ia32_step.specs.declared.types.Store.{Store}
 use Rattle.ia32_step.specs.declared.types.Thread.{Thread}
 use Rattle.ia32_step.specs.declared.types.Change.{Change}
-use Rattle.ia32_decode.specs.Widths.{byte_count}
+use Rattle.ia32_alu.specs.Widths.{byte_count}
 use Rattle.ia32_step.specs.Operands.{spelled, number_of, number_at, unless_fault}
 use Rattle.ia32_step.specs.Exec.{executed}
 use Rattle.ia32_step.specs.Step.{context_of, store_fault, after_store, unless_barred, done, change_by, carried_out}

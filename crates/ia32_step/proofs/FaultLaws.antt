@@ -1,5 +1,5 @@
 -- Why no instruction stops a thread as a retired range does.
-use Rattle.std.proofs.Common.{◌≡◌, ◌≢◌, ℕ, zero, suc, ◌+◌, ◌%◌, Bool, true, false, if◌then◌else◌, ◌||◌, ◌&&◌, not}
+use Rattle.std.proofs.Common.{◌≡◌, ◌≢◌, ℕ, zero, suc, ◌+◌, Bool, true, false, if◌then◌else◌, ◌||◌, ◌&&◌, not}
 use Rattle.std.proofs.Common.{List, Option, Some, None, Result, Ok, Err, subst}
 use Rattle.std.specs.Option.{option_map, option_or}
 use Rattle.ks_base.specs.declared.refusals.Fault.{Fault}
@@ -9,33 +9,27 @@ use Rattle.image_memory.specs.declared.types.Kind.TheVariants.{Code, ReadOnly, W
 use Rattle.image_memory.specs.declared.types.Piece.{Piece}
 use Rattle.image_memory.specs.Contents.{Contents, holding}
 use Rattle.image_memory.specs.Access.{kind_of, unreadable, unwritable, read_fault, write_fault, first_fault}
-use Rattle.ia32_alu.specs.declared.types.Unary.{Unary as AluUnary}
-use Rattle.ia32_alu.specs.declared.types.Unary.TheVariants as alu
-use Rattle.ia32_alu.specs.declared.types.Shift.{Shift as AluShift}
+use Rattle.ia32_alu.specs.declared.types.Width.{Width}
+use Rattle.ia32_alu.specs.declared.types.Width.TheVariants.{Dword}
+use Rattle.ia32_alu.specs.declared.types.Binary.{Binary}
+use Rattle.ia32_alu.specs.declared.types.Unary.{Unary as UnaryOperation}
+use Rattle.ia32_alu.specs.declared.types.Shift.{Shift as ShiftOperation}
+use Rattle.ia32_alu.specs.Widths.{byte_count}
 use Rattle.ia32_decode.specs.declared.types.Register.{Register}
 use Rattle.ia32_decode.specs.declared.types.Register.TheVariants as registers
-use Rattle.ia32_decode.specs.declared.types.Width.{Width}
-use Rattle.ia32_decode.specs.declared.types.Width.TheVariants.{Dword}
-use Rattle.ia32_decode.specs.Widths.{byte_count}
-use Rattle.ia32_decode.specs.declared.types.Arithmetic.{Arithmetic as Operation}
-use Rattle.ia32_decode.specs.declared.types.Unary.{Unary as UnaryOperation}
-use Rattle.ia32_decode.specs.declared.types.Unary.TheVariants.{Not, Neg, Mul, Imul, Div, Idiv}
-use Rattle.ia32_decode.specs.declared.types.Shift.{Shift}
 use Rattle.ia32_decode.specs.declared.types.Condition.{Condition}
 use Rattle.ia32_decode.specs.declared.types.Operand.{Operand}
 use Rattle.ia32_decode.specs.declared.types.Operand.TheVariants as operands
 use Rattle.ia32_decode.specs.declared.types.Source.{Source}
-use Rattle.ia32_decode.specs.declared.types.Source.TheVariants as sources
+use Rattle.ia32_decode.specs.declared.types.Source.TheVariants.{Register as OfRegister, Operand as OfOperand, Immediate}
 use Rattle.ia32_decode.specs.declared.types.Decoded.{Decoded}
 use Rattle.ia32_decode.specs.declared.types.Instr.{Instr}
-use Rattle.ia32_decode.specs.declared.types.Instr.TheVariants.{Arithmetic, CountRegister, PushRegister, PopRegister}
-use Rattle.ia32_decode.specs.declared.types.Instr.TheVariants.{MultiplyImmediate, ArithmeticImmediate, Test, Exchange}
-use Rattle.ia32_decode.specs.declared.types.Instr.TheVariants.{Move, PopOperand, ExchangeAccumulator, LoadAccumulator}
-use Rattle.ia32_decode.specs.declared.types.Instr.TheVariants.{TestAccumulator, ShiftByImmediate, ShiftByOne}
-use Rattle.ia32_decode.specs.declared.types.Instr.TheVariants.{ShiftByCl, ReturnAndRelease, Return, Leave}
-use Rattle.ia32_decode.specs.declared.types.Instr.TheVariants.{TestImmediate, Unary, CountOperand, CallOperand}
-use Rattle.ia32_decode.specs.declared.types.Instr.TheVariants.{JumpOperand, PushOperand, MoveIf, Multiply}
-use Rattle.ia32_decode.specs.declared.types.Instr.TheVariants.{CompareExchange, ExchangeAdd, ZeroExtend, SignExtend}
+use Rattle.ia32_decode.specs.declared.types.Action.{Action}
+use Rattle.ia32_decode.specs.declared.types.Action.TheVariants.{Arithmetic, Unary, Push, Pop, Multiply, Exchange, Move}
+use Rattle.ia32_decode.specs.declared.types.Action.TheVariants.{LoadAccumulator, Shift, ReturnAndRelease, Return, Leave}
+use Rattle.ia32_decode.specs.declared.types.Action.TheVariants.{MultiplyAccumulator, Divide, CallOperand, JumpOperand}
+use Rattle.ia32_decode.specs.declared.types.Action.TheVariants.{MoveIf, CompareExchange, ExchangeAdd, ZeroExtend}
+use Rattle.ia32_decode.specs.declared.types.Action.TheVariants.{SignExtend}
 use Rattle.ia32_step.specs.declared.types.Context.{Context}
 use Rattle.ia32_step.specs.declared.types.Place.{Place}
 use Rattle.ia32_step.specs.declared.types.Place.TheVariants.{InRegister, InMemory}
@@ -43,17 +37,17 @@ use Rattle.ia32_step.specs.declared.types.Store.{Store}
 use Rattle.ia32_step.specs.declared.types.Thread.{Thread}
 use Rattle.ia32_step.specs.declared.types.Change.{Change}
 use Rattle.ia32_step.specs.declared.types.Outcome.TheVariants.{Stopped}
-use Rattle.ia32_step.specs.Registers.{register_value}
-use Rattle.ia32_step.specs.Operands.{Reader, given, place_of, value_at, operand_value, source_value, number_at}
+use Rattle.ia32_step.specs.Operands.{Reader, given, place_of, value_at, operand_value, source_value, destination_of}
+use Rattle.ia32_step.specs.Operands.{number_at}
 use Rattle.ia32_step.specs.Operands.{unless_fault}
 use Rattle.ia32_step.specs.Changes.{at_address, above, popped}
-use Rattle.ia32_step.specs.Arithmetic.{combined, tested, altered, unary_counting, stepped_shift, shifted_by, shifted}
-use Rattle.ia32_step.specs.Arithmetic.{count_register, multiplied, product_taken, with_quotient, divided}
-use Rattle.ia32_step.specs.Moves.{copied, accumulator_loaded, exchanged, exchanged_and_added, compare_exchanged}
-use Rattle.ia32_step.specs.Moves.{copied_if, zero_extended_to, sign_extended_to}
+use Rattle.ia32_step.specs.Arithmetic.{combined, altered, takes_width, count_of, shifted, multiplied, product_taken}
+use Rattle.ia32_step.specs.Arithmetic.{with_quotient, divided}
+use Rattle.ia32_step.specs.Moves.{copied, accumulator_loaded, exchanged, exchanged_and_added, compare_exchanged, copied_if}
+use Rattle.ia32_step.specs.Moves.{zero_extended_to, sign_extended_to}
 use Rattle.ia32_step.specs.Stack.{pushed, popped_to, left}
 use Rattle.ia32_step.specs.Branches.{jumped_to, called_to, returned}
-use Rattle.ia32_step.specs.Exec.{unary_change, change_of, is_stepped, refuses_prefixes, traps, takes_lock, executed}
+use Rattle.ia32_step.specs.Exec.{done_by, is_stepped, refuses_prefixes, traps, takes_lock, executed}
 use Rattle.ia32_step.specs.Step.{context_of, store_fault, unless_barred, done, change_by, carried_out}
 
 -- a fault that isn't that of a retired range
@@ -88,47 +82,43 @@ module _ (read : Reader) (reads : (width : Width) (address : ℕ) → Clear (rea
       after_read (operand_value read context width operand) next
       (at_place context.registers width (place_of context.registers operand)) h
 
-  by_source : (context : Context) (width : Width) (source : Source) → Clear (source_value read context width source)
-  by_source context width (sources.Operand operand) =
-      at_place context.registers width (place_of context.registers operand)
-  by_source context width (sources.Immediate n) = tt
+  by_source : (context : Context) (source : Source) (i : Instr) → Clear (source_value read context source i)
+  by_source context OfRegister i = tt
+  by_source context OfOperand i = at_place context.registers i.width (place_of context.registers i.operand)
+  by_source context Immediate i = tt
 
-  by_combining : (operation : Operation) (width : Width) (operand : Operand) (source : Result ℕ Fault)
+  by_combining : (operation : Binary) (width : Width) (operand : Operand) (source : Result ℕ Fault)
       (context : Context) → Clear source → Clear (combined read operation width operand source context)
   unfolding combined
   by_combining operation width operand source context h =
       by_operand context width operand _ (λ a. after_read source _ h (λ b. tt))
 
-  by_test : (width : Width) (operand : Operand) (b : ℕ) (context : Context)
-      → Clear (tested read width operand b context)
-  unfolding tested
-  by_test width operand b context = by_operand context width operand _ (λ a. tt)
-
-  by_altering : (operation : AluUnary) (width : Width) (operand : Operand) (context : Context)
+  by_altering : (operation : UnaryOperation) (width : Width) (operand : Operand) (context : Context)
       → Clear (altered read operation width operand context)
   unfolding altered
   by_altering operation width operand context = by_operand context width operand _ (λ a. tt)
 
-  by_shift : (operation : Option AluShift) (width : Width) (operand : Operand) (count : ℕ) (context : Context)
-      → Clear (shifted_by read operation width operand count context)
-  by_shift None width operand count context = tt
-  by_shift (Some operation) width operand count context = by_operand context width operand _ (λ a. tt)
+  unless : (b : Bool) (fault : Fault) (r : Result Change Fault) → Other fault → Clear r
+      → Clear (if b then Err fault else r)
+  unless true fault r h k = h
+  unless false fault r h k = k
 
-  by_shifting : (operation : Shift) (width : Width) (operand : Operand) (count : ℕ) (context : Context)
+  by_shifting : (operation : ShiftOperation) (width : Width) (operand : Operand) (count : ℕ) (context : Context)
       → Clear (shifted read operation width operand count context)
   unfolding shifted
   by_shifting operation width operand count context =
-      by_shift (stepped_shift operation width) width operand count context
+      unless (not (takes_width operation width)) Unsupported _ tt (by_operand context width operand _ (λ a. tt))
 
   by_multiplying : (sign : Bool) (width : Width) (operand : Operand) (context : Context)
       → Clear (multiplied read sign width operand context)
   unfolding multiplied
   by_multiplying sign width operand context = by_operand context width operand _ (λ b. tt)
 
-  by_product : (width : Width) (r : Register) (operand : Operand) (b : ℕ) (context : Context)
-      → Clear (product_taken read width r operand b context)
+  by_product : (width : Width) (r : Register) (operand : Operand) (factor : Result ℕ Fault) (context : Context)
+      → Clear factor → Clear (product_taken read width r operand factor context)
   unfolding product_taken
-  by_product width r operand b context = by_operand context width operand _ (λ a. tt)
+  by_product width r operand factor context h =
+      by_operand context width operand _ (λ a. after_read factor _ h (λ b. tt))
 
   by_quotient : (width : Width) (both : Option (ℕ × ℕ)) (context : Context)
       → Clear (with_quotient width both context)
@@ -141,20 +131,10 @@ module _ (read : Reader) (reads : (width : Width) (address : ℕ) → Clear (rea
   by_dividing sign width operand context =
       by_operand context width operand _ (λ by. by_quotient width _ context)
 
-  by_unary : (operation : UnaryOperation) (width : Width) (operand : Operand) (context : Context)
-      → Clear (unary_change read operation width operand context)
-  unfolding unary_change
-  by_unary Not width operand context = by_altering alu.Not width operand context
-  by_unary Neg width operand context = by_altering alu.Neg width operand context
-  by_unary Mul width operand context = by_multiplying false width operand context
-  by_unary Imul width operand context = by_multiplying true width operand context
-  by_unary Div width operand context = by_dividing false width operand context
-  by_unary Idiv width operand context = by_dividing true width operand context
-
-  by_copying : (width : Width) (destination source : Operand) (context : Context)
-      → Clear (copied read width destination source context)
+  by_copying : (width : Width) (destination : Operand) (source : Result ℕ Fault) (context : Context) → Clear source
+      → Clear (copied width destination source context)
   unfolding copied
-  by_copying width destination source context = by_operand context width source _ (λ v. tt)
+  by_copying width destination source context h = after_read source _ h (λ v. tt)
 
   by_loading : (width : Width) (address : ℕ) (context : Context)
       → Clear (accumulator_loaded read width address context)
@@ -191,9 +171,9 @@ module _ (read : Reader) (reads : (width : Width) (address : ℕ) → Clear (rea
   unfolding sign_extended_to
   by_sign from width r source context = by_operand context from source _ (λ v. tt)
 
-  by_push : (operand : Operand) (context : Context) → Clear (pushed read operand context)
+  by_push : (source : Result ℕ Fault) (context : Context) → Clear source → Clear (pushed source context)
   unfolding pushed
-  by_push operand context = by_operand context Dword operand _ (λ v. tt)
+  by_push source context h = after_read source _ h (λ v. tt)
 
   by_pop : (operand : Operand) (context : Context) → Clear (popped_to read operand context)
   unfolding popped_to
@@ -215,62 +195,44 @@ module _ (read : Reader) (reads : (width : Width) (address : ℕ) → Clear (rea
   unfolding returned
   by_return n context = after_read (popped read context) _ (reads Dword _) (λ target. tt)
 
-  by_instruction : (instr : Instr) (context : Context) → Clear (change_of read instr context)
-  unfolding change_of
-  by_instruction (Arithmetic operation width destination source) context =
-      by_combining operation width destination (source_value read context width source) context
-      (by_source context width source)
-  by_instruction (ArithmeticImmediate operation width destination n) context =
-      by_combining operation width destination (Ok n) context tt
-  by_instruction (CountRegister operation width r) context =
-      by_altering (unary_counting operation) width (operands.Register r) context
-  by_instruction (CountOperand operation width operand) context =
-      by_altering (unary_counting operation) width operand context
-  by_instruction (Unary operation width operand) context = by_unary operation width operand context
-  by_instruction (Test width operand r) context =
-      by_test width operand (register_value context.registers width r) context
-  by_instruction (TestAccumulator width n) context = by_test width (operands.Register registers.Eax) n context
-  by_instruction (TestImmediate width operand n) context = by_test width operand n context
-  by_instruction (MultiplyImmediate width r source n) context = by_product width r source n context
-  by_instruction (Multiply width r source) context =
-      by_product width r source (register_value context.registers width r) context
-  by_instruction (ShiftByImmediate operation width operand count) context =
-      by_shifting operation width operand (count % 0x100) context
-  by_instruction (ShiftByOne operation width operand) context = by_shifting operation width operand 1 context
-  by_instruction (ShiftByCl operation width operand) context =
-      by_shifting operation width operand (count_register context) context
-  by_instruction (Move width destination source) context = by_copying width destination source context
-  by_instruction (LoadAccumulator width address) context = by_loading width address context
-  by_instruction (Exchange width operand r) context = by_exchange width operand r context
-  by_instruction (ExchangeAccumulator width r) context = by_exchange width (operands.Register registers.Eax) r context
-  by_instruction (ExchangeAdd width operand r) context = by_adding width operand r context
-  by_instruction (CompareExchange width operand r) context = by_comparing width operand r context
-  by_instruction (MoveIf condition width r source) context = by_copying_if condition width r source context
-  by_instruction (ZeroExtend from width r source) context = by_zeros from width r source context
-  by_instruction (SignExtend from width r source) context = by_sign from width r source context
-  by_instruction (PushRegister width r) context = by_push (operands.Register r) context
-  by_instruction (PushOperand width operand) context = by_push operand context
-  by_instruction (PopRegister width r) context = by_pop (operands.Register r) context
-  by_instruction (PopOperand width operand) context = by_pop operand context
-  by_instruction (Leave width) context = by_leaving context
-  by_instruction (JumpOperand width operand) context = by_jump operand context
-  by_instruction (CallOperand width operand) context = by_call operand context
-  by_instruction (Return width) context = by_return 0 context
-  by_instruction (ReturnAndRelease width n) context = by_return n context
-  by_instruction other context = tt
-
-  unless : (b : Bool) (fault : Fault) (r : Result Change Fault) → Other fault → Clear r
-      → Clear (if b then Err fault else r)
-  unless true fault r h k = h
-  unless false fault r h k = k
+  by_action : (action : Action) (i : Instr) (context : Context) → Clear (done_by read action i context)
+  unfolding done_by
+  by_action (Arithmetic operation source) i context =
+      by_combining operation i.width (destination_of source i) (source_value read context source i) context
+      (by_source context source i)
+  by_action (Unary operation) i context = by_altering operation i.width i.operand context
+  by_action (MultiplyAccumulator signed) i context = by_multiplying signed i.width i.operand context
+  by_action (Divide signed) i context = by_dividing signed i.width i.operand context
+  by_action (Multiply source) i context =
+      by_product i.width i.register i.operand (source_value read context source i) context (by_source context source i)
+  by_action (Shift operation count) i context =
+      by_shifting operation i.width i.operand (count_of count i.value context) context
+  by_action (Move source) i context =
+      by_copying i.width (destination_of source i) (source_value read context source i) context
+      (by_source context source i)
+  by_action LoadAccumulator i context = by_loading i.width i.value context
+  by_action Exchange i context = by_exchange i.width i.operand i.register context
+  by_action ExchangeAdd i context = by_adding i.width i.operand i.register context
+  by_action CompareExchange i context = by_comparing i.width i.operand i.register context
+  by_action (MoveIf condition) i context = by_copying_if condition i.width i.register i.operand context
+  by_action (ZeroExtend from) i context = by_zeros from i.width i.register i.operand context
+  by_action (SignExtend from) i context = by_sign from i.width i.register i.operand context
+  by_action (Push source) i context = by_push (source_value read context source i) context (by_source context source i)
+  by_action Pop i context = by_pop i.operand context
+  by_action Leave i context = by_leaving context
+  by_action JumpOperand i context = by_jump i.operand context
+  by_action CallOperand i context = by_call i.operand context
+  by_action Return i context = by_return 0 context
+  by_action ReturnAndRelease i context = by_return i.value context
+  by_action other i context = tt
 
   by_decoded : (d : Decoded) (context : Context) → Clear (executed read d context)
   unfolding executed
   by_decoded d context =
-      unless (not (is_stepped d.instr) || refuses_prefixes d.prefixes d.instr) Unsupported _ tt
-      (unless (traps d.instr) Trap _ tt
-      (unless (d.prefixes.lock && not (takes_lock d.instr)) BadLock _ tt
-      (by_instruction d.instr (at_address (above context.pc d.length) context))))
+      unless (not (is_stepped d.instr.action d.instr.width) || refuses_prefixes d.prefixes d.instr.action) Unsupported _ tt
+      (unless (traps d.instr.action) Trap _ tt
+      (unless (d.prefixes.lock && not (takes_lock d.instr.action d.instr)) BadLock _ tt
+      (by_action d.instr.action d.instr (at_address (above context.pc d.length) context))))
 
 -- memory has no such fault either
 first_clear : (fault_at : ℕ → Option Fault) (address n : ℕ) → ((a : ℕ) → ClearOf (fault_at a))

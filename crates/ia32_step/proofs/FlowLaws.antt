@@ -1,5 +1,5 @@
 -- Why the step of a call and of a return is what the laws say.
-use Rattle.std.proofs.Common.{◌≡◌, ℕ, zero, suc, ◌+◌, ◌-◌, ◌≤◌, ◌<◌, ◌%◌, ◌^◌, Bool, true, false, cond, if◌then◌else◌}
+use Rattle.std.proofs.Common.{◌≡◌, ℕ, zero, suc, ◌+◌, ◌-◌, ◌≤◌, ◌<◌, ◌^◌, Bool, true, false, cond, if◌then◌else◌}
 use Rattle.std.proofs.Common.{◌==◌, ◌||◌, ◌&&◌, not, List, [], ◌∷◌, length, get_or, Option, Some, None, Result, Ok}
 use Rattle.std.proofs.Common.{Err, IsSomeAnd, refl, sym, ap, subst, ◌∙◌, arith}
 use Rattle.std.specs.Int.{w32, to_le_bytes, from_le_bytes}
@@ -23,33 +23,27 @@ use Rattle.image_memory.specs.Access.{bytes_at, overlaid, overlaid_piece, writte
 use Rattle.image_memory.specs.laws.AccessLaws.{length-overlaid, new_inside, length-bytes_at, get_or-bytes_at, all_good}
 use Rattle.ia32_alu.specs.declared.types.Flags.{Flags}
 use Rattle.ia32_alu.specs.Arithmetic.{binary_of}
-use Rattle.ia32_alu.specs.declared.types.Binary.TheVariants as binary
-use Rattle.ia32_alu.specs.declared.types.Unary.{Unary as AluUnary}
-use Rattle.ia32_alu.specs.declared.types.Unary.TheVariants as alu
-use Rattle.ia32_alu.specs.declared.types.Shift.{Shift as AluShift}
+use Rattle.ia32_alu.specs.declared.types.Width.{Width}
+use Rattle.ia32_alu.specs.declared.types.Width.TheVariants.{Byte, Dword}
+use Rattle.ia32_alu.specs.declared.types.Binary.{Binary}
+use Rattle.ia32_alu.specs.declared.types.Binary.TheVariants.{Add, Or, Adc, Sbb, And, Sub, Xor, Cmp, Test}
+use Rattle.ia32_alu.specs.declared.types.Unary.{Unary as UnaryOperation}
+use Rattle.ia32_alu.specs.declared.types.Shift.{Shift as ShiftOperation}
+use Rattle.ia32_alu.specs.Numbers.{size}
 use Rattle.ia32_decode.specs.declared.types.Register.{Register}
 use Rattle.ia32_decode.specs.declared.types.Register.TheVariants as registers
-use Rattle.ia32_decode.specs.declared.types.Width.{Width}
-use Rattle.ia32_decode.specs.declared.types.Width.TheVariants.{Byte, Dword}
-use Rattle.ia32_decode.specs.declared.types.Arithmetic.{Arithmetic as Operation}
-use Rattle.ia32_decode.specs.declared.types.Arithmetic.TheVariants.{Add, Or, Adc, Sbb, And, Sub, Xor, Cmp}
-use Rattle.ia32_decode.specs.declared.types.Unary.{Unary as UnaryOperation}
-use Rattle.ia32_decode.specs.declared.types.Unary.TheVariants.{Not, Neg, Mul, Imul, Div, Idiv}
-use Rattle.ia32_decode.specs.declared.types.Shift.{Shift}
 use Rattle.ia32_decode.specs.declared.types.Condition.{Condition}
 use Rattle.ia32_decode.specs.declared.types.Operand.{Operand}
 use Rattle.ia32_decode.specs.declared.types.Operand.TheVariants as operands
 use Rattle.ia32_decode.specs.declared.types.Decoded.{Decoded}
 use Rattle.ia32_decode.specs.declared.types.Instr.{Instr}
-use Rattle.ia32_decode.specs.declared.types.Instr.TheVariants.{Arithmetic, CountRegister, PushRegister, PopRegister}
-use Rattle.ia32_decode.specs.declared.types.Instr.TheVariants.{MultiplyImmediate, JumpIf, ArithmeticImmediate, Test}
-use Rattle.ia32_decode.specs.declared.types.Instr.TheVariants.{Exchange, Move, PopOperand, ExchangeAccumulator}
-use Rattle.ia32_decode.specs.declared.types.Instr.TheVariants.{LoadAccumulator, TestAccumulator, ShiftByImmediate}
-use Rattle.ia32_decode.specs.declared.types.Instr.TheVariants.{ShiftByOne, ShiftByCl, ReturnAndRelease, Return}
-use Rattle.ia32_decode.specs.declared.types.Instr.TheVariants.{MoveImmediate, Leave, Call, TestImmediate, Unary}
-use Rattle.ia32_decode.specs.declared.types.Instr.TheVariants.{CountOperand, CallOperand, JumpOperand, PushOperand}
-use Rattle.ia32_decode.specs.declared.types.Instr.TheVariants.{MoveIf, SetIf, Multiply, CompareExchange, ExchangeAdd}
-use Rattle.ia32_decode.specs.declared.types.Instr.TheVariants.{ZeroExtend, SignExtend}
+use Rattle.ia32_decode.specs.declared.types.Action.{Action}
+use Rattle.ia32_decode.specs.declared.types.Action.TheVariants.{Arithmetic, Unary, Push, Pop, Multiply, JumpIf}
+use Rattle.ia32_decode.specs.declared.types.Action.TheVariants.{Exchange, Move, LoadAccumulator, Shift}
+use Rattle.ia32_decode.specs.declared.types.Action.TheVariants.{ReturnAndRelease, Return, Leave, Call}
+use Rattle.ia32_decode.specs.declared.types.Action.TheVariants.{MultiplyAccumulator, Divide, CallOperand, JumpOperand}
+use Rattle.ia32_decode.specs.declared.types.Action.TheVariants.{MoveIf, SetIf, CompareExchange, ExchangeAdd}
+use Rattle.ia32_decode.specs.declared.types.Action.TheVariants.{ZeroExtend, SignExtend}
 use Rattle.ia32_decode.specs.Decode.{decoded_from}
 use Rattle.ia32_step.specs.declared.types.Context.{Context}
 use Rattle.ia32_step.specs.declared.types.Place.{Place}
@@ -60,16 +54,17 @@ use Rattle.ia32_step.specs.declared.types.Flow.{Flow}
 use Rattle.ia32_step.specs.declared.types.Flow.TheVariants as flows
 use Rattle.ia32_step.specs.declared.types.Outcome.TheVariants.{Moved}
 use Rattle.ia32_step.specs.Registers.{register_value, registers_with, stack_top, accumulator}
-use Rattle.ia32_step.specs.Operands.{Reader, given, place_of, operand_value, source_value, number_at, unless_fault}
+use Rattle.ia32_step.specs.Operands.{Reader, given, place_of, operand_value, source_value, destination_of, number_at}
+use Rattle.ia32_step.specs.Operands.{unless_fault}
 use Rattle.ia32_step.specs.Changes.{at_address, above, below, putting, popped, raised}
-use Rattle.ia32_step.specs.Arithmetic.{bits, settled, combined, tested, altered, unary_counting, stepped_shift}
-use Rattle.ia32_step.specs.Arithmetic.{shifted_by, shifted, count_register, multiplied, product_taken, with_quotient}
-use Rattle.ia32_step.specs.Arithmetic.{divided}
+use Rattle.ia32_step.specs.Arithmetic.{settled, combined, altered, takes_width, count_of, shifted, multiplied}
+use Rattle.ia32_step.specs.Arithmetic.{product_taken}
+use Rattle.ia32_step.specs.Arithmetic.{with_quotient, divided}
 use Rattle.ia32_step.specs.Moves.{copied, accumulator_loaded, exchanged, exchanged_and_added, compared_and_exchanged}
 use Rattle.ia32_step.specs.Moves.{compare_exchanged, holds, copied_if, zero_extended_to, sign_extended_to}
 use Rattle.ia32_step.specs.Stack.{pushed, popped_to, left}
 use Rattle.ia32_step.specs.Branches.{jumped_if, jumped_to, called, called_to, returned}
-use Rattle.ia32_step.specs.Exec.{unary_change, change_of, is_stepped, refuses_prefixes, traps, takes_lock, executed}
+use Rattle.ia32_step.specs.Exec.{done_by, is_stepped, refuses_prefixes, traps, takes_lock, executed}
 use Rattle.ia32_step.specs.Step.{Left, context_of, store_fault, unless_barred, done, change_in, carried_out}
 use Rattle.ia32_step.specs.Step.{next_change, exits, stepped}
 use Rattle.ia32_step.specs.Threads.{esp_of}
@@ -98,9 +93,10 @@ module _ (read : Reader) (context : Context) where
   by_place (InRegister r) width v after = tt
   by_place (InMemory address) width v after = tt
 
-  by_settling : (operation : Operation) (width : Width) (place : Place) (result : ℕ × Flags)
+  by_settling : (operation : Binary) (width : Width) (place : Place) (result : ℕ × Flags)
       → Tells read context (Ok (settled operation width place result context))
   by_settling Cmp width place result = tt
+  by_settling Test width place result = tt
   by_settling Add width place result = by_place place width _ _
   by_settling Or width place result = by_place place width _ _
   by_settling Adc width place result = by_place place width _ _
@@ -109,45 +105,43 @@ module _ (read : Reader) (context : Context) where
   by_settling Sub width place result = by_place place width _ _
   by_settling Xor width place result = by_place place width _ _
 
-  by_combining : (operation : Operation) (width : Width) (operand : Operand) (source : Result ℕ Fault)
+  by_combining : (operation : Binary) (width : Width) (operand : Operand) (source : Result ℕ Fault)
       → Tells read context (combined read operation width operand source context)
   unfolding combined
   by_combining operation width operand source =
       after_read (operand_value read context width operand) _
       (λ a _. after_read source _ (λ b _. by_settling operation width (place_of context.registers operand) _))
 
-  by_test : (width : Width) (operand : Operand) (b : ℕ) → Tells read context (tested read width operand b context)
-  unfolding tested
-  by_test width operand b = after_read (operand_value read context width operand) _ (λ a _. tt)
-
-  by_altering : (operation : AluUnary) (width : Width) (operand : Operand)
+  by_altering : (operation : UnaryOperation) (width : Width) (operand : Operand)
       → Tells read context (altered read operation width operand context)
   unfolding altered
   by_altering operation width operand =
       after_read (operand_value read context width operand) _
       (λ a _. by_place (place_of context.registers operand) width _ _)
 
-  by_shift : (operation : Option AluShift) (width : Width) (operand : Operand) (count : ℕ)
-      → Tells read context (shifted_by read operation width operand count context)
-  by_shift None width operand count = tt
-  by_shift (Some operation) width operand count =
-      after_read (operand_value read context width operand) _
-      (λ a _. by_place (place_of context.registers operand) width _ _)
+  by_test : (b : Bool) (fault : Fault) (r : Result Change Fault) → Tells read context r
+      → Tells read context (if b then Err fault else r)
+  by_test true fault r h = tt
+  by_test false fault r h = h
 
-  by_shifting : (operation : Shift) (width : Width) (operand : Operand) (count : ℕ)
+  by_shifting : (operation : ShiftOperation) (width : Width) (operand : Operand) (count : ℕ)
       → Tells read context (shifted read operation width operand count context)
   unfolding shifted
-  by_shifting operation width operand count = by_shift (stepped_shift operation width) width operand count
+  by_shifting operation width operand count =
+      by_test (not (takes_width operation width)) Unsupported _
+      (after_read (operand_value read context width operand) _
+      (λ a _. by_place (place_of context.registers operand) width _ _))
 
   by_multiplying : (sign : Bool) (width : Width) (operand : Operand)
       → Tells read context (multiplied read sign width operand context)
   unfolding multiplied
   by_multiplying sign width operand = after_read (operand_value read context width operand) _ (λ a _. tt)
 
-  by_product : (width : Width) (r : Register) (operand : Operand) (b : ℕ)
-      → Tells read context (product_taken read width r operand b context)
+  by_product : (width : Width) (r : Register) (operand : Operand) (factor : Result ℕ Fault)
+      → Tells read context (product_taken read width r operand factor context)
   unfolding product_taken
-  by_product width r operand b = after_read (operand_value read context width operand) _ (λ a _. tt)
+  by_product width r operand factor =
+      after_read (operand_value read context width operand) _ (λ a _. after_read factor _ (λ b _. tt))
 
   by_quotient : (width : Width) (both : Option (ℕ × ℕ)) → Tells read context (with_quotient width both context)
   by_quotient width None = tt
@@ -158,22 +152,11 @@ module _ (read : Reader) (context : Context) where
   unfolding divided
   by_dividing sign width operand = after_read (operand_value read context width operand) _ (λ a _. by_quotient width _)
 
-  by_unary : (operation : UnaryOperation) (width : Width) (operand : Operand)
-      → Tells read context (unary_change read operation width operand context)
-  unfolding unary_change
-  by_unary Not width operand = by_altering alu.Not width operand
-  by_unary Neg width operand = by_altering alu.Neg width operand
-  by_unary Mul width operand = by_multiplying false width operand
-  by_unary Imul width operand = by_multiplying true width operand
-  by_unary Div width operand = by_dividing false width operand
-  by_unary Idiv width operand = by_dividing true width operand
-
-  by_copying : (width : Width) (destination source : Operand)
-      → Tells read context (copied read width destination source context)
+  by_copying : (width : Width) (destination : Operand) (source : Result ℕ Fault)
+      → Tells read context (copied width destination source context)
   unfolding copied
   by_copying width destination source =
-      after_read (operand_value read context width source) _
-      (λ v _. by_place (place_of context.registers destination) width _ _)
+      after_read source _ (λ v _. by_place (place_of context.registers destination) width _ _)
 
   by_loading : (width : Width) (address : ℕ) → Tells read context (accumulator_loaded read width address context)
   unfolding accumulator_loaded
@@ -209,7 +192,7 @@ module _ (read : Reader) (context : Context) where
   by_comparing width operand r =
       after_read (operand_value read context width operand) _
       (λ a _. by_comparison (place_of context.registers operand) width a _
-      (binary_of binary.Cmp (bits width) (accumulator context width) a context.flags))
+      (binary_of Cmp (size width) (accumulator context width) a context.flags))
 
   by_copying_if : (condition : Condition) (width : Width) (r : Register) (source : Operand)
       → Tells read context (copied_if read condition width r source context)
@@ -226,9 +209,9 @@ module _ (read : Reader) (context : Context) where
   unfolding sign_extended_to
   by_sign from width r source = after_read (operand_value read context from source) _ (λ v _. tt)
 
-  by_push : (operand : Operand) → Tells read context (pushed read operand context)
+  by_push : (source : Result ℕ Fault) → Tells read context (pushed source context)
   unfolding pushed
-  by_push operand = after_read (operand_value read context Dword operand) _ (λ v _. tt)
+  by_push source = after_read source _ (λ v _. tt)
 
   by_pop : (operand : Operand) (other : Context) → Tells read context (popped_to read operand other)
   unfolding popped_to
@@ -254,50 +237,35 @@ module _ (read : Reader) (context : Context) where
   unfolding returned
   by_return n = after_read (popped read context) _ (λ target there. there)
 
-  by_instruction : (instr : Instr) → Tells read context (change_of read instr context)
-  unfolding change_of
-  by_instruction (Arithmetic operation width destination source) =
-      by_combining operation width destination (source_value read context width source)
-  by_instruction (ArithmeticImmediate operation width destination n) = by_combining operation width destination (Ok n)
-  by_instruction (CountRegister operation width r) = by_altering (unary_counting operation) width (operands.Register r)
-  by_instruction (CountOperand operation width operand) = by_altering (unary_counting operation) width operand
-  by_instruction (Unary operation width operand) = by_unary operation width operand
-  by_instruction (Test width operand r) = by_test width operand (register_value context.registers width r)
-  by_instruction (TestAccumulator width n) = by_test width (operands.Register registers.Eax) n
-  by_instruction (TestImmediate width operand n) = by_test width operand n
-  by_instruction (MultiplyImmediate width r source n) = by_product width r source n
-  by_instruction (Multiply width r source) = by_product width r source (register_value context.registers width r)
-  by_instruction (ShiftByImmediate operation width operand count) = by_shifting operation width operand (count % 0x100)
-  by_instruction (ShiftByOne operation width operand) = by_shifting operation width operand 1
-  by_instruction (ShiftByCl operation width operand) = by_shifting operation width operand (count_register context)
-  by_instruction (Move width destination source) = by_copying width destination source
-  by_instruction (MoveImmediate width destination n) = by_place (place_of context.registers destination) width n context
-  by_instruction (LoadAccumulator width address) = by_loading width address
-  by_instruction (Exchange width operand r) = by_exchange width operand r
-  by_instruction (ExchangeAccumulator width r) = by_exchange width (operands.Register registers.Eax) r
-  by_instruction (ExchangeAdd width operand r) = by_adding width operand r
-  by_instruction (CompareExchange width operand r) = by_comparing width operand r
-  by_instruction (MoveIf condition width r source) = by_copying_if condition width r source
-  by_instruction (SetIf condition operand) = by_place (place_of context.registers operand) Byte _ context
-  by_instruction (ZeroExtend from width r source) = by_zeros from width r source
-  by_instruction (SignExtend from width r source) = by_sign from width r source
-  by_instruction (PushRegister width r) = by_push (operands.Register r)
-  by_instruction (PushOperand width operand) = by_push operand
-  by_instruction (PopRegister width r) = by_pop (operands.Register r) context
-  by_instruction (PopOperand width operand) = by_pop operand context
-  by_instruction (Leave width) = by_leaving
-  by_instruction (JumpIf condition relative) = by_condition condition relative
-  by_instruction (JumpOperand width operand) = by_jump operand
-  by_instruction (Call relative) = (above context.pc relative, refl)
-  by_instruction (CallOperand width operand) = by_call operand
-  by_instruction (Return width) = by_return 0
-  by_instruction (ReturnAndRelease width n) = by_return n
-  by_instruction other = tt
-
-unless : (read : Reader) (context : Context) (b : Bool) (fault : Fault) (r : Result Change Fault) → Tells read context r
-    → Tells read context (if b then Err fault else r)
-unless read context true fault r h = tt
-unless read context false fault r h = h
+  by_action : (action : Action) (i : Instr) → Tells read context (done_by read action i context)
+  unfolding done_by
+  by_action (Arithmetic operation source) i =
+      by_combining operation i.width (destination_of source i) (source_value read context source i)
+  by_action (Unary operation) i = by_altering operation i.width i.operand
+  by_action (MultiplyAccumulator signed) i = by_multiplying signed i.width i.operand
+  by_action (Divide signed) i = by_dividing signed i.width i.operand
+  by_action (Multiply source) i = by_product i.width i.register i.operand (source_value read context source i)
+  by_action (Shift operation count) i =
+      by_shifting operation i.width i.operand (count_of count i.value context)
+  by_action (Move source) i = by_copying i.width (destination_of source i) (source_value read context source i)
+  by_action LoadAccumulator i = by_loading i.width i.value
+  by_action Exchange i = by_exchange i.width i.operand i.register
+  by_action ExchangeAdd i = by_adding i.width i.operand i.register
+  by_action CompareExchange i = by_comparing i.width i.operand i.register
+  by_action (MoveIf condition) i = by_copying_if condition i.width i.register i.operand
+  by_action (SetIf condition) i = by_place (place_of context.registers i.operand) Byte _ context
+  by_action (ZeroExtend from) i = by_zeros from i.width i.register i.operand
+  by_action (SignExtend from) i = by_sign from i.width i.register i.operand
+  by_action (Push source) i = by_push (source_value read context source i)
+  by_action Pop i = by_pop i.operand context
+  by_action Leave i = by_leaving
+  by_action (JumpIf condition) i = by_condition condition i.value
+  by_action JumpOperand i = by_jump i.operand
+  by_action Call i = (above context.pc i.value, refl)
+  by_action CallOperand i = by_call i.operand
+  by_action Return i = by_return 0
+  by_action ReturnAndRelease i = by_return i.value
+  by_action other i = tt
 
 -- the thread that an instruction finds, whose pc is the address after it
 abbrev found : Thread → Decoded → Context
@@ -307,10 +275,10 @@ by_decoded : (read : Reader) (thread : Thread) (d : Decoded)
     → Tells read (found thread d) (executed read d (context_of thread))
 unfolding executed
 by_decoded read thread d =
-    unless read (found thread d) (not (is_stepped d.instr) || refuses_prefixes d.prefixes d.instr) Unsupported _
-    (unless read (found thread d) (traps d.instr) Trap _
-    (unless read (found thread d) (d.prefixes.lock && not (takes_lock d.instr)) BadLock _
-    (by_instruction read (found thread d) d.instr)))
+    by_test read (found thread d) (not (is_stepped d.instr.action d.instr.width) || refuses_prefixes d.prefixes d.instr.action) Unsupported _
+    (by_test read (found thread d) (traps d.instr.action) Trap _
+    (by_test read (found thread d) (d.prefixes.lock && not (takes_lock d.instr.action d.instr)) BadLock _
+    (by_action read (found thread d) d.instr.action d.instr)))
 
 -- the bytes that were written stand where they were
 byte_overlaid : (start : ℕ) (bytes : List ℕ) (address : ℕ) (xs : List ℕ) (k : ℕ) → k < length xs → start ≤ address + k

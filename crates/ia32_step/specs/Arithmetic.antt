@@ -1,30 +1,25 @@
 -- Integer instructions (Intel SDM volume 2, under their names). The values and flags are those of ia32_alu.
-use Rattle.std.specs.Prelude.{ℕ, ◌+◌, ◌*◌, ◌/◌, ◌%◌, ◌^◌, Bool, true, false, Option, Some, None, Result, Ok, Err}
+use Rattle.std.specs.Prelude.{ℕ, ◌+◌, ◌*◌, ◌/◌, ◌%◌, ◌^◌, Bool, true, false, not, if◌then◌else◌, Option, Some, None}
+use Rattle.std.specs.Prelude.{Result, Ok, Err}
 use Rattle.ks_base.specs.declared.refusals.Fault.{Fault}
 use Rattle.ks_base.specs.declared.refusals.Fault.TheVariants.{Divide, Unsupported}
 use Rattle.ia32_alu.specs.declared.types.Flags.{Flags}
-use Rattle.ia32_alu.specs.declared.types.Width.{Width as AluWidth}
-use Rattle.ia32_alu.specs.declared.types.Width.TheVariants.{W8, W16, W32}
+use Rattle.ia32_alu.specs.declared.types.Width.{Width}
+use Rattle.ia32_alu.specs.declared.types.Width.TheVariants.{Byte, Word, Dword}
 use Rattle.ia32_alu.specs.declared.types.Binary.{Binary}
-use Rattle.ia32_alu.specs.declared.types.Binary.TheVariants as binary
-use Rattle.ia32_alu.specs.declared.types.Unary.{Unary as AluUnary}
-use Rattle.ia32_alu.specs.declared.types.Unary.TheVariants as unary
-use Rattle.ia32_alu.specs.declared.types.Shift.{Shift as AluShift}
-use Rattle.ia32_alu.specs.declared.types.Shift.TheVariants as shifts
+use Rattle.ia32_alu.specs.declared.types.Binary.TheVariants.{Cmp, Test}
+use Rattle.ia32_alu.specs.declared.types.Unary.{Unary}
+use Rattle.ia32_alu.specs.declared.types.Shift.{Shift}
+use Rattle.ia32_alu.specs.declared.types.Shift.TheVariants.{Rol, Ror}
+use Rattle.ia32_alu.specs.Widths.{is_dword}
 use Rattle.ia32_alu.specs.Numbers.{size}
 use Rattle.ia32_alu.specs.Arithmetic.{binary_of, unary_of}
 use Rattle.ia32_alu.specs.Shifts.{shift_of}
 use Rattle.ia32_alu.specs.Products.{product_of, quotient_of}
 use Rattle.ia32_decode.specs.declared.types.Register.{Register}
 use Rattle.ia32_decode.specs.declared.types.Register.TheVariants.{Eax, Ecx, Edx, Esp}
-use Rattle.ia32_decode.specs.declared.types.Width.{Width}
-use Rattle.ia32_decode.specs.declared.types.Width.TheVariants.{Byte, Word, Dword}
-use Rattle.ia32_decode.specs.declared.types.Arithmetic.{Arithmetic}
-use Rattle.ia32_decode.specs.declared.types.Arithmetic.TheVariants.{Add, Or, Adc, Sbb, And, Sub, Xor, Cmp}
-use Rattle.ia32_decode.specs.declared.types.Counting.{Counting}
-use Rattle.ia32_decode.specs.declared.types.Counting.TheVariants.{Increment, Decrement}
-use Rattle.ia32_decode.specs.declared.types.Shift.{Shift}
-use Rattle.ia32_decode.specs.declared.types.Shift.TheVariants.{Rol, Ror, Rcl, Rcr, Shl, Shr, Sar}
+use Rattle.ia32_decode.specs.declared.types.Count.{Count}
+use Rattle.ia32_decode.specs.declared.types.Count.TheVariants.{One, Immediate, Cl}
 use Rattle.ia32_decode.specs.declared.types.Operand.{Operand}
 use Rattle.ia32_step.specs.declared.types.Context.{Context}
 use Rattle.ia32_step.specs.declared.types.Place.{Place}
@@ -33,85 +28,46 @@ use Rattle.ia32_step.specs.Registers.{register_value, with_register, with_flags,
 use Rattle.ia32_step.specs.Operands.{Reader, given, place_of, operand_value}
 use Rattle.ia32_step.specs.Changes.{goes_on, putting}
 
-abbrev pub alu_width : Width → AluWidth
-alu_width Byte = W8
-alu_width Word = W16
-alu_width Dword = W32
-
-abbrev pub bits : Width → ℕ
-bits width = size (alu_width width)
-
-abbrev pub binary_operation : Arithmetic → Binary
-binary_operation Add = binary.Add
-binary_operation Or = binary.Or
-binary_operation Adc = binary.Adc
-binary_operation Sbb = binary.Sbb
-binary_operation And = binary.And
-binary_operation Sub = binary.Sub
-binary_operation Xor = binary.Xor
-binary_operation Cmp = binary.Cmp
-
--- the result goes to a place, but CMP writes none; the flags are set
-abbrev pub settled : Arithmetic → Width → Place → ℕ × Flags → Context → Change
+-- the result goes to a place, but CMP and TEST write none; the flags are set
+abbrev pub settled : Binary → Width → Place → ℕ × Flags → Context → Change
 settled Cmp width place result context = goes_on (with_flags result.1 context)
+settled Test width place result context = goes_on (with_flags result.1 context)
 settled operation width place result context = putting place width result.0 (with_flags result.1 context)
 
--- ADD, OR, ADC, SBB, AND, SUB, XOR and CMP of an operand and another number
-unfoldable pub combined : Reader → Arithmetic → Width → Operand → Result ℕ Fault → Context → Result Change Fault
+-- ADD, OR, ADC, SBB, AND, SUB, XOR, CMP and TEST of an operand and another number
+unfoldable pub combined : Reader → Binary → Width → Operand → Result ℕ Fault → Context → Result Change Fault
 combined read operation width operand source context =
     given (operand_value read context width operand) (λ a.
     given source (λ b.
     Ok (settled operation width (place_of context.registers operand)
-    (binary_of (binary_operation operation) (bits width) a b context.flags) context)))
-
--- TEST sets the flags alone
-unfoldable pub tested : Reader → Width → Operand → ℕ → Context → Result Change Fault
-tested read width operand b context =
-    given (operand_value read context width operand) (λ a.
-    Ok (goes_on (with_flags (binary_of binary.Test (bits width) a b context.flags).1 context)))
-
-abbrev pub unary_counting : Counting → AluUnary
-unary_counting Increment = unary.Inc
-unary_counting Decrement = unary.Dec
+    (binary_of operation (size width) a b context.flags) context)))
 
 -- INC, DEC, NOT and NEG
-unfoldable pub altered : Reader → AluUnary → Width → Operand → Context → Result Change Fault
+unfoldable pub altered : Reader → Unary → Width → Operand → Context → Result Change Fault
 altered read operation width operand context =
     given (operand_value read context width operand) (λ a.
-    let result : ℕ × Flags = unary_of operation (bits width) a context.flags in
+    let result : ℕ × Flags = unary_of operation (size width) a context.flags in
     Ok (putting (place_of context.registers operand) width result.0 (with_flags result.1 context)))
 
 -- ROL and ROR are carried out at 32 bits alone (own)
-abbrev pub full_rotation : AluShift → Width → Option AluShift
-full_rotation operation Byte = None
-full_rotation operation Word = None
-full_rotation operation Dword = Some operation
+abbrev pub takes_width : Shift → Width → Bool
+takes_width Rol width = is_dword width
+takes_width Ror width = is_dword width
+takes_width operation width = true
 
--- the shifts and rotates that are carried out; RCL and RCR never are (own)
-abbrev pub stepped_shift : Shift → Width → Option AluShift
-stepped_shift Shl width = Some shifts.Shl
-stepped_shift Shr width = Some shifts.Shr
-stepped_shift Sar width = Some shifts.Sar
-stepped_shift Rol width = full_rotation shifts.Rol width
-stepped_shift Ror width = full_rotation shifts.Ror width
-stepped_shift Rcl width = None
-stepped_shift Rcr width = None
+-- how many places: one, the lowest byte of the instruction's number, or CL
+abbrev pub count_of : Count → ℕ → Context → ℕ
+count_of One n context = 1
+count_of Immediate n context = n % 0x100
+count_of Cl n context = register_value context.registers Byte Ecx
 
 -- A shift or rotate by a count; by 0 the operand takes its own number, and so must be writable (own).
-abbrev pub shifted_by : Reader → Option AluShift → Width → Operand → ℕ → Context → Result Change Fault
-shifted_by read None width operand count context = Err Unsupported
-shifted_by read (Some operation) width operand count context =
-    given (operand_value read context width operand) (λ a.
-    let result : ℕ × Flags = shift_of operation (bits width) a count context.flags in
-    Ok (putting (place_of context.registers operand) width result.0 (with_flags result.1 context)))
-
 unfoldable pub shifted : Reader → Shift → Width → Operand → ℕ → Context → Result Change Fault
 shifted read operation width operand count context =
-    shifted_by read (stepped_shift operation width) width operand count context
-
--- CL, the count of the shifts D2 and D3
-abbrev pub count_register : Context → ℕ
-count_register context = register_value context.registers Byte Ecx
+    if not (takes_width operation width) then Err Unsupported
+    else given (operand_value read context width operand) (λ a.
+    let result : ℕ × Flags = shift_of operation (size width) a count context.flags in
+    Ok (putting (place_of context.registers operand) width result.0 (with_flags result.1 context)))
 
 -- what stands above the accumulator in a product or dividend: AH above AL, DX above AX, EDX above EAX
 abbrev pub upper_register : Width → Register
@@ -122,12 +78,12 @@ upper_register Dword = Edx
 -- a number of twice the width in the two registers
 abbrev pub with_double : Width → ℕ → Context → Context
 with_double width n context =
-    with_register width (upper_register width) (n / 2 ^ bits width)
-    (with_register width Eax (n % 2 ^ bits width) context)
+    with_register width (upper_register width) (n / 2 ^ size width)
+    (with_register width Eax (n % 2 ^ size width) context)
 
 abbrev pub double : Context → Width → ℕ
 double context width =
-    register_value context.registers width (upper_register width) * 2 ^ bits width + accumulator context width
+    register_value context.registers width (upper_register width) * 2 ^ size width + accumulator context width
 
 abbrev pub with_product : Width → ℕ × Flags → Context → Context
 with_product width product context = with_double width product.0 (with_flags product.1 context)
@@ -136,17 +92,18 @@ with_product width product context = with_double width product.0 (with_flags pro
 unfoldable pub multiplied : Reader → Bool → Width → Operand → Context → Result Change Fault
 multiplied read sign width operand context =
     given (operand_value read context width operand) (λ b.
-    Ok (goes_on (with_product width (product_of sign (bits width) (accumulator context width) b) context)))
+    Ok (goes_on (with_product width (product_of sign (size width) (accumulator context width) b) context)))
 
 -- IMUL with two or three operands: a register takes the product's lower half
 abbrev pub with_lower_product : Width → Register → ℕ × Flags → Context → Context
 with_lower_product width r product context =
-    with_register width r (product.0 % 2 ^ bits width) (with_flags product.1 context)
+    with_register width r (product.0 % 2 ^ size width) (with_flags product.1 context)
 
-unfoldable pub product_taken : Reader → Width → Register → Operand → ℕ → Context → Result Change Fault
-product_taken read width r operand b context =
+unfoldable pub product_taken : Reader → Width → Register → Operand → Result ℕ Fault → Context → Result Change Fault
+product_taken read width r operand factor context =
     given (operand_value read context width operand) (λ a.
-    Ok (goes_on (with_lower_product width r (product_of true (bits width) a b) context)))
+    given factor (λ b.
+    Ok (goes_on (with_lower_product width r (product_of true (size width) a b) context))))
 
 -- all five flags are clear: after DIV and IDIV (own), and when a thread starts
 abbrev pub clear_flags : Flags
@@ -164,4 +121,4 @@ with_quotient width (Some both) context =
 unfoldable pub divided : Reader → Bool → Width → Operand → Context → Result Change Fault
 divided read sign width operand context =
     given (operand_value read context width operand) (λ by.
-    with_quotient width (quotient_of sign (bits width) (double context width) by) context)
+    with_quotient width (quotient_of sign (size width) (double context width) by) context)

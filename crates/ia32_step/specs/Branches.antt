@@ -2,7 +2,7 @@
 -- instruction, from which a relative displacement counts.
 use Rattle.std.specs.Prelude.{ℕ, if◌then◌else◌, Result, Ok}
 use Rattle.ks_base.specs.declared.refusals.Fault.{Fault}
-use Rattle.ia32_decode.specs.declared.types.Width.TheVariants.{Dword}
+use Rattle.ia32_alu.specs.declared.types.Width.TheVariants.{Dword}
 use Rattle.ia32_decode.specs.declared.types.Condition.{Condition}
 use Rattle.ia32_decode.specs.declared.types.Operand.{Operand}
 use Rattle.ia32_step.specs.declared.types.Context.{Context}

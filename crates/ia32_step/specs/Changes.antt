@@ -1,8 +1,8 @@
 -- What instructions are made of: the thread goes on, a place takes a number, a number is pushed or popped.
 use Rattle.std.specs.Prelude.{ℕ, ◌+◌, ◌-◌, ◌%◌, ◌^◌, Some, None, Result}
 use Rattle.ks_base.specs.declared.refusals.Fault.{Fault}
-use Rattle.ia32_decode.specs.declared.types.Width.{Width}
-use Rattle.ia32_decode.specs.declared.types.Width.TheVariants.{Dword}
+use Rattle.ia32_alu.specs.declared.types.Width.{Width}
+use Rattle.ia32_alu.specs.declared.types.Width.TheVariants.{Dword}
 use Rattle.ia32_step.specs.declared.types.Context.{Context}
 use Rattle.ia32_step.specs.declared.types.Flow.TheVariants.{Plain}
 use Rattle.ia32_step.specs.declared.types.Place.{Place}

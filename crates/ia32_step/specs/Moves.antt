@@ -1,19 +1,19 @@
 -- Moves, exchanges and extensions (Intel SDM volume 2, under their names). But for CMPXCHG and XADD no flag changes.
-use Rattle.std.specs.Prelude.{ℕ, ◌+◌, ◌-◌, ◌^◌, Bool, if◌then◌else◌, Result, Ok}
+use Rattle.std.specs.Prelude.{ℕ, ◌+◌, ◌-◌, ◌^◌, Bool, List, if◌then◌else◌, Result, Ok}
 use Rattle.std.specs.Int.{from_bool}
 use Rattle.ks_base.specs.declared.refusals.Fault.{Fault}
 use Rattle.ia32_alu.specs.declared.types.Flags.{Flags}
 use Rattle.ia32_alu.specs.declared.types.Binary.TheVariants as binary
-use Rattle.ia32_alu.specs.Numbers.{unsigned, highest}
+use Rattle.ia32_alu.specs.Numbers.{size, unsigned, highest}
 use Rattle.ia32_alu.specs.Arithmetic.{binary_of}
 use Rattle.ia32_alu.specs.Conditions.{condition_of}
 use Rattle.ia32_decode.specs.declared.types.Register.{Register}
 use Rattle.ia32_decode.specs.declared.types.Register.TheVariants.{Eax, Edx}
-use Rattle.ia32_decode.specs.declared.types.Width.{Width}
-use Rattle.ia32_decode.specs.declared.types.Width.TheVariants.{Byte, Word, Dword}
+use Rattle.ia32_alu.specs.declared.types.Width.{Width}
+use Rattle.ia32_alu.specs.declared.types.Width.TheVariants.{Byte, Word, Dword}
 use Rattle.ia32_decode.specs.declared.types.Condition.{Condition}
-use Rattle.ia32_decode.specs.declared.types.Memory.{Memory}
 use Rattle.ia32_decode.specs.declared.types.Operand.{Operand}
+use Rattle.ia32_decode.specs.declared.types.Operand.TheVariants.{Register as InRegister, Memory as InMemory}
 use Rattle.ia32_decode.specs.Encoding.{condition_number}
 use Rattle.ia32_step.specs.declared.types.Context.{Context}
 use Rattle.ia32_step.specs.declared.types.Place.{Place}
@@ -21,13 +21,11 @@ use Rattle.ia32_step.specs.declared.types.Change.{Change}
 use Rattle.ia32_step.specs.Registers.{register_value, with_register, with_flags, accumulator}
 use Rattle.ia32_step.specs.Operands.{Reader, given, place_of, address_of, operand_value}
 use Rattle.ia32_step.specs.Changes.{goes_on, putting, storing}
-use Rattle.ia32_step.specs.Arithmetic.{bits}
 
 -- MOV
-unfoldable pub copied : Reader → Width → Operand → Operand → Context → Result Change Fault
-copied read width destination source context =
-    given (operand_value read context width source) (λ v.
-    Ok (putting (place_of context.registers destination) width v context))
+unfoldable pub copied : Width → Operand → Result ℕ Fault → Context → Result Change Fault
+copied width destination source context =
+    given source (λ v. Ok (putting (place_of context.registers destination) width v context))
 
 -- MOV to the accumulator from an address, and back
 unfoldable pub accumulator_loaded : Reader → Width → ℕ → Context → Result Change Fault
@@ -37,9 +35,13 @@ accumulator_loaded read width address context =
 abbrev pub accumulator_stored : Width → ℕ → Context → Change
 accumulator_stored width address context = storing address width (accumulator context width) context
 
--- LEA
-abbrev pub address_taken : Width → Register → Memory → Context → Change
-address_taken width r memory context = goes_on (with_register width r (address_of context.registers memory) context)
+-- LEA; a register has no address, and no LEA names one
+abbrev pub address_in : List ℕ → Operand → ℕ
+address_in registers (InMemory memory) = address_of registers memory
+address_in registers (InRegister r) = 0
+
+abbrev pub address_taken : Width → Register → Operand → Context → Change
+address_taken width r operand context = goes_on (with_register width r (address_in context.registers operand) context)
 
 -- XCHG: the register takes what the operand held, the operand what the register held
 unfoldable pub exchanged : Reader → Width → Operand → Register → Context → Result Change Fault
@@ -53,7 +55,7 @@ unfoldable pub exchanged_and_added : Reader → Width → Operand → Register �
 exchanged_and_added read width operand r context =
     given (operand_value read context width operand) (λ a.
     let sum : ℕ × Flags =
-    binary_of binary.Add (bits width) a (register_value context.registers width r) context.flags in
+    binary_of binary.Add (size width) a (register_value context.registers width r) context.flags in
     Ok (putting (place_of context.registers operand) width sum.0 (with_register width r a (with_flags sum.1 context))))
 
 -- Where the accumulator equals the operand, the operand takes what the register holds. Otherwise the accumulator takes
@@ -68,7 +70,7 @@ unfoldable pub compare_exchanged : Reader → Width → Operand → Register →
 compare_exchanged read width operand r context =
     given (operand_value read context width operand) (λ a.
     Ok (compared_and_exchanged (place_of context.registers operand) width a (register_value context.registers width r)
-    (binary_of binary.Cmp (bits width) (accumulator context width) a context.flags) context))
+    (binary_of binary.Cmp (size width) (accumulator context width) a context.flags) context))
 
 -- whether a condition holds of the flags
 abbrev pub holds : Condition → Flags → Bool
@@ -97,7 +99,7 @@ zero_extended_to read from width r source context =
 unfoldable pub sign_extended_to : Reader → Width → Width → Register → Operand → Context → Result Change Fault
 sign_extended_to read from width r source context =
     given (operand_value read context from source)
-    (λ v. Ok (goes_on (with_register width r (sign_extended (bits from) v) context)))
+    (λ v. Ok (goes_on (with_register width r (sign_extended (size from) v) context)))
 
 -- what is extended: AL to AX, and AX to EAX; there is no such instruction at 8 bits
 abbrev pub half : Width → Width
@@ -108,10 +110,10 @@ half Dword = Word
 -- CBW and CWDE, by the width of the result
 abbrev pub accumulator_extended : Width → Context → Change
 accumulator_extended width context =
-    goes_on (with_register width Eax (sign_extended (bits (half width)) (accumulator context (half width))) context)
+    goes_on (with_register width Eax (sign_extended (size (half width)) (accumulator context (half width))) context)
 
 -- CWD and CDQ: the accumulator's sign in each bit of DX or EDX
 abbrev pub sign_spread : Width → Context → Change
 sign_spread width context =
-    goes_on (with_register width Edx (if highest (bits width) (accumulator context width) then 0xFFFF_FFFF else 0)
+    goes_on (with_register width Edx (if highest (size width) (accumulator context width) then 0xFFFF_FFFF else 0)
     context)

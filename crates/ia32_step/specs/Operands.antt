@@ -5,15 +5,17 @@ use Rattle.ks_base.specs.declared.refusals.Fault.{Fault}
 use Rattle.image_memory.specs.declared.types.Piece.{Piece}
 use Rattle.image_memory.specs.Access.{first_fault, read_fault, bytes_at}
 use Rattle.ia32_decode.specs.declared.types.Register.{Register}
-use Rattle.ia32_decode.specs.declared.types.Width.{Width}
-use Rattle.ia32_decode.specs.declared.types.Width.TheVariants.{Byte, Word, Dword}
-use Rattle.ia32_decode.specs.Widths.{byte_count}
+use Rattle.ia32_alu.specs.declared.types.Width.{Width}
+use Rattle.ia32_alu.specs.declared.types.Width.TheVariants.{Byte, Word, Dword}
+use Rattle.ia32_alu.specs.Widths.{byte_count}
+use Rattle.ia32_decode.specs.Encoding.{factor_of}
 use Rattle.ia32_decode.specs.declared.types.Index.{Index}
 use Rattle.ia32_decode.specs.declared.types.Memory.{Memory}
 use Rattle.ia32_decode.specs.declared.types.Operand.{Operand}
 use Rattle.ia32_decode.specs.declared.types.Operand.TheVariants as operands
 use Rattle.ia32_decode.specs.declared.types.Source.{Source}
-use Rattle.ia32_decode.specs.declared.types.Source.TheVariants as sources
+use Rattle.ia32_decode.specs.declared.types.Source.TheVariants.{Register as OfRegister, Operand as OfOperand, Immediate}
+use Rattle.ia32_decode.specs.declared.types.Instr.{Instr}
 use Rattle.ia32_step.specs.declared.types.Context.{Context}
 use Rattle.ia32_step.specs.declared.types.Place.{Place}
 use Rattle.ia32_step.specs.declared.types.Place.TheVariants.{InRegister, InMemory}
@@ -29,9 +31,8 @@ abbrev pub base_part : List ℕ → Option Register → ℕ
 base_part registers None = 0
 base_part registers (Some r) = register_value registers Dword r
 
-abbrev pub index_part : List ℕ → Option Index → ℕ
-index_part registers None = 0
-index_part registers (Some index) = register_value registers Dword index.register * index.scale
+abbrev pub index_part : List ℕ → Index → ℕ
+index_part registers index = register_value registers Dword index.register * factor_of index.scale
 
 -- the sum of the parts, modulo 2^32
 unfoldable pub address_of : List ℕ → Memory → ℕ
@@ -81,6 +82,12 @@ abbrev pub operand_value : Reader → Context → Width → Operand → Result �
 operand_value read context width operand =
     value_at read context.registers width (place_of context.registers operand)
 
-abbrev pub source_value : Reader → Context → Width → Source → Result ℕ Fault
-source_value read context width (sources.Operand operand) = operand_value read context width operand
-source_value read context width (sources.Immediate n) = Ok n
+-- the second of two operands, and the first, which takes what comes of them
+abbrev pub source_value : Reader → Context → Source → Instr → Result ℕ Fault
+source_value read context OfRegister i = Ok (register_value context.registers i.width i.register)
+source_value read context OfOperand i = operand_value read context i.width i.operand
+source_value read context Immediate i = Ok i.value
+
+abbrev pub destination_of : Source → Instr → Operand
+destination_of OfOperand i = operands.Register i.register
+destination_of source i = i.operand

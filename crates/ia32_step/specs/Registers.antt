@@ -4,8 +4,8 @@ use Rattle.std.specs.Prelude.{ℕ, ◌+◌, ◌-◌, ◌*◌, ◌/◌, ◌%◌, 
 use Rattle.ia32_alu.specs.declared.types.Flags.{Flags}
 use Rattle.ia32_decode.specs.declared.types.Register.{Register}
 use Rattle.ia32_decode.specs.declared.types.Register.TheVariants.{Eax, Esp}
-use Rattle.ia32_decode.specs.declared.types.Width.{Width}
-use Rattle.ia32_decode.specs.declared.types.Width.TheVariants.{Byte, Word, Dword}
+use Rattle.ia32_alu.specs.declared.types.Width.{Width}
+use Rattle.ia32_alu.specs.declared.types.Width.TheVariants.{Byte, Word, Dword}
 use Rattle.ia32_decode.specs.Encoding.{register_number}
 use Rattle.ia32_step.specs.declared.types.Context.{Context}
 

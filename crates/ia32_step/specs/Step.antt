@@ -17,10 +17,10 @@ use Rattle.ia32_step.specs.declared.types.Outcome.TheVariants.{Moved, Exited, St
 use Rattle.ia32_step.specs.declared.types.Store.{Store}
 use Rattle.ia32_step.specs.declared.types.Change.{Change}
 use Rattle.ia32_step.specs.Registers.{accumulator}
-use Rattle.ia32_decode.specs.Widths.{byte_count}
+use Rattle.ia32_alu.specs.Widths.{byte_count}
 use Rattle.ia32_step.specs.Operands.{number_at, spelled}
 use Rattle.ia32_step.specs.Exec.{executed}
-use Rattle.ia32_decode.specs.declared.types.Width.TheVariants.{Dword}
+use Rattle.ia32_alu.specs.declared.types.Width.TheVariants.{Dword}
 
 -- what a step leaves: the memory, the thread, and what it came to
 pub record Left : Type 0 where

@@ -9,7 +9,8 @@ use crate::changes::above;
 use crate::moves::holds;
 use crate::operands::operand_value;
 use crate::types::{Change, Context, Flow};
-use ia32_decode::{Condition, Operand, Width};
+use ia32_alu::Width;
+use ia32_decode::{Condition, Operand};
 use image_memory::Space;
 use ks_base::Fault;
 

@@ -5,7 +5,7 @@ ghost use Rattle.ia32_step.specs.Changes.{goes_on, storing, putting, above, belo
 
 use crate::operands::number_at;
 use crate::types::{Change, Context, Flow, Place, Store};
-use ia32_decode::Width;
+use ia32_alu::Width;
 use image_memory::Space;
 use ks_base::Fault;
 

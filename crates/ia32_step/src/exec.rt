@@ -1,11 +1,11 @@
 //! What an instruction does, and which are not carried out.
 ghost use Rattle.std.specs.Prelude.{◌≡◌};
-ghost use Rattle.ia32_step.specs.Operands.{number_at};
-ghost use Rattle.ia32_step.specs.Exec.{unary_change, change_of, is_stepped, takes_repeat, refuses_prefixes, traps};
-ghost use Rattle.ia32_step.specs.Exec.{is_memory, writes, takes_lock, executed};
+ghost use Rattle.ia32_step.specs.Operands.{number_at, destination_of};
+ghost use Rattle.ia32_step.specs.Exec.{done_by, is_stepped, takes_repeat, refuses_prefixes, traps, is_memory, writes};
+ghost use Rattle.ia32_step.specs.Exec.{takes_lock, executed};
 ghost use Rattle.ia32_step.specs.inside.Comes.{Comes};
 
-use crate::arithmetic::{alter, combine, count_register, counting, shift, stepped_shift, test};
+use crate::arithmetic::{alter, combine, count_of, shift, takes_width};
 use crate::branches::{call_by, call_to, jump_by, jump_if, jump_to, return_from};
 use crate::changes::above;
 use crate::moves::{
@@ -13,387 +13,174 @@ use crate::moves::{
     load_accumulator, set_by, sign_extend, spread_sign, store_accumulator, take_address,
     zero_extend,
 };
-use crate::operands::place_of;
 use crate::products::{divide, multiply, take_product};
 use crate::stack::{leave, pop, push};
-use crate::types::{Change, Context};
-use ia32_decode::{Arithmetic, Decoded, Instr, Operand, Prefixes, Register, Source, Unary, Width};
+use crate::types::Change;
+use ia32_alu::{Binary, Width};
+use ia32_decode::{Action, Decoded, Instr, Operand, Prefixes, Source};
 use image_memory::Space;
 use ks_base::Fault;
 
-/// NOT, NEG, MUL, IMUL, DIV and IDIV.
-#[tactic(auto, unfolding(crate::specs::Exec::unary_change))]
-fn unary_change<S: Space>(
-    space: &S,
-    change: &mut Change,
-    operation: Unary,
-    width: Width,
-    operand: &Operand,
-) -> Result<(), Fault>
-    ensures { Comes result change.new
-        (unary_change (number_at (S.contents space.now).pieces) operation width operand.now change.old.context) }
-{
-    match operation {
-        Unary::Not => alter(space, change, ia32_alu::Unary::Not, width, operand),
-        Unary::Neg => alter(space, change, ia32_alu::Unary::Neg, width, operand),
-        Unary::Mul => multiply(space, change, false, width, operand),
-        Unary::Imul => multiply(space, change, true, width, operand),
-        Unary::Div => divide(space, change, false, width, operand),
-        Unary::Idiv => divide(space, change, true, width, operand),
-    }
-}
-
 /// What an instruction does to a thread whose pc is the address after it.
-#[tactic(auto, unfolding(crate::specs::Exec::change_of, crate::specs::Stack::pushed, crate::specs::Operands::value_at))]
+#[tactic(auto, unfolding(crate::specs::Exec::done_by))]
 fn change_of<S: Space>(space: &S, change: &mut Change, instr: &Instr) -> Result<(), Fault>
     ensures { Comes result change.new
-        (change_of (number_at (S.contents space.now).pieces) instr.now change.old.context) }
+        (done_by (number_at (S.contents space.now).pieces) instr.now.action instr.now change.old.context) }
 {
-    match instr {
-        Instr::Arithmetic {
-            operation,
-            width,
-            destination,
-            source,
-        } => combine(space, change, *operation, *width, destination, source),
-        Instr::ArithmeticImmediate {
-            operation,
-            width,
-            destination,
-            immediate,
-        } => combine(
-            space,
-            change,
-            *operation,
-            *width,
-            destination,
-            &Source::Immediate(*immediate),
-        ),
-        Instr::CountRegister {
-            operation,
-            width,
-            register,
-        } => alter(
-            space,
-            change,
-            counting(*operation),
-            *width,
-            &Operand::Register(*register),
-        ),
-        Instr::CountOperand {
-            operation,
-            width,
-            operand,
-        } => alter(space, change, counting(*operation), *width, operand),
-        Instr::Unary {
-            operation,
-            width,
-            operand,
-        } => unary_change(space, change, *operation, *width, operand),
-        Instr::Test { width, left, right } => {
-            let own = change.context.register(*width, *right);
-            test(space, change, *width, left, own)
+    let Instr {
+        action,
+        width,
+        operand,
+        register,
+        value,
+    } = instr;
+    match *action {
+        Action::Arithmetic { operation, source } => {
+            combine(space, change, operation, source, instr)
         }
-        Instr::TestAccumulator { width, immediate } => {
-            test(
-                space,
-                change,
-                *width,
-                &Operand::Register(Register::Eax),
-                *immediate,
-            )
+        Action::Unary(operation) => alter(space, change, operation, *width, operand),
+        Action::MultiplyAccumulator { signed } => multiply(space, change, signed, *width, operand),
+        Action::Divide { signed } => divide(space, change, signed, *width, operand),
+        Action::Multiply(source) => take_product(space, change, source, instr),
+        Action::Shift { operation, count } => {
+            let count = count_of(count, *value, &change.context);
+            shift(space, change, operation, *width, operand, count)
         }
-        Instr::TestImmediate {
-            width,
-            operand,
-            immediate,
-        } => test(space, change, *width, operand, *immediate),
-        Instr::MultiplyImmediate {
-            width,
-            destination,
-            source,
-            immediate,
-        } => take_product(space, change, *width, *destination, source, *immediate),
-        Instr::Multiply {
-            width,
-            destination,
-            source,
-        } => {
-            let own = change.context.register(*width, *destination);
-            take_product(space, change, *width, *destination, source, own)
-        }
-        Instr::ShiftByImmediate {
-            operation,
-            width,
-            operand,
-            count,
-        } => shift(
-            space,
-            change,
-            *operation,
-            *width,
-            operand,
-            (*count % 0x100) as u8,
-        ),
-        Instr::ShiftByOne {
-            operation,
-            width,
-            operand,
-        } => shift(space, change, *operation, *width, operand, 1),
-        Instr::ShiftByCl {
-            operation,
-            width,
-            operand,
-        } => {
-            let count = count_register(&change.context);
-            shift(space, change, *operation, *width, operand, count)
-        }
-        Instr::Move {
-            width,
-            destination,
-            source,
-        } => copy(space, change, *width, destination, source),
-        Instr::MoveImmediate {
-            width,
-            destination,
-            immediate,
-        } => {
-            let place = place_of(&change.context, destination);
-            change.put(place, *width, *immediate);
+        Action::Move(source) => copy(space, change, source, instr),
+        Action::LoadAccumulator => load_accumulator(space, change, *width, *value),
+        Action::StoreAccumulator => {
+            store_accumulator(change, *width, *value);
             Ok(())
         }
-        Instr::MoveToRegister {
-            width,
-            register,
-            immediate,
-        } => {
-            change.context.put_register(*width, *register, *immediate);
-            change.go_on();
+        Action::LoadAddress => {
+            take_address(change, *width, *register, operand);
             Ok(())
         }
-        Instr::LoadAccumulator { width, address } => {
-            load_accumulator(space, change, *width, *address)
+        Action::Exchange => exchange(space, change, *width, operand, *register),
+        Action::ExchangeAdd => exchange_and_add(space, change, *width, operand, *register),
+        Action::CompareExchange => compare_exchange(space, change, *width, operand, *register),
+        Action::MoveIf(condition) => {
+            copy_if(space, change, condition, *width, *register, operand)
         }
-        Instr::StoreAccumulator { width, address } => {
-            store_accumulator(change, *width, *address);
+        Action::SetIf(condition) => {
+            set_by(change, condition, operand);
             Ok(())
         }
-        Instr::LoadAddress {
-            width,
-            destination,
-            memory,
-        } => {
-            take_address(change, *width, *destination, memory);
-            Ok(())
-        }
-        Instr::Exchange {
-            width,
-            operand,
-            register,
-        } => exchange(space, change, *width, operand, *register),
-        Instr::ExchangeAccumulator { width, register } => {
-            exchange(
-                space,
-                change,
-                *width,
-                &Operand::Register(Register::Eax),
-                *register,
-            )
-        }
-        Instr::ExchangeAdd {
-            width,
-            operand,
-            register,
-        } => exchange_and_add(space, change, *width, operand, *register),
-        Instr::CompareExchange {
-            width,
-            operand,
-            register,
-        } => compare_exchange(space, change, *width, operand, *register),
-        Instr::MoveIf {
-            condition,
-            width,
-            destination,
-            source,
-        } => copy_if(space, change, *condition, *width, *destination, source),
-        Instr::SetIf { condition, operand } => {
-            set_by(change, *condition, operand);
-            Ok(())
-        }
-        Instr::ZeroExtend {
-            from,
-            width,
-            destination,
-            source,
-        } => zero_extend(space, change, *from, *width, *destination, source),
-        Instr::SignExtend {
-            from,
-            width,
-            destination,
-            source,
-        } => sign_extend(space, change, *from, *width, *destination, source),
-        Instr::ExtendAccumulator { width } => {
+        Action::ZeroExtend(from) => zero_extend(space, change, from, *width, *register, operand),
+        Action::SignExtend(from) => sign_extend(space, change, from, *width, *register, operand),
+        Action::ExtendAccumulator => {
             extend_accumulator(change, *width);
             Ok(())
         }
-        Instr::SpreadSign { width } => {
+        Action::SpreadSign => {
             spread_sign(change, *width);
             Ok(())
         }
-        Instr::PushRegister { register, .. } => {
-            let own = change.context.register(Width::Dword, *register);
-            change.push(own);
+        Action::Push(source) => push(space, change, source, instr),
+        Action::Pop => pop(space, change, operand),
+        Action::Leave => leave(space, change),
+        Action::JumpIf(condition) => {
+            jump_if(change, condition, *value);
             Ok(())
         }
-        Instr::PushImmediate { immediate, .. } => {
-            change.push(*immediate);
+        Action::Jump => {
+            jump_by(change, *value);
             Ok(())
         }
-        Instr::PushOperand { operand, .. } => push(space, change, operand),
-        Instr::PopRegister { register, .. } => pop(space, change, &Operand::Register(*register)),
-        Instr::PopOperand { operand, .. } => pop(space, change, operand),
-        Instr::Leave { .. } => leave(space, change),
-        Instr::JumpIf {
-            condition,
-            relative,
-        } => {
-            jump_if(change, *condition, *relative);
+        Action::JumpOperand => jump_to(space, change, operand),
+        Action::Call => {
+            call_by(change, *value);
             Ok(())
         }
-        Instr::Jump { relative } => {
-            jump_by(change, *relative);
-            Ok(())
-        }
-        Instr::JumpOperand { operand, .. } => jump_to(space, change, operand),
-        Instr::Call { relative } => {
-            call_by(change, *relative);
-            Ok(())
-        }
-        Instr::CallOperand { operand, .. } => call_to(space, change, operand),
-        Instr::Return { .. } => return_from(space, change, 0),
-        Instr::ReturnAndRelease { bytes, .. } => return_from(space, change, *bytes),
-        Instr::Nop | Instr::EndBranch | Instr::NopOperand { .. } => {
+        Action::CallOperand => call_to(space, change, operand),
+        Action::Return => return_from(space, change, 0),
+        Action::ReturnAndRelease => return_from(space, change, *value),
+        Action::Nop | Action::EndBranch | Action::NopOperand => {
             change.go_on();
             Ok(())
         }
-        Instr::Breakpoint | Instr::Undefined => Err(Fault::Trap),
-        Instr::OpcodeOnly { .. }
-        | Instr::Interrupt { .. }
-        | Instr::LoopBranch { .. }
-        | Instr::FloatingPoint { .. }
-        | Instr::SecondOpcodeOnly { .. }
-        | Instr::SecondOperand { .. }
-        | Instr::DoubleShift { .. }
-        | Instr::BitTest { .. }
-        | Instr::CompareExchangeWide { .. } => Err(Fault::Unsupported),
+        Action::Breakpoint | Action::Undefined => Err(Fault::Trap),
+        Action::LoopBranch(_) | Action::LengthOnly => Err(Fault::Unsupported),
     }
 }
 
-/// Whether an instruction is carried out or traps; of all others the length alone is known.
+/// Whether an action at a width is carried out or traps; of all others the length alone is known.
 #[tactic(auto, unfolding(crate::specs::Exec::is_stepped))]
-fn is_stepped(instr: &Instr) -> bool
-    ensures { result ≡ is_stepped instr.now }
+fn is_stepped(action: Action, width: Width) -> bool
+    ensures { result ≡ is_stepped action width }
 {
-    match *instr {
-        Instr::ShiftByImmediate {
-            operation,
-            width,
-            ..
-        }
-        | Instr::ShiftByOne {
-            operation,
-            width,
-            ..
-        }
-        | Instr::ShiftByCl {
-            operation,
-            width,
-            ..
-        } => stepped_shift(operation, width).is_some(),
-        Instr::PushRegister { width, .. }
-        | Instr::PushImmediate { width, .. }
-        | Instr::PushOperand { width, .. }
-        | Instr::PopRegister { width, .. }
-        | Instr::PopOperand { width, .. }
-        | Instr::Leave { width }
-        | Instr::JumpOperand { width, .. }
-        | Instr::CallOperand { width, .. }
-        | Instr::Return { width }
-        | Instr::ReturnAndRelease { width, .. } => width.is_dword(),
-        Instr::OpcodeOnly { .. }
-        | Instr::Interrupt { .. }
-        | Instr::LoopBranch { .. }
-        | Instr::FloatingPoint { .. }
-        | Instr::SecondOpcodeOnly { .. }
-        | Instr::SecondOperand { .. }
-        | Instr::DoubleShift { .. }
-        | Instr::BitTest { .. }
-        | Instr::CompareExchangeWide { .. } => false,
+    match action {
+        Action::Shift { operation, .. } => takes_width(operation, width),
+        Action::Push(_)
+        | Action::Pop
+        | Action::Leave
+        | Action::JumpOperand
+        | Action::CallOperand
+        | Action::Return
+        | Action::ReturnAndRelease => width.is_dword(),
+        Action::LoopBranch(_) | Action::LengthOnly => false,
         _ => true,
     }
 }
 
 /// Whether the prefix F3 may stand before an instruction.
-fn takes_repeat(instr: &Instr) -> bool
-    ensures { result ≡ takes_repeat instr.now }
+fn takes_repeat(action: Action) -> bool
+    ensures { result ≡ takes_repeat action }
 {
-    matches!(*instr, Instr::Nop | Instr::Return { .. } | Instr::EndBranch)
+    matches!(action, Action::Nop | Action::Return | Action::EndBranch)
 }
 
 /// Whether there is a prefix that isn't carried out.
 #[tactic(auto, unfolding(crate::specs::Exec::refuses_prefixes))]
-fn refuses_prefixes(prefixes: &Prefixes, instr: &Instr) -> bool
-    ensures { result ≡ refuses_prefixes prefixes.now instr.now }
+fn refuses_prefixes(prefixes: &Prefixes, action: Action) -> bool
+    ensures { result ≡ refuses_prefixes prefixes.now action }
 {
     if prefixes.repeat_not_equal || prefixes.segment_f || prefixes.segment_g {
         return true;
     }
-    prefixes.repeat && !takes_repeat(instr)
+    prefixes.repeat && !takes_repeat(action)
 }
 
-fn traps(instr: &Instr) -> bool
-    ensures { result ≡ traps instr.now }
+fn traps(action: Action) -> bool
+    ensures { result ≡ traps action }
 {
-    matches!(*instr, Instr::Breakpoint | Instr::Undefined)
+    matches!(action, Action::Breakpoint | Action::Undefined)
 }
 
-fn is_memory(operand: Operand) -> bool
-    ensures { result ≡ is_memory operand }
+fn is_memory(operand: &Operand) -> bool
+    ensures { result ≡ is_memory operand.now }
 {
-    matches!(operand, Operand::Memory(_))
+    matches!(*operand, Operand::Memory(_))
 }
 
-fn writes(operation: Arithmetic) -> bool
+fn writes(operation: Binary) -> bool
     ensures { result ≡ writes operation }
 {
-    !matches!(operation, Arithmetic::Cmp)
+    !matches!(operation, Binary::Cmp | Binary::Test)
+}
+
+/// Whether the first of two operands of an instruction is in memory.
+fn goes_to_memory(source: Source, instr: &Instr) -> bool
+    ensures { result ≡ is_memory (destination_of source instr.now) }
+{
+    match source {
+        Source::Operand => false,
+        Source::Register | Source::Immediate => is_memory(&instr.operand),
+    }
 }
 
 /// Whether the prefix F0 may stand before an instruction.
 #[tactic(auto, unfolding(crate::specs::Exec::takes_lock))]
 fn takes_lock(instr: &Instr) -> bool
-    ensures { result ≡ takes_lock instr.now }
+    ensures { result ≡ takes_lock instr.now.action instr.now }
 {
-    match *instr {
-        Instr::Arithmetic {
-            operation,
-            destination,
-            ..
+    match instr.action {
+        Action::Arithmetic { operation, source } => {
+            writes(operation) && goes_to_memory(source, instr)
         }
-        | Instr::ArithmeticImmediate {
-            operation,
-            destination,
-            ..
-        } => writes(operation) && is_memory(destination),
-        Instr::Unary {
-            operation: Unary::Not | Unary::Neg,
-            operand,
-            ..
+        Action::Unary(_) | Action::Exchange | Action::CompareExchange | Action::ExchangeAdd => {
+            is_memory(&instr.operand)
         }
-        | Instr::CountOperand { operand, .. }
-        | Instr::Exchange { operand, .. }
-        | Instr::CompareExchange { operand, .. }
-        | Instr::ExchangeAdd { operand, .. } => is_memory(operand),
         _ => false,
     }
 }
@@ -408,10 +195,11 @@ pub(crate) fn execute<S: Space>(
     ensures { Comes result change.new
         (executed (number_at (S.contents space.now).pieces) decoded.now change.old.context) }
 {
-    if !is_stepped(&decoded.instr) || refuses_prefixes(&decoded.prefixes, &decoded.instr) {
+    let action = decoded.instr.action;
+    if !is_stepped(action, decoded.instr.width) || refuses_prefixes(&decoded.prefixes, action) {
         return Err(Fault::Unsupported);
     }
-    if traps(&decoded.instr) {
+    if traps(action) {
         return Err(Fault::Trap);
     }
     if decoded.prefixes.lock && !takes_lock(&decoded.instr) {

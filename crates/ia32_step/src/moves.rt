@@ -1,19 +1,19 @@
 //! Moves, exchanges and extensions.
 ghost use Rattle.std.specs.Prelude.{◌≡◌, ◌-◌, ◌^◌};
-ghost use Rattle.ia32_alu.specs.Numbers.{highest, unsigned};
-ghost use Rattle.ia32_step.specs.Operands.{number_at};
-ghost use Rattle.ia32_step.specs.Arithmetic.{bits};
-ghost use Rattle.ia32_step.specs.Moves.{copied, accumulator_loaded, accumulator_stored, address_taken, exchanged};
+ghost use Rattle.ia32_alu.specs.Numbers.{size, highest, unsigned};
+ghost use Rattle.ia32_step.specs.Operands.{number_at, source_value, destination_of};
+ghost use Rattle.ia32_step.specs.Moves.{copied, accumulator_loaded, accumulator_stored, address_in, address_taken, exchanged};
 ghost use Rattle.ia32_step.specs.Moves.{exchanged_and_added, compared_and_exchanged, compare_exchanged, holds};
 ghost use Rattle.ia32_step.specs.Moves.{copied_if, set_by, sign_extended, zero_extended_to, sign_extended_to, half};
 ghost use Rattle.ia32_step.specs.Moves.{accumulator_extended, sign_spread};
 ghost use Rattle.ia32_step.specs.inside.Comes.{Comes};
 
-use crate::arithmetic::alu_width;
-use crate::operands::{address_of, number_at, operand_value, place_of, value_at};
+use crate::operands::{
+    address_of, destination_place, number_at, operand_value, place_of, source_value, value_at,
+};
 use crate::types::{Change, Context, Place};
-use ia32_alu::{Binary, Flags};
-use ia32_decode::{Condition, Memory, Operand, Register, Width};
+use ia32_alu::{Binary, Flags, Width};
+use ia32_decode::{Condition, Instr, Operand, Register, Source};
 use image_memory::Space;
 use ks_base::Fault;
 
@@ -22,16 +22,17 @@ use ks_base::Fault;
 pub(crate) fn copy<S: Space>(
     space: &S,
     change: &mut Change,
-    width: Width,
-    destination: &Operand,
-    source: &Operand,
+    source: Source,
+    instr: &Instr,
 ) -> Result<(), Fault>
     ensures { Comes result change.new
-        (copied (number_at (S.contents space.now).pieces) width destination.now source.now change.old.context) }
+        (copied instr.now.width (destination_of source instr.now)
+        (source_value (number_at (S.contents space.now).pieces) change.old.context source instr.now)
+        change.old.context) }
 {
-    let value = operand_value(space, &change.context, width, source)?;
-    let place = place_of(&change.context, destination);
-    change.put(place, width, value);
+    let value = source_value(space, &change.context, source, instr)?;
+    let place = destination_place(&change.context, source, instr);
+    change.put(place, instr.width, value);
     Ok(())
 }
 
@@ -60,11 +61,21 @@ pub(crate) fn store_accumulator(change: &mut Change, width: Width, address: u32)
     change.write(address, width, value);
 }
 
-/// LEA.
-pub(crate) fn take_address(change: &mut Change, width: Width, register: Register, memory: &Memory)
-    ensures { change.new ≡ address_taken width register memory.now change.old.context }
+/// The address of a place in memory.
+fn address_in(context: &Context, operand: &Operand) -> u32
+    ensures { result ≡ address_in context.now.registers operand.now }
 {
-    let address = address_of(&change.context, memory);
+    match operand {
+        Operand::Memory(memory) => address_of(context, memory),
+        Operand::Register(_) => 0,
+    }
+}
+
+/// LEA.
+pub(crate) fn take_address(change: &mut Change, width: Width, register: Register, operand: &Operand)
+    ensures { change.new ≡ address_taken width register operand.now change.old.context }
+{
+    let address = address_in(&change.context, operand);
     change.context.put_register(width, register, address);
     change.go_on();
 }
@@ -104,7 +115,7 @@ pub(crate) fn exchange_and_add<S: Space>(
     let place = place_of(&change.context, operand);
     let a = value_at(space, &change.context, width, place)?;
     let b = change.context.register(width, register);
-    let (sum, flags) = ia32_alu::binary(Binary::Add, alu_width(width), a, b, change.context.flags);
+    let (sum, flags) = ia32_alu::binary(Binary::Add, width, a, b, change.context.flags);
     change.context.flags = flags;
     change.context.put_register(width, register, a);
     change.put(place, width, sum);
@@ -148,7 +159,7 @@ pub(crate) fn compare_exchange<S: Space>(
     let value = change.context.register(width, register);
     let compared = ia32_alu::binary(
         Binary::Cmp,
-        alu_width(width),
+        width,
         change.context.accumulator(width),
         a,
         change.context.flags,
@@ -196,7 +207,7 @@ pub(crate) fn set_by(change: &mut Change, condition: Condition, operand: &Operan
 
 #[tactic(auto, unfolding(ia32_alu::specs::Numbers::highest))]
 fn is_negative(width: Width, value: u32) -> bool
-    ensures { result ≡ highest (bits width) value }
+    ensures { result ≡ highest (size width) value }
 {
     match width {
         Width::Byte => value % 0x100 >= 0x80,
@@ -207,7 +218,7 @@ fn is_negative(width: Width, value: u32) -> bool
 
 /// The lowest bits of a number, of a width.
 fn cut(width: Width, value: u32) -> u32
-    ensures { result ≡ unsigned (bits width) value }
+    ensures { result ≡ unsigned (size width) value }
 {
     match width {
         Width::Byte => value % 0x100,
@@ -218,7 +229,7 @@ fn cut(width: Width, value: u32) -> u32
 
 /// All bits above those of a width.
 fn upper_bits(width: Width) -> u32
-    ensures { result ≡ 2 ^ 32 - 2 ^ bits width }
+    ensures { result ≡ 2 ^ 32 - 2 ^ size width }
 {
     match width {
         Width::Byte => 0xFFFF_FF00,
@@ -230,7 +241,7 @@ fn upper_bits(width: Width) -> u32
 /// A number of a width in two's complement, as 32 bits.
 #[tactic(auto, unfolding(crate::specs::Moves::sign_extended))]
 fn sign_extended(width: Width, value: u32) -> u32
-    ensures { result ≡ sign_extended (bits width) value }
+    ensures { result ≡ sign_extended (size width) value }
 {
     if is_negative(width, value) {
         upper_bits(width) + cut(width, value)

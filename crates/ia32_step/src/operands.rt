@@ -1,11 +1,12 @@
 //! Where operands stand, and what they hold.
 ghost use Rattle.std.specs.Prelude.{◌≡◌};
-ghost use Rattle.ia32_decode.specs.declared.types.Width.TheVariants.{Byte, Word, Dword};
+ghost use Rattle.ia32_alu.specs.declared.types.Width.TheVariants.{Byte, Word, Dword};
 ghost use Rattle.ia32_step.specs.Operands.{base_part, index_part, address_of, place_of, number_at, value_at};
-ghost use Rattle.ia32_step.specs.Operands.{operand_value, source_value};
+ghost use Rattle.ia32_step.specs.Operands.{operand_value, source_value, destination_of};
 
 use crate::types::{Context, Place};
-use ia32_decode::{Index, Memory, Operand, Register, Source, Width};
+use ia32_alu::Width;
+use ia32_decode::{Index, Instr, Memory, Operand, Register, Source};
 use image_memory::Space;
 use ks_base::Fault;
 
@@ -18,15 +19,10 @@ fn base_part(context: &Context, base: Option<Register>) -> u32
     }
 }
 
-fn index_part(context: &Context, index: Option<Index>) -> u64
+fn index_part(context: &Context, index: Index) -> u64
     ensures { result ≡ index_part context.now.registers index }
 {
-    match index {
-        None => 0,
-        Some(index) => {
-            u64::from(context.register(Width::Dword, index.register)) * u64::from(index.scale)
-        }
-    }
+    u64::from(context.register(Width::Dword, index.register)) * u64::from(index.scale.factor())
 }
 
 /// The address that a place in memory has: the sum of its parts, modulo 2^32.
@@ -120,17 +116,30 @@ pub(crate) fn operand_value<S: Space>(
     value_at(space, context, width, place_of(context, operand))
 }
 
-/// What a second operand holds.
+/// What the second of two operands of an instruction holds.
+#[inline(always)]
 pub(crate) fn source_value<S: Space>(
     space: &S,
     context: &Context,
-    width: Width,
-    source: &Source,
+    source: Source,
+    instr: &Instr,
 ) -> Result<u32, Fault>
-    ensures { result ≡ source_value (number_at (S.contents space.now).pieces) context.now width source.now }
+    ensures { result ≡ source_value (number_at (S.contents space.now).pieces) context.now source instr.now }
 {
     match source {
-        Source::Operand(operand) => operand_value(space, context, width, operand),
-        Source::Immediate(number) => Ok(*number),
+        Source::Register => Ok(context.register(instr.width, instr.register)),
+        Source::Operand => operand_value(space, context, instr.width, &instr.operand),
+        Source::Immediate => Ok(instr.value),
+    }
+}
+
+/// Where the first of two operands of an instruction stands.
+#[inline(always)]
+pub(crate) fn destination_place(context: &Context, source: Source, instr: &Instr) -> Place
+    ensures { result ≡ place_of context.now.registers (destination_of source instr.now) }
+{
+    match source {
+        Source::Operand => Place::InRegister(instr.register),
+        Source::Register | Source::Immediate => place_of(context, &instr.operand),
     }
 }

@@ -1,15 +1,15 @@
 //! Products and quotients.
 ghost use Rattle.std.specs.Prelude.{◌≡◌, ◌<◌, ◌*◌, ◌^◌};
-ghost use Rattle.ia32_step.specs.Operands.{number_at};
-ghost use Rattle.ia32_step.specs.Arithmetic.{bits, upper_register, with_double, double, multiplied};
+ghost use Rattle.ia32_alu.specs.Numbers.{size};
+ghost use Rattle.ia32_step.specs.Operands.{number_at, source_value};
+ghost use Rattle.ia32_step.specs.Arithmetic.{upper_register, with_double, double, multiplied};
 ghost use Rattle.ia32_step.specs.Arithmetic.{product_taken, clear_flags, with_quotient, divided};
 ghost use Rattle.ia32_step.specs.inside.Comes.{Comes};
 
-use crate::arithmetic::alu_width;
-use crate::operands::operand_value;
+use crate::operands::{operand_value, source_value};
 use crate::types::{Change, Context};
-use ia32_alu::Flags;
-use ia32_decode::{Operand, Register, Width};
+use ia32_alu::{Flags, Width};
+use ia32_decode::{Instr, Operand, Register, Source};
 use image_memory::Space;
 use ks_base::Fault;
 
@@ -25,7 +25,7 @@ fn upper_register(width: Width) -> Register
 
 /// 2 to the number of a width's bits.
 fn radix(width: Width) -> u64
-    ensures { result ≡ 2 ^ bits width }
+    ensures { result ≡ 2 ^ size width }
 {
     match width {
         Width::Byte => 0x100,
@@ -35,7 +35,7 @@ fn radix(width: Width) -> u64
 }
 
 fn put_double(context: &mut Context, width: Width, number: u64)
-    requires { number < 2 ^ (2 * bits width) }
+    requires { number < 2 ^ (2 * size width) }
     ensures { context.new ≡ with_double width number context.old }
 {
     let lower = (number % radix(width)) as u32;
@@ -65,36 +65,33 @@ pub(crate) fn multiply<S: Space>(
         (multiplied (number_at (S.contents space.now).pieces) signed width operand.now change.old.context) }
 {
     let b = operand_value(space, &change.context, width, operand)?;
-    let (product, flags) = ia32_alu::multiply(
-        signed,
-        alu_width(width),
-        change.context.accumulator(width),
-        b,
-    );
+    let (product, flags) = ia32_alu::multiply(signed, width, change.context.accumulator(width), b);
     change.context.flags = flags;
     put_double(&mut change.context, width, product);
     change.go_on();
     Ok(())
 }
 
-/// IMUL with two or three operands.
+/// IMUL whose product goes to a register.
 #[tactic(auto, unfolding(crate::specs::Arithmetic::product_taken))]
 pub(crate) fn take_product<S: Space>(
     space: &S,
     change: &mut Change,
-    width: Width,
-    register: Register,
-    operand: &Operand,
-    b: u32,
+    source: Source,
+    instr: &Instr,
 ) -> Result<(), Fault>
     ensures { Comes result change.new
-        (product_taken (number_at (S.contents space.now).pieces) width register operand.now b change.old.context) }
+        (product_taken (number_at (S.contents space.now).pieces) instr.now.width instr.now.register instr.now.operand
+        (source_value (number_at (S.contents space.now).pieces) change.old.context source instr.now)
+        change.old.context) }
 {
-    let a = operand_value(space, &change.context, width, operand)?;
-    let (product, flags) = ia32_alu::multiply(true, alu_width(width), a, b);
+    let width = instr.width;
+    let a = operand_value(space, &change.context, width, &instr.operand)?;
+    let b = source_value(space, &change.context, source, instr)?;
+    let (product, flags) = ia32_alu::multiply(true, width, a, b);
     let lower = (product % radix(width)) as u32;
     change.context.flags = flags;
-    change.context.put_register(width, register, lower);
+    change.context.put_register(width, instr.register, lower);
     change.go_on();
     Ok(())
 }
@@ -141,6 +138,6 @@ pub(crate) fn divide<S: Space>(
         (divided (number_at (S.contents space.now).pieces) signed width operand.now change.old.context) }
 {
     let by = operand_value(space, &change.context, width, operand)?;
-    let both = ia32_alu::divide(signed, alu_width(width), double(&change.context, width), by);
+    let both = ia32_alu::divide(signed, width, double(&change.context, width), by);
     settle_quotient(change, width, both)
 }

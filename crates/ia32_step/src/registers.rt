@@ -5,7 +5,8 @@ ghost use Rattle.ia32_step.specs.Registers.{with_lower_half, with_byte, with_wor
 ghost use Rattle.ia32_step.specs.Registers.{stack_top, with_stack_top};
 
 use crate::types::Context;
-use ia32_decode::{Register, Width};
+use ia32_alu::Width;
+use ia32_decode::Register;
 
 fn byte_in(registers: &[u32; 8], number: u8) -> u32
     requires { number < 8 }

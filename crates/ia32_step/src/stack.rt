@@ -1,26 +1,33 @@
 //! Pushes and pops of 32 bits.
-ghost use Rattle.ia32_step.specs.Operands.{number_at};
+ghost use Rattle.ia32_step.specs.Operands.{number_at, source_value};
 ghost use Rattle.ia32_step.specs.Stack.{pushed, popped_to, left};
 ghost use Rattle.ia32_step.specs.inside.Comes.{Comes};
 
-use crate::operands::{operand_value, place_of};
+use crate::operands::{place_of, source_value};
 use crate::types::{Change, Context};
-use ia32_decode::{Operand, Register, Width};
+use ia32_alu::Width;
+use ia32_decode::{Instr, Operand, Register, Source};
 use image_memory::Space;
 use ks_base::Fault;
 
-/// PUSH of an operand.
+/// PUSH of 32 bits.
 #[tactic(auto, unfolding(crate::specs::Stack::pushed))]
-pub(crate) fn push<S: Space>(space: &S, change: &mut Change, operand: &Operand) -> Result<(), Fault>
+pub(crate) fn push<S: Space>(
+    space: &S,
+    change: &mut Change,
+    source: Source,
+    instr: &Instr,
+) -> Result<(), Fault>
     ensures { Comes result change.new
-        (pushed (number_at (S.contents space.now).pieces) operand.now change.old.context) }
+        (pushed (source_value (number_at (S.contents space.now).pieces) change.old.context source instr.now)
+        change.old.context) }
 {
-    let value = operand_value(space, &change.context, Width::Dword, operand)?;
+    let value = source_value(space, &change.context, source, instr)?;
     change.push(value);
     Ok(())
 }
 
-/// POP to an operand.
+/// POP.
 #[tactic(auto, unfolding(crate::specs::Stack::popped_to))]
 pub(crate) fn pop<S: Space>(space: &S, change: &mut Change, operand: &Operand) -> Result<(), Fault>
     ensures { Comes result change.new

@@ -4,14 +4,15 @@ ghost use Rattle.ia32_step.specs.Registers.{accumulator};
 ghost use Rattle.ia32_step.specs.Step.{left_by, context_of, resumed, stopped, exited, store_fault, after_store};
 ghost use Rattle.ia32_step.specs.Step.{unless_barred, change_by, change_in, stepped, store_unless, stored, done};
 ghost use Rattle.ia32_step.specs.Step.{fetched_count, store_of};
-ghost use Rattle.ia32_decode.specs.declared.types.Width.TheVariants.{Dword};
+ghost use Rattle.ia32_alu.specs.declared.types.Width.TheVariants.{Dword};
 ghost use Rattle.ia32_step.specs.declared.types.State.TheVariants.{Running};
 ghost use Rattle.ia32_step.specs.declared.types.Outcome.TheVariants.{Stopped, Exited};
 ghost use Rattle.ia32_step.specs.inside.Comes.{Comes, fault_of};
 
 use crate::exec::execute;
 use crate::types::{Change, Context, Flow, Outcome, RETURN_ADDRESS, State, Store, Thread, Traced};
-use ia32_decode::{Decoded, Width, decode};
+use ia32_alu::Width;
+use ia32_decode::{Decoded, decode};
 use image_memory::{Space, Window};
 use ks_base::Fault;
 
@@ -111,11 +112,11 @@ fn carry_out<S: Space>(space: &mut S, thread: &mut Thread, change: &Change, fetc
 fn do_decoded<S: Space>(
     space: &S,
     change: &mut Change,
-    decoded: Option<Decoded>,
+    decoded: &Option<Decoded>,
 ) -> Result<(), Fault>
-    ensures { Comes result change.new (change_by (S.contents space.now).pieces change.old.context decoded) }
+    ensures { Comes result change.new (change_by (S.contents space.now).pieces change.old.context decoded.now) }
 {
-    match &decoded {
+    match decoded {
         None => Err(Fault::Undecoded),
         Some(decoded) => execute(space, change, decoded),
     }
@@ -138,7 +139,7 @@ fn carry_out_window<S: Space>(space: &mut S, thread: &mut Thread, window: &Windo
         store: None,
     };
     let decoded = decode(&window.bytes[..window.length as usize]);
-    match do_decoded(space, &mut change, decoded) {
+    match do_decoded(space, &mut change, &decoded) {
         Ok(()) => carry_out(space, thread, &change, window.length),
         Err(fault) => unwritten(stop(thread, fault), window.length),
     }

@@ -1,6 +1,6 @@
 //! Threads of the running program, and what becomes of one at a step.
-use ia32_alu::Flags;
-use ia32_decode::{Register, Width};
+use ia32_alu::{Flags, Width};
+use ia32_decode::Register;
 use ks_base::{Fault, ListOf, Range};
 
 /// Whether a thread runs.

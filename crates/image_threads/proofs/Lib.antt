@@ -3,3 +3,4 @@ pub mod ListLaws
 pub mod TakenLaws
 pub mod TurnLaws
 pub mod PlacedLaws
+pub mod RisingLaws

@@ -2,6 +2,7 @@
 ghost use Rattle.std.specs.Prelude.{◌≡◌, ◌≢◌, ◌<◌, ◌≤◌, ◌+◌, ◌-◌, ◌++◌, [], ◌∷◌, length, map, IfOk, OnOk, OnErr};
 ghost use Rattle.std.specs.Prelude.{IfSome, IsSomeAnd, IsTrue, Contains, MatchResult, Ok, Err, None, false};
 ghost use Rattle.std.specs.Borrow.{Lends, sem};
+ghost use Rattle.std.specs.List.Sorted.{IsNonDecreasing};
 ghost use Rattle.ks_base.specs.declared.refusals.Refusal.TheVariants.{Memory};
 ghost use Rattle.ia32_step.specs.declared.types.State.TheVariants.{Running};
 ghost use Rattle.ia32_step.specs.Step.{left_by, stepped, stored, store_fault, after_store, fetched_count};
@@ -121,7 +122,8 @@ impl<S: Space> Machine<S> {
 
     /// The numbers of the running threads, ascending.
     pub(crate) fn running(&self) -> &[u32]
-        ensures { result.now ≡ running_numbers self.now.threads }
+        ensures numbers { result.now ≡ running_numbers self.now.threads }
+        ensures ascend { IsNonDecreasing result.now }
     {
         self.threads.running()
     }

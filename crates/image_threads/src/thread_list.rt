@@ -2,6 +2,7 @@
 ghost use Rattle.std.specs.Prelude.{◌≡◌, ◌<◌, ◌≤◌, ◌++◌, List, [], ◌∷◌, length, map, nat_le};
 ghost use Rattle.std.specs.Prelude.{set, OnOk, OnErr, IfOk, IsSome, IfSome, IsSomeAnd, IsNone, Some, is_some};
 ghost use Rattle.std.specs.List.{slice_get, list_any};
+ghost use Rattle.std.specs.List.Sorted.{IsNonDecreasing};
 ghost use Rattle.ia32_step.specs.declared.types.State.TheVariants.{Running};
 ghost use Rattle.ia32_step.specs.Step.{stepped, stored, fetched_count};
 ghost use Rattle.ia32_step.specs.Threads.{is_running};
@@ -69,7 +70,8 @@ impl ThreadList {
 
     /// The numbers of the running threads, ascending.
     pub(crate) fn running(&self) -> &[u32]
-        ensures { result.now ≡ running_numbers self.now }
+        ensures numbers { result.now ≡ running_numbers self.now }
+        ensures ascend { IsNonDecreasing result.now }
     {
         self.running.as_slice()
     }

@@ -2,6 +2,7 @@
 ghost use Rattle.std.specs.Prelude.{◌≡◌, ◌<◌, ◌≤◌, nat_lt, IsSome, IfSome, None, Some};
 ghost use Rattle.std.specs.Option.{option_map};
 ghost use Rattle.std.specs.List.{slice_get, find};
+ghost use Rattle.std.specs.List.Sorted.{IsNonDecreasing};
 ghost use Rattle.image_threads.specs.Program.{running_at};
 ghost use Rattle.image_threads.specs.Turning.{next_turn, after_turn, thread_of, begun};
 ghost use Rattle.image_threads.specs.Turning.{first_turn, turn_after, turn_from};
@@ -101,6 +102,7 @@ fn turn_from<S: Space>(machine: &Machine<S>, quantum: u32, turn: Turn) -> Option
 
 /// The turn of the first running thread after a number, or of the first of all.
 fn turn_after(running: &[u32], number: u32) -> Option<Turn>
+    requires { IsNonDecreasing running.now }
     ensures { result ≡ turn_after running.now number }
 {
     match first_above(running, number) {
@@ -109,11 +111,13 @@ fn turn_after(running: &[u32], number: u32) -> Option<Turn>
     }
 }
 
-/// The first running thread's number above a number.
+/// The first running thread's number above a number. It is found by halving.
 fn first_above(running: &[u32], number: u32) -> Option<u32>
+    requires { IsNonDecreasing running.now }
     ensures { result ≡ find (nat_lt number) running.now }
 {
-    running.iter().copied().find(|other| number < *other)
+    let at = running.partition_point(|other| *other <= number);
+    running.get(at).copied()
 }
 
 /// The turn of the first running thread.

@@ -2,6 +2,7 @@ pub mod MemoryLaws
 pub mod Ranges
 pub mod WatchedLaws
 pub mod RunLaws
+pub mod TurnLaws
 pub mod AnswerLaws
 pub mod LiveAnswers
 pub mod TryLaws

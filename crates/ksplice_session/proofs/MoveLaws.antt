@@ -11,7 +11,7 @@ use Rattle.image_memory.specs.declared.types.Piece.{Piece}
 use Rattle.image_memory.specs.Ranges.{meets}
 use Rattle.image_memory.specs.Contents.{Contents, ArePlaced}
 use Rattle.ia32_decode.specs.declared.types.Decoded.{Decoded}
-use Rattle.ia32_decode.specs.Widths.{byte_count}
+use Rattle.ia32_alu.specs.Widths.{byte_count}
 use Rattle.ia32_step.specs.declared.types.Flow.TheVariants.{Call}
 use Rattle.ia32_step.specs.declared.types.Frame.{Frame}
 use Rattle.ia32_step.specs.declared.types.Outcome.{Outcome}

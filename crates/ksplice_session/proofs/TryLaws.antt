@@ -1,26 +1,36 @@
 -- Why the tries of an update are answered as they are to be.
-use Rattle.std.proofs.Common.{◌≡◌, ◌≢◌, ℕ, zero, suc, ◌+◌, ◌-◌, Bool, true, false, if◌then◌else◌, List, [], ◌∷◌, ◌++◌}
-use Rattle.std.proofs.Common.{Option, None, Result, Ok, Err, IfOk, OnOk, OnErr, MatchResult}
-use Rattle.std.proofs.Common.{refl, sym, ◌∙◌, ap, subst, append_assoc}
+use Rattle.std.proofs.Common.{◌≡◌, ◌≢◌, ℕ, zero, suc, ◌+◌, ◌-◌, ◌<◌, Bool, true, false, if◌then◌else◌, List, [], ◌∷◌, ◌++◌}
+use Rattle.std.proofs.Common.{Option, Some, None, Result, Ok, Err, IfOk, OnOk, OnErr, MatchResult}
+use Rattle.std.proofs.Common.{refl, sym, ◌∙◌, ap, subst, append_assoc, arith}
 use Rattle.std.proofs.lemmas.List.Sums.{fold-append}
+use Rattle.std.specs.Result.{result_err}
 use Rattle.std.specs.declared.alloc.AllocError.{AllocError}
+use Rattle.ks_base.specs.Gives.{Gives}
 use Rattle.ks_base.specs.declared.reports.Report.{Report}
 use Rattle.ks_base.specs.declared.refusals.Refusal.{Refusal}
 use Rattle.ks_base.specs.declared.refusals.Refusal.TheVariants.{Memory}
 use Rattle.splice_jump.specs.declared.phase.Phase.{Phase}
 use Rattle.splice_jump.specs.declared.phase.Phase.TheVariants.{Done}
+use Rattle.image_file.specs.Fields.{◌>>=◌}
+use Rattle.image_threads.specs.declared.turns.Turn.{Turn}
+use Rattle.image_threads.specs.Turning.{turn_from}
+use Rattle.update_stack.specs.Standing.{thread_refusal}
+use Rattle.update_stack.specs.PlanType.{Plan}
+use Rattle.update_stack.specs.Plan.{unless}
 use Rattle.update_stack.specs.AbstractMachine.{AbstractMachine}
-use Rattle.update_stack.specs.Events.{Event, Spawn, Applied, Happened, happened, apply_answered, answered}
+use Rattle.update_stack.specs.Apply.{planned_in, accepted, applied, committed}
+use Rattle.update_stack.specs.Events.{Event, Spawn, Step, AreSteps, Applied, Happened, happened, apply_answered, answered}
 use Rattle.update_stack.specs.Events.{after_event, after_events}
+use Rattle.update_stack.specs.Stacked.{IsBuilt}
 use Rattle.ksplice_session.specs.declared.types.Answer.{Answer}
 use Rattle.ksplice_session.specs.Lines.{applied_lines}
-use Rattle.ksplice_session.specs.Running.{round_robin}
+use Rattle.ksplice_session.specs.Running.{round_robin, taken, turn_steps}
 use Rattle.ksplice_session.specs.Replies.{Told, Trial, event_of, applied_by, try_told, tried, is_busy}
 use Rattle.ksplice_session.specs.Replies.{after_gap, replied, apply_told}
 use Rattle.ksplice_session.specs.Watching.{Watched, watched_after, watched_after_all}
 use Rattle.ksplice_session.specs.Answers.{Answers, MadeFront, Noted, Unnoted}
 use Rattle.ksplice_session.specs.Answers.{turned, turned_before, told_after, answer_of}
-use Rattle.ksplice_session.specs.inside.Trying.{IsTryAnswer}
+use Rattle.ksplice_session.specs.inside.Trying.{checked, plan_for, IsTryAnswer, Waited}
 use Rattle.ksplice_session.proofs.AnswerLaws.{with_machine, refused_answers, one_event, all_made, none_made}
 use Rattle.ksplice_session.proofs.EventAnswers.{same_Ok}
 use Rattle.ksplice_session.proofs.LiveAnswers.{phase_after_all}
@@ -87,7 +97,7 @@ apply_unturned k name tries gap (pre ∷ post ∷ []) =
 apply_unturned k name tries gap (pre ∷ post ∷ more ∷ rest) = refl
 
 -- a try that is the last one
-pub last_try : (trial : Trial) (gap try left : ℕ) (k : AbstractMachine) → left ≡ 0
+last_try : (trial : Trial) (gap try left : ℕ) (k : AbstractMachine) → left ≡ 0
     → tried trial gap try left k ≡ try_told trial try (applied_by k trial)
 unfolding tried
 last_try trial gap try left k none = rw none refl
@@ -143,96 +153,177 @@ apply_refused k trial refusal is = by (applied_by k trial) is
     by (Ok left) is = cc
     by (Err other) is = cc
 
-same_busy : (s now : Watched) (trial : Trial) (outcome : Result Report Refusal) → outcome ≢ Err Memory
-    → CameOut s now trial outcome → is_busy (applied_by s.machine trial) ≡ is_busy outcome
-same_busy s now trial (Ok report) other came =
-    ap (λ (r : Result (AbstractMachine × Report) Refusal). is_busy r)
-    (apply_came s.machine now.machine trial report came.answered)
-same_busy s now trial (Err refusal) other came =
-    ap (λ (r : Result (AbstractMachine × Report) Refusal). is_busy r)
-    (apply_refused s.machine trial refusal (came.answered (λ is. other (ap (λ (x : Refusal). Err x) is))))
-
-is_free : (outcome : Result Report Refusal) → outcome ≡ Err Memory → is_busy outcome ≡ false
-is_free outcome is = ap (λ (r : Result Report Refusal). is_busy r) is
-
-unchanged : (s now : Watched) (outcome : Result Report Refusal) → is_busy outcome ≡ true → OnErr outcome (now ≡ s)
-    → now ≡ s
-unchanged s now (Ok report) busy refused = cc
-unchanged s now (Err refusal) busy refused = refused
-
 -- what a try tells that ends its line, as its answer
-try_answers : (s now : Watched) (trial : Trial) (try : ℕ) (told : Told) (outcome : Result Report Refusal)
-    (r : Result Answer AllocError)
-    → (outcome ≢ Err Memory → told ≡ try_told trial try (applied_by s.machine trial))
-    → told.turns ≡ None → CameOut s now trial outcome
-    → IfOk r (IsTryAnswer trial.name try outcome) → Answers s told now r
-try_answers s now trial try told (Ok report) r is unturned came h = by r h
+try_answers : (s now : Watched) (trial : Trial) (try : ℕ) (outcome : Result Report Refusal)
+    (r : Result Answer AllocError) → CameOut s now trial outcome → IfOk r (IsTryAnswer trial.name try outcome)
+    → Answers s (try_told trial try (applied_by s.machine trial)) now r
+try_answers s now trial try (Ok report) r came h = by r h
   where
-    told_is : told ≡ replied (event_of trial ∷ []) (applied_lines trial.name try report)
-    told_is =
-        is (λ e. cc) ∙ ap (try_told trial try) (apply_came s.machine now.machine trial report came.answered)
+    told_is : try_told trial try (applied_by s.machine trial)
+        ≡ replied (event_of trial ∷ []) (applied_lines trial.name try report)
+    told_is = ap (try_told trial try) (apply_came s.machine now.machine trial report came.answered)
 
-    made : now ≡ told_after s told
-    made =
-        one_event s now (event_of trial) came.noted
-        ∙ sym (ap (λ (t : Told). told_after s t) told_is)
+    made : now ≡ told_after s (try_told trial try (applied_by s.machine trial))
+    made = one_event s now (event_of trial) came.noted ∙ sym (ap (λ (t : Told). told_after s t) told_is)
 
-    by : (r : Result Answer AllocError) → IfOk r (IsTryAnswer trial.name try (Ok report)) → Answers s told now r
+    by : (r : Result Answer AllocError) → IfOk r (IsTryAnswer trial.name try (Ok report))
+        → Answers s (try_told trial try (applied_by s.machine trial)) now r
     by (Ok answer) h = (h ∙ sym (ap answer_of told_is), made)
-    by (Err e) h = all_made s now told made
-try_answers s now trial try told (Err refusal) r is unturned came h =
+    by (Err e) h = all_made s now (try_told trial try (applied_by s.machine trial)) made
+try_answers s now trial try (Err refusal) r came h =
+    let told : Told = try_told trial try (applied_by s.machine trial) in
     refused_answers s now told refusal r (λ _. came.refused)
-    (λ other. is (λ e. other cc)
-    ∙ ap (try_told trial try) (apply_refused s.machine trial refusal (came.answered other)))
-    (none_made s now told.events told.turns (λ _. unturned) came.refused) h
+    (λ other. ap (try_told trial try) (apply_refused s.machine trial refusal (came.answered other)))
+    (none_made s now told.events told.turns (λ _. try_unturned trial try (applied_by s.machine trial)) came.refused) h
 
--- the last try
-pub last_answers : (s now : Watched) (trial : Trial) (gap try left : ℕ) (outcome : Result Report Refusal)
-    (r : Result Answer AllocError)
-    → left ≡ 0 → CameOut s now trial outcome → IfOk r (IsTryAnswer trial.name try outcome)
-    → Answers s (tried trial gap try left s.machine) now r
-last_answers s now trial gap try left outcome r none came h =
-    try_answers s now trial try (tried trial gap try left s.machine) outcome r
-    (λ _. last_try trial gap try left s.machine none) (tried_unturned trial gap try left s.machine) came h
+-- ---- the tries before it
+-- what was planned tells whether a thread stands in the way
+busy_planned : (k : AbstractMachine) (trial : Trial) (planned : Result Plan Refusal) → plan_for k trial ≡ planned
+    → is_busy (applied_by k trial) ≡ is_busy (checked k planned)
+unfolding applied accepted
+busy_planned k trial planned is =
+    ap (λ (r : Result Plan Refusal). is_busy ((r
+    >>= λ (plan : Plan). unless (thread_refusal k.pieces plan.guarded k.threads) plan)
+    >>= λ (plan : Plan). let made : Result (AbstractMachine × Report) Refusal =
+    Ok (committed k trial.name plan, plan.report) in made)) is
+    ∙ by planned
+  where
+    by_threads : (plan : Plan) (o : Option Refusal)
+        → is_busy (unless o plan >>= λ (clear : Plan). let made : Result (AbstractMachine × Report) Refusal =
+        Ok (committed k trial.name clear, clear.report) in made) ≡ is_busy (unless o plan)
+    by_threads plan None = refl
+    by_threads plan (Some refusal) = refl
 
--- a try that was made, or refused for another cause than a thread in its way
-pub ended_answers : (s now : Watched) (trial : Trial) (gap try left : ℕ) (outcome : Result Report Refusal)
-    (r : Result Answer AllocError) → is_busy outcome ≡ false → CameOut s now trial outcome
-    → IfOk r (IsTryAnswer trial.name try outcome) → Answers s (tried trial gap try left s.machine) now r
-ended_answers s now trial gap try left outcome r free came h =
-    try_answers s now trial try (tried trial gap try left s.machine) outcome r
-    (λ other. ends_try trial gap try left s.machine (same_busy s now trial outcome other came ∙ free))
-    (tried_unturned trial gap try left s.machine) came h
+    by : (r : Result Plan Refusal)
+        → is_busy ((r >>= λ (plan : Plan). unless (thread_refusal k.pieces plan.guarded k.threads) plan)
+        >>= λ (plan : Plan). let made : Result (AbstractMachine × Report) Refusal =
+        Ok (committed k trial.name plan, plan.report) in made) ≡ is_busy (checked k r)
+    by (Err refusal) = refl
+    by (Ok plan) = by_threads plan (thread_refusal k.pieces plan.guarded k.threads)
 
--- another try, when steps were made
-pub again_answers : (s now after final : Watched) (trial : Trial) (gap try left more : ℕ)
-    (outcome : Result Report Refusal) (r : Result Answer AllocError) → is_busy outcome ≡ true → more ≡ suc left
-    → CameOut s now trial outcome → after ≡ watched_after_all now (round_robin now.machine 1 gap)
-    → Answers after (tried trial gap (try + 1) left after.machine) final r
-    → Answers s (tried trial gap try more s.machine) final r
-again_answers s now after final trial gap try left more outcome r busy is came steps h =
-    let events : List Event = round_robin s.machine 1 gap in
-    let same : now ≡ s = unchanged s now outcome busy came.refused in
-    let there : after ≡ watched_after_all s events =
-    steps ∙ ap (λ (n : Watched). watched_after_all n (round_robin n.machine 1 gap)) same in
-    let machine : after.machine ≡ after_events s.machine events =
-    ap (λ (n : Watched). n.machine) there ∙ machine_after_all s events in
-    let later : Told = tried trial gap (try + 1) left (after_events s.machine events) in
-    let known : outcome ≢ Err Memory = λ e. let free = is_free outcome e in cc in
-    let told : tried trial gap try more s.machine ≡ after_gap events later =
-    ap (λ (n : ℕ). tried trial gap try n s.machine) is
-    ∙ again_try trial gap try left s.machine (same_busy s now trial outcome known came ∙ busy) in
-    subst (λ (t : Told). Answers s t final r) (sym told)
-    (after_gap_answers s final events later r
-    (subst (λ (n : Watched). Answers n later final r) there
-    (subst (λ (k : AbstractMachine). Answers after (tried trial gap (try + 1) left k) final r) machine h)))
+-- Tries that were put off: the plan is the same as before them, and whatever the tries from the one of a number on come
+-- to, all come to.
+pub record PutOff (trial : Trial) (planned : Result Plan Refusal) (gap tries : ℕ) (s now : Watched) (number : ℕ)
+    : Type 0 where
+  pub plan : plan_for now.machine trial ≡ planned
+  pub comes : (final : Watched) (r : Result Answer AllocError)
+      → Answers now (tried trial gap number (tries - number) now.machine) final r
+      → Answers s (tried trial gap 1 (tries - 1) s.machine) final r
 
--- a try that is made again leaves the phase, and so do the steps after it
-pub again_done : (s now after : Watched) (outcome : Result Report Refusal) (events : List Event)
-    → s.phase ≡ Done → is_busy outcome ≡ true → OnErr outcome (now ≡ s) → after ≡ watched_after_all now events
+-- the law of another crate that is used here
+abbrev pub StepsKeepPlans : Type 0
+StepsKeepPlans = (k : AbstractMachine) (steps : List Event) (name pre_file post_file : List ℕ) → IsBuilt k → AreSteps steps
+    → planned_in (after_events k steps) name pre_file post_file ≡ planned_in k name pre_file post_file
+
+-- turns are steps
+turns_are_steps : (quantum n : ℕ) (before : Option Turn) (k : AbstractMachine) → AreSteps (turn_steps quantum n before k)
+unfolding turn_steps
+turns_are_steps quantum zero before k = tt
+turns_are_steps quantum (suc n) before k =
+    by (turn_from k.threads quantum before)
+    (λ turn. turns_are_steps quantum n (Some turn) (after_event k (Step turn.thread)))
+  where
+    by : (o : Option Turn)
+        → ((turn : Turn) → AreSteps (turn_steps quantum n (Some turn) (after_event k (Step turn.thread))))
+        → AreSteps (taken k (turn_steps quantum n) o)
+    by None rest = tt
+    by (Some turn) rest = (tt, rest turn)
+
+module _ (trial : Trial) (planned : Result Plan Refusal) (gap tries : ℕ) (s now : Watched) (number : ℕ)
+    (off : PutOff trial planned gap tries s now number) where
+  -- the try of that number is the last, or no thread stands in its way
+  pub waits_to_the_last : number ≡ tries → Waited trial planned gap tries s now tries
+  waits_to_the_last last = record {
+    plan = off.plan;
+    comes = λ final r h. off.comes final r
+        (subst (λ (told : Told). Answers now told final r)
+        (sym (last_try trial gap number (tries - number) now.machine (omega (arith, last))))
+        (subst (λ (n : ℕ). Answers now (try_told trial n (applied_by now.machine trial)) final r) (sym last) h));
+  }
+
+  pub waits_no_more : is_busy (checked now.machine planned) ≡ false → Waited trial planned gap tries s now number
+  waits_no_more free = record {
+    plan = off.plan;
+    comes = λ final r h. off.comes final r
+        (subst (λ (told : Told). Answers now told final r)
+        (sym (ends_try trial gap number (tries - number) now.machine
+        (busy_planned now.machine trial planned off.plan ∙ free))) h);
+  }
+
+  -- one does, and steps were made
+  pub waits_on : StepsKeepPlans → IsBuilt now.machine → (after : Watched) → is_busy (checked now.machine planned) ≡ true
+      → number < tries → after ≡ watched_after_all now (round_robin now.machine 1 gap)
+      → PutOff trial planned gap tries s after (number + 1)
+  waits_on law built after busy more steps =
+      let events : List Event = round_robin now.machine 1 gap in
+      let machine : after.machine ≡ after_events now.machine events =
+      ap (λ (n : Watched). n.machine) steps ∙ machine_after_all now events in
+      let left : ℕ = tries - (number + 1) in
+      let later : Told = tried trial gap (number + 1) left (after_events now.machine events) in
+      let told : tried trial gap number (tries - number) now.machine ≡ after_gap events later =
+      ap (λ (n : ℕ). tried trial gap number n now.machine)
+      (let count : tries - number ≡ suc left = omega (arith, more) in count)
+      ∙ again_try trial gap number left now.machine (busy_planned now.machine trial planned off.plan ∙ busy) in
+      record {
+        plan =
+            ap (λ (k : AbstractMachine). plan_for k trial) machine
+            ∙ law now.machine events trial.name trial.pre trial.post built (turns_are_steps 1 gap None now.machine)
+            ∙ off.plan;
+        comes = λ final r h. off.comes final r
+            (subst (λ (t : Told). Answers now t final r) (sym told)
+            (after_gap_answers now final events later r
+            (subst (λ (n : Watched). Answers n later final r) steps
+            (subst (λ (k : AbstractMachine). Answers after (tried trial gap (number + 1) left k) final r) machine h))));
+      }
+
+-- before the first of them
+pub waits_for_none : (trial : Trial) (planned : Result Plan Refusal) (gap tries : ℕ) (s : Watched)
+    → plan_for s.machine trial ≡ planned → PutOff trial planned gap tries s s 1
+waits_for_none trial planned gap tries s is = record { plan = is; comes = λ final r h. h }
+
+-- the answer to all of them, by that to the one that is made
+pub all_answer : (trial : Trial) (planned : Result Plan Refusal) (gap tries : ℕ) (s now final : Watched) (number : ℕ)
+    (outcome : Result Report Refusal) (r : Result Answer AllocError) → Waited trial planned gap tries s now number
+    → CameOut now final trial outcome → IfOk r (IsTryAnswer trial.name number outcome)
+    → Answers s (tried trial gap 1 (tries - 1) s.machine) final r
+all_answer trial planned gap tries s now final number outcome r waited came h =
+    waited.comes final r (try_answers now final trial number outcome r came h)
+
+-- memory ran out for the plan, and nothing was done
+pub none_tried : (s : Watched) (trial : Trial) (gap left : ℕ)
+    → MadeFront s (tried trial gap 1 left s.machine).events (tried trial gap 1 left s.machine).turns s
+none_tried s trial gap left =
+    none_made s s (tried trial gap 1 left s.machine).events (tried trial gap 1 left s.machine).turns
+    (λ _. tried_unturned trial gap 1 left s.machine) refl
+
+-- what a call planned is what the machine has, where memory didn't run out
+pub plan_is : (k : AbstractMachine) (trial : Trial) (planned : Result Plan Refusal) (lacks : Bool)
+    → Gives (λ (plan : Plan). plan) planned (plan_for k trial) → lacks ≡ false
+    → MatchResult planned (λ _. lacks ≡ false) (λ refusal. lacks ≡ false → refusal ≢ Memory)
+    → plan_for k trial ≡ planned
+plan_is k trial (Ok plan) lacks gives has told = gives
+plan_is k trial (Err refusal) lacks gives has told = gives (told has)
+
+-- what is answered where threads are looked at
+pub checked_by : (k : AbstractMachine) (plan : Plan) (outcome : Result (Unit {0}) Refusal)
+    → result_err outcome ≡ thread_refusal k.pieces plan.guarded k.threads
+    → is_busy outcome ≡ is_busy (checked k (Ok plan))
+checked_by k plan (Ok u) is = ap (λ (o : Option Refusal). is_busy (unless o plan)) is
+checked_by k plan (Err refusal) is = ap (λ (o : Option Refusal). is_busy (unless o plan)) is
+
+-- the steps leave the phase
+pub still_done : (s after : Watched) (events : List Event) → s.phase ≡ Done → after ≡ watched_after_all s events
     → after.phase ≡ Done
-again_done s now after outcome events done busy refused is =
-    ap (λ (w : Watched). w.phase) is
-    ∙ phase_after_all now events
-    ∙ ap (λ (w : Watched). w.phase) (unchanged s now outcome busy refused)
-    ∙ done
+still_done s after events done is = ap (λ (w : Watched). w.phase) is ∙ phase_after_all s events ∙ done
+
+-- what is answered to an update that can't be planned, or in whose way a thread stands
+pub plan_answered : (k : AbstractMachine) (trial : Trial) (refusal : Refusal) → plan_for k trial ≡ Err refusal
+    → answered k (event_of trial) ≡ Err refusal
+unfolding answered accepted applied
+plan_answered k trial refusal is = rw is refl
+
+pub thread_answered : (k : AbstractMachine) (trial : Trial) (plan : Plan) (refusal : Refusal)
+    → plan_for k trial ≡ Ok plan → thread_refusal k.pieces plan.guarded k.threads ≡ Some refusal
+    → answered k (event_of trial) ≡ Err refusal
+unfolding answered accepted applied
+thread_answered k trial plan refusal is stands = rw is (rw stands refl)

@@ -1,14 +1,11 @@
 -- The machine of a watched run is that of the run.
-use Rattle.std.proofs.Common.{◌≡◌, List, [], ◌∷◌, ◌++◌, Result, Ok, Err, Option, Some, None, refl, ◌∙◌, ap}
+use Rattle.std.proofs.Common.{◌≡◌, List, [], ◌∷◌, ◌++◌, Result, Ok, Err, refl, ◌∙◌, ap}
 use Rattle.std.proofs.lemmas.List.Sums.{fold-append}
 use Rattle.ks_base.specs.declared.refusals.Refusal.{Refusal}
-use Rattle.image_threads.specs.declared.turns.Turn.{Turn}
 use Rattle.update_stack.specs.AbstractMachine.{AbstractMachine}
-use Rattle.update_stack.specs.Events.{Event, Step, Happened, answered, machine_after, after_event, after_events}
+use Rattle.update_stack.specs.Events.{Event, Happened, answered, machine_after, after_event, after_events}
 use Rattle.frame_watch.specs.Frames.{Watching}
-use Rattle.ksplice_session.specs.Running.{after_taken}
 use Rattle.ksplice_session.specs.Watching.{Watched, watched_by, watched_after, watched_after_all}
-use Rattle.ksplice_session.specs.inside.InStep.{watched_taken}
 
 -- a session with another machine and watch, in its phase
 abbrev pub watched : Watched → AbstractMachine → Watching → Watched
@@ -39,7 +36,3 @@ pub after_one : (s : Watched) (events : List Event) (event : Event)
     → watched_after_all s (events ++ event ∷ []) ≡ watched_after (watched_after_all s events) event
 unfolding watched_after_all
 after_one s events event = watched_after_both s events (event ∷ [])
-
-pub machine_taken : (s : Watched) (o : Option Turn) → (watched_taken s o).machine ≡ after_taken s.machine o
-machine_taken s None = refl
-machine_taken s (Some turn) = machine_after_one s (Step turn.thread)

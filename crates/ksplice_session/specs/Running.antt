@@ -27,8 +27,3 @@ turn_steps quantum (suc n) before k = taken k (turn_steps quantum n) (turn_from 
 
 abbrev pub round_robin : AbstractMachine → (quantum n : ℕ) → List Event
 round_robin k quantum n = turn_steps quantum n None k
-
--- the machine after the step of a turn
-abbrev pub after_taken : AbstractMachine → Option Turn → AbstractMachine
-after_taken k None = k
-after_taken k (Some turn) = after_event k (Step turn.thread)

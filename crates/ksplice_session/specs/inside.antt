@@ -4,3 +4,4 @@ pub mod Loading
 pub mod InStep
 pub mod ScriptEnds
 pub mod Trying
+pub mod WholeTurns

@@ -1,6 +1,6 @@
 //! What the lines of a script do to a session, and their replies.
 ghost use Rattle.std.specs.Prelude.{◌≡◌, ◌≢◌, ◌≤◌, ◌<◌, ◌+◌, ◌-◌, ◌^◌, [], length, map};
-ghost use Rattle.std.specs.Prelude.{Ok, Err, true, false, IfOk};
+ghost use Rattle.std.specs.Prelude.{Ok, Err, true, false, IfOk, MatchResult};
 ghost use Rattle.ks_base.specs.declared.refusals.Refusal.TheVariants.{Memory};
 ghost use Rattle.ks_base.specs.Refusals.{refusal_line};
 ghost use Rattle.script_lines.specs.declared.types.Command.TheVariants.{Spawn, Step, RoundRobin, Threads, Peek};
@@ -17,8 +17,9 @@ ghost use Rattle.ksplice_session.specs.Lines.{applied_lines, hooked_lines, marke
 ghost use Rattle.ksplice_session.specs.Lines.{undone_line, list_lines, watch_line};
 ghost use Rattle.ksplice_session.specs.Replies.{told_of, files_of, apply_told, hooks_told, poke_told, unless_open, live_of, tried};
 ghost use Rattle.ksplice_session.specs.Replies.{is_busy, shown, stepped_line_of};
+ghost use Rattle.ksplice_session.specs.Replies.{Trial as TrialOf};
 ghost use Rattle.ksplice_session.specs.Answers.{Answers};
-ghost use Rattle.ksplice_session.specs.inside.Trying.{trial_of, IsTryAnswer};
+ghost use Rattle.ksplice_session.specs.inside.Trying.{checked, plan_for, trial_of, IsTryAnswer, Waited};
 
 use crate::lines::{
     put_applied, put_hooked, put_marked, put_peek, put_sealed, put_spawned, put_stepped,
@@ -29,6 +30,7 @@ use crate::types::{Answer, Trial};
 use ks_base::{HookReport, Line, Name, Refusal, Report};
 use script_lines::Command;
 use std::alloc::{AllocError, Global};
+use update_stack::{Planned, steps_keep_plans};
 
 /// Runs a line of a script that has its files, given the bytes of each, and answers it. `Err` comes only if memory runs
 /// out, after a prefix of the line's events was made.
@@ -191,7 +193,8 @@ fn answer_apply(
     answer_trial(alloc, session, &trial, tries, gap)
 }
 
-/// Tries an update, and again, with steps of the threads in turn between two tries, while a thread stands in its way.
+/// Tries an update, and again, with steps of the threads in turn between two tries, while a thread stands in its way. What
+/// the update would do is worked out once: the steps leave it as it is.
 fn answer_trial(
     alloc: Global,
     session: &mut Session,
@@ -204,15 +207,67 @@ fn answer_trial(
     ensures { Answers session.old
         (tried (trial_of trial.now) gap 1 (tries - 1) session.old.machine) session.new result }
 {
+    let planned = session
+        .system()
+        .plan_update(trial.name, trial.pre, trial.post);
+    if lacks_memory(&planned) {
+        return Err(AllocError);
+    }
+    let number = wait(session, &planned, tries, gap);
+    let outcome = session.try_planned(trial, planned);
+    answer_outcome(alloc, trial.name, number, outcome)
+}
+
+/// Lets the threads make steps in turn between two tries of an update that was planned, while one stands in its way, and
+/// answers the number of the try that is left to be made.
+fn wait(session: &mut Session, planned: &Result<Planned, Refusal>, tries: u32, gap: u32) -> u32
+    requires tries { 1 ≤ tries }
+    requires done { session.old.phase ≡ Done }
+    ensures done { session.new.phase ≡ Done }
+    ensures waited { (trial : TrialOf) → plan_for session.old.machine trial ≡ planned.now →
+        Waited trial planned.now gap tries session.old session.new result }
+{
+    // The law says that what is planned stays so.
+    steps_keep_plans();
     for number in 1..tries {
-        let outcome = session.apply(trial.name, trial.pre, trial.post);
-        if !is_busy(&outcome) {
-            return answer_outcome(alloc, trial.name, number, outcome);
+        if !is_in_the_way(session, planned) {
+            return number;
         }
+        let _program = program(&session.live);
         session.run_turns(1, gap);
     }
-    let outcome = session.apply(trial.name, trial.pre, trial.post);
-    answer_outcome(alloc, trial.name, tries, outcome)
+    tries
+}
+
+/// Whether memory ran out for a plan.
+fn lacks_memory(planned: &Result<Planned, Refusal>) -> bool
+    ensures { MatchResult planned.now (λ _. result ≡ false) (λ refusal. result ≡ false → refusal ≢ Memory) }
+{
+    match planned {
+        Ok(_) => false,
+        Err(refusal) => refusal.is_memory(),
+    }
+}
+
+/// Whether a thread stands in the way of an update that was planned.
+fn is_in_the_way(session: &Session, planned: &Result<Planned, Refusal>) -> bool
+    requires { session.now.phase ≡ Done }
+    ensures { result ≡ is_busy (checked session.now.machine planned.now) }
+{
+    match planned {
+        Ok(planned) => {
+            let outcome = session.system().check_threads(planned);
+            is_busy(&outcome)
+        }
+        Err(refusal) => matches!(refusal, Refusal::Busy(_)),
+    }
+}
+
+/// Whether a thread stood in the way.
+fn is_busy(outcome: &Result<(), Refusal>) -> bool
+    ensures { result ≡ is_busy outcome.now }
+{
+    matches!(outcome, Err(Refusal::Busy(_)))
 }
 
 fn answer_hooks(
@@ -267,13 +322,6 @@ fn answer_seal(alloc: Global, session: &mut Session) -> Result<Answer, AllocErro
         Ok(()) => told(sealed_reply(alloc, session)),
         Err(refusal) => refused(alloc, &refusal),
     }
-}
-
-/// Whether a thread stood in the way.
-fn is_busy(outcome: &Result<Report, Refusal>) -> bool
-    ensures { result ≡ is_busy outcome.now }
-{
-    matches!(outcome, Err(Refusal::Busy(_)))
 }
 
 /// The answer to a try of a number, by what came of it.

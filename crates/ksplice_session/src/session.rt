@@ -13,10 +13,12 @@ ghost use Rattle.update_stack.specs.Events.{Apply, Applied, Hooks, Hooked, Spawn
 ghost use Rattle.update_stack.specs.Events.{happened, answered};
 ghost use Rattle.live_poke.specs.Poke.{marked, newest_name, open_refusal, sealed, tailed};
 ghost use Rattle.ksplice_session.specs.Watching.{first_watched, watched_after};
-ghost use Rattle.ksplice_session.specs.Replies.{live_of};
+ghost use Rattle.ksplice_session.specs.Replies.{event_of, live_of};
 ghost use Rattle.ksplice_session.specs.Answers.{MadeFront, turned};
+ghost use Rattle.ksplice_session.specs.inside.Trying.{plan_for, trial_of};
 
 use crate::memory::all_pieces;
+use crate::types::Trial;
 use apply_hooks::apply_with_hooks;
 use frame_watch::{Verdict, Watch};
 use ia32_step::{State, Thread};
@@ -33,7 +35,7 @@ use std::alloc::{AllocError, Global};
 use std::marker::Model;
 use symbol_table::SymbolTable;
 use update_safety::{hooks_keep_threads_safe, updates_keep_slots};
-use update_stack::{System, Update};
+use update_stack::{Planned, System, Update};
 
 /// The program of a system. It stands for the machine that the system is seen as, in its phase, and a home that is open
 /// is that of the newest update.
@@ -145,24 +147,31 @@ impl Session {
         self.live.check_closed()
     }
 
-    /// Replaces functions of the program, as the system does, and answers what the update did. No update is being
-    /// written.
-    pub(crate) fn apply(&mut self, name: &Name, pre: &[u8], post: &[u8]) -> Result<Report, Refusal>
+    /// Makes a try of an update, as the system does, by what was planned for it, and answers what the update did. No update
+    /// is being written. The plan is what the system would have for the trial as it is.
+    pub(crate) fn try_planned(
+        &mut self,
+        trial: &Trial<'_>,
+        planned: Result<Planned, Refusal>,
+    ) -> Result<Report, Refusal>
         requires done { self.old.phase ≡ Done }
+        requires planned { plan_for self.old.machine (trial_of trial.now) ≡ planned }
         ensures answered { MatchResult result
-            (λ report. answered self.old.machine (Apply name.now pre.now post.now)
+            (λ report. answered self.old.machine (event_of (trial_of trial.now))
             ≡ Ok (happened self.new.machine (Applied report)))
-            (λ refusal. refusal ≢ Memory → answered self.old.machine (Apply name.now pre.now post.now) ≡ Err refusal) }
-        ensures noted { OnOk result (self.new ≡ watched_after self.old (Apply name.now pre.now post.now)) }
+            (λ refusal. refusal ≢ Memory → answered self.old.machine (event_of (trial_of trial.now)) ≡ Err refusal) }
+        ensures noted { OnOk result (self.new ≡ watched_after self.old (event_of (trial_of trial.now))) }
         ensures refused { OnErr result (self.new ≡ self.old) }
     {
         // Each thread has a stack of its own, and its slots keep what they hold.
         updates_keep_slots();
         let _threads = program(&self.live).threads();
+        let planned = planned?;
+        self.live.system().check_threads(&planned)?;
         let Some(system) = self.live.system_mut() else {
             unreachable!()
         };
-        let report = system.apply(name, pre, post)?;
+        let (report, _) = system.apply_planned(trial.name, planned)?;
         // After it each of the machine's updates lies on what was there without it.
         let _machine = program(&self.live);
         self.watch.note_update();

@@ -1,11 +1,9 @@
 //! Many steps of one thread, and of the threads in turn.
 ghost use Rattle.std.specs.Prelude.{◌≡◌, ◌≤◌, ◌<◌, ◌^◌, length, slice_index, is_some, None};
 ghost use Rattle.image_threads.specs.Program.{running_at};
-ghost use Rattle.image_threads.specs.Turning.{next_turn, after_turn};
 ghost use Rattle.update_stack.specs.Events.{Step};
 ghost use Rattle.ksplice_session.specs.Running.{thread_steps, round_robin};
 ghost use Rattle.ksplice_session.specs.Watching.{watched_after, watched_after_all};
-ghost use Rattle.ksplice_session.specs.inside.InStep.{watched_taken};
 
 use crate::session::{Session, program};
 use ia32_step::{ESP, calls_and_returns};
@@ -62,34 +60,25 @@ impl Session {
         count
     }
 
-    /// A step of the thread whose turn it is, and whether there is one. It takes no memory.
-    fn turn(&mut self, turns: &mut Turns) -> bool
-        ensures runs { result ≡ is_some (next_turn turns.old self.old.machine.threads) }
-        ensures after { self.new ≡ watched_taken self.old (next_turn turns.old self.old.machine.threads) }
-        ensures schedule { turns.new ≡ after_turn turns.old (next_turn turns.old self.old.machine.threads) }
-    {
-        match turns.next(program(&self.live)) {
-            Some(thread) => {
-                self.step(thread);
-                true
-            }
-            None => false,
-        }
-    }
-
     /// At most so many steps of the threads in turn, and how many were made: fewer where all end. It takes no memory.
     pub(crate) fn run_turns(&mut self, quantum: u32, count: u32) -> u32
         requires { 1 ≤ quantum }
         ensures made { result ≡ length (round_robin self.old.machine quantum count) }
         ensures after { self.new ≡ watched_after_all self.old (round_robin self.old.machine quantum count) }
     {
-        let mut turns = Turns::new(quantum, count);
-        for made in 0..count {
-            if !self.turn(&mut turns) {
+        // Where a turn is one step, the thread of each turn is the one after that of the turn before.
+        let mut order = Turns::new(1, count);
+        let mut made = 0;
+        for taken in 0..count {
+            let Some(thread) = order.next(program(&self.live)) else {
+                return made;
+            };
+            made += self.run_thread(thread, quantum.min(count - made));
+            if made == count {
                 return made;
             }
         }
-        count
+        made
     }
 }
 

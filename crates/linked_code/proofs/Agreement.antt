@@ -14,7 +14,7 @@ use Rattle.ia32_decode.specs.declared.types.Field.{Field}
 use Rattle.ia32_decode.specs.declared.types.Fields.{Fields}
 use Rattle.ia32_decode.specs.declared.types.Prefixes.{Prefixes}
 use Rattle.ia32_decode.specs.Encoding.{byte_in, field_of}
-use Rattle.ia32_decode.specs.Widths.{byte_count}
+use Rattle.ia32_alu.specs.Widths.{byte_count}
 use Rattle.ia32_decode.specs.Table.{full_width_of}
 use Rattle.ia32_decode.specs.Wide.{wide_head, wide_addressing, wide_displacement, wide_immediate, wide_bytes, wide_fields}
 use Rattle.ia32_decode.specs.Wide.{has_wide_opcode, opcode_in, displacement_begin, immediate_begin, field_bytes, widened}

@@ -11,6 +11,7 @@ use Rattle.ia32_decode.specs.declared.types.Prefixes.{Prefixes}
 use Rattle.ia32_decode.specs.Encoding.{head_of, field_of}
 use Rattle.ia32_decode.specs.Table.{shape_of, line_of, digit_allowed, follows_width}
 use Rattle.ia32_decode.specs.Branches.{branch_of}
+use Rattle.ia32_decode.specs.Instructions.{instr_of}
 use Rattle.ia32_decode.specs.Decode.{front_of, form_accepts, fields_of, value_in, assembled, head_width, number_width}
 use Rattle.ia32_decode.specs.Decode.{line_addressing, completed, accepts, read_with, read_line, read_front}
 use Rattle.linked_code.specs.Filled.{DiffersInFields, SameBranch, GoesByField, IsFilled, FieldsDecodeAlike}
@@ -57,24 +58,24 @@ record Made (line : Line) (w : List ℕ) (h : Head) (r : Addressing) (d : Decode
   fields : d.fields ≡ fields_of (shape_of line).follows (rest_of line h) r (number_width (shape_of line) h r)
   prefixes : d.prefixes ≡ h.prefixes
   branch : branch_of d
-      ≡ branch_by line h.prefixes h.opcode (head_width (shape_of line) h) r.digit r.operand r.memory
+      ≡ branch_by line h.prefixes h.opcode r.digit
       (value_in (shape_of line).follows w r.end (number_width (shape_of line) h r))
 
 made : (line : Line) (w : List ℕ) (h : Head) (r : Addressing) → Made line w h r (completed line w h r)
-unfolding assembled
+unfolding assembled instr_of
 made line w h r = record { length = refl; fields = refl; prefixes = refl; branch = refl }
 
 -- the branch, by its kind and how far it goes
 abbrev branch_made : Line → List ℕ → Head → Addressing → ℕ → Option Branch
 branch_made line w h r digit =
-    with_displacement (still_branch line h.prefixes h.opcode (head_width (shape_of line) h) digit)
+    with_displacement (still_branch line h.prefixes h.opcode digit)
     (value_in (shape_of line).follows w r.end (number_width (shape_of line) h r))
 
 branch_is : (line : Line) → LineLaws line → (w : List ℕ) (h : Head) (r : Addressing) (d : Decoded)
     → Made line w h r d → r.digit < 8 → branch_of d ≡ branch_made line w h r r.digit
 branch_is line t w h r d m few =
     m.branch
-    ∙ t.branch h.prefixes h.opcode (head_width (shape_of line) h) r.digit r.operand r.memory
+    ∙ t.branch h.prefixes h.opcode r.digit
     (value_in (shape_of line).follows w r.end (number_width (shape_of line) h r)) few
 
 -- A line spells an instruction at an opcode.
@@ -169,11 +170,11 @@ spelled_alike line t window other h d p x =
         branch = subst (λ b. SameBranch b (branch_of e)) (sym (branch_is line t v h r d m reach.digit))
             (subst (SameBranch (branch_made line v h r r.digit)) (sym (other_branch
             ∙ ap (λ digit. branch_made line w h s digit) alike.digit))
-            (same_branch (still_branch line h.prefixes h.opcode (head_width (shape_of line) h) r.digit) _ _));
+            (same_branch (still_branch line h.prefixes h.opcode r.digit) _ _));
         goes = subst (λ (f : Fields). GoesByField other f.imm (branch_of e)) (sym o.fields)
             (subst (GoesByField other (fields_of (shape_of line).follows end s k).imm) (sym other_branch)
             (goes line t other end s (head_width (shape_of line) h) s.digit
-            (still_branch line h.prefixes h.opcode (head_width (shape_of line) h) s.digit)
+            (still_branch line h.prefixes h.opcode s.digit)
             (fits o.length lengths bounds.0)));
         head = heads_alike window other d e start.first windows fields prefixes
             (passes count opcode_end p.passes follows) (at_most opcode_end reached);

@@ -9,7 +9,7 @@ use Rattle.ia32_decode.specs.declared.types.Decoded.{Decoded}
 use Rattle.ia32_decode.specs.declared.types.Field.{Field}
 use Rattle.ia32_decode.specs.declared.types.Fields.{Fields}
 use Rattle.ia32_decode.specs.declared.types.Prefixes.{Prefixes}
-use Rattle.ia32_decode.specs.declared.types.Width.{Width}
+use Rattle.ia32_alu.specs.declared.types.Width.{Width}
 use Rattle.ia32_decode.specs.Encoding.{byte_in, word_in, dword_in, extended, field_of}
 use Rattle.ia32_decode.specs.Table.{shape_of, follows_width}
 use Rattle.ia32_decode.specs.Decode.{front_of, number_in, value_in, fields_of}

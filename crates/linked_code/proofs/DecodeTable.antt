@@ -4,13 +4,11 @@ use Rattle.std.proofs.Common.{refl, true, false, Bool, nat_lt, arith}
 use Rattle.std.specs.Prelude.{◌==◌, ◌&&◌, not, is_some, find, unwrap_or}
 use Rattle.ia32_decode.specs.declared.types.Branch.{Branch}
 use Rattle.ia32_decode.specs.declared.types.Fields.{Fields}
-use Rattle.ia32_decode.specs.declared.types.Memory.{Memory}
-use Rattle.ia32_decode.specs.declared.types.Operand.{Operand}
 use Rattle.ia32_decode.specs.declared.types.Prefixes.{Prefixes}
-use Rattle.ia32_decode.specs.declared.types.Width.{Width}
+use Rattle.ia32_alu.specs.declared.types.Width.{Width}
 use Rattle.ia32_decode.specs.Encoding.{byte_in, extended, field_of, head_of, addressing_with, addressing_of, no_addressing}
 use Rattle.ia32_decode.specs.Table.{row, shape_of, line_of, table_lines, follows_width}
-use Rattle.ia32_decode.specs.Instructions.{instr_of, unary_of, counting_operand_of, group_five_of}
+use Rattle.ia32_decode.specs.Instructions.{shift_of, shifting_of, group_three_of, group_five_of, action_of}
 use Rattle.ia32_decode.specs.Decode.{opcode_end_of, form_addressing, form_accepts, number_in, value_in, fields_of}
 use Rattle.ia32_decode.specs.Branches.{branch_in}
 
@@ -80,15 +78,8 @@ fields_by address end a n =
     (record { opcode_end = end; disp = a.displacement; imm = field_of a.end n })
 
 -- the direct branch that a line spells
-abbrev pub branch_by : Line → Prefixes → ℕ → Width → ℕ → Operand → Memory → ℕ → Option Branch
-branch_by line prefixes opcode width digit operand memory value = branch_in prefixes (instr_of line (record {
-  opcode = opcode;
-  width = width;
-  digit = digit;
-  operand = operand;
-  memory = memory;
-  value = value;
-}))
+abbrev pub branch_by : Line → Prefixes → ℕ → ℕ → ℕ → Option Branch
+branch_by line prefixes opcode digit value = branch_in prefixes (action_of line opcode digit) value
 
 -- a branch with another displacement
 abbrev pub with_displacement : Option Branch → ℕ → Option Branch
@@ -96,10 +87,9 @@ with_displacement None value = None
 with_displacement (Some branch) value =
     Some (record { kind = branch.kind; prefixes = branch.prefixes; displacement = value })
 
--- the branch that a line spells, whatever its operand is and however far it goes
-abbrev pub still_branch : Line → Prefixes → ℕ → Width → ℕ → Option Branch
-still_branch line prefixes opcode width digit =
-    branch_by line prefixes opcode width digit (no_addressing 0).operand (no_addressing 0).memory 0
+-- the branch that a line spells, however far it goes
+abbrev pub still_branch : Line → Prefixes → ℕ → ℕ → Option Branch
+still_branch line prefixes opcode digit = branch_by line prefixes opcode digit 0
 
 -- What a line makes of the bytes behind an opcode.
 pub record LineLaws (line : Line) : Type 0 where
@@ -120,24 +110,22 @@ pub record LineLaws (line : Line) : Type 0 where
       ≡ cond (is_signed (shape_of line).follows) 1 (follows_width (shape_of line).follows width digit)
   pub fields : (end : ℕ) (a : Addressing) (n : ℕ)
       → fields_of (shape_of line).follows end a n ≡ fields_by (is_address (shape_of line).follows) end a n
-  pub branch : (prefixes : Prefixes) (opcode : ℕ) (width : Width) (digit : ℕ) (operand : Operand) (memory : Memory)
-      (value : ℕ) → digit < 8
-      → branch_by line prefixes opcode width digit operand memory value
-      ≡ with_displacement (still_branch line prefixes opcode width digit) value
+  pub branch : (prefixes : Prefixes) (opcode digit value : ℕ) → digit < 8
+      → branch_by line prefixes opcode digit value
+      ≡ with_displacement (still_branch line prefixes opcode digit) value
 
 -- this is computed for each digit, since some lines mean other instructions at other digits
-branches : (prefixes : Prefixes) (k : ℕ) (width : Width) (digit : ℕ) (operand : Operand) (memory : Memory) (value : ℕ)
-    → digit < 8 → (escaped : Bool) (opcode : ℕ)
-    → branch_by (line_of escaped opcode) prefixes k width digit operand memory value
-    ≡ with_displacement (still_branch (line_of escaped opcode) prefixes k width digit) value
-unfolding row line_of no_addressing branch_in instr_of unary_of counting_operand_of group_five_of
-branches prefixes k width digit operand memory value below escaped opcode = at digit below
+branches : (prefixes : Prefixes) (k digit value : ℕ) → digit < 8 → (escaped : Bool) (opcode : ℕ)
+    → branch_by (line_of escaped opcode) prefixes k digit value
+    ≡ with_displacement (still_branch (line_of escaped opcode) prefixes k digit) value
+unfolding row line_of branch_in action_of shift_of shifting_of group_three_of group_five_of
+branches prefixes k digit value below escaped opcode = at digit below
   where
     spelled : ℕ → Line → Option Branch
-    spelled digit line = branch_by line prefixes k width digit operand memory value
+    spelled digit line = branch_by line prefixes k digit value
 
     moved : ℕ → Line → Option Branch
-    moved digit line = with_displacement (still_branch line prefixes k width digit) value
+    moved digit line = with_displacement (still_branch line prefixes k digit) value
 
     at : (digit : ℕ) → digit < 8 → spelled digit (line_of escaped opcode) ≡ moved digit (line_of escaped opcode)
     at zero below = of_table (spelled 0) (moved 0) refl refl escaped opcode
@@ -168,6 +156,5 @@ line_laws escaped opcode = record {
       escaped opcode;
   fields = λ end a n. of_table (λ line. fields_of (shape_of line).follows end a n)
       (λ line. fields_by (is_address (shape_of line).follows) end a n) refl refl escaped opcode;
-  branch = λ prefixes k width digit operand memory value below.
-      branches prefixes k width digit operand memory value below escaped opcode;
+  branch = λ prefixes k digit value below. branches prefixes k digit value below escaped opcode;
 }

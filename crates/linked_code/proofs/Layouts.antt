@@ -10,12 +10,11 @@ use Rattle.ia32_decode.specs.declared.types.Field.{Field}
 use Rattle.ia32_decode.specs.declared.types.Fields.{Fields}
 use Rattle.ia32_decode.specs.declared.types.Branch.{Branch}
 use Rattle.ia32_decode.specs.declared.types.Prefixes.{Prefixes}
-use Rattle.ia32_decode.specs.declared.types.Width.{Width}
 use Rattle.ia32_decode.specs.Branches.{branch_in, branch_of}
 use Rattle.ia32_decode.specs.Encoding.{field_of, head_of, addressing_with, addressing_of, no_addressing}
-use Rattle.ia32_decode.specs.Instructions.{instr_of, unary_of, counting_operand_of, group_five_of}
+use Rattle.ia32_decode.specs.Instructions.{shift_of, shifting_of, group_three_of, group_five_of, action_of, instr_of}
 use Rattle.ia32_decode.specs.Table.{row, shape_of, line_of}
-use Rattle.ia32_decode.specs.Decode.{front_of, fields_of, value_in, assembled, completed, accepts, head_width}
+use Rattle.ia32_decode.specs.Decode.{front_of, fields_of, value_in, assembled, completed, accepts}
 use Rattle.ia32_decode.specs.Decode.{number_width, line_addressing, read_with, read_line, read_front, decoded_from}
 use Rattle.linked_code.proofs.DecodeTable.{Line, Head, Addressing, LineLaws, line_laws, of_table, has_modrm, is_address}
 use Rattle.linked_code.proofs.DecodeTable.{fields_by, branch_by, still_branch, with_displacement}
@@ -53,19 +52,19 @@ field_is at width f is = either (width == 0) is
 
 -- ---- direct branches
 -- whether a line spells a direct branch, and has a displacement or an address
-abbrev is_branch_with_more : Prefixes → ℕ → Width → ℕ → Line → Bool
-is_branch_with_more prefixes opcode width digit line =
-    is_some (still_branch line prefixes opcode width digit)
+abbrev is_branch_with_more : Prefixes → ℕ → ℕ → Line → Bool
+is_branch_with_more prefixes opcode digit line =
+    is_some (still_branch line prefixes opcode digit)
     && (has_modrm (shape_of line).form || is_address (shape_of line).follows)
 
 -- this is computed for each digit
-no_branch_with_more : (prefixes : Prefixes) (k : ℕ) (width : Width) (digit : ℕ) → digit < 8 →
-    (escaped : Bool) (opcode : ℕ) → is_branch_with_more prefixes k width digit (line_of escaped opcode) ≡ false
-unfolding row line_of addressing_with no_addressing branch_in instr_of unary_of counting_operand_of group_five_of
-no_branch_with_more prefixes k width digit below escaped opcode = at digit below
+no_branch_with_more : (prefixes : Prefixes) (k digit : ℕ) → digit < 8 →
+    (escaped : Bool) (opcode : ℕ) → is_branch_with_more prefixes k digit (line_of escaped opcode) ≡ false
+unfolding row line_of addressing_with no_addressing branch_in action_of shift_of shifting_of group_three_of group_five_of
+no_branch_with_more prefixes k digit below escaped opcode = at digit below
   where
     more : ℕ → Line → Bool
-    more digit line = is_branch_with_more prefixes k width digit line
+    more digit line = is_branch_with_more prefixes k digit line
 
     none : Line → Bool
     none line = false
@@ -130,21 +129,19 @@ neither false b is here = absurd (cc)
 
 -- a direct branch has no displacement
 branch_bare : (line : Line) → LineLaws line → (w : List ℕ) (h : Head) (r : Addressing) (n : ℕ) (b : Branch) →
-    ((prefixes : Prefixes) (k : ℕ) (width : Width) (digit : ℕ) → digit < 8 →
-    is_branch_with_more prefixes k width digit line ≡ false) →
+    ((prefixes : Prefixes) (k digit : ℕ) → digit < 8 → is_branch_with_more prefixes k digit line ≡ false) →
     r ≡ line_addressing (shape_of line) w h → r.digit < 8 →
-    branch_by line h.prefixes h.opcode (head_width (shape_of line) h) r.digit r.operand r.memory
+    branch_by line h.prefixes h.opcode r.digit
     (value_in (shape_of line).follows w r.end n) ≡ Some b →
     (fields_of (shape_of line).follows (rest_of line h) r n).disp ≡ None
 branch_bare line t w h r n b bare same few is =
-    let width : Width = head_width (shape_of line) h in
     let value : ℕ = value_in (shape_of line).follows w r.end n in
-    let some = some_branch (still_branch line h.prefixes h.opcode width r.digit) value b
-    (sym (t.branch h.prefixes h.opcode width r.digit r.operand r.memory value few) ∙ is) in
+    let some = some_branch (still_branch line h.prefixes h.opcode r.digit) value b
+    (sym (t.branch h.prefixes h.opcode r.digit value few) ∙ is) in
     let none = or_parts (has_modrm (shape_of line).form) (is_address (shape_of line).follows)
-    (neither (is_some (still_branch line h.prefixes h.opcode width r.digit))
+    (neither (is_some (still_branch line h.prefixes h.opcode r.digit))
     (has_modrm (shape_of line).form || is_address (shape_of line).follows)
-    (bare h.prefixes h.opcode width r.digit few) some) in
+    (bare h.prefixes h.opcode r.digit few) some) in
     ap (λ (f : Fields). f.disp) (t.fields (rest_of line h) r n)
     ∙ ap (λ address. (fields_by address (rest_of line h) r n).disp) none.1
     ∙ ap (λ (a : Addressing). a.displacement) (same ∙ t.addressing w (rest_of line h))
@@ -152,10 +149,9 @@ branch_bare line t w h r n b bare same few is =
     ∙ no_displacement (rest_of line h)
 
 laid_by : (line : Line) → LineLaws line → (w : List ℕ) (h : Head) →
-    ((prefixes : Prefixes) (k : ℕ) (width : Width) (digit : ℕ) → digit < 8 →
-    is_branch_with_more prefixes k width digit line ≡ false) →
+    ((prefixes : Prefixes) (k digit : ℕ) → digit < 8 → is_branch_with_more prefixes k digit line ≡ false) →
     h.prefixes.count < h.end → Laid (completed line w h (line_addressing (shape_of line) w h))
-unfolding assembled
+unfolding assembled instr_of
 laid_by line t w h bare passes =
     let r : Addressing = line_addressing (shape_of line) w h in
     let n : ℕ = number_width (shape_of line) h r in
@@ -192,7 +188,7 @@ laid_front w d is =
     let made : Decoded = completed line w h r in
     subst Laid (chosen (accepts line w h r) (nat_le made.length (length w)) made d is)
     (laid_by line (line_laws h.escaped h.opcode) w h
-    (λ prefixes k width digit below. no_branch_with_more prefixes k width digit below h.escaped h.opcode)
+    (λ prefixes k digit below. no_branch_with_more prefixes k digit below h.escaped h.opcode)
     (head_passes w))
 
 pub fields_lie : FieldsLie

@@ -1,7 +1,9 @@
 -- How many things of a list pass a test, where those that pass come first.
 use Rattle.std.proofs.Common.{◌≡◌, ℕ, zero, suc, ◌≤◌, ◌<◌, Bool, true, false, cond, List, [], ◌∷◌, length, get_or}
-use Rattle.std.proofs.Common.{refl, ap, sym, ◌∙◌, arith, ◌⊎◌, inl, inr, Some, None, nat_lt, map}
-use Rattle.std.proofs.lemmas.List.{same_lists, length-map, get_or-map}
+use Rattle.std.proofs.Common.{refl, ap, sym, ◌∙◌, arith, ◌⊎◌, inl, inr, Some, None, nat_lt, map, ◌≢◌}
+use Rattle.std.proofs.Math.ListN.{set}
+use Rattle.std.proofs.lemmas.List.{same_lists, length-map, get_or-map, length-set, get_or-set_other}
+use Rattle.std.proofs.lemmas.Grind.{get_or-set_at}
 use Rattle.std.specs.List.{filter, position, position_or_len}
 use Rattle.std.proofs.lemmas.List.Sums.{fails_before_first}
 use Rattle.std.proofs.lemmas.Bool.Decides.{nat_tests}
@@ -100,6 +102,29 @@ map_is f ps qs i same done rest later =
   where
     before_or_from : (k i : ℕ) → (k < i) ⊎ (i ≤ k)
     before_or_from k i = grind arith
+
+-- things of which one was changed, and the others would stay
+pub set_is : {X : Type 0} (f : X → X) (xs : List X) (i : ℕ) (y : X) → i < length xs → ((d : X) → y ≡ f (get_or xs i d))
+    → ((k : ℕ) (d : X) → (k < i) ⊎ (i < k) → k < length xs → f (get_or xs k d) ≡ get_or xs k d)
+    → set xs i y ≡ map f xs
+set_is f xs i y l here others =
+    same_lists (set xs i y) (map f xs) (length-set xs i y ∙ sym (length-map xs f)) (λ k d m'.
+    let m : k < length xs = rw (length-set xs i y) at m' in
+    elim (place k i) [
+      | inl is ↦
+          get_or-set_at xs i k y d is l
+          ∙ (here d ∙ (sym (ap (λ n. f (get_or xs n d)) is) ∙ sym (get_or-map f xs k d d m)))
+      | inr side ↦
+          get_or-set_other xs i k y d (apart k i side)
+          ∙ (sym (others k d side m) ∙ sym (get_or-map f xs k d d m))
+    ])
+  where
+    place : (k i : ℕ) → (k ≡ i) ⊎ ((k < i) ⊎ (i < k))
+    place k i = grind arith
+
+    apart : (k i : ℕ) → (k < i) ⊎ (i < k) → k ≢ i
+    apart k i (inl l) e = omega arith
+    apart k i (inr l) e = omega arith
 
 -- what stands at a place, whatever is answered past the end
 pub same_at : {X : Type 0} (xs : List X) (i : ℕ) (d e : X) → i < length xs → get_or xs i d ≡ get_or xs i e

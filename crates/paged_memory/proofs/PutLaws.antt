@@ -1,15 +1,16 @@
 -- What pages have after bytes were put over theirs, or what they know of extents was changed.
 use Rattle.std.proofs.Common.{◌≡◌, ℕ, suc, ◌+◌, ◌-◌, ◌*◌, ◌≤◌, ◌<◌, Bool, true, false, cond, List, [], ◌∷◌, length}
-use Rattle.std.proofs.Common.{get_or, refl, ap, sym, subst, ◌∙◌, arith, ◌⊎◌, Option, Some, None, map, Vec}
+use Rattle.std.proofs.Common.{get_or, refl, ap, sym, subst, ◌∙◌, arith, ◌⊎◌, inl, inr, Option, Some, None, map, Vec, ◌++◌, take, drop, length-append}
 use Rattle.std.specs.Vec.{with_items}
-use Rattle.std.proofs.lemmas.List.{ext_get_or, with_items_is}
+use Rattle.std.proofs.lemmas.List.{ext_get_or, with_items_is, get_or-drop, length-take, length-drop}
 use Rattle.std.specs.Option.{option_map, is_some}
 use Rattle.std.specs.List.{All}
 use Rattle.image_memory.specs.declared.types.Piece.{Piece}
 use Rattle.image_memory.specs.Ranges.{lies_in, Ascends}
 use Rattle.image_memory.specs.laws.RangeLaws.{inside, within, found, found_here}
-use Rattle.image_memory.specs.laws.AccessLaws.{length-overlaid, get_or-overlaid, overlaid_outside}
-use Rattle.image_memory.specs.Access.{overlaid_piece, written, new_byte}
+use Rattle.image_memory.specs.laws.AccessLaws.{length-overlaid, get_or-overlaid, overlaid_outside, new_inside, new_outside}
+use Rattle.image_memory.specs.laws.ByteLaws.{earlier_or_later, copied_below, copied_from, copied_past}
+use Rattle.image_memory.specs.Access.{overlaid, overlaid_piece, written, new_byte}
 use Rattle.paged_memory.specs.declared.types.Extent.{Extent}
 use Rattle.paged_memory.specs.declared.types.Page.{Page}
 use Rattle.paged_memory.specs.Pages.{extent_range, page_range, page_low, page_at, pieces_of, piece_of}
@@ -99,6 +100,47 @@ pieces-put es ps start bytes up covered full =
     ∙ (stored-put ps start bytes ((get_or es k d).base + i) full paged
     ∙ sym (get_or-overlaid start bytes (get_or es k d).base _ i long
     ∙ ap (new_byte start bytes ((get_or es k d).base + i)) (get_or-stored_from ps (get_or es k d).base (get_or es k d).length i n))))))
+
+-- bytes put over others from one of them on
+module _ (at start : ℕ) (from target : List ℕ) (low : at ≤ start) (high : start + length from ≤ at + length target) where
+  rest : List ℕ
+  rest = drop (length from) (drop (start - at) target)
+
+  placed : List ℕ
+  placed = take (start - at) target ++ (from ++ rest)
+
+  length-placed : length placed ≡ length target
+  unfolding placed rest
+  length-placed = simp (length-append, length-take, length-drop) (omega arith)
+
+  byte_placed : (k : ℕ) → k < length target → get_or placed k 0 ≡ new_byte start from (at + k) (get_or target k 0)
+  unfolding placed rest
+  byte_placed k l = elim (earlier_or_later k (start - at)) [
+    | inl before ↦
+        copied_below target from _ (start - at) k (omega arith) before
+        ∙ sym (new_outside start from (at + k) (get_or target k 0) (inl (omega arith)))
+    | inr behind ↦ elim (earlier_or_later k (start - at + length from)) [
+      | inl among ↦
+          let e : k - (start - at) ≡ at + k - start = omega arith in
+          copied_from target from _ (start - at) k (omega arith) behind among
+          ∙ (ap (λ i. get_or from i 0) e
+          ∙ sym (new_inside start from (at + k) (get_or target k 0) (omega arith) (omega arith)))
+      | inr past ↦
+          let e : start - at + (length from + (k - (start - at) - length from)) ≡ k = omega arith in
+          copied_past target from _ (start - at) k (omega arith) past
+          ∙ (get_or-drop (length from) (drop (start - at) target) _ 0
+          ∙ (get_or-drop (start - at) target _ 0
+          ∙ (ap (λ i. get_or target i 0) e
+          ∙ sym (new_outside start from (at + k) (get_or target k 0) (inr (omega arith))))))
+    ]
+  ]
+
+  pub put_is : take (start - at) target ++ (from ++ drop (length from) (drop (start - at) target))
+      ≡ overlaid start from at target
+  unfolding placed rest
+  put_is = ext_get_or 0 placed _ (length-placed ∙ sym (length-overlaid start from at target)) (λ k l.
+      let m : k < length target = rw length-placed at l in
+      byte_placed k m ∙ sym (get_or-overlaid start from at target k m))
 
 -- nothing written changes no piece
 pub written_nothing : (start : ℕ) (ps : List Piece) → ps ≡ written start [] ps

@@ -1,5 +1,5 @@
 -- Pages of bytes, and the pieces that stand in them.
-use Rattle.std.specs.Prelude.{◌≡◌, ℕ, zero, suc, ◌+◌, ◌-◌, ◌*◌, ◌/◌, ◌≤◌, ◌<◌, Bool, true, false, List, [], ◌∷◌, map, length}
+use Rattle.std.specs.Prelude.{◌≡◌, ℕ, zero, suc, ◌+◌, ◌-◌, ◌*◌, ◌/◌, ◌%◌, ◌≤◌, ◌<◌, Bool, true, false, List, [], ◌∷◌, map, length}
 use Rattle.std.specs.Prelude.{Option, Some, None, slice_index, slice_index_or, nat_le, nat_lt, IsSome, IsNone, if◌then◌else◌}
 use Rattle.std.specs.Option.{option_map, unwrap_or}
 use Rattle.std.specs.List.{find, filter}
@@ -109,6 +109,14 @@ pub record IsHolder (extents : List Extent) (address at : ℕ) : Type 0 where
 pub record IsSpot (extents : List Extent) (pages : List Page) (address : ℕ) (spot : Spot) : Type 0 where
   pub page : IsHome pages (address / 4096) spot.page
   pub extent : IsHolder extents address spot.extent
+
+-- so many bytes from an address on stand in one page and in one extent, at these places
+pub record IsNear (extents : List Extent) (pages : List Page) (address count : ℕ) (spot : Spot) : Type 0 where
+  pub page : IsHome pages (address / 4096) spot.page
+  pub within : address % 4096 + count ≤ 4096
+  pub extent : spot.extent < length extents
+  pub low : (d : Extent) → (slice_index_or extents spot.extent d).base ≤ address
+  pub high : (d : Extent) → address + count ≤ (extent_range (slice_index_or extents spot.extent d)).high
 
 -- each address of an extent is one of a page
 abbrev pub IsCovered : List Extent → List Page → Type 0

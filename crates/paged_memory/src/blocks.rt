@@ -1,5 +1,5 @@
 //! Blocks of bytes that pages are made of.
-ghost use Rattle.std.specs.Prelude.{◌≡◌, ◌+◌, ◌<◌, ◌^◌, length, drop, IfOk};
+ghost use Rattle.std.specs.Prelude.{◌≡◌, ◌+◌, ◌<◌, ◌^◌, ◌≤◌, ◌++◌, length, take, drop, IfOk};
 ghost use Rattle.image_memory.specs.Access.{overlaid};
 
 use image_memory::overlay;
@@ -50,6 +50,15 @@ impl Block {
         ensures count { length result.now + offset ≡ 4096 }
     {
         &self.as_slice()[offset..]
+    }
+
+    /// Puts bytes over those from an offset on.
+    #[inline(always)]
+    pub(crate) fn put(&mut self, offset: usize, from: &[u8])
+        requires { offset + length from.now ≤ 4096 }
+        ensures { self.new ≡ take offset self.old ++ (from.now ++ drop (length from.now) (drop offset self.old)) }
+    {
+        self.bytes[offset..offset + from.len()].copy_from_slice(from);
     }
 
     /// Puts bytes, whose first one has the address `start`, over those of the block, whose first one has the

@@ -1,5 +1,5 @@
 //! Where pieces lie: what one extent answers by itself, and finding among them.
-ghost use Rattle.std.specs.Prelude.{◌≡◌, ◌+◌, ◌-◌, ◌≤◌, ◌<◌, ◌^◌, length, MatchOption, Some};
+ghost use Rattle.std.specs.Prelude.{◌≡◌, ◌+◌, ◌-◌, ◌≤◌, ◌<◌, ◌^◌, length, MatchOption, Some, IsTrue};
 ghost use Rattle.std.specs.List.{AllWithin};
 ghost use Rattle.image_memory.specs.Ranges.{Ascends, lies_in};
 ghost use Rattle.image_memory.specs.Contents.{piece_range};
@@ -39,6 +39,15 @@ impl Extent {
         ensures { result ≡ lies_in address (extent_range self.now) }
     {
         self.base <= address && address - self.base < self.length
+    }
+
+    /// Whether the piece has so many bytes from an address on.
+    #[inline(always)]
+    pub(crate) fn has(&self, address: u32, count: usize) -> bool
+        requires { count ≤ 4096 }
+        ensures { IsTrue result → (self.now.base ≤ address) × (address + count ≤ (extent_range self.now).high) }
+    {
+        self.base <= address && (address - self.base) as usize + count <= self.length as usize
     }
 
     /// The address after the last byte.

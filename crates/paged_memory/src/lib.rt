@@ -4,6 +4,7 @@
 mod blocks;
 mod closing;
 mod extents;
+mod guesses;
 mod opening;
 mod paged;
 mod pages;

@@ -17,8 +17,8 @@ use ks_base::{Fault, Range};
 use std::alloc::{AllocError, Global};
 use std::sync::ledger::Ledger;
 
-/// A memory as pages of 4,096 bytes, sorted by their numbers and found by halving. There is a page where a piece has a
-/// byte, and nowhere else; each knows which pieces those are.
+/// A memory as pages of 4,096 bytes, sorted by their numbers and found by halving, if not where they are guessed to stand.
+/// There is a page where a piece has a byte, and nowhere else; each knows which pieces those are.
 #[derive(Drop)]
 pub struct PagedSpace {
     table: PageTable,
@@ -83,16 +83,22 @@ impl Space for PagedSpace {
         self.table.shape_at(i)
     }
 
+    #[inline(always)]
     fn read(&self, address: u32, into: &mut [u8]) -> Result<(), Fault> {
         self.table.read(address, into)
     }
 
+    #[inline(always)]
     fn write(&mut self, address: u32, from: &[u8]) -> Result<(), Fault> {
         self.table.write(address, from)
     }
 
+    #[inline(always)]
     fn window(&self, pc: u32) -> Result<Window, Fault> {
-        self.table.window(pc, &self.retired)
+        match self.table.near_code(pc, &self.retired) {
+            Some(page) => Ok(self.table.code_in(page, pc)),
+            None => self.table.window(pc, &self.retired),
+        }
     }
 
     fn spliced(&self, pc: u32) -> bool {

@@ -8,8 +8,7 @@ ghost use Rattle.paged_memory.specs.inside.Opening.{IsPlaceOf};
 
 use crate::steps::Steps;
 use crate::types::Page;
-use std::marker::Brand;
-use std::sync::ledger::{Blank, Ledger};
+use std::sync::ledger::Ledger;
 
 /// The place of the page of a number among pages in ascending order; `Err` with the place that it would have.
 pub(crate) fn place<L: Ledger>(
@@ -46,46 +45,22 @@ pub(crate) fn place_of(pages: &[Page], number: u32) -> usize
     pages.partition_point(|page| page.number < number)
 }
 
-/// The place of the page of a number; `None` where no page has it. It is tried first where it stands if no page is missing
-/// between the first one and it, as in a program's code, and else found by halving.
-#[inline(always)]
+/// The place of the page of a number; `None` where no page has it.
 pub(crate) fn home_of(pages: &[Page], number: u32) -> Option<usize>
     requires { Ascends page_range 0 pages.now }
     ensures { MatchOption result (IsNowhere pages.now number) (IsHome pages.now number) }
 {
-    let first = match pages.first() {
-        Some(page) => page.number,
-        None => 0,
-    };
-    let near = number.wrapping_sub(first) as usize;
-    if has_number(pages, near, number) {
-        return Some(near);
+    let at = place_of(pages, number);
+    if is_at(pages, at, number) {
+        Some(at)
+    } else {
+        None
     }
-    halved(pages, number)
-}
-
-/// The place of the page of a number, found by halving; `None` where no page has it.
-#[inline(never)]
-fn halved(pages: &[Page], number: u32) -> Option<usize>
-    requires { Ascends page_range 0 pages.now }
-    ensures { MatchOption result (IsNowhere pages.now number) (IsHome pages.now number) }
-{
-    place_from::<Brand>(pages, number, Blank::new(1)).ok()
-}
-
-/// The place of the page of a number, or the one that it would have, with steps counted from none.
-fn place_from<L: Ledger>(pages: &[Page], number: u32, blank: Blank) -> Result<usize, usize>
-    requires name { blank.name ≡ L.name }
-    requires parts { blank.parts ≡ L.parts }
-    requires some { 0 < blank.parts }
-    requires ascend { Ascends page_range 0 pages.now }
-    ensures { MatchResult result (IsHome pages.now number) (IsGap pages.now number) }
-{
-    place::<L>(pages, number, &mut Steps::new(blank))
 }
 
 /// Whether the page at a place has a number.
-fn has_number(pages: &[Page], at: usize, number: u32) -> bool
+#[inline(always)]
+pub(crate) fn has_number(pages: &[Page], at: usize, number: u32) -> bool
     ensures { IsTrue result → IsHome pages.now number at }
 {
     at < pages.len() && pages[at].number == number

@@ -1,6 +1,6 @@
 //! The bytes of pieces in pages.
-ghost use Rattle.std.specs.Prelude.{◌≡◌, ◌+◌, ◌-◌, ◌*◌, ◌/◌, ◌≤◌, ◌<◌, ◌^◌, List, [], ◌∷◌, length, max};
-ghost use Rattle.std.specs.Prelude.{vec_len, vec_capacity, None, MatchOption, Some, IfOk, OnOk, OnErr, MatchResult};
+ghost use Rattle.std.specs.Prelude.{◌≡◌, ◌+◌, ◌-◌, ◌*◌, ◌/◌, ◌%◌, ◌≤◌, ◌<◌, ◌^◌, List, [], ◌∷◌, length, max};
+ghost use Rattle.std.specs.Prelude.{vec_len, vec_capacity, None, MatchOption, Some, Ok, IfSome, IfOk, OnOk, OnErr, MatchResult};
 ghost use Rattle.std.specs.List.{All, AllWithin, Any, Contains, slice_get};
 ghost use Rattle.std.specs.Option.{option_map};
 ghost use Rattle.ks_base.specs.declared.places.Range.{Range};
@@ -8,21 +8,22 @@ ghost use Rattle.image_memory.specs.Ranges.{Ascends, Ascends-prop, MeetsNone};
 ghost use Rattle.image_memory.specs.Contents.{ArePlaced, look_at, piece_range, shape_of};
 ghost use Rattle.image_memory.specs.Changes.{with_piece, without_piece, IsPlaceable};
 ghost use Rattle.image_memory.specs.Access.{first_fault, read_fault, write_fault, bytes_at, written};
-ghost use Rattle.image_memory.specs.Fetch.{window_at, HasCode};
-ghost use Rattle.paged_memory.specs.Pages.{extent_range, extent_at, page_range, page_low, pieces_of, ended, begun};
-ghost use Rattle.paged_memory.specs.Pages.{IsCovered, IsHome, IsHolder, IsSpot, IsUsable, extent_fault};
+ghost use Rattle.image_memory.specs.Fetch.{window_at, shown, HasCode};
+ghost use Rattle.paged_memory.specs.Pages.{extent_range, extent_at, page_range, page_low, pieces_of, stored_from, ended, begun};
+ghost use Rattle.paged_memory.specs.Pages.{IsCovered, IsHome, IsHolder, IsSpot, IsNear, IsUsable, extent_fault};
 ghost use Rattle.paged_memory.specs.inside.Missing.{missing};
 
 use crate::blocks::Block;
 use crate::closing::{close_pages, take_extent};
 use crate::extents::{first_fault, holder};
+use crate::guesses::Guesses;
 use crate::opening::{lay, open_pages, put_extent};
-use crate::pages::{copy_out, put_bytes, window_of};
+use crate::pages::{copy_out, copy_part, fits_page, put_bytes, whole_window, window_of};
 use crate::room::count_missing;
-use crate::search::{home_of, place, place_of};
+use crate::search::{has_number, home_of, place, place_of};
 use crate::steps::Steps;
 use crate::types::{Extent, Page, Spot};
-use image_memory::{Access, Kind, Piece, Pieces, RetiredRanges, Window};
+use image_memory::{Access, Kind, Piece, Pieces, RetiredRanges, WINDOW_LENGTH, Window};
 use ks_base::{Fault, Range};
 use std::alloc::{AllocError, Global};
 use std::sync::ledger::Ledger;
@@ -34,6 +35,7 @@ pub(crate) struct PageTable {
     extents: Vec<Extent>,
     pages: Vec<Page>,
     blocks: Vec<Block>,
+    guesses: Guesses,
     ghost ascend: { Ascends extent_range 0 extents.items } by { Ascends-prop extent_range 0 extents.items },
     ghost end_below: { All (λ e. (extent_range e).high ≤ 0xFFFF_0000) extents.items },
     ghost sorted: { Ascends page_range 0 pages.items } by { Ascends-prop page_range 0 pages.items },
@@ -55,6 +57,7 @@ impl PageTable {
             extents: Vec::new(alloc),
             pages: Vec::new(alloc),
             blocks: Vec::new(alloc),
+            guesses: Guesses::new(),
         }
     }
 
@@ -160,9 +163,58 @@ impl PageTable {
         Some(page.first + among)
     }
 
+    /// Where an address is found, if its page stands where it is guessed, and the first extent with a byte in the page has
+    /// so many bytes from the address on, in the page. So it is with nearly all accesses.
+    #[inline(always)]
+    fn near(&self, address: u32, count: usize) -> Option<Spot>
+        ensures { IfSome result (IsNear self.now.extents.items self.now.pages.items address count) }
+    {
+        if !fits_page(u64::from(address), count) {
+            return None;
+        }
+        let number = address / 4096;
+        let page = self.guesses.place(number);
+        if !has_number(self.pages.as_slice(), page, number) {
+            return None;
+        }
+        let extent = self.pages[page].first;
+        if self.extents[extent].has(address, count) {
+            Some(Spot { page, extent })
+        } else {
+            None
+        }
+    }
+
+    /// The place of the page of an address, if so many bytes from the address on stand near and can be used.
+    #[inline(always)]
+    fn near_usable(&self, access: Access, address: u32, count: usize) -> Option<usize>
+        ensures usable { IfSome result (IsUsable access self.now.extents.items self.now.pages.items address count) }
+        ensures home { IfSome result (IsHome self.now.pages.items (address / 4096)) }
+        ensures within { IfSome result (λ _. address % 4096 + count ≤ 4096) }
+    {
+        let spot = self.near(address, count)?;
+        match access.fault(Some(self.extents[spot.extent].kind)) {
+            Some(_) => None,
+            None => Some(spot.page),
+        }
+    }
+
     /// Where an address is found, with no step counted.
     #[inline(always)]
     fn spot_at(&self, address: u32) -> Option<Spot>
+        ensures { MatchOption result (extent_at self.now.extents.items address ≡ None)
+            (IsSpot self.now.extents.items self.now.pages.items address) }
+    {
+        match self.near(address, 1) {
+            Some(spot) => Some(spot),
+            None => self.far(address),
+        }
+    }
+
+    /// The same, by halving.
+    #[cold]
+    #[inline(never)]
+    fn far(&self, address: u32) -> Option<Spot>
         ensures { MatchOption result (extent_at self.now.extents.items address ≡ None)
             (IsSpot self.now.extents.items self.now.pages.items address) }
     {
@@ -220,7 +272,28 @@ impl PageTable {
     }
 
     /// Reads the bytes from an address on as data.
+    #[inline(always)]
     pub(crate) fn read(&self, address: u32, into: &mut [u8]) -> Result<(), Fault>
+        ensures ok { OnOk result (into.new
+            ≡ bytes_at (pieces_of self.now.extents.items self.now.pages.items) address (length into.old)) }
+        ensures err { OnErr result (into.new ≡ into.old) }
+        ensures cause { MatchResult result
+            (λ _. first_fault (read_fault (pieces_of self.now.extents.items self.now.pages.items)) address (length into.old) ≡ None)
+            (λ f. first_fault (read_fault (pieces_of self.now.extents.items self.now.pages.items)) address (length into.old) ≡ Some f) }
+    {
+        match self.near_usable(Access::Read, address, into.len()) {
+            Some(page) => {
+                copy_part(self.pages.as_slice(), page, u64::from(address), into);
+                Ok(())
+            }
+            None => self.read_along(address, into),
+        }
+    }
+
+    /// The same, wherever the bytes stand.
+    #[cold]
+    #[inline(never)]
+    fn read_along(&self, address: u32, into: &mut [u8]) -> Result<(), Fault>
         ensures ok { OnOk result (into.new
             ≡ bytes_at (pieces_of self.now.extents.items self.now.pages.items) address (length into.old)) }
         ensures err { OnErr result (into.new ≡ into.old) }
@@ -238,7 +311,32 @@ impl PageTable {
     }
 
     /// Writes bytes as data from an address on.
+    #[inline(always)]
     pub(crate) fn write(&mut self, address: u32, from: &[u8]) -> Result<(), Fault>
+        ensures ok { OnOk result (pieces_of self.new.extents.items self.new.pages.items
+            ≡ written address from.now (pieces_of self.old.extents.items self.old.pages.items)) }
+        ensures err { OnErr result (self.new.pages.items ≡ self.old.pages.items) }
+        ensures extents { self.new.extents ≡ self.old.extents }
+        ensures blocks { self.new.blocks ≡ self.old.blocks }
+        ensures missing { (ranges : List Range)
+            → missing ranges self.new.pages.items ≡ missing ranges self.old.pages.items }
+        ensures cause { MatchResult result
+            (λ _. first_fault (write_fault (pieces_of self.old.extents.items self.old.pages.items)) address (length from.now) ≡ None)
+            (λ f. first_fault (write_fault (pieces_of self.old.extents.items self.old.pages.items)) address (length from.now) ≡ Some f) }
+    {
+        match self.near_usable(Access::Write, address, from.len()) {
+            Some(page) => {
+                self.put(page, address, from);
+                Ok(())
+            }
+            None => self.write_along(address, from),
+        }
+    }
+
+    /// The same, wherever the bytes stand.
+    #[cold]
+    #[inline(never)]
+    fn write_along(&mut self, address: u32, from: &[u8]) -> Result<(), Fault>
         ensures ok { OnOk result (pieces_of self.new.extents.items self.new.pages.items
             ≡ written address from.now (pieces_of self.old.extents.items self.old.pages.items)) }
         ensures err { OnErr result (self.new.pages.items ≡ self.old.pages.items) }
@@ -275,6 +373,7 @@ impl PageTable {
     }
 
     /// Puts bytes over those that pages have from an address on. The pages before `first` end at or below it.
+    #[inline(always)]
     fn put(&mut self, first: usize, address: u32, from: &[u8])
         requires first { first ≤ vec_len self.old.pages }
         requires below { AllWithin (λ page. (page_range page).high ≤ address) self.old.pages.items 0 first }
@@ -288,7 +387,41 @@ impl PageTable {
         put_bytes(self.pages.as_mut_slice(), first, u64::from(address), from);
     }
 
+    /// The place of the page of an address, if fifteen bytes of code stand near from the address on and can be fetched.
+    #[inline(always)]
+    pub(crate) fn near_code(&self, pc: u32, retired: &RetiredRanges) -> Option<usize>
+        ensures exact { IfSome result (λ _. Ok (shown (stored_from self.now.pages.items pc 15)) ≡ window_at (record {
+          pieces = pieces_of self.now.extents.items self.now.pages.items;
+          fences = retired.now.fences;
+        }) pc) }
+        ensures home { IfSome result (IsHome self.now.pages.items (pc / 4096)) }
+        ensures within { IfSome result (λ _. pc % 4096 + 15 ≤ 4096) }
+    {
+        let limit = retired.limit(pc)?;
+        if limit != WINDOW_LENGTH {
+            return None;
+        }
+        let spot = self.near(pc, WINDOW_LENGTH)?;
+        match self.extents[spot.extent].kind {
+            Kind::Code => Some(spot.page),
+            Kind::ReadOnly => None,
+            Kind::Writable => None,
+        }
+    }
+
+    /// Fifteen bytes of the page at a place from an address on, as a window.
+    #[inline(always)]
+    pub(crate) fn code_in(&self, page: usize, pc: u32) -> Window
+        requires home { IsHome self.now.pages.items (pc / 4096) page }
+        requires within { pc % 4096 + 15 ≤ 4096 }
+        ensures { result ≡ shown (stored_from self.now.pages.items pc 15) }
+    {
+        whole_window(self.pages.as_slice(), page, pc)
+    }
+
     /// What is fetched at an address among retired ranges.
+    #[cold]
+    #[inline(never)]
     pub(crate) fn window(&self, pc: u32, retired: &RetiredRanges) -> Result<Window, Fault>
         ensures exact { result ≡ window_at (record {
           pieces = pieces_of self.now.extents.items self.now.pages.items;
@@ -341,6 +474,7 @@ impl PageTable {
             extent,
             piece.bytes.as_slice(),
         );
+        self.guesses.learn(self.pages.as_slice(), first);
     }
 
     /// Takes the piece away that begins at a base, and the pages in which no other piece has a byte.
@@ -352,5 +486,6 @@ impl PageTable {
         let extent = take_extent(&mut self.extents, base);
         let first = place_of(self.pages.as_slice(), extent.base / 4096);
         close_pages(&mut self.pages, first, extent);
+        self.guesses.learn(self.pages.as_slice(), first);
     }
 }

@@ -4,13 +4,14 @@ use Rattle.std.specs.List.{AllWithin}
 use Rattle.std.proofs.Math.Nat.{div-mul-le_self, lt-div-mul-add, div-lt_iff_lt-mul, one-le-pow, suc-mul}
 use Rattle.std.proofs.Math.ListN.{set}
 use Rattle.std.proofs.lemmas.Nat.{div_below}
-use Rattle.std.proofs.lemmas.List.{get_or-set_other}
+use Rattle.std.proofs.lemmas.List.{get_or_default, get_or-set_other}
 use Rattle.std.proofs.lemmas.Grind.{get_or-set_at}
 use Rattle.std.proofs.lemmas.Simd.{length-chunk, get_or-chunk}
 use lib.Lanes.{chunk}
 use Rattle.ks_base.specs.declared.places.Range.{Range}
 use Rattle.stack_scan.specs.inside.Words.{AreInOrder}
 use Rattle.stack_scan.specs.inside.Cuts.{Ends}
+use Rattle.stack_scan.proofs.TargetLaws.{highs_rise}
 
 -- a slot begins at or below an address in it, and ends above it
 pub slot_begins : (low word size : ℕ) → low ≤ word → low + (word - low) / size * size ≤ word
@@ -91,6 +92,27 @@ ends_by_part ranges word start end k up room first last part =
       ];
     }
 
+-- no more do where there are no more, or the next ends above the word
+pub no_more_end : (ranges : List Range) (word start : ℕ) → start ≡ length ranges
+    → AllWithin (λ range. range.high ≤ word) ranges 0 start → Ends ranges word start
+no_more_end ranges word start all first = record {
+  bound = omega (arith, all);
+  below = first;
+  above = λ k d from to. absurd (omega (arith, all));
+}
+
+pub next_ends_above : (ranges : List Range) (word start : ℕ) (d : Range) → AreInOrder (length ranges) ranges
+    → start < length ranges → word < (get_or ranges start d).high
+    → AllWithin (λ range. range.high ≤ word) ranges 0 start → Ends ranges word start
+next_ends_above ranges word start d order less above first = record {
+  bound = omega (arith, less);
+  below = first;
+  above = λ k e from to.
+      let rise = highs_rise ranges order start k e from to in
+      let here = get_or_default ranges start d e less in
+      omega (arith, above, rise, ap (λ (range : Range). range.high) here);
+}
+
 -- where a word lies in a slot, the ranges that end by the slot's begin end by the word, and those that end past the
 -- slot's end end past the word
 pub around_word : (low word size m n : ℕ) (ranges : List Range) → 0 < size → low ≤ word
@@ -108,6 +130,15 @@ around_word low word size m n ranges some l first last =
 
 same_or_below : (s n : ℕ) → s < n + 1 → (s < n) ⊎ (s ≡ n)
 same_or_below s n l = grind arith
+
+-- what ends at or below a bound does so at or below the next
+pub ended_by_next : (ranges : List Range) (low shift slot n : ℕ) → Ends ranges (low + slot * 2 ^ shift) n
+    → AllWithin (λ range. range.high ≤ low + (slot + 1) * 2 ^ shift) ranges 0 n
+ended_by_next ranges low shift slot n ends k d from to =
+    let e = ends.below k d from to in
+    let more : (slot + 1) * 2 ^ shift ≡ slot * 2 ^ shift + 2 ^ shift =
+    ap (λ (m : ℕ). m * 2 ^ shift) (add-one slot) ∙ suc-mul slot (2 ^ shift) in
+    omega (arith, e, more)
 
 -- one more bound, of which it is known how many ranges end there
 pub one_bound_more : (ranges : List Range) (low shift slot : ℕ) (ended : List ℕ) (n : ℕ) → slot < length ended

@@ -32,8 +32,10 @@ impl Slots {
     {
         let shift = shift_for(high.saturating_sub(low));
         let mut ended = [0; BOUNDS];
+        let mut count = 0;
         for slot in 0..BOUNDS {
-            ended[slot] = count_ended(ranges, bound(low, shift, slot));
+            count = count_ended_from(ranges, count, bound(low, shift, slot));
+            ended[slot] = count;
         }
         Slots { low, shift, ended }
     }
@@ -48,10 +50,7 @@ impl Slots {
         ensures { result ≡ in_one ranges.now word }
     {
         let first = self.ended(ranges, word, high);
-        if first == ranges.len() {
-            return false;
-        }
-        ranges[first].low <= word
+        begins_by(ranges, word, first)
     }
 
     /// How many ranges end at or below such a word: it is looked up among those that end in its slot.
@@ -67,6 +66,27 @@ impl Slots {
         let end = self.ended[slot + 1];
         ended_between(ranges, word, start, end)
     }
+}
+
+/// Whether a word is an address of one of some ranges that ascend without meeting, by halving.
+pub(crate) fn has_in_order(ranges: &[Range], word: u32) -> bool
+    requires { AreInOrder (length ranges.now) ranges.now }
+    ensures { result ≡ in_one ranges.now word }
+{
+    let first = count_ended(ranges, u64::from(word));
+    begins_by(ranges, word, first)
+}
+
+/// Whether there is a first range that ends above a word, and it begins at the word or below.
+fn begins_by(ranges: &[Range], word: u32, first: usize) -> bool
+    requires order { AreInOrder (length ranges.now) ranges.now }
+    requires ends { Ends ranges.now word first }
+    ensures { result ≡ in_one ranges.now word }
+{
+    if first == ranges.len() {
+        return false;
+    }
+    ranges[first].low <= word
 }
 
 /// The least power of two, at most 20, for a slot, by which the slots take in so many addresses.
@@ -101,6 +121,23 @@ fn ended_between(ranges: &[Range], word: u32, start: usize, end: usize) -> usize
     ensures { Ends ranges.now word result }
 {
     start + count_ended(&ranges[start..end], u64::from(word))
+}
+
+/// How many ranges end at or below an address, where the first ones are known to. It takes constant time where no more
+/// do.
+fn count_ended_from(ranges: &[Range], start: usize, address: u64) -> usize
+    requires order { AreInOrder (length ranges.now) ranges.now }
+    requires bound { start ≤ length ranges.now }
+    requires below { AllWithin (λ range. range.high ≤ address) ranges.now 0 start }
+    ensures { Ends ranges.now address result }
+{
+    if start == ranges.len() {
+        return start;
+    }
+    if address < u64::from(ranges[start].high) {
+        return start;
+    }
+    start + count_ended(&ranges[start..], address)
 }
 
 /// How many ranges end at or below an address.

@@ -8,13 +8,16 @@ ghost use Rattle.stack_scan.specs.declared.slots.Slots.{Slots as TheSlots};
 ghost use Rattle.stack_scan.specs.inside.Words.{AreInOrder, NoneBetween};
 ghost use Rattle.stack_scan.specs.inside.Cuts.{IsCut};
 
-use crate::slots::Slots;
+use crate::slots::{Slots, has_in_order};
 use ks_base::Range;
 use std::marker::Model;
 use std::simd::prelude::*;
 
 /// How many words are tested at once.
 pub(crate) const LANES: usize = 8;
+
+/// Up to so many ranges have no slots: these would cost more than they spare a thread with few words on its stack.
+const FEW: usize = 256;
 
 /// Ranges with what makes a look-up quick. Contracts see the ranges.
 #[derive(Drop)]
@@ -23,12 +26,14 @@ pub(crate) struct Targets<'a> {
     /// No range begins below `low` or ends above `high`.
     low: u32,
     high: u32,
-    /// What a word is looked up by, where they ascend and don't meet.
+    /// What a word is looked up by, where they are many, ascend and don't meet.
     slots: Option<Slots>,
+    /// They ascend and don't meet.
+    in_order: bool,
 }
 
 impl<'a> Model for Targets<'a> {
-    ghost use Rattle.std.specs.Prelude.{◌≡◌, List, length, Some};
+    ghost use Rattle.std.specs.Prelude.{◌≡◌, List, length, Some, true};
     ghost use Rattle.ks_base.specs.declared.places.Range.{Range};
     ghost use Rattle.stack_scan.specs.declared.slots.Slots.{Slots};
     ghost use Rattle.stack_scan.specs.inside.Words.{AreInOrder, AreWithin};
@@ -40,7 +45,8 @@ impl<'a> Model for Targets<'a> {
 
     ghost invariant = { λ t. AreWithin t.low t.high (length t.ranges.now) t.ranges.now
         × ((slots : Slots) → t.slots ≡ Some slots
-        → AreInOrder (length t.ranges.now) t.ranges.now × IsCut slots t.low t.high t.ranges.now) };
+        → AreInOrder (length t.ranges.now) t.ranges.now × IsCut slots t.low t.high t.ranges.now)
+        × (t.in_order ≡ true → AreInOrder (length t.ranges.now) t.ranges.now) };
 }
 
 impl<'a> Targets<'a> {
@@ -63,6 +69,7 @@ impl<'a> Targets<'a> {
             low,
             high,
             slots: slots_of(ranges, low, high, in_order),
+            in_order,
         }
     }
 
@@ -86,18 +93,18 @@ impl<'a> Targets<'a> {
         }
         match &self.slots {
             Some(slots) => slots.has(self.ranges, word, self.high),
-            None => is_in_one(self.ranges, word),
+            None => is_among(self.ranges, self.in_order, word),
         }
     }
 }
 
-/// The slots of ranges that ascend without meeting, where they are known to.
+/// The slots of ranges that ascend without meeting, where they are known to, and are too many for none.
 fn slots_of(ranges: &[Range], low: u32, high: u32, in_order: bool) -> Option<Slots>
     requires { in_order ≡ true → AreInOrder (length ranges.now) ranges.now }
     ensures { (slots : TheSlots) → result ≡ Some slots
         → AreInOrder (length ranges.now) ranges.now × IsCut slots low high ranges.now }
 {
-    if in_order {
+    if in_order && ranges.len() > FEW {
         Some(Slots::new(ranges, low, high))
     } else {
         None
@@ -120,6 +127,18 @@ fn follows(range: Range, floor: u32) -> bool
     ensures { IsTrue result ↔ ((floor ≤ range.low) × (range.low ≤ range.high)) }
 {
     floor <= range.low && range.low <= range.high
+}
+
+/// Whether a word is an address of one of some ranges: by halving, where they are known to ascend without meeting.
+fn is_among(ranges: &[Range], in_order: bool, word: u32) -> bool
+    requires { in_order ≡ true → AreInOrder (length ranges.now) ranges.now }
+    ensures { result ≡ in_one ranges.now word }
+{
+    if in_order {
+        has_in_order(ranges, word)
+    } else {
+        is_in_one(ranges, word)
+    }
 }
 
 /// Whether a word is an address of one of some ranges.

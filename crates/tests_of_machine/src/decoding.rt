@@ -1,5 +1,6 @@
 //! What is decoded, how long it is, where its fields stand, and what is padding.
-use ia32_decode::{Decoded, Field, Instr, Operand, Register, Width, decode, is_padding};
+use ia32_alu::Width;
+use ia32_decode::{Action, Decoded, Field, Instr, Operand, Register, Source, decode, is_padding};
 
 /// Windows, and how long the instruction at the start of each is and whether it is padding: padding, one that isn't,
 /// one that another follows, and no instruction.
@@ -35,8 +36,9 @@ fn moved_from(decoded: Option<Decoded>) -> u32 {
     match decoded {
         Some(
             Decoded {
-                instr: Instr::Move {
-                    source: Operand::Memory(memory),
+                instr: Instr {
+                    action: Action::Move(Source::Operand),
+                    operand: Operand::Memory(memory),
                     ..
                 },
                 ..
@@ -46,12 +48,17 @@ fn moved_from(decoded: Option<Decoded>) -> u32 {
     }
 }
 
-/// The width and the register of a PUSH.
+/// The width and the register of a PUSH of one.
 fn pushed(decoded: Option<Decoded>) -> Option<(Width, Register)> {
     match decoded {
         Some(
             Decoded {
-                instr: Instr::PushRegister { width, register },
+                instr: Instr {
+                    action: Action::Push(Source::Operand),
+                    width,
+                    operand: Operand::Register(register),
+                    ..
+                },
                 ..
             },
         ) => Some((width, register)),

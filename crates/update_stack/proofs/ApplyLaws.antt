@@ -1,21 +1,22 @@
 -- The update rule, by its first refusal or what it makes.
 use Rattle.std.proofs.Common.{◌≡◌, ℕ, ◌≤◌, ◌<◌, true, false, List, length, Option, Some, None}
 use Rattle.std.proofs.Common.{Result, Ok, Err}
-use Rattle.std.proofs.Common.{refl, sym, arith, nat_le, IfOk}
+use Rattle.std.proofs.Common.{refl, sym, ap, ◌∙◌, arith, nat_le, IfOk, OnOk}
+use Rattle.std.specs.declared.alloc.AllocError.{AllocError}
 use Rattle.std.specs.List.{list_any}
 use Rattle.std.specs.Result.{result_err}
 use Rattle.std.proofs.lemmas.Bool.Decides.{nat_tests}
 use Rattle.ks_base.specs.declared.refusals.Refusal.{Refusal}
 use Rattle.ks_base.specs.declared.refusals.Refusal.TheVariants.{TooMany, NameTaken, Memory}
-use Rattle.ks_base.specs.Gives.{Gives}
-use Rattle.i386_reloc.specs.Rule.{Finds}
+use Rattle.ks_base.specs.declared.reports.Report.{Report}
 use Rattle.stack_scan.specs.Standing.{thread_refusal}
+use Rattle.update_plan.specs.declared.types.Hook.{Hook}
 use Rattle.update_plan.specs.declared.types.Plan.{Plan}
 use Rattle.update_plan.specs.Plan.{planned}
 use Rattle.update_stack.specs.AbstractMachine.{AbstractMachine}
 use Rattle.update_stack.specs.Apply.{has_name, name_refusal, running_of, retired_of, gaps_of, planned_in, committed}
 use Rattle.update_stack.specs.Apply.{accepted, applied}
-use Rattle.update_stack.specs.Events.{Apply, Applied, happened, answered}
+use Rattle.update_stack.specs.Events.{Apply, Applied, Happened, happened, answered}
 
 module _ (k : AbstractMachine) (name pre post : List ℕ) where
   -- where as many updates are live as may be
@@ -65,13 +66,17 @@ module _ (k : AbstractMachine) (name pre post : List ℕ) where
   unfolding answered accepted applied
   plan_made plan is clear = rw is (rw clear refl)
 
--- what a call returned, by what is given
-pub given_ok : (result : Result Plan Refusal) (given : Result Plan Refusal) (P : Plan → Type 0)
-    → Gives (λ (plan : Plan). plan) result given → ((plan : Plan) → given ≡ Ok plan → P plan) → IfOk result P
-given_ok (Ok plan) given P gives holds = holds plan gives
-given_ok (Err refusal) given P gives holds = tt
-
-pub finds_of : (result : Result (Unit {0}) Refusal) (fault : Option Refusal) → result_err result ≡ fault
-    → Finds Memory result fault
-finds_of (Ok u) fault is = sym is
-finds_of (Err refusal) fault is = λ other. sym is
+-- what comes of a plan that was carried out as it is held, for whichever files it is the machine's
+pub plan_carried : (k now : AbstractMachine) (name : List ℕ) (plan held : Plan)
+    (result : Result (Report × List Hook) AllocError) → held ≡ plan
+    → thread_refusal k.pieces plan.guarded k.threads ≡ None → IfOk result (λ made. made.0 ≡ held.report)
+    → OnOk result (now ≡ committed k name held)
+    → IfOk result (λ made. (pre post : List ℕ) → planned_in k name pre post ≡ Ok plan
+    → answered k (Apply name pre post) ≡ Ok (happened now (Applied made.0)))
+plan_carried k now name plan held (Ok made) same clear report is = λ pre post planned_is.
+    plan_made k name pre post plan planned_is clear
+    ∙ ap (λ (m : AbstractMachine). let r : Result Happened Refusal = Ok (happened m (Applied plan.report)) in r)
+    (sym (is ∙ ap (committed k name) same))
+    ∙ ap (λ (one : Report). let r : Result Happened Refusal = Ok (happened now (Applied one)) in r)
+    (sym (report ∙ ap (λ (p : Plan). p.report) same))
+plan_carried k now name plan held (Err e) same clear report is = tt

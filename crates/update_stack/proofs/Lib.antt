@@ -32,6 +32,7 @@ pub mod MovingLaws
 pub mod PastLaws
 pub mod PlaceLaws
 pub mod PlanLaws
+pub mod SamePlanLaws
 pub mod ReachedLaws
 pub mod ScratchLaws
 pub mod SeenLaws

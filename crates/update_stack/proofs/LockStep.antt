@@ -24,7 +24,7 @@ use Rattle.ia32_step.specs.declared.types.Flow.TheVariants.{Plain}
 use Rattle.ia32_step.specs.declared.types.Outcome.TheVariants.{Moved}
 use Rattle.ia32_step.specs.Operands.{spelled}
 use Rattle.ia32_step.specs.Changes.{goes_on, at_address, above}
-use Rattle.ia32_step.specs.Exec.{executed, is_stepped, refuses_prefixes, change_of}
+use Rattle.ia32_step.specs.Exec.{executed, is_stepped, refuses_prefixes, done_by}
 use Rattle.ia32_step.specs.Code.{SameData}
 use Rattle.ia32_step.specs.Step.{Left, left_by, context_of, exits, done, store_fault, after_store, unless_barred}
 use Rattle.ia32_step.specs.Step.{resumed, change_by, change_in, next_change, stepped}
@@ -47,7 +47,7 @@ displacement_small home base = omega arith
 -- what carrying it out comes to
 pub jump_carried_out : (pieces : List Piece) (context : _) (n : ℕ)
     → change_by pieces context (Some (jump_by n)) ≡ Ok (goes_on (at_address (above (above context.pc 5) n) context))
-unfolding executed is_stepped refuses_prefixes change_of
+unfolding executed is_stepped refuses_prefixes done_by
 jump_carried_out pieces context n = refl
 
 -- what is fetched is what was shown

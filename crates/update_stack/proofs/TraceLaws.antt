@@ -8,7 +8,7 @@ use Rattle.image_memory.specs.Access.{first_fault, write_fault}
 use Rattle.image_memory.specs.Fetch.{View, Unmapped, AtHome, Stray, Bytes, view_at, code_from, jump_at, window_for}
 use Rattle.image_memory.specs.Fetch.{window_at}
 use Rattle.splice_jump.specs.Jumps.{jumped_memory, IsSpliced, AreSpliced}
-use Rattle.ia32_decode.specs.Widths.{byte_count}
+use Rattle.ia32_alu.specs.Widths.{byte_count}
 use Rattle.ia32_step.specs.declared.types.Thread.{Thread}
 use Rattle.ia32_step.specs.declared.types.Store.{Store}
 use Rattle.ia32_step.specs.declared.types.Traced.{Traced}

@@ -1,6 +1,6 @@
 -- The update rule: the refusals in their order, and otherwise the machine with the new version of each changed
 -- function.
-use Rattle.std.specs.Prelude.{ℕ, Bool, nat_le, List, [], ◌∷◌, ◌++◌, map, length, Option, Result, Ok}
+use Rattle.std.specs.Prelude.{◌≡◌, ℕ, Bool, nat_le, List, [], ◌∷◌, ◌++◌, map, length, Option, Result, Ok}
 use Rattle.std.specs.List.{fold, flat_map, list_any}
 use Rattle.ks_base.specs.declared.places.Range.{Range}
 use Rattle.ks_base.specs.declared.refusals.Refusal.{Refusal}
@@ -50,6 +50,12 @@ unfoldable pub planned_in : AbstractMachine → (name pre_file post_file : List 
 planned_in k name pre_file post_file = do
   free ← unless (name_refusal k name) k
   planned (running_of free) (retired_of free) (gaps_of free) pre_file post_file
+
+-- a plan is what the machine has for an update of a name from some object file to another
+pub record IsPlanned (k : AbstractMachine) (name : List ℕ) (plan : Plan) : Type 0 where
+  pub pre_file : List ℕ
+  pub post_file : List ℕ
+  pub is : planned_in k name pre_file post_file ≡ Ok plan
 
 -- the update, as the machine keeps it
 abbrev pub update_as : List ℕ → Plan → Update

@@ -1,6 +1,6 @@
 -- The events of the machine: what each answers, and what lists of them leave.
 use Rattle.std.specs.Prelude.{ℕ, List, length, Option, None, Result, Ok, Err}
-use Rattle.std.specs.List.{fold}
+use Rattle.std.specs.List.{fold, AllByRecursion}
 use Rattle.ks_base.specs.declared.refusals.Refusal.{Refusal}
 use Rattle.ks_base.specs.declared.reports.Report.{Report}
 use Rattle.ks_base.specs.declared.reports.HookReport.{HookReport}
@@ -21,6 +21,14 @@ pub data Event : Type 0 where
   Hooks : (name pre post : List ℕ) → Event
   Undo : Event
   UndoNamed : (name : List ℕ) → Event
+
+-- whether each event of a list is a step of a thread
+abbrev pub IsStep : Event → Type 0
+IsStep (Step thread) = Unit {0}
+IsStep other = ⊥
+
+abbrev pub AreSteps : List Event → Type 0
+AreSteps events = AllByRecursion IsStep events
 
 -- what an event answers
 pub data Answer : Type 0 where

@@ -11,7 +11,7 @@ ghost use Rattle.update_plan.specs.declared.types.Plan.{Plan};
 ghost use Rattle.update_plan.specs.Sound.{CanBeMade};
 ghost use Rattle.update_stack.specs.AbstractMachine.{AbstractMachine, contents_of};
 ghost use Rattle.update_stack.specs.Apply.{planned_in, committed, applied};
-ghost use Rattle.update_stack.specs.Events.{Event, Step, Happened, answered, after_event};
+ghost use Rattle.update_stack.specs.Events.{Event, Step, AreSteps, Happened, answered, after_event, after_events};
 ghost use Rattle.update_stack.specs.Jumps.{CanJump, StepsStand};
 ghost use Rattle.splice_jump.specs.declared.phase.Phase.{Phase};
 ghost use Rattle.update_stack.specs.Phases.{IsOpenAt, patched_in};
@@ -33,7 +33,10 @@ use splice_jump::{
     jumps_leave_views, jumps_stand,
 };
 use update_memory::{changes_are_withdrawn, pieces_are_added, ranges_are_retired};
-use update_plan::{plans_can_be_made, plans_replace_the_newest, replaced_functions_have_new_code};
+use update_plan::{
+    alike_programs_have_one_plan, plans_can_be_made, plans_replace_the_newest,
+    replaced_functions_have_new_code,
+};
 
 /// Over the memory with the jumps a thread's step comes to what it comes to on the machine: at a home it goes on at the
 /// newest version, in a retired range it stops, and elsewhere it carries out the machine's text.
@@ -95,6 +98,19 @@ pub fn threads_leave_code()
 {
     // Nothing is done here: the law says that whatever an instruction may do leaves code as it was.
     steps_leave_code();
+}
+
+/// Steps of threads, however many, leave what is planned for an update, or why it can't be: they change data alone, and a
+/// plan asks for none of the bytes of data that can be written.
+pub fn steps_keep_plans()
+    ensures { (k : AbstractMachine) (steps : List Event) (name pre_file post_file : List ℕ) → IsBuilt k →
+        AreSteps steps → planned_in (after_events k steps) name pre_file post_file
+        ≡ planned_in k name pre_file post_file }
+{
+    // Nothing is done here: the laws say that a write leaves data alone different, and that programs which are alike have
+    // one plan.
+    data_alone_differ();
+    alike_programs_have_one_plan();
 }
 
 /// On a machine whose updates lie each on what was there without it, an update that is planned can be made; and where

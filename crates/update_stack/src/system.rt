@@ -1,5 +1,5 @@
 //! A running program with its updates.
-ghost use Rattle.std.specs.Prelude.{◌≡◌, ◌≢◌, [], map, IfOk, IfSome, IsSome, IsSomeAnd, OnOk, OnErr, MatchResult, None, Ok, Err};
+ghost use Rattle.std.specs.Prelude.{◌≡◌, ◌≢◌, ℕ, List, [], map, IfOk, IfSome, IsSome, IsSomeAnd, OnOk, OnErr, MatchResult, None, Ok, Err};
 ghost use Rattle.std.specs.Prelude.{false, true, is_some, Some, ◌<◌, length, slice_get, MatchOption, IsOkAnd};
 ghost use Rattle.std.specs.List.{list_any};
 ghost use Rattle.std.specs.Result.{is_ok, result_err};
@@ -11,11 +11,11 @@ ghost use Rattle.image_threads.specs.Spawning.{AreStacks};
 ghost use Rattle.update_stack.specs.AbstractMachine.{bodies_in, contents_of, shown_update};
 ghost use Rattle.update_stack.specs.Systems.{bare, gaps_in, machine_of};
 ghost use Rattle.ks_base.specs.Gives.{Gives};
-ghost use Rattle.i386_reloc.specs.Rule.{Finds};
 ghost use Rattle.stack_scan.specs.Standing.{thread_refusal};
 ghost use Rattle.update_plan.specs.Plan.{planned};
 ghost use Rattle.update_plan.specs.Sound.{AllReplaceNewest, AreGaps, CanBeMade};
 ghost use Rattle.update_stack.specs.Apply.{accepted, committed, gaps_of, has_name, planned_in, retired_of, running_of};
+ghost use Rattle.update_stack.specs.Apply.{IsPlanned};
 ghost use Rattle.update_stack.specs.Events.{Apply, Spawn, Step, Undo, UndoNamed, happened};
 ghost use Rattle.update_stack.specs.Events.{Applied, Spawned, Stepped, Undone};
 ghost use Rattle.update_stack.specs.Events.{answered, after_event};
@@ -37,10 +37,11 @@ ghost use Rattle.update_stack.specs.AbstractMachine.{Update as Live};
 
 use crate::carrying::{change, plans_are_carried_out, prepare, push_both};
 use crate::covering::{behind, check_covers, check_needs};
-use crate::laws::{steps_stand, threads_leave_code};
+use crate::laws::{steps_stand, threads_leave_code, updates_can_be_made};
 use crate::live::{
     bodies_of, gaps_left, is_taken, kept_ranges_leave_the_gaps, place_of, retired_by,
 };
+use crate::planned::Planned;
 use crate::scratch::{
     put_scratch, scratch_pieces_come, scratch_pieces_go, scratch_place, take_scratch,
 };
@@ -52,7 +53,7 @@ use ia32_step::{
 };
 use image_memory::{Pieces, Space, sorted};
 use image_threads::Machine;
-use ks_base::{Name, Range, Refusal, Report};
+use ks_base::{Name, Range, Ranges, Refusal, Report};
 use link_post::gaps_are_free;
 use saved_data::put_back;
 use splice_jump::{
@@ -64,9 +65,7 @@ use stack_scan::{check_threads, order_has_no_say};
 use std::alloc::{AllocError, Global};
 use std::marker::Model;
 use update_memory::code_that_stays;
-use update_plan::{
-    Hooks, Plan, alike_programs_have_one_plan, plan, plans_can_be_made, plans_replace_the_newest,
-};
+use update_plan::{Hooks, Plan, alike_programs_have_one_plan, plan, plans_replace_the_newest};
 
 /// So many updates may be live.
 const MOST_UPDATES: usize = 64;
@@ -367,9 +366,61 @@ impl<S: Space> System<S> {
         ensures phase { self.new.phase ≡ self.old.phase }
         ensures refused { OnErr result (self.new ≡ self.old) }
     {
+        let planned = self.plan_update(name, pre, post)?;
+        self.check_threads(&planned)?;
+        Ok(self.apply_planned(name, planned)?)
+    }
+
+    /// What [`System::apply`] would do, or the first of its refusals but those of the threads. The system stays as it is.
+    pub fn plan_update(&self, name: &Name, pre: &[u8], post: &[u8]) -> Result<Planned, Refusal>
+        requires done { self.now.phase ≡ Done }
+        ensures { Gives (λ plan. plan) result (planned_in self.now.machine name.now pre.now post.now) }
+    {
         let plan = self.plan(name, pre, post)?;
-        self.check_threads(&plan)?;
-        Ok(self.carry_out(name, plan)?)
+        let guarded = sorted(self.alloc, plan.guarded.as_slice())?;
+        Ok(Planned {
+            plan,
+            guarded: Ranges::from_vec(guarded),
+        })
+    }
+
+    /// Whether no thread stands in the way of an update that was planned: the refusals of [`System::apply`] that are the
+    /// threads' ([`Refusal::Busy`], [`Refusal::StackOut`]). It takes no memory.
+    pub fn check_threads(&self, planned: &Planned) -> Result<(), Refusal>
+        requires done { self.now.phase ≡ Done }
+        ensures { result_err result
+            ≡ thread_refusal self.now.machine.pieces planned.now.guarded self.now.machine.threads }
+    {
+        // The law says that the answer is the same when the ranges are sorted.
+        order_has_no_say();
+        self.check_ranges(planned.guarded.as_slice())
+    }
+
+    /// Makes an update that was planned, as [`System::apply`] does, and answers its report, and the functions that the new
+    /// object lists to be run at it; none of them is run. The plan is what the system would have for these files as it is,
+    /// and no thread stands in its way. `Err` comes only if memory runs out, and all is then as before.
+    pub fn apply_planned(
+        &mut self,
+        name: &Name,
+        planned: Planned,
+    ) -> Result<(Report, Hooks), AllocError>
+        requires done { self.old.phase ≡ Done }
+        requires planned { IsPlanned self.old.machine name.now planned }
+        requires clear { thread_refusal self.old.machine.pieces planned.guarded self.old.machine.threads ≡ None }
+        ensures answered { IfOk result (λ made. (pre post : List ℕ)
+            → planned_in self.old.machine name.now pre post ≡ Ok planned
+            → answered self.old.machine (Apply name.now pre post)
+            ≡ Ok (happened self.new.machine (Applied made.0))) }
+        ensures listed { IfOk result (λ made. made.1 ≡ planned.hooks) }
+        ensures phase { self.new.phase ≡ self.old.phase }
+        ensures refused { OnErr result (self.new ≡ self.old) }
+    {
+        // The laws say that what is planned can be carried out, and what it replaces.
+        updates_can_be_made();
+        plans_replace_the_newest();
+        let _program = self.machine();
+        let Planned { plan, guarded: _ } = planned;
+        self.carry_out(name, plan)
     }
 
     /// Takes the newest update back, and answers its name: its pieces, its retired ranges and its symbols are gone, and
@@ -596,9 +647,7 @@ impl<S: Space> System<S> {
     /// What an update would do, or the first refusal but those of the threads.
     fn plan(&self, name: &Name, pre: &[u8], post: &[u8]) -> Result<Plan, Refusal>
         requires done { self.now.phase ≡ Done }
-        ensures planned { Gives (λ plan. plan) result (planned_in self.now.machine name.now pre.now post.now) }
-        ensures sound { IfOk result (λ plan. CanBeMade (contents_of self.now.machine) plan) }
-        ensures newest { IfOk result (λ plan. AllReplaceNewest (bodies_in self.now.machine.table) plan) }
+        ensures { Gives (λ plan. plan) result (planned_in self.now.machine name.now pre.now post.now) }
     {
         if self.updates.len() >= MOST_UPDATES {
             return Err(Refusal::TooMany);
@@ -613,15 +662,11 @@ impl<S: Space> System<S> {
     /// The same where the update's name doesn't matter.
     fn plan_beside(&self, pre: &[u8], post: &[u8]) -> Result<Plan, Refusal>
         requires done { self.now.phase ≡ Done }
-        ensures planned { Gives (λ plan. plan) result
+        ensures { Gives (λ plan. plan) result
             (planned (running_of self.now.machine) (retired_of self.now.machine) (gaps_of self.now.machine)
             pre.now post.now) }
-        ensures sound { IfOk result (λ plan. CanBeMade (contents_of self.now.machine) plan) }
-        ensures newest { IfOk result (λ plan. AllReplaceNewest (bodies_in self.now.machine.table) plan) }
     {
-        // The laws say that what is planned can be carried out, what it replaces, and that jumps don't matter for a plan.
-        plans_can_be_made();
-        plans_replace_the_newest();
+        // The laws say that jumps don't matter for a plan, and what is free of the arena.
         alike_programs_have_one_plan();
         jumps_leave_views();
         jumps_change_their_bytes_alone();
@@ -636,18 +681,6 @@ impl<S: Space> System<S> {
         plan(
             self.alloc, space, &bodies, symbols, &retired, &gaps, pre, post,
         )
-    }
-
-    /// Whether no thread stands in the way of a plan.
-    fn check_threads(&self, plan: &Plan) -> Result<(), Refusal>
-        requires done { self.now.phase ≡ Done }
-        ensures { Finds Refusal.Memory result
-            (thread_refusal self.now.machine.pieces plan.now.guarded self.now.machine.threads) }
-    {
-        let ranges = sorted(self.alloc, plan.guarded.as_slice())?;
-        // The law says that the answer is the same when the ranges are sorted.
-        order_has_no_say();
-        self.check_ranges(ranges.as_slice())
     }
 
     /// Whether no thread stands in one of some ranges.

@@ -38,11 +38,10 @@ pub record WasFetched (start count address : ℕ) : Type 0 where
   pub above : start ≤ address
   pub below : address < start + count
 
--- a step that goes on in the bytes that it fetched, and leaves ESP as it is
-pub record GoesOn (before after : Thread) (outcome : Outcome) (fetched : ℕ) : Type 0 where
+-- a step that is neither a call nor a return, and leaves ESP as it is
+pub record IsStill (before after : Thread) (outcome : Outcome) : Type 0 where
   pub plain : outcome ≡ Moved Plain
   pub esp : esp_of after ≡ esp_of before
-  pub within : WasFetched before.pc fetched after.pc
 
 -- the frames that a step leaves, and the threads
 abbrev pub flow_frames : List Piece → Thread → Flow → List Frame → List Frame

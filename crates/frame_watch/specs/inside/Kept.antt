@@ -10,7 +10,7 @@ use Rattle.ia32_step.specs.declared.types.Frame.{Frame}
 use Rattle.ia32_step.specs.declared.types.Store.{Store}
 use Rattle.ia32_step.specs.declared.types.Thread.{Thread}
 use Rattle.ia32_step.specs.Threads.{esp_of}
-use Rattle.ia32_decode.specs.declared.types.Width.TheVariants.{Dword}
+use Rattle.ia32_alu.specs.declared.types.Width.TheVariants.{Dword}
 use Rattle.ia32_step.specs.Frames.{is_slot, holds_dword}
 use Rattle.frame_watch.specs.Frames.{Watched, is_of, stack_of, watched_at, closed}
 use Rattle.frame_watch.specs.declared.types.Verdict.{Verdict}

@@ -1,16 +1,13 @@
 -- What holds of a session's watch beside its machine at every moment.
-use Rattle.std.specs.Prelude.{◌≡◌, IsTrue, IsSomeAnd, List, [], Option, Some, None}
+use Rattle.std.specs.Prelude.{◌≡◌, IsTrue, IsSomeAnd, List, [], None}
 use Rattle.std.specs.List.{All}
 use Rattle.ia32_step.specs.declared.types.Thread.{Thread}
 use Rattle.ia32_step.specs.Threads.{esp_of}
 use Rattle.image_threads.specs.Program.{running_at}
-use Rattle.image_threads.specs.declared.turns.Turn.{Turn}
 use Rattle.update_stack.specs.AbstractMachine.{AbstractMachine}
-use Rattle.update_stack.specs.Events.{Step}
 use Rattle.frame_watch.specs.declared.types.Verdict.{Verdict}
 use Rattle.frame_watch.specs.declared.types.Verdict.TheVariants.{Disciplined, Broken}
 use Rattle.frame_watch.specs.Frames.{Watched as WatchedThread, Watching, keeps_slots}
-use Rattle.ksplice_session.specs.Watching.{Watched, watched_after}
 
 -- a thread is the one that is watched
 pub record IsSame (watched : WatchedThread) (thread : Thread) : Type 0 where
@@ -32,8 +29,3 @@ pub record IsInStep (k : AbstractMachine) (watch : Watching) : Type 0 where
   pub each : All (Runs k) watch.threads
   pub stopped : IsStopped watch.verdict watch.threads
   pub bare : k.scratch ≡ None
-
--- the session after the step of a turn
-abbrev pub watched_taken : Watched → Option Turn → Watched
-watched_taken s None = s
-watched_taken s (Some turn) = watched_after s (Step turn.thread)

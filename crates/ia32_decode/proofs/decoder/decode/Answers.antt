@@ -4,51 +4,24 @@ use Rattle.ia32_decode.proofs.Locality.{some_bytes_of}
 use Rattle.ia32_decode.proofs.Readings.{front_bytes, found_of, refused_of, short_of, within_of}
 use Rattle.ia32_decode.proofs.decoder.decode.Goals as goal
 
-pub returns-then-begins_with_prefix-clause-found : goal.returns-then-begins_with_prefix-clause-found
-returns-then-begins_with_prefix-clause-found c =
-    found_of c.args.window.now c.read_after.result (c.read_after.ensures ∙ ap read_front c.front-front.ensures.value)
-
-pub returns-then-begins_with_prefix-clause-none : goal.returns-then-begins_with_prefix-clause-none
-returns-then-begins_with_prefix-clause-none c =
-    let fits : (k : ℕ) → get_or c.args.window.now k 0 < 256 = λ k. let f = c.type_inv.window k in omega arith in
-    refused_of c.args.window.now c.read_after.result (λ i. front_bytes 15 c.args.window.now i fits)
-    (c.read_after.ensures ∙ ap read_front c.front-front.ensures.value)
-
-pub returns-then-begins_with_prefix-clause-short : goal.returns-then-begins_with_prefix-clause-short
-returns-then-begins_with_prefix-clause-short c =
-    short_of c.args.window.now c.read_after.result (c.read_after.ensures ∙ ap read_front c.front-front.ensures.value)
-
-pub returns-then-begins_with_prefix-clause-within : goal.returns-then-begins_with_prefix-clause-within
-returns-then-begins_with_prefix-clause-within c =
-    within_of c.args.window.now c.read_after.result (c.read_after.ensures ∙ ap read_front c.front-front.ensures.value)
-
-pub returns-then-begins_with_prefix-clause-some_bytes : goal.returns-then-begins_with_prefix-clause-some_bytes
-returns-then-begins_with_prefix-clause-some_bytes c =
-    some_bytes_of c.args.window.now c.read_after.result
-    (c.read_after.ensures ∙ ap read_front c.front-front.ensures.value)
-
 pub returns-clause-found : goal.returns-clause-found
 returns-clause-found c =
-    found_of c.args.window.now c.read_after-2.result
-    (c.read_after-2.ensures ∙ ap read_front c.front-front.ensures.value)
+    found_of c.args.window.now c.read.result (c.read.ensures ∙ ap read_front c.front.ensures.value)
 
 pub returns-clause-none : goal.returns-clause-none
 returns-clause-none c =
     let fits : (k : ℕ) → get_or c.args.window.now k 0 < 256 = λ k. let f = c.type_inv.window k in omega arith in
-    refused_of c.args.window.now c.read_after-2.result (λ i. front_bytes 15 c.args.window.now i fits)
-    (c.read_after-2.ensures ∙ ap read_front c.front-front.ensures.value)
+    refused_of c.args.window.now c.read.result (λ i. front_bytes 15 c.args.window.now i fits)
+    (c.read.ensures ∙ ap read_front c.front.ensures.value)
 
 pub returns-clause-short : goal.returns-clause-short
 returns-clause-short c =
-    short_of c.args.window.now c.read_after-2.result
-    (c.read_after-2.ensures ∙ ap read_front c.front-front.ensures.value)
+    short_of c.args.window.now c.read.result (c.read.ensures ∙ ap read_front c.front.ensures.value)
 
 pub returns-clause-within : goal.returns-clause-within
 returns-clause-within c =
-    within_of c.args.window.now c.read_after-2.result
-    (c.read_after-2.ensures ∙ ap read_front c.front-front.ensures.value)
+    within_of c.args.window.now c.read.result (c.read.ensures ∙ ap read_front c.front.ensures.value)
 
 pub returns-clause-some_bytes : goal.returns-clause-some_bytes
 returns-clause-some_bytes c =
-    some_bytes_of c.args.window.now c.read_after-2.result
-    (c.read_after-2.ensures ∙ ap read_front c.front-front.ensures.value)
+    some_bytes_of c.args.window.now c.read.result (c.read.ensures ∙ ap read_front c.front.ensures.value)

@@ -1,5 +1,5 @@
 use Rattle.std.proofs.Common.{◌++◌, length, arith, ap, sym, ◌∙◌, true, false}
-use Rattle.ia32_decode.specs.Widths.{byte_count}
+use Rattle.ia32_alu.specs.Widths.{byte_count}
 use Rattle.ia32_decode.specs.Wide.{widened, has_wide_opcode}
 use Rattle.ia32_decode.proofs.WideForms.{bounds, finished}
 use Rattle.ia32_decode.proofs.widening.Form.push_immediate.Goals as goal

@@ -3,7 +3,7 @@ use Rattle.std.proofs.Common.{◌≡◌, ◌≤◌, length}
 use Rattle.paged_memory.specs.Pages.{extent_range, page_range}
 use Rattle.paged_memory.proofs.RemoveLaws.{AreLeft, All-closed, All-rest, are_left, counts, extent_there, taken-some}
 use Rattle.paged_memory.proofs.table.PageTable.remove.Goals as goal
-use Rattle.paged_memory.proofs.table.PageTable.remove.Goals.{After-close_pages}
+use Rattle.paged_memory.proofs.table.PageTable.remove.Goals.{After-learn}
 
 pub take_extent-extent-requires-clause-there : goal.take_extent-extent-requires-clause-there
 take_extent-extent-requires-clause-there c =
@@ -24,7 +24,7 @@ close_pages-requires-clause-counted c =
     counts t.extents.items taken.new.extents.items t.pages.items taken.result c.args.base t.ascend t.sorted t.covered
     t.first t.last taken.ensures
 
-left : (c : After-close_pages) → AreLeft c.args.self.now.extents.items c.take_extent-extent.new.extents.items
+left : (c : After-learn) → AreLeft c.args.self.now.extents.items c.take_extent-extent.new.extents.items
     c.args.self.now.pages.items c.close_pages.new.pages.items c.args.base
 left c =
     let t = c.args.self.now in

@@ -1,5 +1,5 @@
 -- The code from an address on is what pages have there.
-use Rattle.std.proofs.Common.{◌≡◌, ℕ, ◌+◌, ◌-◌, ◌∙◌, sym, ap, subst, arith, None, Some, Ok, Option, List, drop, cond, true}
+use Rattle.std.proofs.Common.{◌≡◌, ℕ, ◌+◌, ◌-◌, ◌∙◌, ap, subst, arith, None, Some, Ok, Option, List, drop, cond, true}
 use Rattle.image_memory.specs.declared.types.Kind.{Kind}
 use Rattle.image_memory.specs.declared.types.Window.{Window}
 use Rattle.image_memory.specs.Contents.{Contents, Retired}
@@ -9,9 +9,9 @@ use Rattle.image_memory.specs.laws.RangeLaws.{within}
 use Rattle.paged_memory.specs.Pages.{extent_range, pieces_of, stored_from}
 use Rattle.paged_memory.specs.declared.table.PageTable.{PageTable}
 use Rattle.paged_memory.specs.declared.types.Extent.{Extent}
-use Rattle.paged_memory.proofs.UseLaws.{code_none, code_some, code_part, holder_is, held_here}
+use Rattle.paged_memory.proofs.UseLaws.{code_none, code_some, holder_is, held_here}
 use Rattle.paged_memory.proofs.PutLaws.{paged_at}
-use Rattle.paged_memory.proofs.WindowLaws.{window_none, window_open, window_retired}
+use Rattle.paged_memory.proofs.WindowLaws.{window_none, window_code, window_retired}
 use Rattle.paged_memory.proofs.table.PageTable.window.Goals as goal
 
 -- the memory of these pieces and retired ranges
@@ -63,17 +63,11 @@ returns-in-Some-limit-clause-exact c =
     let t = c.args.self.now in
     let e = c.index.result.now in
     let is = holder_is t.extents.items c.args.pc c.in-Some.spot.extent e c.in-Some.ensures.extent c.index.ensures in
-    let here = held_here t.extents.items c.args.pc e is in
-    let low = here.0 in
-    let high = here.1 in
-    let limit = c.in-Some-limit.limit in
-    let count = c.min-count.result in
-    let shows : c.window_of.result ≡ shown (stored_from t.pages.items c.args.pc count) =
+    let shows : c.window_of.result ≡ shown (stored_from t.pages.items c.args.pc c.min-count.result) =
     rw c.as_slice.ensures.value at c.window_of.ensures.shown in
-    let part = code_part t.pages.items c.args.pc e.base e.length limit count low (omega arith) (omega arith) in
-    ap (λ (w : Window). Ok w) (shows ∙ ap shown (sym part))
-    ∙ window_open (memory t c.args.retired.now) c.args.pc limit _ c.in-Some-limit.ensures.limit
-    (code_some t.extents.items t.pages.items c.args.pc e is ∙ ap (code_of t c.args.pc e) c.in-Code.is)
+    ap (λ (w : Window). Ok w) shows
+    ∙ window_code t.extents.items t.pages.items c.args.retired.now.fences c.args.pc c.in-Some-limit.limit c.min-count.result e
+    c.in-Some-limit.ensures.limit is c.in-Code.is (omega arith)
 
 pub returns-in-ReadOnly-clause-exact : goal.returns-in-ReadOnly-clause-exact
 returns-in-ReadOnly-clause-exact c =

@@ -1,4 +1,4 @@
--- Why a write fails.
+-- Why a write doesn't fail.
 use Rattle.std.proofs.Common.{◌∙◌, length}
 use Rattle.image_memory.specs.Access.{write_fault}
 use Rattle.image_memory.specs.declared.types.Access.TheVariants.{Write}
@@ -6,14 +6,8 @@ use Rattle.paged_memory.specs.Pages.{extent_fault, pieces_of}
 use Rattle.paged_memory.proofs.UseLaws.{write_fault_is, first_same}
 use Rattle.paged_memory.proofs.table.PageTable.write.Goals as goal
 
-pub returns-in-Ok-clause-cause : goal.returns-in-Ok-clause-cause
-returns-in-Ok-clause-cause c =
+pub returns-in-Some-clause-cause : goal.returns-in-Some-clause-cause
+returns-in-Some-clause-cause c =
     let t = c.args.self.now in
     first_same (write_fault (pieces_of t.extents.items t.pages.items)) (extent_fault Write t.extents.items) c.args.address
-    (length c.args.from.now) (write_fault_is t.extents.items t.pages.items) ∙ c.in-Ok.ensures.good
-
-pub returns-in-Err-clause-cause : goal.returns-in-Err-clause-cause
-returns-in-Err-clause-cause c =
-    let t = c.args.self.now in
-    first_same (write_fault (pieces_of t.extents.items t.pages.items)) (extent_fault Write t.extents.items) c.args.address
-    (length c.args.from.now) (write_fault_is t.extents.items t.pages.items) ∙ c.in-Err.ensures
+    (length c.args.from.now) (write_fault_is t.extents.items t.pages.items) ∙ c.in-Some.ensures.usable.good

@@ -16,9 +16,8 @@ use Rattle.update_stack.proofs.LiveLaws.{named_live}
 use Rattle.update_stack.proofs.PhaseLaws.{machine_seen}
 use Rattle.update_stack.proofs.system.System.plan.Goals as goal
 
-pub returns-then-len-ge-MOST_UPDATES-clause-planned :
-    goal.returns-then-len-ge-MOST_UPDATES-clause-planned
-returns-then-len-ge-MOST_UPDATES-clause-planned g c =
+pub returns-then-len-ge-MOST_UPDATES : goal.returns-then-len-ge-MOST_UPDATES
+returns-then-len-ge-MOST_UPDATES g c =
     let inside = c.self.inside in
     let k = machine_of inside.machine inside.arena inside.updates inside.kept in
     let many : 64 ≤ length (live_updates inside.updates inside.kept) =
@@ -32,8 +31,8 @@ returns-then-len-ge-MOST_UPDATES-clause-planned g c =
     (sym (machine_seen c.self.view_is))
     ∙ too_many k c.args.name.now c.args.pre.now c.args.post.now many
 
-pub returns-then-is_taken-clause-planned : goal.returns-then-is_taken-clause-planned
-returns-then-is_taken-clause-planned g c =
+pub returns-then-is_taken : goal.returns-then-is_taken
+returns-then-is_taken g c =
     let inside = c.self.inside in
     let k = machine_of inside.machine inside.arena inside.updates inside.kept in
     let few : length (live_updates inside.updates inside.kept) < 64 =
@@ -53,8 +52,8 @@ returns-then-is_taken-clause-planned g c =
     ∙ ap (λ (name : List ℕ). let r : Result Plan Refusal = Err (NameTaken name) in r)
     (sym (c.in_ok-name.ensures ∙ c.as_slice-then-is_taken.ensures))
 
-pub returns-clause-planned : goal.returns-clause-planned
-returns-clause-planned g c =
+pub returns : goal.returns
+returns g c =
     let inside = c.self.inside in
     let k = machine_of inside.machine inside.arena inside.updates inside.kept in
     let few : length (live_updates inside.updates inside.kept) < 64 =
@@ -74,4 +73,4 @@ returns-clause-planned g c =
     (planned_in m c.args.name.now c.args.pre.now c.args.post.now)) (machine_seen c.self.view_is)
     (subst (Gives (λ (plan : Plan). plan) c.plan_beside.result)
     (sym (name_free k c.args.name.now c.args.pre.now c.args.post.now few none))
-    (subst P (sym (machine_seen c.self.view_is)) c.plan_beside.ensures.planned))
+    (subst P (sym (machine_seen c.self.view_is)) c.plan_beside.ensures))

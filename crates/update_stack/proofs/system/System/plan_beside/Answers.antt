@@ -14,11 +14,9 @@ use Rattle.update_stack.specs.declared.updates.Kept.{Kept}
 use Rattle.update_stack.specs.AbstractMachine.{AbstractMachine, bodies_in}
 use Rattle.update_stack.specs.Apply.{running_of, retired_of, gaps_of}
 use Rattle.update_stack.specs.Systems.{gaps_left, machine_of, table_of}
-use Rattle.update_stack.specs.Stacked.{IsBuilt}
 use Rattle.update_stack.specs.laws.StackedLaws.{built_sound}
 use Rattle.update_stack.proofs.LiveLaws.{retired_live}
 use Rattle.update_stack.proofs.PlanLaws.{gaps_ascend, memory_of, bodies_spliced, IsBeside, PlanLaws, plan_beside}
-use Rattle.update_stack.proofs.PlanLaws.{plan_sound, plan_replaces}
 use Rattle.update_stack.proofs.PhaseLaws.{done_holds, machine_seen}
 use Rattle.update_stack.proofs.system.System.plan_beside.Goals as goal
 
@@ -45,8 +43,8 @@ plan-requires-clause-gaps g c =
     ∙ c.kept_ranges_leave_the_gaps.ensures k inside.kept c.self.invariant.built c.self.invariant.are_kept))
     (gaps_ascend c.gaps_are_free.ensures.ascend k)
 
-pub returns-clause-planned : goal.returns-clause-planned
-returns-clause-planned g c =
+pub returns : goal.returns
+returns g c =
     let inside = c.self.inside in
     let holds = done_holds inside.machine inside.arena inside.updates inside.kept c.self.view_is c.requires.done
     c.self.invariant in
@@ -88,15 +86,3 @@ returns-clause-planned g c =
     subst (λ (m : AbstractMachine). Gives (λ (plan : Plan). plan) c.plan.result
     (planned (running_of m) (retired_of m) (gaps_of m) c.args.pre.now c.args.post.now)) (machine_seen
     c.self.view_is) given
-
-pub returns-clause-sound : goal.returns-clause-sound
-returns-clause-sound g c =
-    plan_sound c.plans_can_be_made.ensures c.gaps_are_free.ensures.ascend c.gaps_are_free.ensures.below
-    c.gaps_are_free.ensures.apart c.args.self.now.machine c.args.pre.now c.args.post.now c.plan.result
-    (subst IsBuilt (machine_seen c.self.view_is) c.self.invariant.built) (returns-clause-planned g c)
-
-pub returns-clause-newest : goal.returns-clause-newest
-returns-clause-newest g c =
-    plan_replaces c.plans_replace_the_newest.ensures c.args.self.now.machine c.args.pre.now c.args.post.now
-    c.plan.result
-    (subst IsBuilt (machine_seen c.self.view_is) c.self.invariant.built) (returns-clause-planned g c)

@@ -1,7 +1,7 @@
 use Rattle.std.proofs.Common.{◌≡◌, ◌≤◌, ◌<◌, ◌-◌, ℕ, length, get_or}
 use Rattle.paged_memory.specs.Pages.{overlaid_page}
 use Rattle.paged_memory.specs.declared.types.Page.{Page}
-use Rattle.paged_memory.proofs.pages.put_bytes.Given as goal
+use Rattle.paged_memory.proofs.pages.put_along.Given as goal
 
 abbrev pub invariant-loop-i : goal.invariant-loop-i
 invariant-loop-i l = record {

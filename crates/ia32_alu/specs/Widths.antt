@@ -1,7 +1,7 @@
 -- How wide operands are.
 use Rattle.std.specs.Prelude.{ℕ, Bool, true, false}
-use Rattle.ia32_decode.specs.declared.types.Width.{Width}
-use Rattle.ia32_decode.specs.declared.types.Width.TheVariants.{Byte, Word, Dword}
+use Rattle.ia32_alu.specs.declared.types.Width.{Width}
+use Rattle.ia32_alu.specs.declared.types.Width.TheVariants.{Byte, Word, Dword}
 
 -- how many bytes an operand has
 abbrev pub byte_count : Width → ℕ
